@@ -4,9 +4,9 @@
 --     closing_digests first setup texts      the digests of the texts that closed a round, in digits, the oldest first
 --     IsRecounted first texts house chain count digests      the auction stands for the texts, counted, with the
 --         digests of its closings
---     IsRecountOf setup first bytes ..      the same for all texts of a file
 --     IsUnrecounted setup first bytes told      a fault is told of a file that has it
 --     audited setup first texts      what an audit prints of the rounds
+--     IsAuditOf setup first bytes ..      that is printed of all texts of a file, which are counted
 use Rattle.std.specs.Prelude.{◌≡◌, ◌++◌, ℕ, Bool, true, false, List, [], ◌∷◌, drop, length, nat_lt}
 use Rattle.hex.specs.Hex.{encode_lower}
 use Rattle.clock_terms.specs.Limits.{SetupFields}
@@ -53,18 +53,6 @@ pub record IsRecounted (first : List ℕ) (texts : List (List ℕ)) (house : Hou
   pub count_is : count ≡ counted texts
   pub digests_are : digests ≡ closing_digests first house.setup texts
 
--- the same of some texts and some set-up document
-abbrev pub IsSomeRecount : HouseFields → List ℕ → ℕ → List (List ℕ) → Type 0
-IsSomeRecount house chain count digests = (first : List ℕ) × (texts : List (List ℕ)) × IsRecounted first texts house chain count digests
-
--- the file is the journal of these texts, but for a torn tail, and the auction stands for all of them
-pub record IsRecountOf (setup : SetupFields) (first bytes : List ℕ) (house : HouseFields) (chain : List ℕ) (count : ℕ) (digests : List (List ℕ)) : Type 0 where
-  pub texts : List (List ℕ)
-  pub recovered : Recovered
-  pub placed : IsPlaced first bytes texts recovered
-  pub same : house.setup ≡ setup
-  pub recounted : IsRecounted first (onto texts []) house chain count digests
-
 -- the fault is one of such a file, and a text that is told as refused is refused behind those before it
 pub record IsUnrecounted (setup : SetupFields) (first bytes : List ℕ) (told : Fault) : Type 0 where
   pub fault : JournalFault
@@ -79,3 +67,13 @@ text_of_rounds setup (round ∷ closed) digests = audit_text (report_of setup (r
 
 abbrev pub audited : SetupFields → List ℕ → List (List ℕ) → List ℕ
 audited setup first texts = text_of_rounds setup (closed_after setup texts) (closing_digests first setup texts)
+
+-- the file is the journal of these texts, but for a torn tail; what is shown is that of all of them, with the digest of
+-- the last, and so many are they
+pub record IsAuditOf (setup : SetupFields) (first bytes shown : List ℕ) (count : ℕ) (chain : List ℕ) : Type 0 where
+  pub texts : List (List ℕ)
+  pub recovered : Recovered
+  pub placed : IsPlaced first bytes texts recovered
+  pub shown_is : shown ≡ audited setup first (onto texts [])
+  pub count_is : count ≡ counted (onto texts [])
+  pub chain_is : chain ≡ chain_of first (onto texts [])

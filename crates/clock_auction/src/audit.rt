@@ -3,21 +3,45 @@ ghost use Rattle.std.specs.Prelude.{◌≡◌, [], List, ℕ, IfOk, IfErr};
 ghost use Rattle.clock_terms.specs.Limits.{SetupFields};
 ghost use Rattle.clock_front.specs.Fronts.{StandsForTexts};
 ghost use Rattle.clock_keeping.specs.Keeping.{IsRefused};
-ghost use Rattle.clock_auction.specs.Audits.{IsRecounted, IsRecountOf, IsSomeRecount, IsUnrecounted, audited};
+ghost use Rattle.clock_auction.specs.Audits.{IsAuditOf, IsRecounted, IsUnrecounted, audited};
 
-use crate::digests::digits_of;
+use crate::files::{digits_of, file_bytes, journal_bytes, tell_journal};
+use crate::serve::front_in;
 use clock_commands::Fault;
-use clock_device::Text;
+use clock_device::{NoMemory, Sink, Text, write_all};
 use clock_front::Front;
-use clock_journal::{Link, Machine, Untaken, link_of, recover};
+use clock_journal::{Link, Machine, Untaken, digest_of, link_of, recover};
 use clock_keeping::Auction;
 use clock_queue::Woken;
 use clock_reports::{Digits, audit_text, report_so_far};
+use clock_words::Files as Named;
 use std::alloc::Global;
+use std::fs::File;
+use std::rt::Files;
+
+/// Prints an auction that is recounted from its journal.
+pub fn tell_audit<R>(rt: &R, out: &mut impl Sink, named: &Named) -> Result<(), Fault>
+where
+    R: Files<File = File> + Print + Alloc<A = Global>,
+{
+    let document = file_bytes(rt, named.setup)?;
+    let first = digest_of(document.as_slice());
+    let front = front_in(rt.alloc(), document)?;
+    let bytes = match journal_bytes(rt, named.journal) {
+        Ok(bytes) => bytes,
+        Err(fault) => {
+            drop(front);
+            return Err(fault);
+        }
+    };
+    let (text, texts, chain) = audit_of(rt.alloc(), front, first, bytes)?;
+    write_all(out, text.as_slice()).or(Err(Fault::Output))?;
+    tell_journal(rt, texts, chain)
+}
 
 /// An auction that takes the texts of a journal, and remembers the digest of each closing.
 #[derive(Drop)]
-pub struct Recount {
+struct Recount {
     auction: Auction<Woken>,
     first: Link,
     chain: Link,
@@ -47,27 +71,18 @@ impl Machine for Recount {
     }
 }
 
-impl Recount {
-    /// How many texts were taken, and the digest of the last.
-    pub fn end(&self) -> (u64, Link)
-        ensures { result ≡ (self.now.auction.texts, self.now.chain) }
-    {
-        (self.auction.texts, self.chain)
-    }
-}
-
-/// An auction that was recounted from the bytes of its journal, for the set-up document of a digest; or the fault of a
-/// file that is no such journal.
-pub fn recounted(
+/// What is printed of the rounds of an auction that is recounted from the bytes of its journal, for the set-up document
+/// of a digest: those that are closed, each with the digest of its closing, and what each bidder won where it has ended.
+/// Behind it how many texts there are, and the digest of the last; or the fault of a file that is no such journal.
+pub fn audit_of(
     alloc: Global,
     front: Front<Woken>,
     first: Link,
-    bytes: &[u8],
-) -> Result<Recount, Fault>
+    bytes: Vec<u8>,
+) -> Result<(Text, u64, Link), Fault>
     requires { StandsForTexts [] front }
-    ensures ok { IfOk result (λ recount. IsRecountOf front.setup first bytes.now recount.auction.front recount.chain
-        recount.auction.texts recount.digests.items) }
-    ensures err { IfErr result (IsUnrecounted front.setup first bytes.now) }
+    ensures ok { IfOk result (λ audit. IsAuditOf front.setup first bytes.items audit.0 audit.1 audit.2) }
+    ensures err { IfErr result (IsUnrecounted front.setup first bytes.items) }
 {
     let mut recount = Recount {
         auction: Auction { front, texts: 0 },
@@ -75,24 +90,28 @@ pub fn recounted(
         chain: first,
         digests: Vec::new(alloc),
     };
-    recover(&mut recount, &first, bytes)?;
-    Ok(recount)
+    recover(&mut recount, &first, bytes.as_slice())?;
+    drop(bytes);
+    let made = rounds_of(alloc, &recount);
+    let (texts, chain) = (recount.auction.texts, recount.chain);
+    // let go by a call: at the end of the scope it would be proved part by part
+    drop(recount);
+    let text = made?;
+    Ok((text, texts, chain))
 }
 
-/// The rounds that are closed, each with the digest of its closing, and what each bidder won where the auction has
-/// ended.
-pub fn audit_of(alloc: Global, recount: &Recount) -> Result<Text, Fault>
-    requires { IsSomeRecount recount.now.auction.front recount.now.chain recount.now.auction.texts
-        recount.now.digests.items }
-    ensures ok { (first : List ℕ) (texts : List (List ℕ))
-        → IsRecounted first texts recount.now.auction.front recount.now.chain recount.now.auction.texts
-        recount.now.digests.items → IfOk result (λ text. text ≡ audited recount.now.auction.front.setup first texts) }
-    ensures err { IfErr result (λ fault. fault ≡ Fault.Memory) }
+/// What is printed of the rounds.
+fn rounds_of(alloc: Global, recount: &Recount) -> Result<Text, NoMemory>
+    requires { (texts : List (List ℕ)) × IsRecounted recount.now.first texts recount.now.auction.front recount.now.chain
+        recount.now.auction.texts recount.now.digests.items }
+    ensures { (texts : List (List ℕ)) → IsRecounted recount.now.first texts recount.now.auction.front recount.now.chain
+        recount.now.auction.texts recount.now.digests.items
+        → IfOk result (λ text. text ≡ audited recount.now.auction.front.setup recount.now.first texts) }
 {
     let house = recount.auction.front.house();
     if house.closed_rounds() == 0 {
         return Ok(Text::new(alloc));
     }
     let report = report_so_far(alloc, house)?;
-    Ok(audit_text(alloc, &report, recount.digests.as_slice())?)
+    audit_text(alloc, &report, recount.digests.as_slice())
 }

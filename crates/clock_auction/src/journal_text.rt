@@ -2,19 +2,38 @@
 ghost use Rattle.std.specs.Prelude.{◌≡◌, ◌++◌, List, ℕ, IfErr, IfOk, OnOk};
 ghost use Rattle.clock_auction.specs.Listings.{IsListed, IsListingOf, IsUnlisted, digest_line, spaced, text_listed};
 
-use crate::digests::digits_of;
+use crate::files::{digits_of, file_bytes, journal_bytes, tell_journal};
 use clock_commands::Fault;
-use clock_device::{NoMemory, Text};
-use clock_journal::{BEFORE_TEXT, HEAD_LENGTH, Link, Machine, Untaken, link_of, recover};
+use clock_device::{NoMemory, Sink, Text, write_all};
+use clock_journal::{
+    BEFORE_TEXT, HEAD_LENGTH, Link, Machine, Untaken, digest_of, link_of, recover,
+};
+use clock_words::Files as Named;
 use std::alloc::Global;
+use std::fs::File;
+use std::rt::Files;
 
-/// The text of a listing so far, and where the next record stands.
+/// Prints what a journal holds.
+pub fn tell_texts<R>(rt: &R, out: &mut impl Sink, named: &Named) -> Result<(), Fault>
+where
+    R: Files<File = File> + Print + Alloc<A = Global>,
+{
+    let document = file_bytes(rt, named.setup)?;
+    let first = digest_of(document.as_slice());
+    drop(document);
+    let bytes = journal_bytes(rt, named.journal)?;
+    let listing = listing_of(rt.alloc(), first, bytes.as_slice())?;
+    write_all(out, listing.text.as_slice()).or(Err(Fault::Output))?;
+    tell_journal(rt, listing.texts, listing.chain)
+}
+
+/// The text of a listing so far, how many texts it has and the digest of the last, and where the next record stands.
 #[derive(Drop)]
 pub struct Listing {
     first: Link,
-    text: Text,
-    chain: Link,
-    texts: u64,
+    pub text: Text,
+    pub chain: Link,
+    pub texts: u64,
     place: u64,
 }
 
@@ -35,22 +54,6 @@ impl Machine for Listing {
         let length = (text.len() as u64).saturating_add(BEFORE_TEXT as u64);
         self.place = place.saturating_add(length);
         push_text(&mut self.text, self.texts, place, &self.chain, text).or(Err(Untaken::NoMemory))
-    }
-}
-
-impl Listing {
-    /// The text of the listing.
-    pub fn text(&self) -> &[u8]
-        ensures { result.now ≡ self.now.text }
-    {
-        self.text.as_slice()
-    }
-
-    /// How many texts were found, and the digest of the last.
-    pub fn end(&self) -> (u64, Link)
-        ensures { result ≡ (self.now.texts, self.now.chain) }
-    {
-        (self.texts, self.chain)
     }
 }
 

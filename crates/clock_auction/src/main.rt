@@ -4,18 +4,16 @@
 ghost use Rattle.std.specs.Prelude.{◌≡◌, map, string_bytes, IfOk};
 
 mod audit;
-mod digests;
 mod files;
 mod journal_text;
-mod kept;
 mod serve;
 
+use audit::tell_audit;
 use clap::error::ErrorKind;
 use clock_commands::{Fault, command, show_fault};
 use clock_device::{FromReader, ToWriter};
 use clock_words::{Asked, read_words};
-use files::{tell_audit, tell_texts};
-use kept::serve_kept;
+use journal_text::tell_texts;
 use serve::serve;
 use std::alloc::{AllocError, Global};
 use std::process::ExitCode;
@@ -44,10 +42,7 @@ fn main(rt: HostRuntime) -> io::Result<ExitCode> {
 /// by `command`.
 fn run(rt: &HostRuntime, words: &[&str]) -> u8 {
     let done = match read_words(rt.alloc(), words) {
-        Ok(Some(Asked::Serve(serving))) => match serving.journal {
-            Some(path) => serve_kept(rt, &serving, path),
-            None => serve(rt, &serving),
-        },
+        Ok(Some(Asked::Serve(serving))) => serve(rt, &serving),
         Ok(Some(Asked::Journal(files))) => tell_texts(rt, &mut ToWriter::new(rt.stdout()), &files),
         Ok(Some(Asked::Audit(files))) => tell_audit(rt, &mut ToWriter::new(rt.stdout()), &files),
         Err(error) if error.kind() == ErrorKind::OutOfMemory => Err(Fault::Memory),

@@ -1,33 +1,54 @@
-//! `serve`: an auction on a port of this machine.
-ghost use Rattle.std.specs.Prelude.{◌≡◌, [], IfErr, IfOk, Ok};
+//! `serve`: an auction on a port of this machine. Its journal, where it has one, is taken over before the port is
+//! listened on, and each closing is then told on standard output.
+ghost use Rattle.std.specs.Prelude.{◌≡◌, [], IfErr, IfOk, IfSome, Ok, false, None};
 ghost use Rattle.clock_terms.specs.Faults.{IsRefusal};
 ghost use Rattle.clock_front.specs.Fronts.{StandsForTexts};
 ghost use Rattle.clock_setup.specs.SetupDocument.{document_setup};
 ghost use Rattle.clock_commands.specs.Answers.{read_in};
+ghost use Rattle.clock_auction.specs.Starts.{of_start};
 
-use clock_commands::{Fault, read_all, setup_in};
-use clock_device::{FromReader, Text};
-use clock_front::Front;
+use crate::files::{Hex, file_bytes, locked_bytes, tell_journal};
+use clock_commands::{Fault, setup_in};
+use clock_device::{Failed, Text};
+use clock_front::{Front, Progress, Reply};
+use clock_journal::{Durable, FileDisk, Journal, Link, Recovered, digest_of};
+use clock_keeping::{Auction, GoOnFault, go_on};
+use clock_processor::Processor;
 use clock_queue::Woken;
-use clock_serving::serve_on;
+use clock_serving::{Keeper, Listening, serve_all, serve_on};
 use clock_words::Serving;
 use std::alloc::Global;
-use std::fs::File;
-use std::io;
+use std::fs::{File, OpenOptions};
 use std::net::{Ipv4Addr, Net, TcpListener, TcpStream};
+use std::os::unix::fs::OpenOptionsExt;
 use std::rt::Files;
 
-/// Serves an auction of the set-up in a file: listens on 127.0.0.1, prints `ready` and the port, and
+/// Serves an auction of the set-up in a file: takes its journal over, where one is named, listens on 127.0.0.1, and
 /// serves so many connections, one after the other. The first fault ends it.
 pub fn serve<R>(rt: &R, serving: &Serving) -> Result<(), Fault>
 where
-    R: Files + Print + Net<Listener = TcpListener, Stream = TcpStream> + Alloc<A = Global>,
+    R: Files<File = File>
+        + Print
+        + Eprint
+        + Net<Listener = TcpListener, Stream = TcpStream>
+        + Alloc<A = Global>,
 {
     let document = file_bytes(rt, serving.setup)?;
-    let mut front = front_in(rt.alloc(), document)?;
-    let served = listen(rt, &mut front, serving);
+    let Some(path) = serving.journal else {
+        let mut front = front_in(rt.alloc(), document)?;
+        let served = listen(rt, &mut front, None, serving);
+        drop(front);
+        return served;
+    };
+    let digest = digest_of(document.as_slice());
+    let front = front_in(rt.alloc(), document)?;
+    let mut auction = Auction { front, texts: 0 };
+    let served = match taken_over(rt, &mut auction, digest, path) {
+        Ok(journal) => listen(rt, &mut auction.front, Some(journal), serving),
+        Err(fault) => Err(fault),
+    };
     // let go by a call: at the end of the scope it would be proved part by part
-    drop(front);
+    drop(auction);
     served
 }
 
@@ -42,30 +63,115 @@ pub fn front_in(alloc: Global, document: Text) -> Result<Front<Woken>, Fault>
     Ok(Front::new(alloc, setup, Woken)?)
 }
 
+/// The journal in a file that is held by this server alone, and which a loss of power leaves in its folder. How many
+/// texts it has and the digest of the last are told.
+fn taken_over<R>(
+    rt: &R,
+    auction: &mut Auction<Woken>,
+    digest: Link,
+    path: &str,
+) -> Result<Journal<FileDisk<File>>, Fault>
+where
+    R: Files<File = File> + Print + Eprint + Alloc<A = Global>,
+    requires { StandsForTexts [] auction.old.front }
+    ensures unfailed { IfOk result (λ journal. journal.has_failed ≡ false) }
+{
+    // the file is made where there is none, readable by its owner alone
+    let mut how = OpenOptions::new();
+    how.read(true).append(true).create(true).mode(0o600);
+    let file = how.open(rt, path).or(Err(Fault::Journal))?;
+    let bytes = locked_bytes(rt.alloc(), &file)?;
+    let bytes = bytes.as_slice();
+    let tell = |recovered: Recovered| tell_cut(rt, recovered.end, bytes.len());
+    match go_on(auction, FileDisk::new(file), digest, bytes, tell) {
+        Ok(journal) => {
+            sync_folder(rt, path)?;
+            tell_journal(rt, auction.texts, *journal.chain())?;
+            Ok(journal)
+        }
+        Err(fault) => Err(start_fault(fault)),
+    }
+}
+
+/// The fault of a journal that is not gone on with.
+pub fn start_fault(fault: GoOnFault) -> Fault
+    ensures { result ≡ of_start fault }
+{
+    match fault {
+        GoOnFault::Refused(fault) => Fault::from(fault),
+        GoOnFault::Failed => Fault::Journal,
+    }
+}
+
+/// Tells of bytes behind the last text, which are cut off.
+fn tell_cut<R: Eprint>(rt: &R, end: usize, size: usize) {
+    if end < size {
+        let cut = size - end;
+        // it is told for the operator's eyes alone: where that fails the auction goes on
+        let _untold = eprintln!(rt; "cut {cut} bytes at {end}");
+    }
+}
+
+/// Puts the name of the file on the disk, which its folder holds.
+fn sync_folder<R: Files<File = File>>(rt: &R, path: &str) -> Result<(), Fault> {
+    let folder = match path.rfind('/') {
+        Some(0) => "/",
+        Some(end) => &path[..end],
+        None => ".",
+    };
+    let folder = File::open(rt, folder).or(Err(Fault::Journal))?;
+    folder.sync_all().or(Err(Fault::Journal))
+}
+
 /// Listens on a port, tells it, and serves connections by a front.
-fn listen<R>(rt: &R, front: &mut Front<Woken>, serving: &Serving) -> Result<(), Fault>
+fn listen<R>(
+    rt: &R,
+    front: &mut Front<Woken>,
+    journal: Option<Journal<FileDisk<File>>>,
+    serving: &Serving,
+) -> Result<(), Fault>
 where
     R: Print + Net<Listener = TcpListener, Stream = TcpStream> + Alloc<A = Global>,
+    requires { IfSome journal (λ journal. journal.has_failed ≡ false) }
 {
-    let listener = listening(rt, serving.port)?;
-    Ok(serve_on(rt.alloc(), front, &listener, serving.connections)?)
-}
-
-/// The port of this machine, listened on, which is told on standard output.
-pub fn listening<R>(rt: &R, port: u16) -> Result<TcpListener, Fault>
-where
-    R: Print + Net<Listener = TcpListener, Stream = TcpStream>,
-{
+    let port = serving.port;
     let listener = TcpListener::bind(rt, (Ipv4Addr::LOCALHOST, port)).or(Err(Fault::Bind))?;
     println!(rt; "ready {port}").or(Err(Fault::Output))?;
-    Ok(listener)
+    let count = serving.connections;
+    let Some(journal) = journal else {
+        return Ok(serve_on(rt.alloc(), front, &listener, count)?);
+    };
+    let mut telling = Telling { rt, journal };
+    let mut taken = Listening::new(&listener);
+    Ok(serve_all(rt.alloc(), front, &mut telling, &mut taken, count)?)
 }
 
-/// All bytes of a file.
-pub fn file_bytes<R: Files + Alloc<A = Global>>(rt: &R, path: &str) -> Result<Text, Fault> {
-    match File::open(rt, path) {
-        Ok(file) => read_all(rt.alloc(), &mut FromReader::new(file)),
-        Err(error) if error.kind() == io::ErrorKind::OutOfMemory => Err(Fault::Memory),
-        Err(_) => Err(Fault::File),
+/// A journal that tells each closing with its digest. Which closings were told is not seen, as standard output tells
+/// none.
+#[derive(Drop)]
+struct Telling<'a, R, D: Durable> {
+    rt: &'a R,
+    journal: Journal<D>,
+}
+
+impl<R: Print, D: Durable> Keeper for Telling<'_, R, D> {
+    ghost journal = { λ telling. telling.journal };
+
+    ghost told = { λ telling. None };
+
+    fn answer<P: Processor>(
+        &mut self,
+        front: &mut Front<P>,
+        text: &[u8],
+        progress: Progress,
+    ) -> Result<Reply, Failed> {
+        self.journal.answer(front, text, progress)
+    }
+
+    /// The reply was given out, so nothing waits for the line.
+    fn round_closed(&mut self, round: u64) {
+        let rt = self.rt;
+        let digest = Hex(*self.journal.chain());
+        let _untold = println!(rt; "closed {round} {digest}");
     }
 }

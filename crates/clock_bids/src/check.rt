@@ -4,7 +4,7 @@ ghost use Rattle.clock_terms.specs.{Limits.{IsRow, most_supply, most_units, publ
 ghost use Rattle.clock_terms.specs.Eligibility as eligibilities;
 ghost use Rattle.clock_bids.specs.{Holding.{holding_of}, inside.Parts.{checks_of_bids}};
 ghost use Rattle.clock_bids.specs.Sheet.{IsGoodSheet, asked_demands, most_bids, sheet_fault};
-ghost use Rattle.clock_bids.specs.inside.Chains.{bid_at, checks_by_last, last_bids, quantity_of, step_checks};
+ghost use Rattle.clock_bids.specs.inside.Chains.{bid_at, checks_by_last, last_bids, quantity_of};
 ghost use Rattle.clock_bids.specs.inside.LastBids.{AreLastPlaces};
 
 use crate::sheet::{Bid, BidFault, Own, Sheet};
@@ -40,12 +40,14 @@ pub fn check_sheet(
         (sheet_fault (public_setup setup.now) own.entry.round prices.now (holding_of own.entry) bids.now)) }
     ensures many { most_bids < length bids.now → result ≡ Err BidFault.TooMany }
 {
-    judge_sheet(alloc, setup, prices, own, bids)?;
-    let bids = Items::from_slice(alloc, bids)?;
-    Ok(Sheet { bids })
+    if bids.len() > MOST_BIDS {
+        return Err(BidFault::TooMany);
+    }
+    take_sheet(alloc, setup, prices, own, Items::from_slice(alloc, bids)?)
 }
 
-/// Judges a sheet as [`check_sheet`] does, and takes its bids over: none is copied.
+/// Judges a sheet as [`check_sheet`] does, and takes its bids over: none is copied. The limit on activity is that of the
+/// FCC's procedures for Auction 105; processing keeps a bidder's activity within its eligibility all the same.
 pub fn take_sheet(
     alloc: Global,
     setup: &Setup,
@@ -62,31 +64,11 @@ pub fn take_sheet(
         (sheet_fault (public_setup setup.now) own.entry.round prices.now (holding_of own.entry) bids)) }
     ensures many { most_bids < length bids → result ≡ Err BidFault.TooMany }
 {
-    judge_sheet(alloc, setup, prices, own, bids.as_slice())?;
-    Ok(Sheet { bids })
-}
-
-/// Judges a sheet as [`check_sheet`] does, and keeps none of it. The limit on activity is that of the FCC's procedures
-/// for Auction 105; processing keeps a bidder's activity within its eligibility all the same.
-fn judge_sheet(
-    alloc: Global,
-    setup: &Setup,
-    prices: &Prices,
-    own: Own,
-    bids: &[Bid],
-) -> Result<(), BidFault>
-    requires prices { length prices.now ≡ length setup.now.products }
-    requires demands { IsRow setup.now.products own.demands.now }
-    ensures good { OnOk result
-        (IsGoodSheet (public_setup setup.now) own.entry.round prices.now (holding_of own.entry) bids.now) }
-    ensures fault { IfErr result (IsFirstFault BidFault.NoMemory
-        (sheet_fault (public_setup setup.now) own.entry.round prices.now (holding_of own.entry) bids.now)) }
-    ensures many { most_bids < length bids.now → result ≡ Err BidFault.TooMany }
-{
-    if bids.len() > MOST_BIDS {
+    let list = bids.as_slice();
+    if list.len() > MOST_BIDS {
         return Err(BidFault::TooMany);
     }
-    let taken = judge(alloc, setup, prices.as_slice(), own.demands, bids)?;
+    let taken = judge(alloc, setup, prices.as_slice(), own.demands, list)?;
     let limit = match own.round {
         1 => own.eligibility as u128,
         _ => own.eligibility as u128 * setup.limit as u128 / 100,
@@ -94,7 +76,7 @@ fn judge_sheet(
     if taken as u128 > limit {
         return Err(BidFault::OverActivity);
     }
-    Ok(())
+    Ok(Sheet { bids })
 }
 
 /// Judges each bid by the last one before it for the same product. A bid for a higher product than all before it has
@@ -232,16 +214,8 @@ fn bid_fault(
         return Some(BidFault::OverCap(place));
     }
     let held = demands.get_near(near, product);
-    step_fault(last, held, pair.clock.get(), place, bid)
-}
-
-/// The fault of a bid's step from the last bid before it for the same product, or where there is
-/// none from the demand held.
-fn step_fault(last: Option<&Bid>, held: u64, clock: u64, place: u64, bid: &Bid) -> Option<BidFault>
-    ensures { result ≡ first_fault (step_checks (option_copied last.entry) held clock place bid.now) }
-{
     let Some(last) = last else {
-        let kept_below = bid.quantity == held && bid.price != clock;
+        let kept_below = bid.quantity == held && bid.price != pair.clock.get();
         return kept_below.then_some(BidFault::KeepPrice(place));
     };
     if last.price >= bid.price {

@@ -1,8 +1,7 @@
-ghost use Rattle.std.specs.Prelude.{◌≡◌, ◌≢◌, Ok, Err, IfOk, IfErr, IfSome};
+ghost use Rattle.std.specs.Prelude.{◌≡◌, ◌≢◌, Ok, Err, IfOk, IfErr};
 ghost use Rattle.serde_json.specs.View.{view};
 ghost use Rattle.clock_bodies.specs.CloseBodies as bodies;
-ghost use Rattle.clock_bodies.specs.{QuickBodies.{tie_data, single_of, listed_of}, QuickClosings.{close_fields, scanned_data}};
-ghost use Rattle.clock_bodies.specs.inside.QuickBodies.{close_data};
+ghost use Rattle.clock_bodies.specs.{QuickBodies.{tie_data}, QuickClosings.{close_fields, scanned_data}, inside.QuickBodies.{close_data}};
 
 use crate::body::{Body, BodyFault, read_body};
 use clock_device::{Items, NoMemory};
@@ -57,11 +56,11 @@ impl<'v> PartReader<'v> for TieReader {
     ghost shown = { tie_data };
 
     fn part(_alloc: Global, scan: &mut Scan<'v>) -> Result<Tie, ScanStop> {
-        scan.opens_array()?;
+        scan.opens(b'[')?;
         let bidder = scan.number()?;
         let product = scan.number()?;
         let number = scan.number()?;
-        if !scan.closes_array() {
+        if !scan.closes(b']') {
             return Err(ScanStop::Unusual);
         }
         Ok(Tie {
@@ -109,29 +108,14 @@ pub fn read_close(alloc: Global, bytes: &[u8]) -> Result<CloseBody, BodyFault>
     ensures ok { IfOk result (λ body. bodies.close_body bytes.now ≡ Ok body) }
     ensures err { IfErr result (λ fault. fault ≢ BodyFault.NoMemory → bodies.close_body bytes.now ≡ Err fault) }
 {
-    read_body::<CloseReader>(alloc, bytes)
+    read_body::<CloseBody>(alloc, bytes)
 }
 
 /// Whether increments have the form of a set-up's version: one for all products in version 1, one for each later.
 pub fn is_of_version(version: u64, increments: &Increments) -> bool
     ensures { result ≡ bodies.is_of_version version increments.now }
 {
-    match increments {
-        Increments::Single(_) => version == 1,
-        Increments::PerProduct(_) => version != 1,
-    }
-}
-
-/// The increments, where they were found in one form and not in both.
-pub fn one_form(single: Option<u64>, listed: Option<Items<u64>>) -> Option<Increments>
-    ensures single { IfSome result (λ increments. single ≡ single_of increments) }
-    ensures listed { IfSome result (λ increments. listed ≡ listed_of increments) }
-{
-    match (single, listed) {
-        (Some(increment), None) => Some(Increments::Single(increment)),
-        (None, Some(increments)) => Some(Increments::PerProduct(increments)),
-        _ => None,
-    }
+    (version == 1) == matches!(increments, Increments::Single(_))
 }
 
 /// What was found of a closing so far.
@@ -184,19 +168,21 @@ impl<'v> ScannedMembers<'v> for FoundClose {
     }
 
     fn whole(self) -> Option<ScannedClose> {
+        let increments = match (self.increment, self.increments) {
+            (Some(increment), None) => Increments::Single(increment),
+            (None, Some(increments)) => Increments::PerProduct(increments),
+            _ => return None,
+        };
         Some(ScannedClose {
             round: self.round,
-            increments: one_form(self.increment, self.increments)?,
+            increments,
             ties: self.ties?,
         })
     }
 }
 
 /// The body of a closing is read from one that names its round.
-#[derive(Drop)]
-struct CloseReader;
-
-impl<'v> PartReader<'v> for CloseReader {
+impl<'v> PartReader<'v> for CloseBody {
     type Part = CloseBody;
 
     ghost levels = { 3 };

@@ -7,7 +7,6 @@ mod put_body;
 
 pub use body::BodyFault;
 pub use close_body::{
-    CloseBody, FoundClose, ScannedClose, TieReader, increments_of, is_of_version, one_form,
-    read_close,
+    CloseBody, FoundClose, ScannedClose, TieReader, increments_of, is_of_version, read_close,
 };
 pub use put_body::{BidReader, PutBody, read_put};

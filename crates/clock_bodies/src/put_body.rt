@@ -60,10 +60,10 @@ impl Body for PutBody {
     ghost meaning = { bodies.put_of };
 
     fn of_value(alloc: Global, value: &Value) -> Result<Option<PutBody>, NoMemory> {
-        let Some(round) = number_at(value, "round") else {
-            return Ok(None);
-        };
-        let Some(bids) = each_at(alloc, value, "bids", &BidReader)? else {
+        let (Some(round), Some(bids)) = (
+            number_at(value, "round"),
+            each_at(alloc, value, "bids", &BidReader)?,
+        ) else {
             return Ok(None);
         };
         Ok(has_members(value, 2).then_some(PutBody { round, bids }))
@@ -157,10 +157,10 @@ fn bids(alloc: Global, scan: &mut Scan<'_>) -> Result<Items<Bid>, ScanStop>
     ensures value { IfOk result (λ bids. Reads 2 scan.old (bids_data bids) scan.new) }
     ensures shorter { OnOk result (length scan.new < length scan.old) }
 {
-    scan.opens_array()?;
+    scan.opens(b'[')?;
     let mut list = with_room(alloc, MOST_AHEAD.min(scan.bytes_left() / LEAST_BID))?;
     compact_bids(scan, &mut list)?;
-    'items: while !scan.closes_array() {
+    'items: while !scan.closes(b']') {
         let next = BidReader::part(alloc, scan)?;
         push(&mut list, next)?;
         compact_bids(scan, &mut list)?;

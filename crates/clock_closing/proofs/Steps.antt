@@ -13,8 +13,8 @@ use Rattle.clock_order.specs.declared.ties.Tie.{Tie}
 use Rattle.clock_order.specs.Ties.{tie_fault}
 use Rattle.clock_processor.specs.Board.{IsWithinEligibility}
 use Rattle.clock_closing.specs.Holdings.{Holding}
-use Rattle.clock_closing.specs.OpenRound.{OpenRoundFields, IsOpenRound, holding_at, bids_at}
-use Rattle.clock_closing.specs.inside.OpenRound.{eligibilities_of}
+use Rattle.clock_closing.specs.OpenRound.{OpenRoundFields, holding_at, bids_at}
+use Rattle.clock_closing.specs.inside.OpenRound.{IsOpenRound, eligibilities_of}
 use Rattle.clock_closing.specs.Closing.{closing}
 use Rattle.clock_closing.specs.inside.Postings.{posted_now}
 use Rattle.clock_closing.proofs.Posts.{closes-fair}

@@ -1,3 +1,4 @@
 -- What only proofs and private functions use: no clause of a public call cites it.
 pub mod Postings
 pub mod OpenRound
+pub mod Results

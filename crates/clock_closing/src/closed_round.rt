@@ -1,5 +1,5 @@
 ghost use Rattle.std.specs.Prelude.{◌≡◌};
-ghost use Rattle.clock_closing.specs.{Prepared.{PreparedClosing}, Results.{AreConsistent}};
+ghost use Rattle.clock_closing.specs.{Prepared.{PreparedClosing}, inside.Results.{AreConsistent}};
 
 use clock_device::Items;
 use clock_order::Ties;
@@ -43,28 +43,26 @@ pub struct Results {
     pub demands: Grid,
 }
 
-/// What a closing is asked for: increments and tie numbers that have no fault.
-#[derive(Drop)]
-pub(crate) struct ClosingInputs {
-    pub(crate) increments: Increments,
-    pub(crate) ties: Ties,
-}
-
 /// A closing that is accepted and not made yet.
 ///
-/// Contracts see the round, the increments and the tie numbers that were asked for, and the round
-/// that the closing adds.
+/// Contracts see the round, the increments and the tie numbers that were asked for, and the round that the closing
+/// adds.
 #[derive(Drop)]
 pub struct Prepared {
-    pub(crate) round: u64,
-    pub(crate) asked: ClosingInputs,
-    pub(crate) results: Results,
+    /// The round that is closed.
+    pub round: u64,
+    /// By how many percent it raises prices.
+    pub increments: Increments,
+    /// The tie numbers that it goes by.
+    pub ties: Ties,
+    /// What it leaves.
+    pub results: Results,
 }
 
 impl Model for Prepared {
     ghost Value = { PreparedClosing };
 
-    ghost view = { λ p. record { round = p.round; increments = p.asked.increments; ties = p.asked.ties; closed = p.results.closed } };
+    ghost view = { λ p. record { round = p.round; increments = p.increments; ties = p.ties; closed = p.results.closed } };
 
     ghost invariant = { λ p. AreConsistent p.results };
 }
@@ -75,13 +73,5 @@ impl Prepared {
         ensures { result ≡ self.now.closed.sheet.ended }
     {
         self.results.closed.sheet.ended
-    }
-
-    /// What the closing leaves. It takes no memory.
-    pub fn into_results(self) -> Results
-        ensures closed { result.closed ≡ self.closed }
-        ensures consistent { AreConsistent result }
-    {
-        self.results
     }
 }

@@ -7,9 +7,6 @@ use clock_order::TieFault;
 use clock_posting::PostFault;
 use thiserror::Error;
 
-// The cases are described above the enum: `rt plant` takes a comment above a case for its name, and
-// then tries no body of `close`.
-
 /// Why a round is not closed: the first of these that applies, but for want of memory, which may come at any point.
 ///
 /// - `Ended`: the auction has ended.
@@ -18,6 +15,7 @@ use thiserror::Error;
 /// - `Tie`: the tie numbers have this fault.
 /// - `PriceLimit`: the next clock price of this product would be above the highest price.
 /// - `NoMemory`: there was no memory.
+// They are described here, since `rt plant` takes a comment above a case for its name.
 #[derive(Clone, Copy, Debug, PartialEq, Eq, Error)]
 pub enum CloseFault {
     #[error("the auction has ended")]

@@ -1,35 +1,42 @@
-ghost use Rattle.std.specs.Prelude.{◌≡◌, ◌≢◌, ◌<◌, None, length, slice_index_or, option_copied, IfOk, IfErr};
-ghost use Rattle.clock_terms.specs.Faults.{IsRefusal};
+ghost use Rattle.std.specs.Prelude.{◌≡◌, ◌≢◌, ◌<◌, ◌≤◌, None, length, slice_index_or, option_copied, IfOk};
+ghost use Rattle.clock_terms.specs.{Eligibility.{activity}, Increments.{AreIncrements}, Limits.{IsRow, public_setup}};
 ghost use Rattle.clock_bids.specs.Holding.{holding_of};
 ghost use Rattle.clock_order.specs.declared.ties.TieFault.TheVariants as tie_faults;
-ghost use Rattle.clock_closing.specs.{OpenRound.{OpenRoundFields, IsOpenRound, holding_at, open_at}, Closing.{closing_now}};
-ghost use Rattle.clock_closing.specs.{Prepared.{Answers}, inside.Postings.{IsAsked}};
+ghost use Rattle.clock_processor.specs.Board.{IsWithinEligibility};
+ghost use Rattle.clock_closing.specs.{OpenRound.{OpenRoundFields, holding_at, open_at}, Prepared.{Answers}, Results.{demands_of}};
+ghost use Rattle.clock_closing.specs.inside.OpenRound.{IsOpenRound, eligibilities_of, grid_of};
+ghost use Rattle.clock_closing.specs.inside.Postings.{AreRequests, ComesTo, IsRoundOf, posted_now};
+ghost use Rattle.clock_closing.specs.Closing as rules;
 
-mod outcome;
-
-use crate::closed_round::{ClosingInputs, Prepared};
+use crate::closed_round::{ClosedRound, Prepared, Results, Slip, Slips};
 use crate::fault::CloseFault;
-use clock_bids::{Own, Sheet};
+use clock_bids::{Changes, Own, Sheet, asked_demands, bids_of, with_changes_of};
 use clock_device::NoMemory;
-use clock_order::{Tie, Ties};
-use clock_processor::Processor;
-use clock_terms::{Amounts, Grid, Increments, Prices, Setup};
+use clock_order::{Tie, Ties, ordered};
+use clock_posting::{PostFault, Posting, post, post_first};
+use clock_processor::{Board, Processor, Settled};
+use clock_terms::{Amounts, Grid, Increments, Prices, Row, Setup, next_eligibility, units_held};
 use std::alloc::Global;
 use std::marker::Model;
 
-/// A round of an auction that goes on, with all that its closing goes by: the set-up, the number of the round and its
-/// prices, what each bidder holds, and the sheets in force (ascending clock auction, the FCC's procedures for Auction
-/// 105).
+/// A round of an auction that goes on, with all that its closing goes by (ascending clock auction, the FCC's procedures
+/// for Auction 105). All of it is in order.
 ///
 /// Contracts see the set-up, and where the auction stands, what is held and the sheets.
 #[derive(Drop)]
 pub struct OpenRound<'a> {
-    setup: &'a Setup,
-    round: u64,
-    prices: &'a Prices,
-    eligibilities: &'a Amounts,
-    demands: &'a Grid,
-    sheets: &'a [Option<Sheet>],
+    /// The set-up of the auction.
+    pub setup: &'a Setup,
+    /// The number of the round.
+    pub round: u64,
+    /// A pair of prices for each product.
+    pub prices: &'a Prices,
+    /// The eligibility of each bidder, in bidding units.
+    pub eligibilities: &'a Amounts,
+    /// A row of demands for each bidder, in blocks.
+    pub demands: &'a Grid,
+    /// The sheet in force, or none, of each bidder.
+    pub sheets: &'a [Option<Sheet>],
 }
 
 impl<'a> Model for OpenRound<'a> {
@@ -42,30 +49,6 @@ impl<'a> Model for OpenRound<'a> {
 }
 
 impl<'a> OpenRound<'a> {
-    /// A round that goes on. There are a pair of prices for each product, and an eligibility in bidding units, a row of
-    /// demands in blocks, and a sheet or none for each bidder; all of them are in order.
-    pub fn new(
-        setup: &'a Setup,
-        round: u64,
-        prices: &'a Prices,
-        eligibilities: &'a Amounts,
-        demands: &'a Grid,
-        sheets: &'a [Option<Sheet>],
-    ) -> OpenRound<'a>
-        requires each { length demands.now ≡ length eligibilities.now }
-        requires order { IsOpenRound (open_at setup.now round prices.now eligibilities.now demands.now sheets.now) }
-        ensures { result ≡ open_at setup.now round prices.now eligibilities.now demands.now sheets.now }
-    {
-        OpenRound {
-            setup,
-            round,
-            prices,
-            eligibilities,
-            demands,
-            sheets,
-        }
-    }
-
     /// Closes the round: settles it by a processor, and makes its sheet, its slips and the next prices. An increment is
     /// a percentage from 1 to 50; there is one for all products, or one for each. A grid that is no longer needed may
     /// be lent: the demands are then settled in its memory.
@@ -83,38 +66,171 @@ impl<'a> OpenRound<'a> {
     ) -> Result<Prepared, CloseFault>
         ensures asked { IfOk result (λ prepared. (prepared.round ≡ self.now.before.standing.round)
             × (prepared.increments ≡ increments.now) × (prepared.ties ≡ ties.now)) }
-        ensures answer { Answers (closing_now self.now increments.now ties.now) result }
-        ensures memory { result ≢ Err (CloseFault.Tie tie_faults.NoMemory) }
-    {
-        let asked = self.asked(alloc, increments, ties)?;
-        let results = self.results(alloc, processor, &asked, old)?;
-        Ok(Prepared {
-            round: self.round,
-            asked,
-            results,
-        })
-    }
-
-    /// What the closing is asked for, where increments and tie numbers have no fault.
-    fn asked(
-        &self,
-        alloc: Global,
-        increments: &Increments,
-        ties: &[Tie],
-    ) -> Result<ClosingInputs, CloseFault>
-        ensures asked { IfOk result (IsAsked self.now increments.now ties.now) }
-        ensures refused { IfErr result (IsRefusal CloseFault.NoMemory (closing_now self.now increments.now ties.now)) }
+        ensures answer { Answers (rules.closing_now self.now increments.now ties.now) result }
         ensures memory { result ≢ Err (CloseFault.Tie tie_faults.NoMemory) }
     {
         let setup = self.setup;
         if !increments.are_within(setup.products.as_slice().len()) {
             return Err(CloseFault::Increment);
         }
-        let copy = copy_of(alloc, increments)?;
+        let increments = copy_of(alloc, increments)?;
         let ties = Ties::new(alloc, setup, ties)?;
-        Ok(ClosingInputs {
-            increments: copy,
+        let results = self.results(alloc, processor, &increments, &ties, old)?;
+        Ok(Prepared {
+            round: self.round,
+            increments,
             ties,
+            results,
+        })
+    }
+
+    /// What the round comes to. In the first round the sheets' quantities stand as demands, and in a later one all
+    /// bidders' requests are settled in their order.
+    fn results<P: Processor>(
+        &self,
+        alloc: Global,
+        processor: &P,
+        increments: &Increments,
+        ties: &Ties,
+        old: &mut Option<Grid>,
+    ) -> Result<Results, CloseFault>
+        requires { AreIncrements (length self.now.setup.products) increments.now }
+        ensures { ComesTo (posted_now self.now increments.now ties.now) result }
+    {
+        if self.round == 1 {
+            let grid = self.asked_grid(alloc)?;
+            let posting = post_first(alloc, self.setup, &grid, increments);
+            return self.with_slips(alloc, posting, grid);
+        }
+        let requests = self.requests(alloc, ties)?;
+        let settled = self.settled(alloc, processor, &requests, old)?;
+        let posting = post(
+            alloc,
+            self.setup,
+            self.round,
+            self.prices,
+            &requests,
+            &settled,
+            increments,
+        );
+        drop(requests);
+        self.with_slips(alloc, posting, settled.into_grid())
+    }
+
+    /// The demands that the sheets in force ask for. No sheet is the same as an empty one.
+    fn asked_grid(&self, alloc: Global) -> Result<Grid, NoMemory>
+        ensures { IfOk result (λ grid. grid ≡ rules.asked_grid self.now.setup.products self.now.before) }
+    {
+        let mut rows = Vec::with_capacity(alloc, self.bidders() as usize)?;
+        for bidder in 0..self.bidders() {
+            let asked = asked_demands(alloc, self.setup, bids_of(self.sheet(bidder)))?;
+            rows.push(Row::of(alloc, self.setup, asked.as_slice())?)?;
+        }
+        Ok(Grid::of_rows(alloc, self.setup, rows)?)
+    }
+
+    /// All bidders' requests in the order of processing.
+    fn requests(&self, alloc: Global, ties: &Ties) -> Result<Changes, NoMemory>
+        requires { 2 ≤ self.now.before.standing.round }
+        ensures ordered { IfOk result (λ list. list ≡ rules.requests self.now.before ties.now) }
+        ensures all { IfOk result (AreRequests self.now.before) }
+    {
+        let mut changes = Changes::new(alloc);
+        for bidder in 0..self.bidders() {
+            changes = with_changes_of(
+                alloc,
+                changes,
+                self.setup,
+                self.prices,
+                self.own(bidder),
+                bidder,
+                self.sheet(bidder),
+            )?;
+        }
+        ordered(alloc, &changes, ties)
+    }
+
+    /// The demands that the settling of these requests leaves, and what is left of each. They are settled in the memory
+    /// of a grid that is no longer needed, where there is one.
+    fn settled<P: Processor>(
+        &self,
+        alloc: Global,
+        processor: &P,
+        requests: &Changes,
+        old: &mut Option<Grid>,
+    ) -> Result<Settled, NoMemory>
+        requires later { 2 ≤ self.now.before.standing.round }
+        requires requests { AreRequests self.now.before requests.now }
+        ensures grid { IfOk result (λ settled. settled.grid ≡
+            (rules.settlement self.now.setup.products self.now.before requests.now).grid) }
+        ensures left { IfOk result (λ settled. settled.left ≡
+            (rules.settlement self.now.setup.products self.now.before requests.now).left) }
+        ensures within { IfOk result (λ settled. IsWithinEligibility self.now.setup.products
+            (eligibilities_of self.now.before) settled.grid) }
+        ensures each { IfOk result (λ settled. length settled.left ≡ length requests.now) }
+    {
+        let grid = self.grid(alloc, old)?;
+        let board = Board::on(alloc, self.setup, self.eligibilities, grid)?;
+        processor.settle(alloc, board, requests)
+    }
+
+    /// The demands that are held, in the memory of a grid that is no longer needed, where there is one.
+    fn grid(&self, alloc: Global, old: &mut Option<Grid>) -> Result<Grid, NoMemory>
+        ensures { IfOk result (λ grid. grid ≡ grid_of self.now.before) }
+    {
+        self.demands.copy_over(alloc, old.take())
+    }
+
+    /// What a posting and these demands make of the round, or why there is no posting.
+    fn with_slips(
+        &self,
+        alloc: Global,
+        posting: Result<Posting, PostFault>,
+        demands: Grid,
+    ) -> Result<Results, CloseFault>
+        requires { IsWithinEligibility self.now.setup.products (eligibilities_of self.now.before) demands }
+        ensures { IsRoundOf self.now demands posting result }
+    {
+        let Posting { sheet, next } = posting?;
+        let slips = self.slips(alloc, &demands)?;
+        Ok(Results {
+            closed: ClosedRound { sheet, slips },
+            next,
+            demands,
+        })
+    }
+
+    /// Each bidder's slip after a round with these demands.
+    fn slips(&self, alloc: Global, demands: &Grid) -> Result<Slips, NoMemory>
+        requires { IsWithinEligibility self.now.setup.products (eligibilities_of self.now.before) demands.now }
+        ensures slips { IfOk result (λ slips. slips ≡
+            rules.slips_after (public_setup self.now.setup) self.now.before demands.now) }
+        ensures demands { IfOk result (λ slips. demands.now ≡ demands_of slips) }
+    {
+        let mut slips = Vec::with_capacity(alloc, self.bidders() as usize)?;
+        for bidder in 0..self.bidders() {
+            slips.push(self.slip_after(alloc, bidder, demands.row(bidder as usize))?)?;
+        }
+        Ok(Slips::from_vec(slips))
+    }
+
+    /// A bidder's slip after a round that leaves it these demands.
+    fn slip_after(&self, alloc: Global, bidder: u32, demands: &Row) -> Result<Slip, NoMemory>
+        requires bidder { bidder < length self.now.setup.bidders }
+        requires row { IsRow self.now.setup.products demands.now }
+        requires within { activity self.now.setup.products demands.now ≤
+            (holding_at self.now.before.holdings bidder).eligibility }
+        ensures { IfOk result (λ slip. slip ≡ rules.slip_after (public_setup self.now.setup)
+            self.now.before.standing.round (holding_at self.now.before.holdings bidder).eligibility demands.now) }
+    {
+        let setup = self.setup;
+        let used = units_held(setup.products.as_slice(), demands);
+        let held = self.own(bidder).eligibility;
+        Ok(Slip {
+            round: self.round,
+            activity: used,
+            eligibility: next_eligibility(held, used, setup.requirement),
+            demands: demands.kept(alloc)?,
         })
     }
 

@@ -11,8 +11,7 @@ impl Items<u8> {
         ensures ok { OnOk result (self.new ≡ self.old ++ decimal number) }
         ensures err { OnErr result (self.new ≡ self.old) }
     {
-        let mut buffer = Buffer::new();
-        self.extend_from_slice(buffer.format(number).as_bytes())
+        self.extend_from_slice(Buffer::new().format(number).as_bytes())
     }
 
     /// Adds a number in plain decimal, or a dash where there is none.
@@ -34,8 +33,7 @@ impl Bounded<u8> {
         ensures items { self.new.items ≡ self.old.items ++ decimal number }
         ensures room { self.old.room ≤ self.new.room + 20 }
     {
-        let mut digits = Buffer::new();
-        self.extend_from_slice(digits.format(number).as_bytes());
+        self.extend_from_slice(Buffer::new().format(number).as_bytes());
     }
 }
 
@@ -44,8 +42,7 @@ pub fn write_number<W: Sink>(sink: &mut W, number: u64) -> Result<(), Failed>
     ensures bytes { WritesText (W.told sink.old).taken (W.told sink.new).taken (decimal number) result }
     ensures failed { (W.told sink.new).has_failed ≡ ((W.told sink.old).has_failed || is_err result) }
 {
-    let mut buffer = Buffer::new();
-    write_all(sink, buffer.format(number).as_bytes())
+    write_all(sink, Buffer::new().format(number).as_bytes())
 }
 
 /// Writes bytes right before a place of others, and tells where they begin. So a text of several pieces is written from

@@ -10,7 +10,7 @@ use thiserror::Error;
 /// A list that owns its items, and is read as a slice of them is. Contracts see the list of the items.
 ///
 /// The lists of the auction are this type under names of their own, as [`Text`] for bytes.
-#[derive(Drop)]
+#[derive(Clone, Drop)]
 pub struct Items<T> {
     held: Vec<T>,
 }
@@ -31,9 +31,7 @@ impl<T> Items<T> {
     pub fn new(alloc: Global) -> Items<T>
         ensures { result ≡ [] }
     {
-        Items {
-            held: Vec::new(alloc),
-        }
+        Items::from_vec(Vec::new(alloc))
     }
 
     /// No items yet, and room for so many: with it, adding them takes no memory.
@@ -127,9 +125,7 @@ impl<T: Copy> Items<T> {
     pub fn from_slice(alloc: Global, items: &[T]) -> Result<Items<T>, NoMemory>
         ensures { IfOk result (λ copy. copy ≡ items.now) }
     {
-        Ok(Items {
-            held: Vec::from_slice(alloc, items)?,
-        })
+        Ok(Items::from_vec(Vec::from_slice(alloc, items)?))
     }
 
     /// Adds the items of a slice at the end, all of them or none.
@@ -154,14 +150,12 @@ impl Items<u64> {
     pub fn zeros(alloc: Global, count: usize) -> Result<Items<u64>, NoMemory>
         ensures { IfOk result (λ zeros. zeros ≡ replicate count 0) }
     {
-        Ok(Items {
-            held: vec![in alloc; 0; count]?,
-        })
+        Ok(Items::from_vec(vec![in alloc; 0; count]?))
     }
 }
 
-/// A list with room for so many items more, all of which was taken when it was made: adding an item
-/// takes no memory and cannot fail. Contracts see the items, and how many more there is room for.
+/// A list with room for so many items more, all of which was taken when it was made: adding an item takes no memory and
+/// cannot fail. Contracts see the items, and how many more there is room for.
 #[derive(Drop)]
 pub struct Bounded<T> {
     held: Vec<T>,
@@ -212,8 +206,8 @@ impl<T: Copy> Bounded<T> {
     }
 }
 
-/// A growth was refused: there was no memory for it. The values that the call was to change are as
-/// they were, though room that was taken before the refusal may stay theirs.
+/// A growth was refused: there was no memory for it. The values that the call was to change are as they were, though room
+/// that was taken before the refusal may stay theirs.
 #[derive(Clone, Copy, Debug, PartialEq, Eq, Error)]
 #[error("out of memory")]
 pub struct NoMemory;

@@ -9,8 +9,7 @@ use crate::stream::{Failed, Sink, Source, Stop};
 use std::alloc::Global;
 use std::marker::Model;
 
-/// A [`Source`] of bytes that stand in memory: it gives at most `piece` bytes a read, and may
-/// stop at one read, counted from 0.
+/// A [`Source`] of bytes in memory: it gives at most `piece` bytes a read, and may stop at one read, counted from 0.
 #[derive(Drop)]
 pub struct ListSource<'a> {
     left: &'a [u8],
@@ -90,8 +89,8 @@ impl Source for ListSource<'_> {
     }
 }
 
-/// A [`Sink`] that keeps its bytes in memory: it has room for `room` bytes, takes at most `piece`
-/// bytes a write, and may fail at one write, counted from 0.
+/// A [`Sink`] that keeps its bytes in memory: it has room for `room` bytes, takes at most `piece` bytes a write, and may
+/// fail at one write, counted from 0.
 #[derive(Drop)]
 pub struct ListSink {
     taken: Vec<u8>,

@@ -1,5 +1,4 @@
-ghost use Rattle.std.specs.{Prelude.{◌≡◌, ◌||◌, vec_len, IfOk, is_err}, Io.{ReadsAtMost}};
-ghost use Rattle.std.specs.Io.KnownBytes.{ReadConsumes, WriteAppends};
+ghost use Rattle.std.specs.{Prelude.{◌≡◌, ◌||◌, vec_len, IfOk, is_err}, Io.{ReadsAtMost, KnownBytes.{ReadConsumes, WriteAppends}}};
 ghost use Rattle.clock_device.specs.{Calls.{count_after, interruptions_after, is_failed_read}, Streams.{CountsTaken, WritesText}};
 ghost use Rattle.clock_device.specs.Told.{SinkTold, SourceTold, IsUnread, IsUnused, unread, unused};
 
@@ -26,9 +25,8 @@ pub struct Failed;
 
 /// Where bytes come from.
 ///
-/// Contracts see the bytes that reads will still give, where the source tells them; how many
-/// reads were made and how many of them were interrupted, numbers that stay at the greatest
-/// `u64`; and whether one of them failed.
+/// Contracts see the bytes that reads will still give, where the source tells them; how many reads were made and how many
+/// of them were interrupted, numbers that stay at the greatest `u64`; and whether one of them failed.
 pub trait Source {
     ghost told: { Self → SourceTold };
 
@@ -51,8 +49,8 @@ pub fn room_for_read(alloc: Global, size: usize) -> Result<Vec<u8>, NoMemory>
 
 /// Where bytes go.
 ///
-/// Contracts see the bytes that it has taken, where the sink tells them; how many writes were
-/// made, a number that stays at the greatest `u64`; and whether one of them failed.
+/// Contracts see the bytes that it has taken, where the sink tells them; how many writes were made, a number that stays at
+/// the greatest `u64`; and whether one of them failed.
 pub trait Sink {
     ghost told: { Self → SinkTold };
 

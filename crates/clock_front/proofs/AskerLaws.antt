@@ -9,7 +9,7 @@ use Rattle.clock_terms.specs.Limits.{SetupFields}
 use Rattle.clock_house.specs.History.{bidder_at}
 use Rattle.clock_http.specs.Heads.{same_bytes}
 use Rattle.std.specs.Option.{option_map_or}
-use Rattle.clock_front.specs.declared.front.asked.Asker.TheVariants.{Operator, Bidder}
+use Rattle.clock_front.specs.declared.front.askers.Asker.TheVariants.{Operator, Bidder}
 use Rattle.clock_front.specs.Askers.{bidder_tokens, holder, asker, HasOwnTokens}
 
 same : (a b : List ℕ) → same_bytes a b ≡ true → a ≡ b

@@ -54,7 +54,7 @@ closing_followed prepared old mid new round increments ties r i t still followed
 -- ---- what is no command
 
 -- a request that is no command changes nothing
-other_followed : (house : HouseFields) → IsFollowedBy other house house
+pub other_followed : (house : HouseFields) → IsFollowedBy other house house
 other_followed house = record {
   setup = refl;
   stands = λ commands stood. record { closed = stood.closed; sheets = stood.sheets };

@@ -20,7 +20,7 @@ use Rattle.clock_front.specs.inside.FixedReplies.{refusal_of, is_fixed}
 use Rattle.clock_front.specs.Askers.{asker}
 use Rattle.clock_front.specs.Requests.{Ask, Request, ask_of, ask_by_route, request_of, turned_away}
 use Rattle.clock_http.specs.Routes.{page_of}
-use Rattle.clock_front.specs.declared.front.asked.Asker.{Asker}
+use Rattle.clock_front.specs.declared.front.askers.Asker.{Asker}
 use Rattle.clock_front.specs.Outcomes.{Outcome, outcome, answer_of, refused, command_of}
 use Rattle.clock_front.specs.Fronts.{house_after}
 use Rattle.clock_front.proofs.OutcomeLaws.{away_other}

@@ -3,8 +3,9 @@ mod PublicLaws
 mod Examples
 mod TokenLaws
 mod OutcomeLaws
-mod FrontLaws
+pub mod FrontLaws
 mod ChangeLaws
+mod ReplyLaws
 pub mod RunLaws
 mod ConnectionLaws
 mod NumberedLaws

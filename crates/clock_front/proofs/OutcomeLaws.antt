@@ -11,12 +11,9 @@ use Rattle.clock_http.specs.Replies.{Answer}
 use Rattle.clock_bodies.specs.declared.put_body.PutBody.{PutBody}
 use Rattle.clock_bodies.specs.declared.close_body.CloseBody.{CloseBody}
 use Rattle.clock_bodies.specs.declared.body.BodyFault.{BodyFault}
-use Rattle.clock_front.specs.declared.front.asked.Asker.{Asker}
-use Rattle.clock_front.specs.declared.front.asked.Asker.TheVariants.{Nobody, Operator, Bidder}
-use Rattle.clock_front.specs.declared.front.asked.PageAsked.{PageAsked}
-use Rattle.clock_front.specs.declared.front.asked.PageAsked.TheVariants as reading
+use Rattle.clock_front.specs.declared.front.askers.Asker.{Asker}
+use Rattle.clock_front.specs.declared.front.askers.Asker.TheVariants.{Nobody, Operator, Bidder}
 use Rattle.clock_front.specs.Requests as asked
-use Rattle.clock_front.specs.inside.ShownAsked.{shown_reading}
 use Rattle.clock_front.specs.Outcomes.{Outcome, answer_of, done, refused, page_or_no_round, command_of}
 
 -- a page of a part of the closed round that is there
@@ -25,32 +22,9 @@ pub found_page : {T : Type 0} (value : T → Data) (part : ClosedRound → T) (c
 found_page value part None x is = absurd cc
 found_page value part (Some round) x is = (let same : x ≡ part round = cc in ap (λ y. done (value y)) same)
 
--- an asker that may not see a page is told why
-pub turned : (answer : Answer) (away : Shown) (outcome : Outcome) → outcome ≡ refused away → answer ≡ answer_of (refused away) → answer ≡ answer_of outcome
-turned answer away outcome is told = told ∙ sym (ap answer_of is)
-
 -- ---- requests that are no commands
-
-pub reading_other : (setup : SetupFields) (asker : Asker) (what : PageAsked) → command_of setup asker (shown_reading what) ≡ other
-reading_other setup Nobody what = refl
-reading_other setup Operator reading.NoPage = refl
-reading_other setup (Bidder b) reading.NoPage = refl
-reading_other setup _ _ = refl
 
 pub away_other : (setup : SetupFields) (asker : Asker) (code : Code) → command_of setup asker (asked.turned_away code) ≡ other
 away_other setup Nobody code = refl
 away_other setup Operator code = refl
 away_other setup (Bidder b) code = refl
-
--- a sheet of no bidder, and a closing of another than the operator
-pub put_other : (setup : SetupFields) (asker : Asker) (body : Result PutBody BodyFault) → ((bidder : ℕ) → asker ≡ Bidder bidder → ⊥)
-    → command_of setup asker (asked.put body) ≡ other
-put_other setup Nobody body none = refl
-put_other setup Operator body none = refl
-put_other setup (Bidder b) body none = absurd (none b refl)
-
-pub close_other : (setup : SetupFields) (asker : Asker) (body : Result CloseBody BodyFault) → (asker ≡ Operator → ⊥)
-    → command_of setup asker (asked.close body) ≡ other
-close_other setup Nobody body none = refl
-close_other setup Operator body none = absurd (none refl)
-close_other setup (Bidder b) body none = refl

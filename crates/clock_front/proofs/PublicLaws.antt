@@ -15,7 +15,7 @@ use Rattle.clock_http.specs.Decimals.{plain_number}
 use Rattle.clock_http.specs.declared.code.Code.TheVariants.{Token}
 use Rattle.clock_views.specs.Refusals.{alone}
 use Rattle.clock_views.specs.PublicPages.{status_value, products_value, sheet_value}
-use Rattle.clock_front.specs.declared.front.asked.Asker.TheVariants.{Nobody}
+use Rattle.clock_front.specs.declared.front.askers.Asker.TheVariants.{Nobody}
 use Rattle.clock_front.specs.Requests.{Ask, request_of}
 use Rattle.clock_front.specs.Requests as asked
 use Rattle.clock_front.specs.Outcomes.{Outcome, answer_of, done, refused, not_allowed, outcome, page_or_no_round}

@@ -24,8 +24,8 @@ use Rattle.clock_views.specs.BidderPages.{bids_value, slip_value}
 use Rattle.clock_bodies.specs.declared.put_body.PutBody.{PutBody}
 use Rattle.clock_bodies.specs.declared.close_body.CloseBody.{CloseBody}
 use Rattle.clock_bodies.specs.declared.body.BodyFault.{BodyFault}
-use Rattle.clock_front.specs.declared.front.asked.Asker.{Asker}
-use Rattle.clock_front.specs.declared.front.asked.Asker.TheVariants as who
+use Rattle.clock_front.specs.declared.front.askers.Asker.{Asker}
+use Rattle.clock_front.specs.declared.front.askers.Asker.TheVariants as who
 use Rattle.clock_front.specs.Askers.{asker, HasOwnTokens}
 use Rattle.clock_http.specs.Decimals.{plain_number}
 use Rattle.clock_front.specs.Requests.{Ask, request_of}

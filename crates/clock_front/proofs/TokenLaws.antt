@@ -12,8 +12,8 @@ use Rattle.clock_http.specs.Heads.{same_bytes}
 use Rattle.clock_front.specs.Askers.{holder, bidder_tokens, asker}
 use Rattle.clock_front.specs.inside.Askers.{IsKnown}
 use Rattle.clock_front.specs.inside.HeldTokens.{found, asker_by}
-use Rattle.clock_front.specs.declared.front.asked.Asker.{Asker}
-use Rattle.clock_front.specs.declared.front.asked.Asker.TheVariants.{Nobody, Operator, Bidder}
+use Rattle.clock_front.specs.declared.front.askers.Asker.{Asker}
+use Rattle.clock_front.specs.declared.front.askers.Asker.TheVariants.{Nobody, Operator, Bidder}
 
 abbrev pub Entries : Type 0
 Entries = List (Vec ℕ Global × Asker)

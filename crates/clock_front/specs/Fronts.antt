@@ -3,6 +3,7 @@
 --     house_after setup commands      the auction that commands have made, as a house shows it
 --     reply setup texts text      the answer to a text after others
 --     StandsForTexts texts house      the house stands for the commands of the texts
+--     right_answer house text      the answer to a text as the house stands
 --     IsCutShort reply      the reply to a text that needed more, or that of want of memory
 --     IsStruckOut text reply      the reply of want of memory, to a text that needs some
 --     IsDoneBy text reply old new      the right reply, and the text's command was done, or there was no memory and
@@ -38,10 +39,13 @@ house_after setup commands = record {
   spare = 0;
 }
 
+-- the answer to a text as the house stands
+abbrev pub right_answer : HouseFields → List ℕ → Answer
+right_answer house text = answer_of (outcome house (asker house.setup (request_of text).token) (request_of text).ask)
+
 -- the answer to a text after others
 abbrev pub reply : SetupFields → List (List ℕ) → List ℕ → Answer
-reply setup texts text =
-    answer_of (outcome (house_after setup (commands_of setup texts)) (asker setup (request_of text).token) (request_of text).ask)
+reply setup texts text = right_answer (house_after setup (commands_of setup texts)) text
 
 -- the house stands for the commands of the texts
 abbrev pub StandsForTexts : List (List ℕ) → HouseFields → Type 0
@@ -59,8 +63,7 @@ pub record IsStruckOut (text : List ℕ) (answer : Answer) : Type 0 where
 -- the right reply as the house stands, to which the text's command is added; or no memory, and it stands as it did
 abbrev pub IsDoneBy : List ℕ → Answer → HouseFields → HouseFields → Type 0
 IsDoneBy text answer old new =
-    ((answer ≡ answer_of (outcome old (asker old.setup (request_of text).token) (request_of text).ask))
-    × IsFollowedBy (text_command old.setup text) old new)
+    ((answer ≡ right_answer old text) × IsFollowedBy (text_command old.setup text) old new)
     ⊎ (IsStruckOut text answer × StandsStill old new)
 
 -- the right reply, and the front stands for the texts and this one; or that of want of memory, and it stands for them

@@ -1,10 +1,11 @@
 -- What contracts see of a hub, and what its calls leave.
 --     IsFed old new conn text fed      what a piece has led to with which the text is this one
+--     IsFedBy old new conn piece fed      what a piece has led to
 --     IsAnswered old new conn text reply      the request of a connection was answered, and the connection is gone
 --     IsFeedFault known, IsFinishFault known      when each refusal comes
-use Rattle.std.specs.Prelude.{◌≡◌, ◌⊎◌, ℕ, true, false, List, Option, None, IsSome}
+use Rattle.std.specs.Prelude.{◌≡◌, ◌⊎◌, ◌++◌, ℕ, true, false, List, Option, None, Some, IsSome}
 use Rattle.clock_house.specs.House.{HouseFields}
-use Rattle.clock_connections.specs.Connections.{ConnectionFields, IsTaken, IsGone}
+use Rattle.clock_connections.specs.Connections.{ConnectionFields, IsTaken, IsGone, text_of}
 use Rattle.clock_connections.specs.declared.connections.Conn.{Conn}
 use Rattle.clock_connections.specs.declared.connections.HubFault.{HubFault}
 use Rattle.clock_connections.specs.declared.connections.HubFault.TheVariants.{Full, NoMemory, Unknown}
@@ -31,6 +32,10 @@ pub record IsAnswered (old new : HubFields) (conn : Conn) (text : List ℕ) (rep
 abbrev pub IsFed : HubFields → HubFields → Conn → List ℕ → Fed → Type 0
 IsFed old new conn text More = (needs_more text ≡ true) × IsTaken old.connections new.connections conn text × (new.house ≡ old.house)
 IsFed old new conn text (Reply reply) = (needs_more text ≡ false) × IsAnswered old new conn text reply
+
+-- the same of the piece that is added to the text of a connection
+abbrev pub IsFedBy : HubFields → HubFields → Conn → List ℕ → Fed → Type 0
+IsFedBy old new conn piece fed = (text : List ℕ) → text_of old.connections conn ≡ Some text → IsFed old new conn (text ++ piece) fed
 
 -- why no piece was taken
 abbrev pub IsFeedFault : Option (List ℕ) → HubFault → Type 0

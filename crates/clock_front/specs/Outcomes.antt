@@ -23,8 +23,8 @@ use Rattle.clock_views.specs.PublicPages.{status_value, products_value, sheet_va
 use Rattle.clock_views.specs.BidderPages.{account_value, bids_value, accepted_value, slip_value}
 use Rattle.clock_views.specs.OperatorPages.{closed_value, results_value}
 use Rattle.clock_http.specs.declared.routes.Page.{Page}
-use Rattle.clock_front.specs.declared.front.asked.Asker.{Asker}
-use Rattle.clock_front.specs.declared.front.asked.Asker.TheVariants.{Nobody, Operator, Bidder}
+use Rattle.clock_front.specs.declared.front.askers.Asker.{Asker}
+use Rattle.clock_front.specs.declared.front.askers.Asker.TheVariants.{Nobody, Operator, Bidder}
 use Rattle.clock_bodies.specs.declared.put_body.PutBody.{PutBody}
 use Rattle.clock_bodies.specs.declared.close_body.CloseBody.{CloseBody}
 use Rattle.clock_bodies.specs.declared.body.BodyFault.{BodyFault}

@@ -12,15 +12,15 @@ use Rattle.clock_house.specs.House.{HouseFields}
 use Rattle.clock_house.specs.History.{bidder_at}
 use Rattle.clock_views.specs.Rooms.{most_text}
 use Rattle.clock_front.specs.Askers.{asker}
-use Rattle.clock_front.specs.declared.front.asked.Asker.{Asker}
-use Rattle.clock_front.specs.declared.front.asked.Asker.TheVariants.{Nobody, Operator, Bidder}
+use Rattle.clock_front.specs.declared.front.askers.Asker.{Asker}
+use Rattle.clock_front.specs.declared.front.askers.Asker.TheVariants.{Nobody, Operator, Bidder}
 use Rattle.clock_front.specs.Requests.{Ask, request_of}
 use Rattle.clock_front.specs.Requests as asked
 use Rattle.clock_front.specs.Outcomes.{Outcome, done, refused, not_allowed, outcome}
 use Rattle.clock_front.specs.Fronts.{StandsForTexts}
 use Rattle.clock_front.specs.Views.{is_own, text_view, typed_view, bidder_outcome}
-use Rattle.clock_front.specs.declared.front.fixed_replies.Unanswered.{Unanswered}
-use Rattle.clock_front.specs.declared.front.fixed_replies.Unanswered.TheVariants.{Room}
+use Rattle.clock_front.specs.declared.front.replies.Unanswered.{Unanswered}
+use Rattle.clock_front.specs.declared.front.replies.Unanswered.TheVariants.{Room}
 
 -- who asks is no bidder
 abbrev pub is_no_bidder : Asker → Bool

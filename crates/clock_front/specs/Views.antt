@@ -25,7 +25,7 @@ use Rattle.clock_views.specs.BidderPages.{account_value, bids_value, slip_value}
 use Rattle.clock_http.specs.Heads.{same_bytes}
 use Rattle.clock_http.specs.Decimals.{plain_number}
 use Rattle.clock_http.specs.Replies.{Answer}
-use Rattle.clock_front.specs.declared.front.asked.Asker.TheVariants.{Nobody}
+use Rattle.clock_front.specs.declared.front.askers.Asker.TheVariants.{Nobody}
 use Rattle.clock_front.specs.Askers.{asker}
 use Rattle.clock_front.specs.Requests.{Ask, request_of}
 use Rattle.clock_front.specs.Requests as asked

@@ -3,11 +3,10 @@ pub mod Askers
 pub mod EventRuns
 pub mod FixedReplies
 pub mod Hubs
-pub mod Private
 pub mod HeldTokens
 pub mod NumberedHubs
-pub mod ShownAsked
 pub mod KeptPage
 pub mod Isolation
 pub mod Roomless
+pub mod Replies
 pub mod Knowledge

@@ -1,32 +1,25 @@
-ghost use Rattle.std.specs.Prelude.{◌≡◌, ◌⊎◌, [], ℕ, List, true, length, IfOk, IfErr, IsOk, OnOk, OnErr};
+ghost use Rattle.std.specs.Prelude.{◌≡◌, ◌⊎◌, [], ℕ, List, IfOk, IfErr, IsOk, OnOk, OnErr};
 ghost use Rattle.clock_http.specs.declared.code.Code.{Code as ReplyCode};
-ghost use Rattle.clock_http.specs.Framing.{framing as framing_of, incomplete, needs_more, refusal as refusal_of};
-ghost use Rattle.clock_http.specs.Shown.{IsFramed, Knows, shown_framing};
+ghost use Rattle.clock_http.specs.{Framing.{framing as framing_of, incomplete, refusal as refusal_of}, Shown.{IsFramed, shown_framing}};
 ghost use Rattle.clock_house.specs.House.{HouseFields, IsFollowedBy, StandsStill};
-ghost use Rattle.clock_front.specs.{Askers.{asker as asker_with}, inside.Askers.{IsKnown}};
-ghost use Rattle.clock_front.specs.Fronts.{AnswersText, IsCutShort, IsDoneBy, IsStruckOut, StandsForTexts};
-ghost use Rattle.clock_front.specs.{Outcomes.{answer_of, outcome, command_of}, Rooms.{IsPrivateWant, IsWantOf, WantsRoom}};
-ghost use Rattle.clock_front.specs.{Private.{IsPrivateReply}, inside.Private.{IsToldAsker}, Requests.{request_of}};
-ghost use Rattle.clock_front.specs.{inside.HeldTokens.{IsTableOf}, inside.KeptPage.{IsProductsPage}};
-ghost use Rattle.clock_front.specs.inside.ShownAsked.{shown_asked};
+ghost use Rattle.clock_front.specs.Fronts.{AnswersText, IsCutShort, IsDoneBy, IsStruckOut, StandsForTexts, right_answer, text_command};
+ghost use Rattle.clock_front.specs.{Private.{IsPrivateReply}, Rooms.{IsPrivateWant, IsWantOf}};
+ghost use Rattle.clock_front.specs.inside.{HeldTokens.{IsTableOf}, KeptPage.{IsProductsPage}};
 
-mod asked;
-mod commands;
-mod fixed_replies;
-mod pages;
-mod telling;
+mod answering;
+mod askers;
+mod replies;
 
-use crate::front::asked::{Asked, Asker, Tokens, asked_of, asker_of, tokens_of};
-use crate::front::commands::{answer_close, answer_put};
-use crate::front::fixed_replies::fixed_reply;
-use crate::front::telling::{tell, turn_away};
+use crate::front::answering::answer_request;
+use crate::front::askers::{Tokens, asker_of, tokens_of};
+use crate::front::replies::{fixed_reply, refusal};
 use clock_device::{NoMemory, Text};
 use clock_house::House;
-use clock_http::{Code, Framing, Progress, Reply, Routes, frame};
+use clock_http::{Code, Framing, Reply, Routes, frame};
 use clock_processor::Processor;
 use clock_terms::Setup;
 use clock_views::{Refusal, products_page};
-pub use fixed_replies::{Unanswered, no_memory_reply};
+pub use replies::{Unanswered, no_memory_reply};
 use std::alloc::Global;
 use std::marker::Model;
 
@@ -53,13 +46,10 @@ struct Kept {
 fn what_is_kept(alloc: Global, setup: &Setup) -> Result<Kept, NoMemory>
     ensures { IfOk result (λ kept. IsTableOf setup.now kept.tokens.entries × IsProductsPage setup.now kept.products) }
 {
-    let products = products_page(alloc, setup)?;
-    let tokens = tokens_of(alloc, setup)?;
-    let routes = Routes::new(alloc)?;
     Ok(Kept {
-        tokens,
-        routes,
-        products,
+        tokens: tokens_of(alloc, setup)?,
+        routes: Routes::new(alloc)?,
+        products: products_page(alloc, setup)?,
     })
 }
 
@@ -77,54 +67,9 @@ impl<P: Processor> Front<P> {
         ensures setup { IfOk result (λ front. front.setup ≡ setup) }
         ensures stands { IfOk result (StandsForTexts []) }
     {
-        match what_is_kept(alloc, &setup) {
-            Ok(kept) => Front::with(alloc, House::new(alloc, setup, processor), kept),
-            Err(none) => {
-                drop(setup);
-                drop(processor);
-                Err(none)
-            }
-        }
-    }
-
-    /// The front of a house, with what is kept beside it.
-    fn with(
-        alloc: Global,
-        house: Result<House<P>, NoMemory>,
-        kept: Kept,
-    ) -> Result<Front<P>, NoMemory>
-        requires { IfOk house (λ house. IsTableOf house.setup kept.tokens.entries
-            × IsProductsPage house.setup kept.products) }
-        ensures { result ≡ house }
-    {
-        match house {
-            Ok(house) => Ok(Front { alloc, house, kept }),
-            Err(none) => {
-                drop(kept);
-                Err(none)
-            }
-        }
-    }
-
-    /// What an asker asks for is told or done, or it is told why not.
-    fn answer_asked(&mut self, asker: Asker, what: Asked<'_>) -> Result<Reply, Unanswered>
-        requires { IsKnown (length self.old.setup.bidders) asker }
-        ensures reply { IfOk result (λ reply. reply ≡ answer_of (outcome self.old asker (shown_asked what.entry))) }
-        ensures wanted { IfErr result (WantsRoom asker (shown_asked what.entry)
-            (outcome self.old asker (shown_asked what.entry))) }
-        ensures private { IfOk result (IsToldAsker self.old asker (shown_asked what.entry)) }
-        ensures followed { OnOk result (IsFollowedBy (command_of self.old.setup asker (shown_asked what.entry))
-            self.old self.new) }
-        ensures still { OnErr result (StandsStill self.old self.new) }
-    {
-        match what {
-            Asked::Read(what) => {
-                let page = self.kept.products.as_slice();
-                Ok(tell(self.alloc, &self.house, page, asker, what)?)
-            }
-            Asked::Put(body) => answer_put(self.alloc, &mut self.house, asker, body),
-            Asked::Close(body) => answer_close(self.alloc, &mut self.house, asker, body),
-        }
+        let kept = what_is_kept(alloc, &setup)?;
+        let house = House::new(alloc, setup, processor)?;
+        Ok(Front { alloc, house, kept })
     }
 
     /// The reply to a text that is framed so, where there is memory for it; otherwise what was refused, and nothing has
@@ -132,11 +77,10 @@ impl<P: Processor> Front<P> {
     /// that follows from the right reply: so for a bidder's own text it follows from its view.
     pub fn try_answer(&mut self, framing: Framing<'_>) -> Result<Reply, Unanswered>
         requires { (text : List ℕ) × IsFramed text framing }
-        ensures reply { (text : List ℕ) → IsFramed text framing.entry → IfOk result (λ reply. reply
-            ≡ answer_of (outcome self.old (asker_with self.old.setup (request_of text).token) (request_of text).ask)) }
-        ensures followed { (text : List ℕ) → IsFramed text framing.entry → OnOk result (IsFollowedBy
-            (command_of self.old.setup (asker_with self.old.setup (request_of text).token) (request_of text).ask)
-            self.old self.new) }
+        ensures reply { (text : List ℕ) → IsFramed text framing.entry
+            → IfOk result (λ reply. reply ≡ right_answer self.old text) }
+        ensures followed { (text : List ℕ) → IsFramed text framing.entry
+            → OnOk result (IsFollowedBy (text_command self.old.setup text) self.old self.new) }
         ensures still { OnErr result (StandsStill self.old self.new) }
         ensures private { (text : List ℕ) → IsFramed text framing.entry → IfOk result (IsPrivateReply text self.old) }
         ensures wanted { (text : List ℕ) → IsFramed text framing.entry → IfErr result (IsWantOf text self.old) }
@@ -146,12 +90,11 @@ impl<P: Processor> Front<P> {
     {
         self.house.law_of_house();
         match framing {
-            Framing::NeedMore => turn_away(self.alloc, Refusal::alone(Code::CutShort)),
+            Framing::NeedMore => Ok(refusal(self.alloc, Refusal::alone(Code::CutShort), None)?),
             Framing::Refused(code) => Ok(fixed_reply(code)),
             Framing::Whole { head, body } => {
                 let asker = asker_of(&self.kept.tokens, head.token);
-                let what = asked_of(&self.kept.routes, &head, body);
-                self.answer_asked(asker, what)
+                answer_request(self.alloc, &mut self.house, &self.kept, asker, &head, body)
             }
         }
     }
@@ -172,20 +115,6 @@ impl<P: Processor> Front<P> {
             Ok(reply) => reply,
             Err(_) => no_memory_reply(),
         }
-    }
-
-    /// The reply to a text of which this is known, after which the input has ended. It is that of [`Front::answer`]; a
-    /// text that came in pieces is not looked at again from its beginning.
-    pub fn answer_known(&mut self, text: &[u8], progress: Progress) -> Reply
-        requires { Knows text.now progress }
-        ensures answered { AnswersText text.now result self.old self.new }
-        ensures done { IsDoneBy text.now result self.old self.new }
-        ensures private { IsStruckOut text.now result ⊎ IsPrivateReply text.now self.old result }
-        ensures setup { self.new.setup ≡ self.old.setup }
-        ensures refused { (code : ReplyCode) → framing_of text.now ≡ refusal_of code → result.code ≡ code }
-        ensures cut_short { needs_more text.now ≡ true → IsCutShort result }
-    {
-        self.answer_framed(progress.framing(text))
     }
 
     /// The reply to a text, after which the input has ended: a request, less than one, or none at all.

@@ -1,5 +1,5 @@
-ghost use Rattle.std.specs.Prelude.{◌≡◌, ◌++◌, ℕ, true, List, [], Some, IfOk, IfErr, OnErr, OnOk, IsSome};
-ghost use Rattle.clock_front.specs.{Fronts.{IsCutShort}, Hubs.{HubFields, IsFed, IsFeedFault, IsAnswered, IsFinishFault}};
+ghost use Rattle.std.specs.Prelude.{◌≡◌, ℕ, true, List, [], Some, IfOk, IfErr, OnErr, OnOk, IsSome};
+ghost use Rattle.clock_front.specs.{Fronts.{IsCutShort}, Hubs.{HubFields, IsFedBy, IsFeedFault, IsAnswered, IsFinishFault}};
 ghost use Rattle.clock_front.specs.inside.Hubs.{hub_of};
 ghost use Rattle.clock_http.specs.Framing.{needs_more};
 ghost use Rattle.clock_connections.specs.{inside.Waiting.{AllNeedMore}, Connections.{text_of, IsConnected, IsConnectFault}};
@@ -78,8 +78,7 @@ impl<P: Processor> Hub<P> {
     #[inline(always)]
     fn feed_on(&mut self, conn: Conn, piece: &[u8]) -> Result<Fed, NoMemory>
         requires { IsSome (text_of self.old.connections conn) }
-        ensures fed { (text : List ℕ) → text_of self.old.connections conn ≡ Some text
-            → IfOk result (IsFed self.old self.new conn (text ++ piece.now)) }
+        ensures fed { IfOk result (IsFedBy self.old self.new conn piece.now) }
         ensures still { OnErr result (self.new ≡ self.old) }
     {
         if self.connections.take(conn, piece)? {
@@ -93,8 +92,7 @@ impl<P: Processor> Hub<P> {
     #[inline(never)]
     fn feed_piece(&mut self, conn: Conn, piece: &[u8]) -> Result<Fed, NoMemory>
         requires { IsSome (text_of self.old.connections conn) }
-        ensures fed { (text : List ℕ) → text_of self.old.connections conn ≡ Some text
-            → IfOk result (IsFed self.old self.new conn (text ++ piece.now)) }
+        ensures fed { IfOk result (IsFedBy self.old self.new conn piece.now) }
         ensures still { OnErr result (self.new ≡ self.old) }
     {
         if let Some(framing) = self.connections.framing_with(conn, piece) {
@@ -109,8 +107,7 @@ impl<P: Processor> Hub<P> {
     /// no memory the connection stands with the bytes that it had, and the piece can be fed again.
     #[inline(always)]
     pub fn feed(&mut self, conn: Conn, piece: &[u8]) -> Result<Fed, HubFault>
-        ensures fed { (text : List ℕ) → text_of self.old.connections conn ≡ Some text
-            → IfOk result (IsFed self.old self.new conn (text ++ piece.now)) }
+        ensures fed { IfOk result (IsFedBy self.old self.new conn piece.now) }
         ensures stood { OnOk result (IsSome (text_of self.old.connections conn)) }
         ensures fault { IfErr result (IsFeedFault (text_of self.old.connections conn)) }
         ensures still { OnErr result (self.new ≡ self.old) }

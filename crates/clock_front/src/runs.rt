@@ -95,8 +95,10 @@ pub fn run_events<P: Processor>(
 ) -> Result<EventReplies, NoMemory>
     ensures { IfOk result (IsEventRun setup events.now) }
 {
-    let front = Front::new(alloc, setup, processor)?;
-    let mut hub = NumberedHub::new(alloc, front);
+    let mut hub = NumberedHub {
+        hub: Hub::new(alloc, Front::new(alloc, setup, processor)?),
+        conns: Items::new(alloc),
+    };
     let replies = take_each(alloc, &mut hub, events);
     drop(hub);
     replies
@@ -104,23 +106,12 @@ pub fn run_events<P: Processor>(
 
 /// A hub whose connections are numbered from 0 as they are asked for.
 #[derive(Drop)]
-pub struct NumberedHub<P> {
-    pub hub: Hub<P>,
+struct NumberedHub<P> {
+    hub: Hub<P>,
     conns: Items<Option<Conn>>,
 }
 
 impl<P: Processor> NumberedHub<P> {
-    /// No connection was asked for yet.
-    pub fn new(alloc: Global, front: Front<P>) -> NumberedHub<P>
-        ensures house { result.hub.house ≡ front }
-        ensures stands { Stands [] result.hub.connections result.conns }
-    {
-        NumberedHub {
-            hub: Hub::new(alloc, front),
-            conns: Items::new(alloc),
-        }
-    }
-
     /// The connection of a number, where it was made.
     fn conn(&self, number: u64) -> Option<Conn>
         ensures { result ≡ conn_at self.now.conns number }
@@ -128,58 +119,8 @@ impl<P: Processor> NumberedHub<P> {
         *self.conns.as_slice().get(number as usize)?
     }
 
-    /// One more connection is asked for.
-    fn connect(&mut self) -> Result<(), NoMemory>
-        requires { length self.old.conns < most_serials }
-        ensures stands { (numbered : Numbered) → Stands numbered self.old.hub.connections self.old.conns
-            → OnOk result (Stands (after numbered events.Connect) self.new.hub.connections self.new.conns) }
-        ensures house { self.new.hub.house ≡ self.old.hub.house }
-    {
-        let conn = match self.hub.connect() {
-            Ok(conn) => Some(conn),
-            Err(HubFault::Full) => None,
-            Err(HubFault::Unknown) => None,
-            Err(HubFault::NoMemory) => return Err(NoMemory),
-        };
-        self.conns.push(conn)
-    }
-
-    /// A piece comes over a connection.
-    fn feed(&mut self, number: u64, piece: &[u8]) -> Result<Option<EventReply>, NoMemory>
-        ensures stands { (numbered : Numbered) → Stands numbered self.old.hub.connections self.old.conns → OnOk result
-            (Stands (after numbered (events.Piece number piece.now)) self.new.hub.connections self.new.conns) }
-        ensures told { (numbered : Numbered) → Stands numbered self.old.hub.connections self.old.conns → IfOk result
-            (HasCompleted (completed numbered (events.Piece number piece.now)) self.old.hub.house self.new.hub.house) }
-        ensures conns { self.new.conns ≡ self.old.conns }
-    {
-        let Some(conn) = self.conn(number) else {
-            return Ok(None);
-        };
-        match self.hub.feed(conn, piece) {
-            Ok(Fed::More) => Ok(None),
-            Ok(Fed::Reply(reply)) => Ok(Some(EventReply { number, reply })),
-            Err(HubFault::NoMemory) => Err(NoMemory),
-            Err(_) => Ok(None),
-        }
-    }
-
-    /// The input of a connection ends.
-    fn finish(&mut self, number: u64) -> Option<EventReply>
-        ensures stands { (numbered : Numbered) → Stands numbered self.old.hub.connections self.old.conns
-            → Stands (after numbered (events.Finish number)) self.new.hub.connections self.new.conns }
-        ensures told { (numbered : Numbered) → Stands numbered self.old.hub.connections self.old.conns
-            → HasCompleted (completed numbered (events.Finish number)) self.old.hub.house self.new.hub.house result }
-        ensures conns { self.new.conns ≡ self.old.conns }
-    {
-        let conn = self.conn(number)?;
-        match self.hub.finish(conn) {
-            Ok(reply) => Some(EventReply { number, reply }),
-            Err(_) => None,
-        }
-    }
-
     /// Takes an event, and tells the reply to the request that it completes.
-    pub fn take_event(&mut self, event: &Event) -> Result<Option<EventReply>, NoMemory>
+    fn take_event(&mut self, event: &Event) -> Result<Option<EventReply>, NoMemory>
         requires { length self.old.conns < most_serials }
         ensures stands { (numbered : Numbered) → Stands numbered self.old.hub.connections self.old.conns
             → OnOk result (Stands (after numbered event.now) self.new.hub.connections self.new.conns) }
@@ -187,9 +128,42 @@ impl<P: Processor> NumberedHub<P> {
             → IfOk result (HasCompleted (completed numbered event.now) self.old.hub.house self.new.hub.house) }
     {
         match event {
-            Event::Connect => self.connect().and(Ok(None)),
-            Event::Piece(number, piece) => self.feed(*number, piece.as_slice()),
-            Event::Finish(number) => Ok(self.finish(*number)),
+            Event::Connect => {
+                let conn = match self.hub.connect() {
+                    Ok(conn) => Some(conn),
+                    Err(HubFault::Full) => None,
+                    Err(HubFault::Unknown) => None,
+                    Err(HubFault::NoMemory) => return Err(NoMemory),
+                };
+                self.conns.push(conn)?;
+                Ok(None)
+            }
+            Event::Piece(number, piece) => {
+                let Some(conn) = self.conn(*number) else {
+                    return Ok(None);
+                };
+                match self.hub.feed(conn, piece.as_slice()) {
+                    Ok(Fed::More) => Ok(None),
+                    Ok(Fed::Reply(reply)) => Ok(Some(EventReply {
+                        number: *number,
+                        reply,
+                    })),
+                    Err(HubFault::NoMemory) => Err(NoMemory),
+                    Err(_) => Ok(None),
+                }
+            }
+            Event::Finish(number) => {
+                let Some(conn) = self.conn(*number) else {
+                    return Ok(None);
+                };
+                match self.hub.finish(conn) {
+                    Ok(reply) => Ok(Some(EventReply {
+                        number: *number,
+                        reply,
+                    })),
+                    Err(_) => Ok(None),
+                }
+            }
         }
     }
 }

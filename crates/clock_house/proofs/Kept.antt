@@ -9,7 +9,8 @@ use Rattle.clock_terms.specs.Limits.{IsSetup, public_setup}
 use Rattle.clock_bids.specs.declared.sheet.Bid.{Bid}
 use Rattle.clock_house.specs.Command.{Command}
 use Rattle.clock_terms.specs.Prices.{opening_prices}
-use Rattle.clock_closing.specs.OpenRound.{OpenRound, IsOpenRound}
+use Rattle.clock_closing.specs.OpenRound.{OpenRound}
+use Rattle.clock_closing.specs.inside.OpenRound.{IsOpenRound}
 use Rattle.clock_house.specs.History.{ClosedRound, round_at, history, standing, holding, for_each_bidder}
 use Rattle.clock_house.specs.inside.OpenRounds.{open_round, open_round_in}
 use Rattle.clock_house.specs.inside.Kept.{IsKept}

@@ -6,9 +6,6 @@ use clock_bids::BidFault;
 use clock_device::NoMemory;
 use thiserror::Error;
 
-// The cases are described above the enum: `rt plant` takes a comment above a case for its name, and
-// then tries no body of `put_sheet`.
-
 /// Why a sheet is not put in force: the first of these that applies, but for want of memory, which
 /// may come at any point.
 ///
@@ -16,6 +13,7 @@ use thiserror::Error;
 /// - `WrongRound`: the sheet is for another round than the current one, which is told.
 /// - `Bid`: the bids have this fault.
 /// - `NoMemory`: there was no memory.
+// They are described here, since `rt plant` takes a comment above a case for its name.
 #[derive(Clone, Copy, Debug, PartialEq, Eq, Error)]
 pub enum PutFault {
     #[error("the auction has ended")]

@@ -5,7 +5,6 @@ ghost use Rattle.clock_journal.specs.Disks.{CutsTo};
 use clock_device::Failed;
 use std::fs::OpenFile;
 use std::io::Write;
-use std::marker::Model;
 
 /// A file that is added to and cut off, and whose bytes can be put on the disk for good.
 ///
@@ -47,24 +46,16 @@ pub trait Durable {
 }
 
 /// A file of the system that was opened for appending. It tells no bytes, so nothing is proved of those.
-///
-/// Contracts see whether a call of it has failed.
 #[derive(Drop)]
 pub struct FileDisk<F> {
     file: F,
     has_failed: bool,
 }
 
-impl<F> Model for FileDisk<F> {
-    ghost Value = { Bool };
-
-    ghost view = { λ disk. disk.has_failed };
-}
-
 impl<F: Write + OpenFile> FileDisk<F> {
     /// The file, of which no call was made through this yet.
     pub fn new(file: F) -> FileDisk<F>
-        ensures { result ≡ false }
+        ensures { ⟦<FileDisk<F> as Durable>⟧.has_failed result ≡ false }
     {
         FileDisk {
             file,
@@ -78,7 +69,7 @@ impl<F: Write + OpenFile> Durable for FileDisk<F> {
 
     ghost synced = { λ disk. None };
 
-    ghost has_failed = { λ disk. disk };
+    ghost has_failed = { λ disk. disk.has_failed };
 
     ghost uncut = { λ disk. 0 };
 

@@ -1,11 +1,9 @@
 //! The bytes of a journal: digests, its head, and the records behind that.
 
-ghost use Rattle.std.specs.Prelude.{◌≡◌, ◌≤◌, ◌+◌, ◌++◌, length, IsTrue};
+ghost use Rattle.std.specs.Prelude.{◌≡◌, ◌≤◌, ◌++◌};
 ghost use Rattle.sha2.specs.Sha256.{sha256};
-ghost use Rattle.clock_journal.specs.{Format.{before_text, head, link, mark, mark_length, most_text}, Headings.{heading}};
-ghost use Rattle.clock_journal.specs.Reading.{checked_text as checked_text_in, is_marked as is_marked_in};
-ghost use Rattle.clock_journal.specs.Reading.{marked_length as marked_length_in, next};
-ghost use Rattle.clock_journal.specs.inside.Shown.{IsRecord, shown, shown_heading};
+ghost use Rattle.clock_journal.specs.{Format.{head, link, mark, most_text}, Reading.{next}};
+ghost use Rattle.clock_journal.specs.inside.Shown.{IsRecord, shown};
 
 use sha2::{Digest, Sha256};
 
@@ -34,22 +32,10 @@ pub fn digest_of(document: &[u8]) -> Link
 pub const HEAD_LENGTH: usize = 56;
 
 /// How many of them are the same in every journal.
-const KIND_LENGTH: usize = 24;
+pub const KIND_LENGTH: usize = 24;
 
 /// What every journal of this format begins with.
-const KIND: &[u8; KIND_LENGTH] = b"clock_auction journal 1\n";
-
-/// How a file begins.
-pub enum Heading<'a> {
-    /// With less than a head: no text was added to it yet.
-    Begun,
-    /// With the head, and then these bytes.
-    Headed(&'a [u8]),
-    /// With the head for another set-up.
-    OfAnother,
-    /// With no head of a journal.
-    Unknown,
-}
+pub const KIND: &[u8; KIND_LENGTH] = b"clock_auction journal 1\n";
 
 /// What a journal begins with, for the set-up document of a digest.
 #[tactic(auto, unfolding(crate::specs::Format::head, crate::specs::Format::kind))]
@@ -60,27 +46,6 @@ pub fn head_of(digest: &Link) -> [u8; HEAD_LENGTH]
     bytes[..KIND_LENGTH].copy_from_slice(KIND);
     bytes[KIND_LENGTH..].copy_from_slice(digest);
     bytes
-}
-
-/// How a file begins.
-#[tactic(auto, unfolding(crate::specs::Headings::heading, crate::specs::Format::kind))]
-pub fn heading_of<'a>(digest: &Link, bytes: &'a [u8]) -> Heading<'a>
-    ensures { shown_heading result ≡ heading digest.now bytes.now }
-{
-    let head = head_of(digest);
-    if bytes.len() < HEAD_LENGTH {
-        if bytes[..] == head[..bytes.len()] {
-            Heading::Begun
-        } else {
-            Heading::Unknown
-        }
-    } else if bytes[..HEAD_LENGTH] == head[..] {
-        Heading::Headed(bytes.split_at(HEAD_LENGTH).1)
-    } else if bytes[..KIND_LENGTH] == KIND[..] {
-        Heading::OfAnother
-    } else {
-        Heading::Unknown
-    }
 }
 
 /// How long a text may be.
@@ -118,48 +83,8 @@ pub fn front_of(count: usize, digest: &Link) -> [u8; BEFORE_TEXT]
     front
 }
 
-/// The length of a text that a record's mark tells.
-#[tactic(auto, unfolding(crate::specs::Reading::marked_length))]
-fn marked_length(bytes: &[u8]) -> usize
-    requires { 4 ≤ length bytes.now }
-    ensures { result ≡ marked_length_in bytes.now }
-{
-    let mut count = [0; 4];
-    count.copy_from_slice(&bytes[..4]);
-    u32::from_be_bytes(count) as usize
-}
-
-/// Whether a length stands there twice, and is one that a text may have.
-#[tactic(auto, unfolding(crate::specs::Reading::is_marked))]
-fn is_marked(bytes: &[u8]) -> bool
-    requires { mark_length ≤ length bytes.now }
-    ensures value { result ≡ is_marked_in bytes.now }
-    ensures small { IsTrue result → marked_length_in bytes.now ≤ most_text }
-{
-    let count = marked_length(bytes);
-    bytes[..4] == bytes[4..MARK_LENGTH] && 1 <= count && count <= MOST_TEXT
-}
-
-/// The text of so many bytes, if its digest is right.
-fn checked_text<'a>(chain: &Link, bytes: &'a [u8], count: usize) -> Next<'a>
-    requires whole { before_text + count ≤ length bytes.now }
-    requires small { count ≤ most_text }
-    ensures next { shown result ≡ checked_text_in chain.now bytes.now count }
-    ensures record { IsRecord chain.now bytes.now result }
-{
-    let text = &bytes[BEFORE_TEXT..BEFORE_TEXT + count];
-    let digest = link_of(chain, text);
-    if bytes[MARK_LENGTH..BEFORE_TEXT] == digest[..] {
-        Next::Whole(text, digest)
-    } else if bytes.len() == BEFORE_TEXT + count {
-        Next::Torn
-    } else {
-        Next::Damaged
-    }
-}
-
 /// What stands at the front of bytes behind a digest.
-#[tactic(auto, unfolding(crate::specs::Reading::next))]
+#[tactic(auto, unfolding(crate::specs::Reading::next, crate::specs::Reading::is_marked, crate::specs::Reading::marked_length))]
 pub fn next_record<'a>(chain: &Link, bytes: &'a [u8]) -> Next<'a>
     ensures next { shown result ≡ next chain.now bytes.now }
     ensures record { IsRecord chain.now bytes.now result }
@@ -170,12 +95,22 @@ pub fn next_record<'a>(chain: &Link, bytes: &'a [u8]) -> Next<'a>
     if bytes.len() < MARK_LENGTH {
         return Next::Torn;
     }
-    if !is_marked(bytes) {
+    let mut length = [0; 4];
+    length.copy_from_slice(&bytes[..4]);
+    let count = u32::from_be_bytes(length) as usize;
+    if bytes[..4] != bytes[4..MARK_LENGTH] || count < 1 || count > MOST_TEXT {
         return Next::Damaged;
     }
-    let count = marked_length(bytes);
     if bytes.len() < BEFORE_TEXT + count {
         return Next::Torn;
     }
-    checked_text(chain, bytes, count)
+    let text = &bytes[BEFORE_TEXT..BEFORE_TEXT + count];
+    let digest = link_of(chain, text);
+    if bytes[MARK_LENGTH..BEFORE_TEXT] == digest[..] {
+        Next::Whole(text, digest)
+    } else if bytes.len() == BEFORE_TEXT + count {
+        Next::Torn
+    } else {
+        Next::Damaged
+    }
 }

@@ -1,5 +1,6 @@
 ghost use Rattle.std.specs.Prelude.{◌≡◌, ◌++◌, [], ◌∷◌, List, ℕ, OnOk, OnErr, IfOk, Some, false, is_err, length};
 ghost use Rattle.clock_journal.specs.{Disks.{MayBeLeft}, Format.{Fits, link}, Crash.{LeavesTexts}, Kept.{HasTexts, JournalState}};
+ghost use Rattle.clock_journal.specs.{Chain.{ChainBinds, JournalsBind}, Laws.{CutLeaves, EveryFront, ReadsBack, WhateverFollows}};
 ghost use Rattle.clock_journal.specs.Recovering.{IsPlaced};
 
 use crate::durable::Durable;
@@ -109,3 +110,18 @@ impl<D: Durable> Journal<D> {
         &self.disk
     }
 }
+
+/// Laws of all journals. It does nothing when it runs: a caller is handed them.
+///
+/// `as_many`, `any`: the digest of a journal's last text stands for the set-up and all texts before it: two journals that
+/// end with the same digest are the same, or two messages with one SHA-256 digest stand in them. Where one may have more
+/// texts than the other there is a third way out, that a set-up document begins with 32 bytes which are a digest of the
+/// other.
+pub fn law_of_journals()
+    ensures as_many { ChainBinds }
+    ensures any { JournalsBind }
+    ensures every_front { EveryFront }
+    ensures whatever_follows { WhateverFollows }
+    ensures read_back { ReadsBack }
+    ensures cut_leaves { CutLeaves }
+{}

@@ -1,11 +1,12 @@
 //! How a journal is taken over from a file: its texts go to a machine, one after the other.
 
-ghost use Rattle.std.specs.Prelude.{◌≡◌, ◌≤◌, ◌∷◌, List, ℕ, Err, MatchResult, OnOk, drop, length};
+ghost use Rattle.std.specs.Prelude.{◌≡◌, ◌∷◌, List, ℕ, Err, MatchResult, OnOk, drop, length};
 ghost use Rattle.clock_journal.specs.{Crash.{LeavesTexts}, Format.{head_length}};
 ghost use Rattle.clock_journal.specs.Recovering.{HasTaken, IsRecovered, IsRefusal, IsRefusedRightly, IsUntaken};
-ghost use Rattle.clock_journal.specs.inside.Replays.{IsReplayed, IsStopped};
 
-use crate::format::{BEFORE_TEXT, Heading, Link, Next, heading_of, next_record};
+use crate::format::{
+    BEFORE_TEXT, HEAD_LENGTH, KIND, KIND_LENGTH, Link, Next, head_of, next_record,
+};
 
 /// Why a text was not taken: it is none that changes the machine as it stands, or there was no memory. The machine is
 /// not to be used any more.
@@ -59,41 +60,6 @@ pub enum JournalFault {
     NoMemory,
 }
 
-/// Takes all texts of the records of a file of this size, in order. What stands behind its last record is torn, or
-/// nothing.
-fn replay<M: Machine>(
-    machine: &mut M,
-    first: &Link,
-    bytes: &[u8],
-    size: usize,
-) -> Result<Recovered, JournalFault>
-    requires { length bytes.now ≤ size }
-    ensures replayed { MatchResult result
-        (IsReplayed (M.stands_for machine.old) (M.stands_for machine.new) first.now bytes.now size)
-        (IsStopped first.now bytes.now size) }
-    ensures refused { MatchResult result (λ _. Unit {0})
-        (IsRefusedRightly (M.refuses (M.rules machine.old)) (M.stands_for machine.old) first.now bytes.now size) }
-    ensures rules { M.rules machine.new ≡ M.rules machine.old }
-{
-    let mut chain = *first;
-    let mut rest = bytes;
-    loop {
-        let end = size - rest.len();
-        match next_record(&chain, rest) {
-            Next::Ended | Next::Torn => return Ok(Recovered { chain, end }),
-            Next::Damaged => return Err(JournalFault::Damaged(end)),
-            Next::Whole(text, digest) => match machine.take(text) {
-                Ok(()) => {
-                    chain = digest;
-                    rest = &rest[BEFORE_TEXT + text.len()..];
-                }
-                Err(Untaken::Refused) => return Err(JournalFault::Refused(end)),
-                Err(Untaken::NoMemory) => return Err(JournalFault::NoMemory),
-            },
-        }
-    }
-}
-
 /// Takes all texts of a file, in order, and tells where the last of them ends. It changes nothing in the file.
 pub fn recover<M: Machine>(
     machine: &mut M,
@@ -111,13 +77,34 @@ pub fn recover<M: Machine>(
         (drop head_length bytes.now) (length bytes.now)) }
     ensures rules { M.rules machine.new ≡ M.rules machine.old }
 {
-    match heading_of(digest, bytes) {
-        Heading::Begun => Ok(Recovered {
-            chain: *digest,
-            end: 0,
-        }),
-        Heading::Headed(rest) => replay(machine, digest, rest, bytes.len()),
-        Heading::OfAnother => Err(JournalFault::Setup),
-        Heading::Unknown => Err(JournalFault::Unknown),
+    let mut chain = *digest;
+    let head = head_of(digest);
+    if bytes.len() < HEAD_LENGTH {
+        if bytes[..] == head[..bytes.len()] {
+            return Ok(Recovered { chain, end: 0 });
+        }
+        return Err(JournalFault::Unknown);
+    }
+    if bytes[..KIND_LENGTH] != KIND[..] {
+        return Err(JournalFault::Unknown);
+    }
+    if bytes[..HEAD_LENGTH] != head[..] {
+        return Err(JournalFault::Setup);
+    }
+    let mut rest = &bytes[HEAD_LENGTH..];
+    loop {
+        let end = bytes.len() - rest.len();
+        match next_record(&chain, rest) {
+            Next::Ended | Next::Torn => return Ok(Recovered { chain, end }),
+            Next::Damaged => return Err(JournalFault::Damaged(end)),
+            Next::Whole(text, digest) => match machine.take(text) {
+                Ok(()) => {
+                    chain = digest;
+                    rest = &rest[BEFORE_TEXT + text.len()..];
+                }
+                Err(Untaken::Refused) => return Err(JournalFault::Refused(end)),
+                Err(Untaken::NoMemory) => return Err(JournalFault::NoMemory),
+            },
+        }
     }
 }

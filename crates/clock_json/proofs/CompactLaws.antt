@@ -1,5 +1,7 @@
 -- Laws of bids that are written without white space.
 use Rattle.std.proofs.Common.{◌≡◌, ℕ, ◌+◌, ◌<◌, ◌≤◌, ◌^◌, true, List, ◌∷◌, ◌++◌, length, take, drop, get_or, decimal, codes, [], replicate, zero, suc, ◌*◌, refl, sym, ap, ap₂, ◌∙◌, arith}
+use Rattle.std.proofs.Common.{Bool, false, Option, IfSome, subst}
+use Rattle.std.specs.Bool.{then_some}
 use Rattle.std.proofs.Math.Nat.{pow-suc, pow-le-pow_right}
 use Rattle.std.proofs.lemmas.List.{take-append-drop, drop-drop}
 use Rattle.json.specs.Token.{Token, key, begin_object, end_object, begin_array, end_array, number, string}
@@ -14,6 +16,14 @@ use Rattle.clock_json.specs.Compact.{compact_bid}
 use Rattle.clock_json.specs.declared.compact.CompactBid.{CompactBid}
 use Rattle.clock_json.proofs.LexLaws.{at_byte, begun}
 use Rattle.clock_json.proofs.Steps.{number_reads, items_start, items_end, members_start, members_next, members_end}
+
+-- what is given where a test is passed
+passed : {A : Type 0} (P : A → Type 0) (is : Bool) (x : A) → (is ≡ true → P x) → IfSome (then_some is x) P
+passed P true x has = has refl
+passed P false x has = tt
+
+pub given : {A : Type 0} (P : A → Type 0) (is : Bool) (x : A) (result : Option A) → result ≡ then_some is x → (is ≡ true → P x) → IfSome result P
+given P is x result same has = subst (λ r. IfSome r P) (sym same) (passed P is x has)
 
 -- eight known bytes, and those behind them
 eight_then : (bytes word : List ℕ) (at : ℕ) → take 8 (drop at bytes) ≡ word → drop at bytes ≡ word ++ drop (at + 8) bytes

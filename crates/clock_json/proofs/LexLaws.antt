@@ -1,7 +1,8 @@
 -- Laws of lexemes: a byte's, and the tokens that it begins.
 use Rattle.std.proofs.Common.{◌≡◌, ℕ, ◌+◌, ◌-◌, ◌<◌, ◌≤◌, ◌^◌, ◌||◌, Bool, true, false, List, [], ◌∷◌, ◌++◌, length, take, drop, get_or, decimal}
-use Rattle.std.proofs.Common.{cond, refl, sym, ap, ap₂, ◌∙◌, arith}
-use Rattle.std.proofs.lemmas.Bool.{true≢false, false≢true}
+use Rattle.std.proofs.Common.{cond, eqb, not, ◌&&◌, ◌==◌, Some, None, IfSome, refl, sym, ap, ap₂, ◌∙◌, subst, arith}
+use Rattle.std.specs.Prelude.{if◌then◌else◌}
+use Rattle.std.proofs.lemmas.Bool.{true≢false, false≢true, eqb-true}
 use Rattle.std.proofs.lemmas.List.{drop_more, drop_all, drop-drop, get_or-drop, take_all, take-append-drop, take-append-le}
 use Rattle.std.proofs.lemmas.Fmt.{decimal-digits_value}
 use Rattle.std.proofs.lemmas.Str.Parse.{numerals_by_value, tells_digits}
@@ -18,6 +19,7 @@ use Rattle.json.specs.Lex as lexer
 use Rattle.json.specs.Lex.{Class, Lexeme, Place, may_begin, may_close, token, comma, colon, class, lex, lex_byte, between, punctuate}
 use Rattle.json.specs.Align.{is_blank}
 use Rattle.clock_json.specs.Left.{place_of}
+use Rattle.clock_json.specs.Marks.{opening, closing}
 use Rattle.clock_json.specs.inside.Marks.{IsMark}
 use Rattle.clock_json.specs.declared.scan.Expected.{Expected}
 use Rattle.clock_json.specs.declared.scan.Expected.TheVariants as ours
@@ -99,21 +101,41 @@ closed : (p : Place) (ls : List Lexeme) (read : List Token) → may_close p ≡ 
 closed p ls read h fresh behind =
     at_place may_close (λ place. punctuate place ls ≡ read) (λ _. fresh) (λ _. behind) (λ off. absurd (false≢true off)) (λ off. absurd (false≢true off)) p h
 
-pub brace_opens : IsMark may_begin 123 begin_object lexer.fresh
+brace_opens : IsMark may_begin 123 begin_object lexer.fresh
 unfolding lex punctuate
 brace_opens = record { lexed = λ rest. refl; placed = λ p ls h. begun p (token begin_object ∷ ls) _ h refl refl }
 
-pub bracket_opens : IsMark may_begin 91 begin_array lexer.fresh
+bracket_opens : IsMark may_begin 91 begin_array lexer.fresh
 unfolding lex punctuate
 bracket_opens = record { lexed = λ rest. refl; placed = λ p ls h. begun p (token begin_array ∷ ls) _ h refl refl }
 
-pub brace_closes : IsMark may_close 125 end_object lexer.after_value
+brace_closes : IsMark may_close 125 end_object lexer.after_value
 unfolding lex punctuate
 brace_closes = record { lexed = λ rest. refl; placed = λ p ls h. closed p (token end_object ∷ ls) _ h refl refl }
 
-pub bracket_closes : IsMark may_close 93 end_array lexer.after_value
+bracket_closes : IsMark may_close 93 end_array lexer.after_value
 unfolding lex punctuate
 bracket_closes = record { lexed = λ rest. refl; placed = λ p ls h. closed p (token end_array ∷ ls) _ h refl refl }
+
+-- what holds of each token that is read from a byte holds of the token of a mark
+module _ (mark : ℕ) (P : Token → Type 0) where
+  opened_by : (list object : Bool) → eqb mark 91 ≡ list → eqb mark 123 ≡ object → ((t : Token) → IsMark may_begin mark t lexer.fresh → P t)
+      → IfSome (if list then Some begin_array else if object then Some begin_object else None) P
+  opened_by true object is _ has = has begin_array (subst (λ m. IsMark may_begin m begin_array lexer.fresh) (sym (eqb-true mark 91 is)) bracket_opens)
+  opened_by false true _ is has = has begin_object (subst (λ m. IsMark may_begin m begin_object lexer.fresh) (sym (eqb-true mark 123 is)) brace_opens)
+  opened_by false false _ _ has = tt
+
+  pub opened : ((t : Token) → IsMark may_begin mark t lexer.fresh → P t) → IfSome (opening mark) P
+  opened = opened_by (eqb mark 91) (eqb mark 123) refl refl
+
+  closed_by : (list object : Bool) → eqb mark 93 ≡ list → eqb mark 125 ≡ object → ((t : Token) → IsMark may_close mark t lexer.after_value → P t)
+      → IfSome (if list then Some end_array else if object then Some end_object else None) P
+  closed_by true object is _ has = has end_array (subst (λ m. IsMark may_close m end_array lexer.after_value) (sym (eqb-true mark 93 is)) bracket_closes)
+  closed_by false true _ is has = has end_object (subst (λ m. IsMark may_close m end_object lexer.after_value) (sym (eqb-true mark 125 is)) brace_closes)
+  closed_by false false _ _ has = tt
+
+  pub closed_mark : ((t : Token) → IsMark may_close mark t lexer.after_value → P t) → IfSome (closing mark) P
+  closed_mark = closed_by (eqb mark 93) (eqb mark 125) refl refl
 
 -- a mark behind white space
 pub mark_at : (may : Place → Bool) (mark : ℕ) (t : Token) (p next : Place) (bytes : List ℕ) (start at : ℕ) → IsMark may mark t next → may p ≡ true
@@ -159,6 +181,15 @@ at_end bytes i past = ap (lex between) (drop_all i bytes past)
 
 pub digit_is : (d : ℕ) → 48 ≤ d → d ≤ 57 → digit_value d ≡ d - 48
 digit_is d low high = omega (arith, digit_value_digit d (low, high))
+
+-- a zero that is the first of some digits is the only one
+alone_by : (first count : ℕ) (zeros one : Bool) → eqb first 48 ≡ zeros → eqb count 1 ≡ one → (zeros && not one) ≡ false → first ≡ 48 → count ≡ 1
+alone_by first count true true _ is none zeros = eqb-true count 1 is
+alone_by first count true false _ _ none zeros = absurd (true≢false none)
+alone_by first count false one not_zero _ none zeros = absurd (true≢false (ap (λ n. eqb n 48) (sym zeros) ∙ not_zero))
+
+pub alone : (first count : ℕ) → ((first == 48) && not (count == 1)) ≡ false → first ≡ 48 → count ≡ 1
+alone first count = alone_by first count (first == 48) (count == 1) refl refl
 
 pub first_of : (bytes ds : List ℕ) (at end : ℕ) → drop at bytes ≡ ds ++ drop end bytes → 0 < length ds → get_or ds 0 0 ≡ get_or bytes at 0
 first_of bytes [] at end is some = absurd (omega arith)

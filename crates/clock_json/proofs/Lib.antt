@@ -2,7 +2,6 @@ mod LexLaws
 mod Turns
 mod FieldLaws
 pub mod Steps
-mod RowSteps
 mod CompactLaws
 mod DigitLaws
 mod PlainLaws

@@ -1,5 +1,6 @@
 pub mod Compact
 pub mod Left
+pub mod Marks
 pub mod Members
 pub mod Reading
 pub mod Rows

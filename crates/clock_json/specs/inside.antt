@@ -2,4 +2,3 @@
 pub mod Digits
 pub mod Marks
 pub mod Reading
-pub mod Rows

@@ -90,13 +90,10 @@ pub(crate) fn compact_bid_at(bytes: &[u8], start: usize) -> Option<(CompactBid, 
     }
     let (quantity, behind_quantity) = quantity_at(bytes, behind_product + 12)?;
     let ends = (bytes[behind_quantity] == b'}') & (bytes[behind_quantity + 1] == b',');
-    if !ends {
-        return None;
-    }
     let bid = CompactBid {
         price,
         product,
         quantity,
     };
-    Some((bid, behind_quantity + 2))
+    ends.then_some((bid, behind_quantity + 2))
 }

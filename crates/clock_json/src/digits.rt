@@ -1,13 +1,11 @@
 //! Numbers of digits alone, whose digits are counted sixteen at a time, and such numbers one behind the other with
 //! nothing between them but a comma.
-ghost use Rattle.std.specs.Prelude.{◌≡◌, ◌+◌, ◌≤◌, ◌<◌, ◌^◌, ◌∷◌, ◌++◌, false, drop, get_or, length, take, IfSome, ℕ, List, map, decimal, IfOk};
+ghost use Rattle.std.specs.Prelude.{◌≡◌, ◌+◌, ◌≤◌, ◌<◌, ◌^◌, ◌∷◌, drop, get_or, length, take, IfSome, decimal};
 ghost use Rattle.std.specs.Str.Parse.{AllDigits, digits_value};
 ghost use Rattle.json.specs.{Token.{number}, Lex.{lex, between, token, comma}};
-ghost use Rattle.clock_json.specs.{inside.Digits.{AreDigits, IsNumberUpTo, zero_digit}, Left.{left}, Reading.{whole, ReadsAll}};
+ghost use Rattle.clock_json.specs.inside.Digits.{AreDigits, IsNumberUpTo};
 
 use crate::compact::has_room;
-use crate::room::push;
-use crate::scan::{Expected, ScanStop};
 use std::simd::prelude::*;
 
 /// How many of the next sixteen bytes are digits, before the first that is none.
@@ -51,14 +49,6 @@ fn value_of(bytes: &[u8], at: usize, count: usize) -> u64
     value as u64
 }
 
-/// Whether digits begin with a zero that is not the only one.
-#[inline(always)]
-fn has_leading_zero(first: u8, count: usize) -> bool
-    ensures { result ≡ false → first ≡ zero_digit → count ≡ 1 }
-{
-    first == b'0' && count != 1
-}
-
 /// The number that stands there in its digits, of which there are at most nineteen, before a place, with no zero before
 /// them, and where they end.
 #[inline(always)]
@@ -78,7 +68,7 @@ pub(crate) fn digits_up_to(bytes: &[u8], start: usize, stop: usize) -> Option<(u
         value = value * 10 + byte as u64 - 48;
         end += 1;
     }
-    if end == start || has_leading_zero(bytes[start], end - start) {
+    if end == start || (bytes[start] == b'0') & (end - start != 1) {
         return None;
     }
     Some((value, end))
@@ -108,7 +98,7 @@ pub(crate) fn uneven_digits_at(bytes: &[u8], start: usize) -> Option<(u64, usize
     if count > 8 {
         return digits_up_to(bytes, start, start + 16);
     }
-    if count == 0 || has_leading_zero(bytes[start], count) {
+    if count == 0 || (bytes[start] == b'0') & (count != 1) {
         return None;
     }
     Some((value_of(bytes, start, count), start + count))
@@ -120,7 +110,7 @@ const MOST_NUMBER: usize = 17;
 /// The number that stands there with a comma right behind it, and where that ends. One of a single digit takes a few
 /// steps.
 #[inline(always)]
-fn number_and_comma(bytes: &[u8], at: usize) -> Option<(u64, usize)>
+pub(crate) fn number_and_comma(bytes: &[u8], at: usize) -> Option<(u64, usize)>
     ensures order { IfSome result (λ r. (at < r.1) × (r.1 ≤ length bytes.now)) }
     ensures small { IfSome result (λ r. r.0 < 2 ^ 64) }
     ensures value { IfSome result (λ r. lex between (drop at bytes.now)
@@ -134,20 +124,4 @@ fn number_and_comma(bytes: &[u8], at: usize) -> Option<(u64, usize)>
     }
     let (n, end) = digits_up_to(bytes, at, at + 16)?;
     (bytes[end] == b',').then_some((n, end + 1))
-}
-
-/// Reads the numbers that stand there with a comma right behind each, behind those of a list, and tells where the last
-/// comma ends.
-#[inline(never)]
-pub(crate) fn numbers_at(bytes: &[u8], start: usize, list: &mut Vec<u64>) -> Result<usize, ScanStop>
-    ensures { IfOk result (λ end. (row : List ℕ) × (list.new.items ≡ list.old.items ++ row)
-        × ReadsAll 0 (left Expected.AfterComma (drop start bytes.now)) (map whole row)
-        (left Expected.AfterComma (drop end bytes.now))) }
-{
-    let mut at = start;
-    'numbers: while let Some((n, end)) = number_and_comma(bytes, at) {
-        push(list, n)?;
-        at = end;
-    }
-    Ok(at)
 }

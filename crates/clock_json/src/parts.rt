@@ -36,9 +36,9 @@ pub fn scanned_parts<'v, R: PartReader<'v>>(
         Reads (suc R.levels) scan.old (array (items_of (map R.shown parts))) scan.new) }
     ensures shorter { OnOk result (length scan.new < length scan.old) }
 {
-    scan.opens_array()?;
+    scan.opens(b'[')?;
     let mut parts = Items::from_vec(with_room(alloc, room)?);
-    'items: while !scan.closes_array() {
+    'items: while !scan.closes(b']') {
         let next = R::part(alloc, scan)?;
         parts.push(next)?;
     }
@@ -101,9 +101,9 @@ impl<'v, M: ScannedMembers<'v>> PartReader<'v> for M {
     ghost shown = { M.shown };
 
     fn part(alloc: Global, scan: &mut Scan<'v>) -> Result<M::Whole, ScanStop> {
-        scan.opens_object()?;
+        scan.opens(b'{')?;
         let mut found = M::nothing();
-        'members: while !scan.closes_object() {
+        'members: while !scan.closes(b'}') {
             let key = scan.key()?;
             found.read(alloc, key, scan)?;
         }

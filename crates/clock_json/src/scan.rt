@@ -1,19 +1,21 @@
 //! A text read mark by mark.
 ghost use Rattle.std.specs.Prelude.{◌≡◌, ◌∷◌, ◌++◌, [], ◌<◌, ℕ, List, drop, length, map, replicate, IsTrue, IfSome, IfNone, IfOk, OnOk, true, false};
 ghost use Rattle.std.specs.Bool.{MatchBool};
-ghost use Rattle.json.specs.Token.{Token, begin_array, begin_object, end_array, end_object, key as key_token, tokens_code};
-ghost use Rattle.json.specs.Lex.{after_value, fresh, may_begin, may_close, tokens};
+ghost use Rattle.json.specs.{Token.{Token, key as key_token, tokens_code}, Lex.{may_begin, may_close, tokens}};
 ghost use Rattle.serde_json.specs.Data.{null, string};
-ghost use Rattle.clock_json.specs.{Compact.{compact_bid}, Left.{left, place_of}, Reading.{whole, numbers, Reads, ReadsAll}};
-ghost use Rattle.clock_json.specs.inside.Marks.{IsMark};
+ghost use Rattle.clock_json.specs.{Compact.{compact_bid}, Left.{left, place_of}, Marks.{opening, closing}};
+ghost use Rattle.clock_json.specs.Reading.{whole, numbers, rows, Reads, ReadsAll};
 ghost use Rattle.clock_json.specs.declared.scan.ScanStop.TheVariants as stops;
 
-use crate::compact::{CompactBid, compact_bid_at};
-use crate::digits::numbers_at;
+use crate::compact::{CompactBid, compact_bid_at, has_room};
+use crate::digits::number_and_comma;
+use crate::room::push;
+use crate::rows::{ShortRows, short_row};
 use crate::words::{
-    after_empties, after_space, after_value, byte_at, decimal_at, ends_text, null_at, quoted,
+    after_space, after_value, decimal_at, ends_text, ends_word, is_at, is_key, quoted,
 };
-use clock_device::NoMemory;
+use clock_device::{Items, NoMemory};
+use std::alloc::Global;
 use std::marker::Model;
 
 /// Why a text was not read.
@@ -94,14 +96,13 @@ impl<'a> Scan<'a> {
         self.bytes.len().saturating_sub(self.at)
     }
 
-    /// Passes a mark that opens.
+    /// Passes a mark that opens, `[` or `{`.
     #[inline(always)]
-    fn opens(&mut self, mark: u8) -> Result<(), ScanStop>
-        requires { 0 < mark }
-        ensures { (t : Token) → IsMark may_begin mark t fresh → OnOk result (self.old ≡ t ∷ self.new) }
+    pub fn opens(&mut self, mark: u8) -> Result<(), ScanStop>
+        ensures { OnOk result (IfSome (opening mark) (λ token. self.old ≡ token ∷ self.new)) }
     {
         let at = after_space(self.bytes, self.at);
-        if !self.expected.may_begin() || byte_at(self.bytes, at) != mark {
+        if !self.expected.may_begin() || !is_at(self.bytes, at, mark) {
             return Err(ScanStop::Unusual);
         }
         self.at = at + 1;
@@ -109,54 +110,20 @@ impl<'a> Scan<'a> {
         Ok(())
     }
 
-    /// Passes a mark that closes.
+    /// Passes a mark that closes, `]` or `}`.
     #[inline(always)]
-    fn closes(&mut self, mark: u8) -> bool
-        requires { 0 < mark }
-        ensures { (t : Token) → IsMark may_close mark t after_value
-            → MatchBool result (self.old ≡ t ∷ self.new) (self.new ≡ self.old) }
+    pub fn closes(&mut self, mark: u8) -> bool
+        ensures { MatchBool result (IfSome (closing mark) (λ token. self.old ≡ token ∷ self.new)) (self.new ≡ self.old) }
     {
         if self.expected.is_after_comma() {
             return false;
         }
         let at = after_space(self.bytes, self.at);
-        if byte_at(self.bytes, at) != mark {
+        if !is_at(self.bytes, at, mark) {
             return false;
         }
         (self.expected, self.at) = after_value(self.bytes, at + 1);
         true
-    }
-
-    /// Passes a brace that opens.
-    #[inline(always)]
-    pub fn opens_object(&mut self) -> Result<(), ScanStop>
-        ensures { OnOk result (self.old ≡ begin_object ∷ self.new) }
-    {
-        self.opens(b'{')
-    }
-
-    /// Passes a bracket that opens.
-    #[inline(always)]
-    pub fn opens_array(&mut self) -> Result<(), ScanStop>
-        ensures { OnOk result (self.old ≡ begin_array ∷ self.new) }
-    {
-        self.opens(b'[')
-    }
-
-    /// Passes a brace that closes.
-    #[inline(always)]
-    pub fn closes_object(&mut self) -> bool
-        ensures { MatchBool result (self.old ≡ end_object ∷ self.new) (self.new ≡ self.old) }
-    {
-        self.closes(b'}')
-    }
-
-    /// Passes a bracket that closes.
-    #[inline(always)]
-    pub fn closes_array(&mut self) -> bool
-        ensures { MatchBool result (self.old ≡ end_array ∷ self.new) (self.new ≡ self.old) }
-    {
-        self.closes(b']')
     }
 
     /// Reads a key with no escape in it, and its colon.
@@ -170,7 +137,7 @@ impl<'a> Scan<'a> {
         }
         let (key, at) = quoted(self.bytes, at)?;
         let at = after_space(self.bytes, at);
-        if byte_at(self.bytes, at) != b':' {
+        if !is_at(self.bytes, at, b':') {
             return Err(ScanStop::Unusual);
         }
         self.at = at + 1;
@@ -209,16 +176,68 @@ impl<'a> Scan<'a> {
         Some(bid)
     }
 
+    /// Reads a list of numbers that are below 10^19 and written in digits alone.
+    pub fn numbers(&mut self, alloc: Global) -> Result<Items<u64>, ScanStop>
+        ensures value { IfOk result (λ list. Reads 1 self.old (numbers list) self.new) }
+        ensures shorter { OnOk result (length self.new < length self.old) }
+    {
+        let mut list = Vec::new(alloc);
+        self.numbers_behind(&mut list)?;
+        Ok(Items::from_vec(list))
+    }
+
+    /// Reads a list of numbers as [`numbers`](Scan::numbers) does, behind those that are there.
+    pub fn numbers_behind(&mut self, list: &mut Vec<u64>) -> Result<(), ScanStop>
+        ensures value { OnOk result ((row : List ℕ) × (list.new.items ≡ list.old.items ++ row)
+            × Reads 1 self.old (numbers row) self.new) }
+        ensures shorter { OnOk result (length self.new < length self.old) }
+    {
+        self.opens(b'[')?;
+        'items: while !self.closes(b']') {
+            let next = self.number()?;
+            push(list, next)?;
+            self.further_numbers(list)?;
+        }
+        Ok(())
+    }
+
     /// Reads the numbers that are next, where each has a comma right behind it, behind those of a list.
-    #[inline(always)]
-    pub(crate) fn further_numbers(&mut self, list: &mut Vec<u64>) -> Result<(), ScanStop>
+    #[inline(never)]
+    fn further_numbers(&mut self, list: &mut Vec<u64>) -> Result<(), ScanStop>
         ensures { OnOk result ((row : List ℕ) × (list.new.items ≡ list.old.items ++ row)
             × ReadsAll 0 self.old (map whole row) self.new) }
     {
-        if self.expected.is_after_comma() {
-            self.at = numbers_at(self.bytes, self.at, list)?;
+        if !self.expected.is_after_comma() {
+            return Ok(());
         }
+        let bytes = self.bytes;
+        let mut at = self.at;
+        'numbers: while let Some((n, end)) = number_and_comma(bytes, at) {
+            push(list, n)?;
+            at = end;
+        }
+        self.at = at;
         Ok(())
+    }
+
+    /// Reads a list of such lists, of numbers up to 65,535.
+    pub fn short_rows(&mut self, alloc: Global) -> Result<ShortRows, ScanStop>
+        ensures value { IfOk result (λ list. Reads 2 self.old (rows list) self.new) }
+        ensures shorter { OnOk result (length self.new < length self.old) }
+    {
+        self.opens(b'[')?;
+        let mut rows = Items::new(alloc);
+        let mut list = Vec::new(alloc);
+        'items: while !self.closes(b']') {
+            list.clear();
+            self.numbers_behind(&mut list)?;
+            let (row, is_same) = short_row(alloc, list.as_slice())?;
+            if !is_same {
+                return Err(ScanStop::Unusual);
+            }
+            rows.push(row)?;
+        }
+        Ok(rows)
     }
 
     /// Passes the empty lists that are next, where each has a comma right behind it and one comma is before them, and
@@ -230,7 +249,15 @@ impl<'a> Scan<'a> {
         if !self.expected.is_after_comma() {
             return 0;
         }
-        let (count, at) = after_empties(self.bytes, self.at);
+        let bytes = self.bytes;
+        let mut at = self.at;
+        let mut count = 0usize;
+        'lists: while has_room(bytes, at, 3)
+            && (bytes[at] == b'[') & (bytes[at + 1] == b']') & (bytes[at + 2] == b',')
+        {
+            at += 3;
+            count += 1;
+        }
         self.at = at;
         count
     }
@@ -241,13 +268,14 @@ impl<'a> Scan<'a> {
         ensures { MatchBool result (Reads 0 self.old null self.new) (self.new ≡ self.old) }
     {
         let at = after_space(self.bytes, self.at);
-        if !self.expected.may_begin() {
+        if !self.expected.may_begin()
+            || !has_room(self.bytes, at, 5)
+            || !is_key(&self.bytes[at..at + 4], "null")
+            || !ends_word(self.bytes[at + 4])
+        {
             return false;
         }
-        let Some(at) = null_at(self.bytes, at) else {
-            return false;
-        };
-        (self.expected, self.at) = after_value(self.bytes, at);
+        (self.expected, self.at) = after_value(self.bytes, at + 4);
         true
     }
 
@@ -263,8 +291,7 @@ impl<'a> Scan<'a> {
         }
         let (bytes, at) = quoted(self.bytes, at)?;
         let text = str::from_utf8(bytes).or(Err(ScanStop::Unusual))?;
-        let next = after_space(self.bytes, at);
-        if !ends_text(byte_at(self.bytes, next)) {
+        if !ends_text(self.bytes, after_space(self.bytes, at)) {
             return Err(ScanStop::Unusual);
         }
         (self.expected, self.at) = after_value(self.bytes, at);

@@ -24,16 +24,6 @@ pub fn text_at<'v>(value: &'v Value, key: &str) -> Option<&'v str>
     value.get(key).and_then(Value::as_str)
 }
 
-/// The items of a list under a key.
-fn items_at<'v>(value: &'v Value, key: &str) -> Option<&'v [Value]>
-    ensures { option_map (λ items. items_view items.now) result ≡ members.items_at key.now (view value.now) }
-{
-    value
-        .get(key)
-        .and_then(Value::as_array)
-        .map(|items| items.as_slice())
-}
-
 /// Whether a value is an object of so many members.
 pub fn has_members(value: &Value, count: usize) -> bool
     ensures { result ≡ members.has_members count (view value.now) }
@@ -108,8 +98,8 @@ pub fn each_at<'v, R: ValueReader<'v>>(
     ensures { IfOk result (λ parts. parts
         ≡ option_and_then (members.each (R.meaning reader.now)) (members.items_at key.now (view value.now))) }
 {
-    match items_at(value, key) {
-        Some(items) => each_of(alloc, reader, items),
+    match value.get(key).and_then(Value::as_array) {
+        Some(items) => each_of(alloc, reader, items.as_slice()),
         None => Ok(None),
     }
 }

@@ -1,36 +1,30 @@
 //! Bytes of a text as lexemes: white space, commas, quoted words, numbers and empty lists. Where plain text ends, at a quote, a
 //! backslash or a control character, is looked for in sixteen bytes together.
-ghost use Rattle.std.specs.Prelude.{◌≡◌, ◌∷◌, ◌<◌, ◌^◌, ◌||◌, ◌+◌, ◌≤◌, [], ℕ, List, true, false, None, IsTrue, drop, length, get_or, decimal, IfSome, IfOk, map, replicate};
+ghost use Rattle.std.specs.Prelude.{◌≡◌, ◌∷◌, ◌<◌, ◌^◌, ◌||◌, ◌+◌, ◌≤◌, true, false, None, IsTrue, drop, length, get_or, decimal, IfSome, IfOk, map};
 ghost use Rattle.std.specs.{Str.{IsUtf8}, List.{prefix_len}, Simd.Lanes.{mask_l}};
-ghost use Rattle.json.specs.Token.{null, number, string};
 ghost use Rattle.json.specs.Lex.{lex, between, token, class, begins_colon, after_value as past_value, punctuate};
-ghost use Rattle.json.specs.{Word.{is_operator, is_space as is_blank_byte}, Align.{is_blank as is_blank_class}};
-ghost use Rattle.json.specs.Run.{is_stop, is_plain};
+ghost use Rattle.json.specs.{Token.{number, string}, Run.{is_stop, is_plain}, Word.{is_operator, is_space as is_blank_byte}};
+ghost use Rattle.json.specs.Align.{is_blank as is_blank_class};
 ghost use Rattle.serde_json.specs.Read.{read};
-ghost use Rattle.clock_json.specs.{Left.{left}, Reading.{numbers, ReadsAll}};
+ghost use Rattle.clock_json.specs.Left.{left};
 
-use crate::compact::has_room;
 use crate::digits::digits_up_to;
 use crate::scan::{Expected, ScanStop};
 use std::simd::prelude::*;
 
-/// The byte there, or 0 past the end.
+/// Whether this byte stands there.
 #[inline(always)]
-pub(crate) fn byte_at(bytes: &[u8], at: usize) -> u8
-    ensures value { result ≡ get_or bytes.now at 0 }
-    ensures within { 0 < result → at < length bytes.now }
+pub(crate) fn is_at(bytes: &[u8], at: usize, byte: u8) -> bool
+    ensures { IsTrue result → (at < length bytes.now) × (get_or bytes.now at 0 ≡ byte) }
 {
-    if at < bytes.len() { bytes[at] } else { 0 }
+    at < bytes.len() && bytes[at] == byte
 }
 
 #[inline(always)]
 fn is_space(byte: u8) -> bool
     ensures { result ≡ is_blank_class (class byte) }
 {
-    if byte == b' ' {
-        return true;
-    }
-    (byte == b'\t') | (byte == b'\n') | (byte == b'\r')
+    byte == b' ' || (byte == b'\t') | (byte == b'\n') | (byte == b'\r')
 }
 
 /// Where the white space ends that is there.
@@ -84,7 +78,7 @@ pub(crate) fn after_value(bytes: &[u8], start: usize) -> (Expected, usize)
     ensures { left result.0 (drop result.1 bytes.now) ≡ punctuate past_value (lex between (drop start bytes.now)) }
 {
     let at = after_space(bytes, start);
-    if byte_at(bytes, at) == b',' {
+    if is_at(bytes, at, b',') {
         (Expected::AfterComma, at + 1)
     } else {
         (Expected::AfterValue, at)
@@ -141,29 +135,28 @@ pub(crate) fn quoted(bytes: &[u8], at: usize) -> Result<(&[u8], usize), ScanStop
     ensures { IfOk result (λ r. lex between (drop at bytes.now)
         ≡ token (string r.0.now) ∷ lex between (drop r.1 bytes.now)) }
 {
-    if byte_at(bytes, at) != b'"' {
+    if !is_at(bytes, at, b'"') {
         return Err(ScanStop::Unusual);
     }
     let start = at + 1;
     let end = plain_end(bytes, start);
-    if byte_at(bytes, end) != b'"' {
+    if !is_at(bytes, end, b'"') {
         return Err(ScanStop::Unusual);
     }
     Ok((&bytes[start..end], end + 1))
 }
 
-/// Whether a byte behind a quoted text leaves it a text, and makes no key of it.
+/// Whether the byte there, behind a quoted text, leaves it a text, and makes no key of it.
 #[inline(always)]
-pub(crate) fn ends_text(byte: u8) -> bool
-    ensures mark { IsTrue result → (rest : List ℕ) → begins_colon (lex between (byte ∷ rest)) ≡ false }
-    ensures something { IsTrue result → 0 < byte }
+pub(crate) fn ends_text(bytes: &[u8], at: usize) -> bool
+    ensures { IsTrue result → begins_colon (lex between (drop at bytes.now)) ≡ false }
 {
-    (byte == b',') | (byte == b'}') | (byte == b']')
+    at < bytes.len() && (bytes[at] == b',') | (bytes[at] == b'}') | (bytes[at] == b']')
 }
 
 /// Whether a byte ends a word or a number before it.
 #[inline(always)]
-fn ends_word(byte: u8) -> bool
+pub(crate) fn ends_word(byte: u8) -> bool
     ensures { result ≡ true → (is_operator byte || is_blank_byte byte) ≡ true }
 {
     matches!(byte, b',' | b'}' | b']' | b' ' | b'\n' | b'\r' | b'\t')
@@ -183,32 +176,4 @@ pub(crate) fn decimal_at(bytes: &[u8], at: usize) -> Option<(u64, usize)>
         return None;
     }
     Some((n, end))
-}
-
-/// Where the word `null` ends that stands there.
-#[inline(always)]
-pub(crate) fn null_at(bytes: &[u8], at: usize) -> Option<usize>
-    ensures { IfSome result (λ end. lex between (drop at bytes.now) ≡ token null ∷ lex between (drop end bytes.now)) }
-{
-    if !has_room(bytes, at, 5) || !is_key(&bytes[at..at + 4], "null") || !ends_word(bytes[at + 4]) {
-        return None;
-    }
-    Some(at + 4)
-}
-
-/// How many empty lists stand there with a comma right behind each, and where the last comma ends.
-#[inline(always)]
-pub(crate) fn after_empties(bytes: &[u8], start: usize) -> (usize, usize)
-    ensures { ReadsAll 1 (left Expected.AfterComma (drop start bytes.now)) (replicate result.0 (numbers []))
-        (left Expected.AfterComma (drop result.1 bytes.now)) }
-{
-    let mut at = start;
-    let mut count = 0usize;
-    'lists: while has_room(bytes, at, 3)
-        && (bytes[at] == b'[') & (bytes[at + 1] == b']') & (bytes[at + 2] == b',')
-    {
-        at += 3;
-        count += 1;
-    }
-    (count, at)
 }

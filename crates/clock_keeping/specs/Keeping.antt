@@ -10,7 +10,9 @@
 --     HasTakenUp texts least house      it stands for the first of the texts, so many at least
 --     IsRefused setup texts text      after these texts a text is not accepted
 --     GetsChangeNothing      why a request by GET is not kept
-use Rattle.std.specs.Prelude.{◌≡◌, ◌⊎◌, ◌≤◌, ◌++◌, ◌-◌, ◌^◌, min, ℕ, Bool, true, false, List, [], ◌∷◌, length, take, bytes_eq, codes}
+--     GrowsBy old new more      these were added at the end, where that is told
+--     no_journal      what is kept where nothing is
+use Rattle.std.specs.Prelude.{◌≡◌, ◌⊎◌, ◌≤◌, ◌++◌, ◌-◌, ◌^◌, min, ℕ, Bool, true, false, List, [], ◌∷◌, Option, Some, None, length, take, bytes_eq, codes}
 use Rattle.clock_terms.specs.Limits.{SetupFields}
 use Rattle.clock_house.specs.Command.{other}
 use Rattle.clock_house.specs.House.{HouseFields}
@@ -94,3 +96,12 @@ AsksNoChange text = (setup : SetupFields) → text_command setup text ≡ other
 
 abbrev pub GetsChangeNothing : Type 0
 GetsChangeNothing = (text : List ℕ) → is_get text ≡ true → AsksNoChange text
+
+-- these were added, in order, and no others; nothing is said where they are not told
+abbrev pub GrowsBy : {A : Type 0} → Option (List A) → Option (List A) → List A → Type 0
+GrowsBy (Some old) new more = new ≡ Some (old ++ more)
+GrowsBy None new more = Unit {0}
+
+-- a journal of which nothing is told, and no call failed: nothing is kept
+abbrev pub no_journal : JournalState
+no_journal = record { written = None; synced = None; has_failed = false; chain = []; uncut = 0 }

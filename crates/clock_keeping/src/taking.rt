@@ -93,13 +93,7 @@ where
     ensures unfailed { IfOk result (λ journal. journal.has_failed ≡ false) }
     ensures setup { auction.new.front.setup ≡ auction.old.front.setup }
 {
-    let recovered = match take_up(auction, &digest, bytes) {
-        Ok(recovered) => recovered,
-        Err(fault) => return Err(GoOnFault::Refused(fault)),
-    };
+    let recovered = take_up(auction, &digest, bytes).map_err(GoOnFault::Refused)?;
     tell(recovered);
-    match Journal::resume(disk, digest, recovered) {
-        Ok(journal) => Ok(journal),
-        Err(_) => Err(GoOnFault::Failed),
-    }
+    Journal::resume(disk, digest, recovered).or(Err(GoOnFault::Failed))
 }

@@ -3,7 +3,7 @@ use Rattle.std.proofs.Common.{◌≡◌, ℕ, ◌<◌, ◌≤◌, Bool, true, fa
 use Rattle.std.specs.Prelude.{◌↔◌, All, IsNone, IsTrue, IfSome, Some, if◌then◌else◌}
 use Rattle.std.specs.List.{range_with_len}
 use Rattle.std.proofs.lemmas.List.{get_or-map, length-map}
-use Rattle.std.proofs.lemmas.List.FromFn.{length-map-range_with_len, get_or-map-range_with_len}
+use Rattle.std.proofs.lemmas.List.FromFn.{length-map-range_with_len, get_or-map-range_with_len, fill_by_all}
 use Rattle.std.proofs.lemmas.List.Elements.{All-map, All-weaker}
 use Rattle.std.proofs.lemmas.Simd.{map-map}
 use Rattle.clock_terms.specs.declared.increments.Increments.{Increments}
@@ -13,8 +13,8 @@ use Rattle.clock_terms.specs.Limits.{IsProduct, no_product}
 use Rattle.clock_terms.specs.Increments.{AreIncrements}
 use Rattle.clock_terms.specs.Prices.{prices_at, opening_prices}
 use Rattle.clock_posting.specs.declared.posting.Posting.{Posting}
-use Rattle.clock_posting.specs.inside.Parts.{lines_of_round}
-use Rattle.clock_posting.specs.Posting.{has_ended, next_clock, opening_posted, next_prices, sheet_line}
+use Rattle.clock_posting.specs.inside.Parts.{least_price, lines_of_round}
+use Rattle.clock_posting.specs.Posting.{has_excess, has_ended, next_clock, opening_posted, next_prices, sheet_line}
 use Rattle.clock_posting.specs.Posting.{next_pair, IsBetween, IsRising, IsPosting, IsConsistent}
 use Rattle.clock_posting.specs.inside.RoundEnd.{HasClocks, IsRoundEnd}
 use Rattle.clock_posting.proofs.Ranges.{all_in_range}
@@ -90,12 +90,24 @@ opening_between products grid increments k below =
     let price : get_or (opening_posted products) k 0 ≡ (get_or products k no_product).opening = get_or-map _ products k no_product 0 below in
     record { from_start = omega (arith, ap (λ p. p.start) pair, price); to_clock = omega (arith, ap (λ p. p.clock) pair, price) }
 
--- the start prices of the opening are those that are posted
-pub opening_starts : (products : List Product) (prices : List PricePair) (starts : List ℕ) → starts ≡ map (λ pair. pair.start) prices →
-    prices ≡ opening_prices products → starts ≡ opening_posted products
-opening_starts products prices starts are opening =
-    are ∙ ap (λ list. map (λ (pair : PricePair). pair.start) list) opening
-    ∙ map-map (λ (pair : PricePair). pair.start) (λ (product : Product). record { start = product.opening; clock = product.opening }) products
+either : (test : Bool) (price clock start : ℕ) → price ≡ clock → price ≡ start → price ≡ (if test then clock else start)
+either true price clock start top low = top
+either false price clock start top low = low
+
+-- at opening prices the least prices are those that are posted
+pub opening_least : (products listed : List Product) (prices : List PricePair) (grid : List (List ℕ)) (posted : List ℕ) → listed ≡ products →
+    prices ≡ opening_prices products → posted ≡ map (least_price listed prices grid) (range_with_len 0 (length listed)) →
+    posted ≡ opening_posted products
+opening_least products listed prices grid posted same opening are =
+    let no_pair : PricePair = record { start = 0; clock = 0 } in
+    let by = λ (list : List Product) (pairs : List PricePair). map (least_price list pairs grid) (range_with_len 0 (length list)) in
+    are ∙ ap (λ (list : List Product). by list prices) same ∙ ap (by products) opening
+    ∙ sym (fill_by_all (least_price products (opening_prices products) grid) (opening_posted products) (length products) 0 (length-map products _) (λ k below.
+    let pair : prices_at (opening_prices products) k ≡ record
+    { start = (get_or products k no_product).opening; clock = (get_or products k no_product).opening } = get_or-map _ products k no_product no_pair below in
+    let price : get_or (opening_posted products) k 0 ≡ (get_or products k no_product).opening = get_or-map _ products k no_product 0 below in
+    either (has_excess products grid k) (get_or (opening_posted products) k 0) (prices_at (opening_prices products) k).clock
+    (prices_at (opening_prices products) k).start (price ∙ sym (ap (λ (p : PricePair). p.clock) pair)) (price ∙ sym (ap (λ (p : PricePair). p.start) pair))))
 
 -- what the first round has come to
 pub first_round_end : (products : List Product) (grid : List (List ℕ)) (increments : Increments) → All IsProduct products →

@@ -14,7 +14,7 @@ use Rattle.clock_terms.specs.Limits.{IsProduct}
 use Rattle.clock_terms.specs.Prices.{prices_at}
 use Rattle.clock_terms.specs.declared.change.Change.{Change}
 use Rattle.clock_posting.specs.declared.posting.Posting.{Posting}
-use Rattle.clock_posting.specs.inside.Parts.{lines_of_round, applied_prices, IsPriceRange}
+use Rattle.clock_posting.specs.inside.Parts.{least_price, lines_of_round, applied_prices, IsPriceRange}
 use Rattle.clock_posting.specs.Posting.{has_excess, has_ended, next_prices, sheet_line, IsBetween, IsAtClock, IsPosting}
 use Rattle.clock_posting.specs.PostedPrice.{is_applied_reduction, highest_or, posted_price, posted_prices, IsWithinPrices}
 use Rattle.clock_posting.specs.inside.RoundEnd.{IsRoundEnd}
@@ -58,11 +58,17 @@ highest_to most price (x ∷ prices) first others =
     highest_to most (max price x) prices (omega arith) (All-tail (λ y. y ≤ most) x prices others)
 
 -- a lower price changes nothing
-pub fold_is_highest : (start : ℕ) (prices : List ℕ) → All (λ x. start ≤ x) prices → fold max start prices ≡ highest_or start prices
+fold_is_highest : (start : ℕ) (prices : List ℕ) → All (λ x. start ≤ x) prices → fold max start prices ≡ highest_or start prices
 fold_is_highest start [] above = refl
 fold_is_highest start (x ∷ prices) above =
     let here : start ≤ x = All-head (λ y. start ≤ y) x prices above in
     ap (λ price. fold max price prices) (omega arith)
+
+highest_at : (most : ℕ) (prices : List ℕ) → All (λ x. x ≤ most) prices → fold max most prices ≡ most
+highest_at most [] below = refl
+highest_at most (x ∷ prices) below =
+    let here : x ≤ most = All-head (λ y. y ≤ most) x prices below in
+    ap (λ price. fold max price prices) (omega arith) ∙ highest_at most prices (All-tail (λ y. y ≤ most) x prices below)
 
 highest_or_from : (start : ℕ) (prices : List ℕ) → All (λ x. start ≤ x) prices → start ≤ highest_or start prices
 highest_or_from start prices above =
@@ -73,7 +79,7 @@ highest_or_to start most prices first above below =
     omega (arith, highest_to most start prices first below, fold_is_highest start prices above)
 
 -- applied prices stand from the start price to the clock price
-pub applied_from_start : (prices : List PricePair) (changes : List Change) (left : List ℕ) (product : ℕ) →
+applied_from_start : (prices : List PricePair) (changes : List Change) (left : List ℕ) (product : ℕ) →
     All (IsWithinPrices prices) changes → All (λ price. (prices_at prices product).start ≤ price) (applied_prices changes left product)
 applied_from_start prices changes left product priced =
     let P = λ (price : ℕ). (prices_at prices product).start ≤ price in
@@ -106,6 +112,17 @@ module _ (products : List Product) (prices : List PricePair) (changes : List Cha
   price_between product false ordered priced =
       let above = applied_from_start prices changes left product priced in
       (highest_or_from _ _ above, highest_or_to _ _ _ ordered above (applied_to_clock prices changes left product priced))
+
+  -- the highest of the least price and the applied ones
+  raised_by : (product : ℕ) (excess : Bool) → All (IsWithinPrices prices) changes →
+      fold max (if excess then (prices_at prices product).clock else (prices_at prices product).start) (applied_prices changes left product)
+      ≡ (if excess then (prices_at prices product).clock else highest_or (prices_at prices product).start (applied_prices changes left product))
+  raised_by product true priced = highest_at _ _ (applied_to_clock prices changes left product priced)
+  raised_by product false priced = fold_is_highest _ _ (applied_from_start prices changes left product priced)
+
+  pub raised_is_posted : (product : ℕ) → All (IsWithinPrices prices) changes →
+      fold max (least_price products prices grid product) (applied_prices changes left product) ≡ posted_price products prices changes left grid product
+  raised_is_posted product priced = raised_by product (has_excess products grid product) priced
 
   -- each posted price stands between start and clock price
   pub posted_between : (increments : Increments) (product : ℕ) → length prices ≡ length products → All IsPriceRange prices →

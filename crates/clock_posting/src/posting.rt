@@ -1,23 +1,27 @@
-ghost use Rattle.std.specs.Prelude.{◌≡◌, ◌≤◌, length, All, Any, IfOk, IfErr, IfSome};
+ghost use Rattle.std.specs.Prelude.{◌≡◌, ◌<◌, ◌≤◌, ℕ, if◌then◌else◌, None, length, map, max, slice_index, All, Any};
+ghost use Rattle.std.specs.{Prelude.{IfOk, IfErr, IfSome}, List.{range_with_len}};
 ghost use Rattle.clock_terms.specs.{Demands.{IsGrid}, Faults.{IsFirstFault}, Increments.{AreIncrements}, Prices.{opening_prices}};
-ghost use Rattle.clock_posting.specs.PostedPrice.{IsWithinPrices, posted_prices};
+ghost use Rattle.clock_posting.specs.PostedPrice.{IsWithinPrices, is_applied_reduction, posted_prices};
+ghost use Rattle.clock_posting.specs.inside.Parts.{least_price};
+ghost use Rattle.clock_posting.specs.inside.RoundEnd.{FitsTogether, HasClocksOf, IsPostingOf, limit_of, lines_of, next_of};
 ghost use Rattle.clock_posting.specs.Posting as rules;
 ghost use Rattle.clock_posting.specs.declared.posting.PostFault.TheVariants as faults;
 
-use crate::posted_prices::{posted_prices, start_prices};
-use crate::round_end::RoundEnd;
-use crate::sheet::RoundSheet;
-use clock_device::NoMemory;
+use crate::sheet::{Line, Lines, RoundSheet};
+use clock_device::{Items, NoMemory};
+use clock_money::{Price, clock_price};
 use clock_processor::Settled;
-use clock_terms::{Changes, Grid, Increments, OpeningPrices, Prices, Setup};
+use clock_terms::{
+    Change, Changes, Grid, Increments, Kind, OpeningPrices, PricePair, Prices, Product, Setup,
+};
 use std::alloc::Global;
 use thiserror::Error;
 
 /// Why a closing posts nothing.
 #[derive(Clone, Copy, Debug, PartialEq, Eq, Error)]
 pub enum PostFault {
-    /// The auction goes on, and this product, the first such, can have no next clock price:
-    /// it would be above the highest price.
+    /// The auction goes on, and this product, the first such, can have no next clock price: it would be above the
+    /// highest price.
     #[error("the next clock price of product {0} would be too high")]
     PriceLimit(u64),
     /// There was no memory. It stands in place of any other answer.
@@ -42,8 +46,8 @@ pub struct Posting {
     pub next: Option<Prices>,
 }
 
-/// What the closing of the first round posts, where the sheets' quantities stand as demands: each
-/// product's opening price is its start, clock and posted price.
+/// What the closing of the first round posts, where the sheets' quantities stand as demands: each product's opening
+/// price is its start, clock and posted price.
 ///
 /// An increment is a percentage from 1 to 50, by which the clock price of a product in the next round stands above its
 /// posted price, rounded up to a whole multiple of its granule; a list has one for each product. The auction ends where
@@ -68,7 +72,7 @@ pub fn post_first(
 {
     let products = setup.products.as_slice();
     let prices = Prices::opening(alloc, setup)?;
-    let posted = start_prices(alloc, prices.as_slice())?;
+    let posted = least_prices(alloc, products, prices.as_slice(), grid)?;
     RoundEnd {
         products,
         round: 1,
@@ -80,15 +84,15 @@ pub fn post_first(
     .posting(alloc)
 }
 
-/// What the closing of a round after the first posts, by the prices of the round, the changes that
-/// were asked, and what they settled to: each product's posted price is its clock price where its
-/// total exceeds its supply, otherwise its start price where no reduction of it was applied, and
-/// otherwise the highest bid price among its reductions of which a part was applied.
+/// What the closing of a round after the first posts, by the prices of the round, the changes that were asked, and what
+/// they settled to: each product's posted price is its clock price where its total exceeds its supply, otherwise its
+/// start price where no reduction of it was applied, and otherwise the highest bid price among its reductions of which
+/// a part was applied.
 ///
-/// Increments, end, next prices and refusals are those of [`post_first`] (ascending clock auction,
-/// FCC Auction 105; the posted price is an own rule). The round is 2 or later. There is a pair of
-/// prices for each product, its start price not above its clock price; each change is of a product,
-/// at a price from its start to its clock price; and of each change it is known how much was left.
+/// Increments, end, next prices and refusals are those of [`post_first`] (ascending clock auction, FCC Auction 105; the
+/// posted price is an own rule). The round is 2 or later. There is a pair of prices for each product, its start price
+/// not above its clock price; each change is of a product, at a price from its start to its clock price; and of each
+/// change it is known how much was left.
 pub fn post(
     alloc: Global,
     setup: &Setup,
@@ -108,7 +112,6 @@ pub fn post(
     ensures ok { let products = setup.now.products in let end = settled.now in
         let posted = posted_prices products prices.now changes.now end.left end.grid in
         IfOk result (rules.IsPosting round products prices.now end.grid posted increments.now) }
-    ensures lines { IfOk result (λ posting. length posting.sheet.lines ≡ length setup.now.products) }
     ensures err { let products = setup.now.products in let end = settled.now in
         let posted = posted_prices products prices.now changes.now end.left end.grid in
         IfErr result (IsFirstFault PostFault.NoMemory
@@ -135,4 +138,201 @@ pub fn post(
         increments,
     }
     .posting(alloc)
+}
+
+/// The least price that may be posted for each product: its clock price where its total exceeds its supply, otherwise
+/// its start price.
+fn least_prices(
+    alloc: Global,
+    products: &[Product],
+    prices: &[PricePair],
+    grid: &Grid,
+) -> Result<Items<Price>, NoMemory>
+    requires rows { All (λ row. length row ≡ length products.now) grid.now }
+    requires prices { length prices.now ≡ length products.now }
+    ensures { IfOk result (λ least. least
+        ≡ map (least_price products.now prices.now grid.now) (range_with_len 0 (length products.now))) }
+{
+    let mut least = Items::with_capacity(alloc, products.len())?;
+    for (i, product) in products.iter().enumerate() {
+        let pair = prices[i];
+        let excess = grid.total(i) > product.supply;
+        least.push(if excess { pair.clock } else { pair.start });
+    }
+    Ok(least.into_items())
+}
+
+/// The posted price of each product in a round after the first.
+fn posted_prices(
+    alloc: Global,
+    products: &[Product],
+    prices: &[PricePair],
+    changes: &[Change],
+    left: &[u64],
+    grid: &Grid,
+) -> Result<Items<Price>, NoMemory>
+    requires rows { All (λ row. length row ≡ length products.now) grid.now }
+    requires prices { length prices.now ≡ length products.now }
+    requires changes { All (IsWithinPrices prices.now) changes.now }
+    requires left { length left.now ≡ length changes.now }
+    ensures { IfOk result (λ posted. posted ≡ posted_prices products.now prices.now changes.now left.now grid.now) }
+{
+    let mut posted = least_prices(alloc, products, prices, grid)?;
+    for (i, change) in changes.iter().enumerate() {
+        note(&mut posted, prices, change, left[i]);
+    }
+    Ok(posted)
+}
+
+/// Takes the price of a change into account, where it is a reduction of which a part was applied.
+fn note(posted: &mut Items<Price>, prices: &[PricePair], change: &Change, left: u64)
+    requires lengths { length posted.old ≡ length prices.now }
+    requires priced { IsWithinPrices prices.now change.now }
+    ensures lengths { length posted.new ≡ length posted.old }
+    ensures price { (p : ℕ) → p < length posted.old → slice_index posted.new p ≡ (if is_applied_reduction
+        p change.now left then max (slice_index posted.old p) change.now.price else slice_index posted.old p) }
+{
+    let product = change.product as usize;
+    if change.kind == Kind::Reduction && left < change.amount {
+        let pair = prices[product];
+        prove!(pair.start.get() <= change.price && change.price <= pair.clock.get());
+        let price = Price::new(change.price).unwrap();
+        if posted.as_slice()[product].get() < price.get() {
+            posted.set(product, price);
+        }
+    }
+}
+
+/// What a round has come to, from which its sheet and the prices of the next round are made.
+#[derive(Drop)]
+struct RoundEnd<'a> {
+    products: &'a [Product],
+    /// The number of the round, from 1.
+    round: u64,
+    prices: &'a [PricePair],
+    /// The demands after the round.
+    grid: &'a Grid,
+    posted: &'a [Price],
+    increments: &'a Increments,
+}
+
+impl RoundEnd<'_> {
+    /// What the closing of the round posts.
+    fn posting(&self, alloc: Global) -> Result<Posting, PostFault>
+        requires { FitsTogether self.now }
+        ensures ok { IfOk result (IsPostingOf self.now) }
+        ensures lines { IfOk result (λ posting. length posting.sheet.lines ≡ length self.now.products.now) }
+        ensures err { IfErr result (IsFirstFault PostFault.NoMemory (rules.post_fault (limit_of self.now))) }
+        ensures laws { IfOk result rules.IsConsistent }
+    {
+        let next = self.prices_after(alloc)?;
+        let lines = self.lines(alloc, &next)?;
+        let sheet = RoundSheet {
+            round: self.round,
+            ended: next.is_none(),
+            lines,
+        };
+        Ok(Posting { sheet, next })
+    }
+
+    /// The prices of the next round, or none where the auction has ended, or the first product that can have none.
+    fn prices_after(&self, alloc: Global) -> Result<Option<Prices>, PostFault>
+        requires { FitsTogether self.now }
+        ensures ok { IfOk result (λ next. next ≡ next_of self.now) }
+        ensures clocks { IfOk result (λ next. IfSome next (HasClocksOf self.now)) }
+        ensures rising { IfOk result (λ next. IfSome next (All rules.IsRising)) }
+        ensures possible { IfOk result (λ _. limit_of self.now ≡ None) }
+        ensures err { IfErr result (IsFirstFault PostFault.NoMemory (rules.post_fault (limit_of self.now))) }
+    {
+        if has_ended(self.products, self.grid) {
+            return Ok(None);
+        }
+        let mut next = Prices::with_capacity(alloc, self.products.len())?;
+        for product in 0..self.products.len() {
+            let Some(clock) = self.next_clock(product) else {
+                return Err(PostFault::PriceLimit(product as u64));
+            };
+            next.push(PricePair {
+                start: self.posted[product],
+                clock,
+            });
+        }
+        Ok(Some(next.into_items()))
+    }
+
+    /// The next clock price of a product: its posted price raised by its increment, to a whole multiple of its granule.
+    /// `None` where that is above the highest price.
+    #[tactic(auto, using(clock_terms::proofs::IncrementLaws::increment_there))]
+    fn next_clock(&self, product: usize) -> Option<Price>
+        requires product { product < length self.now.products.now }
+        requires end { FitsTogether self.now }
+        ensures exact { result ≡ rules.next_clock self.now.products.now self.now.increments.now self.now.posted.now product }
+        ensures above { IfSome result (λ clock. slice_index self.now.posted.now product < clock) }
+    {
+        clock_price(
+            self.posted[product],
+            self.increments.at(product),
+            self.products[product].granule,
+        )
+    }
+
+    /// The lines of the round's sheet, by the prices of the next round.
+    fn lines(&self, alloc: Global, next: &Option<Prices>) -> Result<Lines, NoMemory>
+        requires end { FitsTogether self.now }
+        requires next { next.now ≡ next_of self.now }
+        requires clocks { IfSome next.now (HasClocksOf self.now) }
+        ensures count { IfOk result (λ lines. length lines ≡ length self.now.products.now) }
+        ensures exact { IfOk result (λ lines. lines ≡ lines_of self.now) }
+    {
+        // Each closed round keeps its lines, so they have no more room than they take.
+        let mut lines = Lines::with_capacity(alloc, self.products.len())?;
+        for product in 0..self.products.len() {
+            lines.push(self.line(product, next));
+        }
+        Ok(lines.into_items())
+    }
+
+    /// The line of a product.
+    fn line(&self, product: usize, next: &Option<Prices>) -> Line
+        requires product { product < length self.now.products.now }
+        requires end { FitsTogether self.now }
+        requires next { next.now ≡ next_of self.now }
+        requires clocks { IfSome next.now (HasClocksOf self.now) }
+        ensures { result ≡ rules.sheet_line self.now.products.now self.now.prices.now self.now.grid.now self.now.posted.now self.now.increments.now product }
+    {
+        let pair = self.prices[product];
+        let total = self.grid.total(product);
+        let supply = self.products[product].supply;
+        Line {
+            start: pair.start,
+            clock: pair.clock,
+            posted: self.posted[product],
+            demand: (total > supply).then_some(total),
+            next: self.next_at(product, next),
+        }
+    }
+
+    /// The clock price of a product in the next round, where there is one.
+    fn next_at(&self, product: usize, next: &Option<Prices>) -> Option<u64>
+        requires product { product < length self.now.products.now }
+        requires next { next.now ≡ next_of self.now }
+        requires clocks { IfSome next.now (HasClocksOf self.now) }
+        ensures { result ≡ (if rules.has_ended self.now.products.now self.now.grid.now then None
+            else rules.next_clock self.now.products.now self.now.increments.now self.now.posted.now product) }
+    {
+        Some(next.as_ref()?.as_slice()[product].clock.get())
+    }
+}
+
+/// Whether no product's total exceeds its supply.
+fn has_ended(products: &[Product], grid: &Grid) -> bool
+    requires { All (λ row. length row ≡ length products.now) grid.now }
+    ensures { result ≡ rules.has_ended products.now grid.now }
+{
+    for (i, product) in products.iter().enumerate() {
+        if grid.total(i) > product.supply {
+            return false;
+        }
+    }
+    true
 }

@@ -1,6 +1,6 @@
-ghost use Rattle.std.specs.Prelude.{◌≡◌, ◌<◌, ◌≤◌, ◌-◌, length, OnSome, All, ℕ, slice_index, slice_index_or, slice_set};
-ghost use Rattle.clock_processor.specs.{Board.{IsBoard, one_more}, Room.{with_change}, Requests.{IsRequest}};
-ghost use Rattle.clock_processor.specs.inside.UnderWay.{IsUnderWay, SameButTests, StaysWithinCaps, progress_of};
+ghost use Rattle.std.specs.Prelude.{◌≡◌, ◌≤◌, length, OnSome, All, ℕ};
+ghost use Rattle.clock_processor.specs.{Board.{IsBoard}, Requests.{IsRequest}};
+ghost use Rattle.clock_processor.specs.inside.UnderWay.{IsUnderWay, SameButTests, progress_of};
 ghost use Rattle.clock_processor.specs.Settling as settling;
 
 use crate::board::Board;
@@ -33,7 +33,13 @@ fn rescan(board: &mut Board, changes: &[Change], left: &mut Amounts)
     let mut admitted: usize = 0;
     'rescan: loop {
         match first_with_room(board, changes, left.as_slice(), admitted) {
-            Some(place) => apply_at(board, changes, left, place),
+            Some(place) => {
+                let change = &changes[place];
+                let amount = left[place];
+                let room = board.room(change, amount);
+                board.apply(change, room);
+                left.set(place, amount - room);
+            }
             None if admitted < changes.len() => admitted += 1,
             None => return,
         }
@@ -60,26 +66,4 @@ fn first_with_room(
         }
     }
     None
-}
-
-/// Applies the request at a place by its whole room.
-fn apply_at(board: &mut Board, changes: &[Change], left: &mut Amounts, place: usize)
-    requires place { place < length changes.now }
-    requires lengths { length left.old ≡ length changes.now }
-    requires requests { All (IsRequest (length board.old.eligibilities) (length board.old.products)) changes.now }
-    requires caps { StaysWithinCaps board.old.products board.old.grid changes.now left.old }
-    requires is_board { IsBoard board.old.products board.old.eligibilities board.old.grid }
-    requires room { 0 < settling.room_at board.old.products board.old.eligibilities changes.now (progress_of board.old 0 left.old) place }
-    ensures grid { board.new.grid ≡ with_change board.old.grid (slice_index_or changes.now place settling.no_change)
-        (settling.room_at board.old.products board.old.eligibilities changes.now (progress_of board.old 0 left.old) place) }
-    ensures left { left.new ≡ slice_set left.old place (slice_index left.old place - settling.room_at board.old.products
-        board.old.eligibilities changes.now (progress_of board.old 0 left.old) place) }
-    ensures applied { board.new.applied ≡ one_more board.old.applied }
-    ensures terms { (board.new.products ≡ board.old.products) × (board.new.eligibilities ≡ board.old.eligibilities) }
-{
-    let change = changes[place];
-    let amount = left[place];
-    let room = board.room(&change, amount);
-    board.apply(&change, room);
-    left.set(place, amount - room);
 }

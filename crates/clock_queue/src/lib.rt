@@ -4,6 +4,5 @@
 
 mod lines;
 mod queue;
-mod woken;
 
-pub use woken::Woken;
+pub use queue::Woken;

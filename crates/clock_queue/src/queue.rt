@@ -1,16 +1,48 @@
-ghost use Rattle.std.specs.Prelude.{◌≡◌, ◌+◌, ◌<◌, ◌≤◌, [], length, map, IfOk, OnOk, All};
-ghost use Rattle.clock_processor.specs.{Board.{IsBoard}, Requests.{CanSettle}};
+ghost use Rattle.std.specs.Prelude.{◌≡◌, ◌+◌, ◌<◌, ◌≤◌, [], length, IfOk, OnOk, All};
+ghost use Rattle.clock_processor.specs.{Board.{IsBoard}, Requests.{CanSettle}, Settlement.{IsSettlement, IsProperEnd}};
+ghost use Rattle.clock_queue.specs.Bound.{IsWithinTests};
 ghost use Rattle.clock_queue.specs.inside.Queue.{GoesOn, IsAppliedWhole, IsQueue, StaysWithinTests, after_test, room_in, with_first, work};
 
 use crate::lines::{Ready, WaitingLines, line_of, lines_for, woken_line};
 use clock_device::NoMemory;
-use clock_processor::{Board, Settled, amounts_of};
-use clock_terms::{Amounts, Change};
+use clock_processor::{Board, Processor, Settled, amounts_of};
+use clock_terms::{Amounts, Change, Changes};
 use std::alloc::Global;
+
+/// Tests a request once when it is admitted, and again after each application that may have made room for it.
+///
+/// An applied reduction frees eligibility of its bidder, so it wakes the bidder's increases that wait; an applied
+/// increase raises the demand for its product, so it wakes the product's reductions that wait.
+#[derive(Clone, Copy, Debug, Default)]
+pub struct Woken;
+
+impl Processor for Woken {
+    /// Settles the requests as the trait says. It tests at most once for each request, and for each application at most
+    /// as often as there are requests of one product or of one bidder.
+    fn settle(&self, alloc: Global, board: Board, changes: &Changes) -> Result<Settled, NoMemory>
+        requires { CanSettle board changes.now }
+        ensures settlement { IfOk result (λ settled. IsSettlement board.entry changes.now settled) }
+        ensures proper { IfOk result (λ settled. IsProperEnd board.entry changes.now settled) }
+        ensures tests { IfOk result (λ settled. IsWithinTests changes.now settled) }
+    {
+        let requests = changes.as_slice();
+        let mut queue = Queue {
+            board,
+            left: amounts_of(alloc, requests)?,
+            admitted: 0,
+            ready: Ready::new(alloc),
+            lines: WaitingLines::new(alloc, lines_for(requests))?,
+        };
+        for _place in 0..requests.len() {
+            queue.settle_next(requests)?;
+        }
+        Ok(queue.board.end(queue.left))
+    }
+}
 
 /// A settling on its way.
 #[derive(Drop)]
-pub(crate) struct Queue<'a> {
+struct Queue<'a> {
     board: Board<'a>,
     left: Amounts,
     admitted: usize,
@@ -19,31 +51,9 @@ pub(crate) struct Queue<'a> {
 }
 
 impl<'a> Queue<'a> {
-    /// A settling in which no request is admitted yet.
-    pub(crate) fn new(
-        alloc: Global,
-        board: Board<'a>,
-        changes: &[Change],
-    ) -> Result<Queue<'a>, NoMemory>
-        requires { CanSettle board changes.now }
-        ensures queue { IfOk result (IsQueue changes.now) }
-        ensures counts { IfOk result (StaysWithinTests changes.now) }
-        ensures board { IfOk result (λ queue. queue.board ≡ board.entry) }
-        ensures left { IfOk result (λ queue. queue.left ≡ map (λ change. change.amount) changes.now) }
-        ensures none { IfOk result (λ queue. (queue.ready ≡ []) × (queue.admitted ≡ 0)) }
-    {
-        Ok(Queue {
-            board,
-            left: amounts_of(alloc, changes)?,
-            admitted: 0,
-            ready: Ready::new(alloc),
-            lines: WaitingLines::new(alloc, lines_for(changes))?,
-        })
-    }
-
     /// Admits the next request and tests it, and then tests until none is ready. Mostly none is after its own test, so
     /// it goes past the ready requests, and takes no memory of theirs.
-    pub(crate) fn settle_next(&mut self, changes: &[Change]) -> Result<(), NoMemory>
+    fn settle_next(&mut self, changes: &[Change]) -> Result<(), NoMemory>
         requires queue { IsQueue changes.now self.old }
         requires counts { StaysWithinTests changes.now self.old }
         requires none { self.old.ready ≡ [] }
@@ -121,14 +131,5 @@ impl<'a> Queue<'a> {
             self.lines.add(line_of(&changes[place]), place)?;
         }
         Ok(())
-    }
-
-    /// Ends the settling.
-    pub(crate) fn end(self) -> Settled
-        ensures settled { result
-            ≡ record { grid = self.entry.board.grid; left = self.entry.left; applied = self.entry.board.applied; tests = self.entry.board.tests } }
-        ensures kept { IsBoard self.entry.board.products self.entry.board.eligibilities self.entry.board.grid }
-    {
-        self.board.end(self.left)
     }
 }

@@ -171,10 +171,10 @@ pub(crate) fn limit_lists(alloc: Global, scan: &mut Scan<'_>) -> Result<LimitLis
     ensures value { IfOk result (λ limits. Reads 2 scan.old (rows limits) scan.new) }
     ensures shorter { OnOk result (length scan.new < length scan.old) }
 {
-    scan.opens_array()?;
+    scan.opens(b'[')?;
     let mut limits = LimitRows::new(alloc);
     let mut row = Vec::new(alloc);
-    'items: while !scan.closes_array() {
+    'items: while !scan.closes(b']') {
         row.clear();
         scan.numbers_behind(&mut row)?;
         limits.push(row.as_slice())?;

@@ -6,7 +6,7 @@ ghost use Rattle.clock_reports.specs.FinalReport as rules;
 
 use clock_device::{Items, NoMemory};
 use clock_house::House;
-use clock_posting::{Line, Lines, RoundSheet};
+use clock_posting::{Line, RoundSheet};
 use clock_terms::{Grid, Setup};
 use std::alloc::Global;
 use std::marker::Model;
@@ -35,17 +35,13 @@ impl Model for Report {
     ghost invariant = { λ r. IsReport (record { setup = r.setup; sheets = r.sheets; grid = r.grid }) };
 }
 
-/// Equal lines, whose prices are prices.
-fn lines_copy(alloc: Global, lines: &[Line]) -> Result<Lines, NoMemory>
-    ensures same { IfOk result (λ copy. copy ≡ lines.now) }
-    ensures priced { IfOk result (All IsPricedLine) }
+/// The prices of lines are prices.
+fn law_of_prices(lines: &[Line])
+    ensures { All IsPricedLine lines.now }
 {
-    let mut copy = Vec::with_capacity(alloc, lines.len())?;
     for line in lines {
         prove!(line.start.get() >= 1 && line.clock.get() >= 1 && line.posted.get() >= 1);
-        copy.push(*line)?;
     }
-    Ok(Lines::from_vec(copy))
 }
 
 /// The sheet of a closed round; rounds are numbered from 0 here.
@@ -66,12 +62,8 @@ fn sheets_of<P>(alloc: Global, house: &House<P>) -> Result<RoundSheets, NoMemory
     let mut sheets = RoundSheets::new(alloc);
     for round in 0..house.closed_rounds() {
         let sheet = sheet_at(house, round);
-        let lines = lines_copy(alloc, sheet.lines.as_slice())?;
-        sheets.push(RoundSheet {
-            round: sheet.round,
-            ended: sheet.ended,
-            lines,
-        })?;
+        law_of_prices(sheet.lines.as_slice());
+        sheets.push(sheet.copy(alloc)?)?;
     }
     Ok(sheets)
 }
@@ -85,9 +77,8 @@ pub fn report_so_far<P>(alloc: Global, house: &House<P>) -> Result<Report, NoMem
     // the set-up comes last, so that the least is let go where there is no memory
     let grid = house.demands().copy(alloc)?;
     let sheets = sheets_of(alloc, house)?;
-    let setup = house.setup().copy(alloc)?;
     Ok(Report {
-        setup,
+        setup: house.setup().copy(alloc)?,
         sheets,
         grid,
     })

@@ -48,8 +48,7 @@ fn payment(lines: &[Line], demands: &Row) -> u64
     let mut total: u64 = 0;
     let mut held = demands.held();
     'held: while let Some(one) = held.next() {
-        let line = &lines[one.product];
-        total += line.posted.get() * one.demand;
+        total += lines[one.product].posted.get() * one.demand;
     }
     total
 }

@@ -1,7 +1,7 @@
 -- The head of a request that puts a sheet needs more just where its body needs to come.
 use Rattle.std.proofs.Common.{◌≡◌, ℕ, ◌+◌, ◌-◌, ◌≤◌, ◌<◌, ◌^◌, zero, suc, Bool, true, false, cond, not, ◌&&◌, List, [], ◌∷◌, ◌++◌, length, take, drop, reverse}
-use Rattle.std.proofs.Common.{Some, Result, Ok, Err, codes, refl, sym, ◌∙◌, ap, arith, append_assoc, append-nil, length-append}
-use Rattle.std.specs.Prelude.{◌==◌, ◌||◌, nat_lt, nat_le, nat_eq, decimal, option_map, IfOk}
+use Rattle.std.proofs.Common.{Some, Ok, Err, codes, refl, sym, ◌∙◌, ap, arith, append_assoc, append-nil, length-append}
+use Rattle.std.specs.Prelude.{◌==◌, ◌||◌, nat_lt, nat_le, nat_eq, decimal, option_map}
 use Rattle.std.specs.List.{list_all, starts_with}
 use Rattle.std.specs.Cmp.{first_so, second_so}
 use Rattle.std.specs.Cmp.Lexicographic.{pointwise}
@@ -29,12 +29,12 @@ use Rattle.clock_http.specs.HeaderLines.{pairs_of, body_length, body_limit, leng
 use Rattle.clock_http.specs.Framing.{head_limit, Head, kept, or_bad_head, ended_head, and_length, length_read, incomplete, whole, framed_at, framed_head, framing}
 use Rattle.clock_http.specs.Framing.{is_incomplete, needs_more}
 use Rattle.clock_http.specs.FramingLaws.{IsHeadOfGrammar}
-use Rattle.clock_device.specs.declared.items.NoMemory.{NoMemory}
-use Rattle.clock_scripts.specs.declared.pieces.Written.{Written}
-use Rattle.clock_scripts.specs.declared.pieces.Pieces.{Pieces}
+use Rattle.clock_views.specs.Values.{Adds}
+use Rattle.clock_scripts.specs.declared.requests.Written.{Written}
 use Rattle.clock_scripts.specs.RequestTexts.{request_head}
-use Rattle.clock_scripts.specs.Pieces.{AwaitsBody, Writes, is_awaited}
-use Rattle.clock_scripts.specs.inside.Heads.{HasHead}
+use Rattle.clock_scripts.specs.Pieces.{AwaitsBody, is_awaited}
+use Rattle.clock_scripts.specs.inside.Heads.{IsHeaded}
+use Rattle.clock_scripts.proofs.WrittenLaws.{is_head, size}
 
 -- ---- bytes within a line
 
@@ -306,11 +306,10 @@ module _ (token : List ℕ) (is_token : IsToken token) (n : ℕ) (fits : n < 2 ^
           short_of (nat_lt (length text) (length text + n)) (kept head) (take n (drop (length text) text)) ∙ some_left (length text) n within
 
 -- so does the head of a request that was written
-pub put_awaits : IsHeadOfGrammar → (token : List ℕ) → IsToken token → (old pieces : Pieces) (text : List ℕ) (result : Result Written NoMemory)
-    → IfOk result (Writes old pieces text) → IfOk result (HasHead (codes "PUT /v1/me/bids") token pieces) → IfOk result (AwaitsBody pieces)
-put_awaits law token is_token old pieces text (Err fault) writes head = tt
-put_awaits law token is_token old pieces text (Ok written) writes head =
-    let place = writes.within.1 in
-    let room = pieces.bodies in
-    let fits : written.body.end - written.body.start < 2 ^ 64 = omega (arith, place.1, room.ok.0, room.ok.1, room.small) in
-    ap needs_more head ∙ put_waits token is_token (written.body.end - written.body.start) fits law
+pub put_awaits : IsHeadOfGrammar → (token : List ℕ) → IsToken token → (old pushed new body : List ℕ) (from : ℕ) (written : Written) → Adds body old pushed
+    → from ≡ length old → length pushed < 2 ^ 64 → IsHeaded (codes "PUT /v1/me/bids") token from pushed new written → AwaitsBody new written
+put_awaits law token is_token old pushed new body from written added start few headed =
+    let line = codes "PUT /v1/me/bids" in
+    let fits : length pushed - from < 2 ^ 64 = omega (arith, few) in
+    ap needs_more (is_head old pushed new line token body from written added start headed) ∙ put_waits token is_token (length pushed - from) fits law
+    ∙ ap is_awaited (sym (size old pushed new line token body from written added start headed))

@@ -1,7 +1,8 @@
 -- Sheets of bids that are written from one product to the next.
-use Rattle.std.proofs.Common.{◌≡◌, ◌≢◌, ℕ, ◌+◌, ◌-◌, ◌<◌, ◌≤◌, ◌==◌, false, zero, suc, List, [], ◌∷◌, ◌++◌, flat_map, get_or, slice_index}
-use Rattle.std.proofs.Common.{append_assoc, length, refl, sym, ap, ap₂, ◌∙◌, arith}
+use Rattle.std.proofs.Common.{◌≡◌, ◌≢◌, ℕ, ◌+◌, ◌-◌, ◌<◌, ◌≤◌, ◌==◌, Bool, true, false, zero, suc, List, [], ◌∷◌, ◌++◌, flat_map, get_or, slice_index}
+use Rattle.std.proofs.Common.{append_assoc, append-nil, length, refl, sym, ap, ap₂, ◌∙◌, arith}
 use Rattle.std.specs.List.{range_with_len}
+use Rattle.std.specs.Prelude.{if◌then◌else◌}
 use Rattle.std.proofs.lemmas.Bool.{ne_eqb}
 use Rattle.std.proofs.lemmas.Grind.{flat_map-append}
 use Rattle.std.proofs.lemmas.List.{get_or_default}
@@ -11,10 +12,9 @@ use Rattle.clock_terms.specs.Demands.{row_of}
 use Rattle.clock_bids.specs.declared.sheet.Bid.{Bid}
 use Rattle.clock_views.specs.Values.{Adds}
 use Rattle.clock_views.proofs.Pushes.{together}
-use Rattle.clock_scripts.specs.declared.sincere.Sincere.{Sincere}
-use Rattle.clock_scripts.specs.Sincere.{bids_for, product_bids, opening_bids, later_bids}
+use Rattle.clock_scripts.specs.Sincere.{bid_for, bid_if_any, sincere_sheet, opening_bids, later_bids, wanted}
 use Rattle.clock_scripts.specs.inside.Bodies.{bid_text, bids_text}
-use Rattle.clock_scripts.specs.inside.SincereSheets.{sheet_of}
+use Rattle.clock_scripts.specs.inside.SincereSheets.{first_bids, bids_held, first_sheet, later_sheet}
 
 -- behind the bids for a product come those for the products after it
 pub one_more : (f : ℕ → List ℕ) (text next all : List ℕ) (p n : ℕ) → p < n → Adds (f p) text next
@@ -58,48 +58,63 @@ texts_of_all f [] = refl
 texts_of_all f (item ∷ items) =
     ap (λ (rest : List ℕ). bids_text (f item) ++ rest) (texts_of_all f items) ∙ sym (flat_map-append bid_text (f item) (flat_map f items))
 
--- those for a product as they are written
-abbrev pub written_for : Sincere → ℕ → List ℕ
-written_for sheet product = bids_text (bids_for sheet.own.round sheet.prices.now sheet.own.demands.now sheet.limits.now product)
+-- those for a product as they are written, in the first round and in a later one
+abbrev pub first_text : List PricePair → List (List ℕ) → ℕ → List ℕ
+first_text prices lists product = bids_text (first_bids prices lists product)
 
-in_round_one : (round product held : ℕ) (pair : PricePair) (limits : List ℕ) → round ≡ 1
-    → opening_bids product pair limits ≡ product_bids round product pair held limits
-in_round_one round product held pair limits first = rw first refl
+abbrev pub later_text : List PricePair → List ℕ → List (List ℕ) → ℕ → List ℕ
+later_text prices demands lists product = bids_text (bids_held prices demands lists product)
 
-in_later_round : (round product held : ℕ) (pair : PricePair) (limits : List ℕ) → (round == 1) ≡ false
-    → later_bids product pair held limits ≡ product_bids round product pair held limits
-in_later_round round product held pair limits later = rw later refl
+-- so many blocks are wanted in the first round, or none
+pub none_wanted : (product : ℕ) (pair : PricePair) (list : List ℕ) (count : ℕ) → count ≡ wanted list pair.start → count ≡ 0 → opening_bids product pair list ≡ []
+none_wanted product pair list count is none = ap (bid_if_any product pair.start) (sym is ∙ none)
 
--- in the first round
-pub opening_for : (sheet : Sincere) (product : ℕ) (pair : PricePair) (limits text next : List ℕ) → sheet.own.round ≡ 1
-    → pair ≡ prices_at sheet.prices.now product → limits ≡ row_of sheet.limits.now product
-    → Adds (bids_text (opening_bids product pair limits)) text next → Adds (written_for sheet product) text next
-opening_for sheet product pair limits text next first priced listed added =
-    together (ap bids_text (sym (ap₂ (opening_bids product) priced listed
-    ∙ in_round_one sheet.own.round product (slice_index sheet.own.demands.now product) (prices_at sheet.prices.now product) (row_of sheet.limits.now product) first)))
+pub some_wanted : (product : ℕ) (pair : PricePair) (list : List ℕ) (count : ℕ) → count ≡ wanted list pair.start → count ≢ 0
+    → bids_text (opening_bids product pair list) ≡ bid_text (bid_for product count pair.start)
+some_wanted product pair list count is some =
+    ap (λ (k : ℕ). bids_text (bid_if_any product pair.start k)) (sym is)
+    ∙ ap (λ (none : Bool). bids_text (if none then [] else bid_for product count pair.start ∷ [])) (ne_eqb count 0 some)
+    ∙ append-nil (bid_text (bid_for product count pair.start))
+
+pub opening_for : (prices : List PricePair) (lists : List (List ℕ)) (product : ℕ) (pair : PricePair) (list text next : List ℕ)
+    → pair ≡ prices_at prices product → list ≡ row_of lists product
+    → Adds (bids_text (opening_bids product pair list)) text next → Adds (first_text prices lists product) text next
+opening_for prices lists product pair list text next priced listed added =
+    together (ap bids_text (sym (ap₂ (opening_bids product) priced listed))) added
+
+-- what is held in a later one
+pub later_for : (prices : List PricePair) (demands : List ℕ) (lists : List (List ℕ)) (product held : ℕ) (pair : PricePair) (list text next : List ℕ)
+    → pair ≡ prices_at prices product → held ≡ slice_index demands product → list ≡ row_of lists product
+    → Adds (bids_text (later_bids product pair held list)) text next → Adds (later_text prices demands lists product) text next
+later_for prices demands lists product held pair list text next priced held_is listed added =
+    together (ap bids_text (sym (ap (λ (at : PricePair). later_bids product at held list) priced
+    ∙ ap₂ (later_bids product (prices_at prices product)) held_is listed)))
     added
 
--- in each other
-pub later_for : (sheet : Sincere) (product held : ℕ) (pair : PricePair) (limits text next : List ℕ) → sheet.own.round ≢ 1
-    → pair ≡ prices_at sheet.prices.now product → held ≡ slice_index sheet.own.demands.now product → limits ≡ row_of sheet.limits.now product
-    → Adds (bids_text (later_bids product pair held limits)) text next → Adds (written_for sheet product) text next
-later_for sheet product held pair limits text next later priced held_is listed added =
-    together (ap bids_text (sym (ap (λ (at : PricePair). later_bids product at held limits) priced
-    ∙ ap₂ (later_bids product (prices_at sheet.prices.now product)) held_is listed
-    ∙ in_later_round sheet.own.round product (slice_index sheet.own.demands.now product) (prices_at sheet.prices.now product) (row_of sheet.limits.now product)
-    (ne_eqb sheet.own.round 1 later))))
-    added
+-- a product that is not held has no bids in a later round
+none_held : (product held : ℕ) (pair : PricePair) (list : List ℕ) → held ≡ 0 → later_bids product pair held list ≡ []
+none_held product held pair list none = rw none refl
 
--- a product that is not held has no bids in a round after the first
-none_held : (round product held : ℕ) (pair : PricePair) (limits : List ℕ) → ((round == 1) ≡ false) × (held ≡ 0) → product_bids round product pair held limits ≡ []
-none_held round product held pair limits later = rw (later.0, later.1) refl
-
-pub none_for : (sheet : Sincere) (product : ℕ) → sheet.own.round ≢ 1 → slice_index sheet.own.demands.now product ≡ 0 → written_for sheet product ≡ []
-none_for sheet product later none =
-    ap bids_text (none_held sheet.own.round product (slice_index sheet.own.demands.now product) (prices_at sheet.prices.now product)
-    (row_of sheet.limits.now product) (ne_eqb sheet.own.round 1 later, none))
+pub none_for : (prices : List PricePair) (demands : List ℕ) (lists : List (List ℕ)) (product : ℕ) → slice_index demands product ≡ 0
+    → later_text prices demands lists product ≡ []
+none_for prices demands lists product none =
+    ap bids_text (none_held product (slice_index demands product) (prices_at prices product) (row_of lists product) none)
 
 -- those of all products are the sheet
-pub whole_sheet : (sheet : Sincere) → flat_map (written_for sheet) (range_with_len 0 (length sheet.prices.now)) ≡ bids_text (sheet_of sheet)
-whole_sheet sheet =
-    texts_of_all (bids_for sheet.own.round sheet.prices.now sheet.own.demands.now sheet.limits.now) (range_with_len 0 (length sheet.prices.now))
+pub whole_first : (prices : List PricePair) (lists : List (List ℕ)) → flat_map (first_text prices lists) (range_with_len 0 (length prices))
+    ≡ bids_text (first_sheet prices lists)
+whole_first prices lists = texts_of_all (first_bids prices lists) (range_with_len 0 (length prices))
+
+pub whole_later : (prices : List PricePair) (demands : List ℕ) (lists : List (List ℕ)) → flat_map (later_text prices demands lists) (range_with_len 0 (length prices))
+    ≡ bids_text (later_sheet prices demands lists)
+whole_later prices demands lists = texts_of_all (bids_held prices demands lists) (range_with_len 0 (length prices))
+
+-- the sheet of a round is that of the first or of a later one
+pub sheet_by : (round : ℕ) (prices : List PricePair) (demands : List ℕ) (lists : List (List ℕ)) (first : Bool) → (round == 1) ≡ first
+    → sincere_sheet round prices demands lists ≡ (if first then first_sheet prices lists else later_sheet prices demands lists)
+sheet_by round prices demands lists true is =
+    ap (λ (first : Bool). flat_map (λ product. if first then first_bids prices lists product else bids_held prices demands lists product)
+    (range_with_len 0 (length prices))) is
+sheet_by round prices demands lists false is =
+    ap (λ (first : Bool). flat_map (λ product. if first then first_bids prices lists product else bids_held prices demands lists product)
+    (range_with_len 0 (length prices))) is

@@ -1,5 +1,5 @@
 -- The texts of bodies in the pieces in which they are pushed.
-use Rattle.std.proofs.Common.{◌≡◌, ℕ, List, ◌++◌, codes, decimal, refl, ap, ◌∙◌, append_assoc}
+use Rattle.std.proofs.Common.{◌≡◌, ℕ, List, ◌∷◌, ◌++◌, codes, decimal, refl, ap, ◌∙◌, append_assoc}
 use Rattle.std.specs.Prelude.{Result, Ok, Err, OnOk}
 use Rattle.serde_json.specs.Written.{compact_text}
 use Rattle.serde_json.proofs.OnLiterals.{serde_json_on_literals}
@@ -11,7 +11,6 @@ use Rattle.clock_views.specs.Values.{list_of, Adds}
 use Rattle.clock_views.proofs.Pushes.{before, together}
 use Rattle.clock_views.proofs.Texts.{bid_in_pieces}
 use Rattle.clock_scripts.specs.RequestTexts.{tie_value, close_value}
-use Rattle.clock_scripts.specs.inside.Arrays.{with_comma}
 use Rattle.clock_scripts.specs.inside.Bodies.{bid_text}
 use Rattle.clock_scripts.specs.inside.RequestTexts.{increments_text}
 
@@ -27,40 +26,23 @@ pub together_ok : {T E : Type 0} {pieces piece : List ℕ} (text whole : List �
 together_ok text whole (Ok done) is added = together is added
 together_ok text whole (Err fault) is added = tt
 
-bid_regrouped : (a b c d e f g : List ℕ) → ((a ++ b) ++ ((c ++ d) ++ ((e ++ f) ++ g))) ++ codes ","
-    ≡ a ++ (b ++ (c ++ (d ++ (e ++ (f ++ (g ++ codes ","))))))
-bid_regrouped a b c d e f g = simp append_assoc
+bid_regrouped : (z a b c d e f g : List ℕ) → z ++ ((a ++ b) ++ ((c ++ d) ++ ((e ++ f) ++ g)))
+    ≡ (z ++ a) ++ (b ++ (c ++ (d ++ (e ++ (f ++ g)))))
+bid_regrouped z a b c d e f g = simp append_assoc
 
 -- a bid with its comma
 pub bid_with_comma : (bid : Bid) → bid_text bid
-    ≡ codes "{\"price\":" ++ (decimal bid.price ++ (codes ",\"product\":" ++ (decimal bid.product
-    ++ (codes ",\"quantity\":" ++ (decimal bid.quantity ++ codes "},")))))
+    ≡ codes ",{\"price\":" ++ (decimal bid.price ++ (codes ",\"product\":" ++ (decimal bid.product
+    ++ (codes ",\"quantity\":" ++ (decimal bid.quantity ++ codes "}")))))
 bid_with_comma bid =
-    ap (λ text. text ++ codes ",") (bid_in_pieces bid)
-    ∙ bid_regrouped (codes "{\"price\":") (decimal bid.price) (codes ",\"product\":") (decimal bid.product)
+    ap (λ (text : List ℕ). 44 ∷ text) (bid_in_pieces bid)
+    ∙ bid_regrouped (codes ",") (codes "{\"price\":") (decimal bid.price) (codes ",\"product\":") (decimal bid.product)
     (codes ",\"quantity\":") (decimal bid.quantity) (codes "}")
-
-tie_regrouped : (a b c d : List ℕ) → (a ++ (b ++ (c ++ d))) ++ codes "," ≡ a ++ (b ++ (c ++ (d ++ codes ",")))
-tie_regrouped a b c d = simp append_assoc
-
-tie_alone : (tie : Tie)
-    → compact_text (tie_value tie)
-    ≡ (codes "[" ++ decimal tie.bidder) ++ ((codes "," ++ decimal tie.product) ++ ((codes "," ++ decimal tie.number) ++ codes "]"))
-unfolding serde_json_on_literals
-tie_alone tie = refl
-
--- a tie number with its comma
-pub tie_in_pieces : (tie : Tie)
-    → with_comma tie_value tie
-    ≡ (codes "[" ++ decimal tie.bidder) ++ ((codes "," ++ decimal tie.product) ++ ((codes "," ++ decimal tie.number) ++ codes "],"))
-tie_in_pieces tie =
-    ap (λ text. text ++ codes ",") (tie_alone tie)
-    ∙ tie_regrouped (codes "[" ++ decimal tie.bidder) (codes "," ++ decimal tie.product) (codes "," ++ decimal tie.number) (codes "]")
 
 pub close_in_pieces : (round : ℕ) (increments : Increments) (ties : List Tie)
     → compact_text (close_value round increments ties)
-    ≡ codes "{" ++ (increments_text increments ++ ((codes ",\"round\":" ++ decimal round)
-    ++ (codes ",\"ties\":" ++ (compact_text (list_of tie_value ties) ++ codes "}"))))
+    ≡ increments_text increments ++ ((codes ",\"round\":" ++ decimal round)
+    ++ (codes ",\"ties\":" ++ (compact_text (list_of tie_value ties) ++ codes "}")))
 unfolding close_value serde_json_on_literals
 close_in_pieces round (Single increment) ties = refl
 close_in_pieces round (PerProduct increments) ties = refl

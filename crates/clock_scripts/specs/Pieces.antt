@@ -1,65 +1,53 @@
--- Requests that were written: their heads stand one behind the other in one text, their bodies in another.
---     piece_at text extent, text_at pieces written      what stands in an extent, and the two pieces of a request
---     IsExtentIn text extent, IsWrittenIn pieces written      the extent is one of the text; those of a request are
---     HoldsNothing pieces      no request stands in the texts
---     Keeps old pieces      each request that stood in the texts stands there still
---     Writes old pieces text written, WritesIf old pieces text written      a request was written, if there is one
---     is_awaited count, AwaitsBody pieces written      a body of so many bytes needs to come; its head needs it just
---         where it does
-use Rattle.std.specs.Prelude.{◌≡◌, ◌≤◌, ◌-◌, ◌&&◌, ℕ, Bool, List, [], ◌++◌, nat_le, length, take, drop, Option, Some, None}
+-- Requests that were written one behind the other into one text: of each the body, and behind it the head.
+--     head_in text written, body_in text written, text_at text written      the two pieces of a request, and the request
+--     IsWrittenIn text written      its pieces stand in the text
+--     Grows old text      what stood in the text stands there still
+--     Writes old text request written, WritesIf old text request written      a request was written, if there is one
+--     is_awaited count, AwaitsBody text written      a body of so many bytes needs to come; its head needs it just where
+--         it does
+use Rattle.std.specs.Prelude.{◌≡◌, ◌≤◌, ◌-◌, ◌&&◌, ℕ, Bool, List, ◌++◌, nat_le, length, take, drop, Option, Some, None}
 use Rattle.clock_http.specs.HeaderLines.{body_limit}
 use Rattle.clock_http.specs.Framing.{needs_more}
-use Rattle.clock_scripts.specs.declared.pieces.Extent.{Extent}
-use Rattle.clock_scripts.specs.declared.pieces.Written.{Written}
-use Rattle.clock_scripts.specs.declared.pieces.Pieces.{Pieces}
+use Rattle.clock_scripts.specs.declared.requests.Written.{Written}
 
--- what stands in an extent of a text
-abbrev pub piece_at : List ℕ → Extent → List ℕ
-piece_at text extent = take (extent.end - extent.start) (drop extent.start text)
+-- the head of a request that was written
+abbrev pub head_in : List ℕ → Written → List ℕ
+head_in text written = take (written.end - written.head) (drop written.head text)
 
--- the two pieces of a request that was written
-abbrev pub text_at : Pieces → Written → List ℕ
-text_at pieces written = piece_at pieces.heads.items written.head ++ piece_at pieces.bodies.items written.body
+-- its body
+abbrev pub body_in : List ℕ → Written → List ℕ
+body_in text written = take (written.head - written.body) (drop written.body text)
 
--- the extent is one of the text
-abbrev pub IsExtentIn : List ℕ → Extent → Type 0
-IsExtentIn text extent = (extent.start ≤ extent.end) × (extent.end ≤ length text)
+-- the request
+abbrev pub text_at : List ℕ → Written → List ℕ
+text_at text written = head_in text written ++ body_in text written
 
--- the pieces of a request stand in the texts
-abbrev pub IsWrittenIn : Pieces → Written → Type 0
-IsWrittenIn pieces written = IsExtentIn pieces.heads.items written.head × IsExtentIn pieces.bodies.items written.body
+-- its pieces stand in the text
+pub record IsWrittenIn (text : List ℕ) (written : Written) : Type 0 where
+  pub body : written.body ≤ written.head
+  pub head : written.head ≤ written.end
+  pub end : written.end ≤ length text
 
--- both texts are empty
-pub record HoldsNothing (pieces : Pieces) : Type 0 where
-  pub heads : pieces.heads.items ≡ []
-  pub bodies : pieces.bodies.items ≡ []
+-- what stood in the text stands there still, before what is new
+pub record Grows (old text : List ℕ) : Type 0 where
+  pub more : List ℕ
+  pub is : text ≡ old ++ more
 
--- a piece stands in its extent still
-pub record IsKept (old text : List ℕ) (extent : Extent) : Type 0 where
-  pub within : IsExtentIn text extent
-  pub same : piece_at text extent ≡ piece_at old extent
+-- a request was written, and stands in the text
+pub record Writes (old text request : List ℕ) (written : Written) : Type 0 where
+  pub grows : Grows old text
+  pub reads : text_at text written ≡ request
+  pub within : IsWrittenIn text written
 
--- each request that stood in the texts stands there still
-abbrev pub Keeps : Pieces → Pieces → Type 0
-Keeps old pieces = (written : Written) → IsWrittenIn old written
-    → IsKept old.heads.items pieces.heads.items written.head × IsKept old.bodies.items pieces.bodies.items written.body
-
--- a request was written of this text, and stands there
-pub record Writes (old pieces : Pieces) (text : List ℕ) (written : Written) : Type 0 where
-  pub kept : Keeps old pieces
-  pub reads : text_at pieces written ≡ text
-  pub within : IsWrittenIn pieces written
-
--- a request was written, if there is a text
-abbrev pub WritesIf : Pieces → Pieces → Option (List ℕ) → Option Written → Type 0
-WritesIf old pieces text None = (text ≡ None) × Keeps old pieces
-WritesIf old pieces text (Some written) = (text ≡ Some (text_at pieces written)) × Writes old pieces (text_at pieces written) written
+-- a request was written, if there is one
+abbrev pub WritesIf : List ℕ → List ℕ → Option (List ℕ) → Option Written → Type 0
+WritesIf old text request None = (request ≡ None) × (text ≡ old)
+WritesIf old text request (Some written) = (request ≡ Some (text_at text written)) × Writes old text (text_at text written) written
 
 -- behind its head a body of so many bytes needs to come: there is one, and it is not too long
 abbrev pub is_awaited : ℕ → Bool
 is_awaited count = nat_le 1 count && nat_le count body_limit
 
 -- the head of a request needs more just where its body needs to come
-abbrev pub AwaitsBody : Pieces → Written → Type 0
-AwaitsBody pieces written =
-    needs_more (piece_at pieces.heads.items written.head) ≡ is_awaited (written.body.end - written.body.start)
+abbrev pub AwaitsBody : List ℕ → Written → Type 0
+AwaitsBody text written = needs_more (head_in text written) ≡ is_awaited (written.head - written.body)

@@ -1,9 +1,8 @@
 //! What scripted bidders and the operator send, as the texts of live requests.
 #![tactic(auto)]
 
-mod pieces;
-mod request_writer;
-mod sheet_bodies;
+mod bodies;
+mod requests;
 mod sincere;
 
-pub use pieces::{Pieces, Written};
+pub use requests::{Written, write_close, write_put};

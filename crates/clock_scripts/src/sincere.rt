@@ -1,18 +1,19 @@
 //! The sheets of sincere bidders.
 
-ghost use Rattle.std.specs.Prelude.{◌≡◌, ◌≤◌, ◌<◌, ◌≢◌, length, take, reverse, OnOk};
+ghost use Rattle.std.specs.Prelude.{◌≡◌, ◌≤◌, ◌<◌, [], All, false, length, take, reverse, OnOk};
+ghost use Rattle.clock_house.specs.House.{standing_in, holding_in};
 ghost use Rattle.clock_views.specs.Values.{Adds};
-ghost use Rattle.clock_replays.specs.Replays.{NeverRises};
-ghost use Rattle.clock_scripts.specs.{RequestTexts.{written_put}, inside.Bodies.{bids_text}};
-ghost use Rattle.clock_scripts.specs.inside.SincereSheets.{IsSincere, sheet_of};
+ghost use Rattle.clock_replays.specs.Replays.{IsLimits, NeverRises};
+ghost use Rattle.clock_scripts.specs.{RequestTexts.{written_put}, Sincere.{sincere_sheet}, inside.Bodies.{bids_text}};
+ghost use Rattle.clock_scripts.specs.inside.SincereSheets.{first_sheet, later_sheet};
 ghost use Rattle.clock_scripts.specs.Sincere as rules;
 ghost use Rattle.clock_scripts.specs.inside.Blocks as one_by_one;
 
-use crate::sheet_bodies::{close_sheet, open_sheet, push_bid};
-use clock_bids::{Bid, Own};
+use crate::bodies::{end_sheet, push_bid, push_label};
 use clock_device::NoMemory;
+use clock_house::House;
 use clock_replays::LimitLists;
-use clock_terms::PricePair;
+use clock_terms::{PricePair, Row};
 
 /// The price at which a block leaves, where it does not stay up to the clock price.
 fn leaving_price(pair: &PricePair, limit: u64) -> Option<u64>
@@ -28,62 +29,13 @@ fn last_leaving(pair: &PricePair, limits: &[u64], blocks: usize) -> Option<u64>
     ensures { result ≡ one_by_one.last_leaving pair.now (reverse (take blocks limits.now)) }
 {
     if blocks == 0 {
-        None
-    } else {
-        leaving_price(pair, limits[blocks - 1])
+        return None;
     }
+    leaving_price(pair, limits[blocks - 1])
 }
 
-/// Adds the bid at the price at which a block leaves, where the block before does not leave there.
-fn push_block(
-    text: &mut Vec<u8>,
-    product: u64,
-    before: u64,
-    price: Option<u64>,
-    next: Option<u64>,
-) -> Result<(), NoMemory>
-    ensures { OnOk result (Adds (bids_text (one_by_one.block_bid product before price next))
-        text.old.items text.new.items) }
-{
-    match price {
-        Some(price) if next != Some(price) => push_bid(
-            text,
-            &Bid {
-                product,
-                quantity: before,
-                price,
-            },
-        ),
-        _ => Ok(()),
-    }
-}
-
-/// Adds a bid for each different price at which one of the held blocks leaves, rising. The blocks past the limits stay.
-#[inline(never)]
-fn push_leaving(
-    text: &mut Vec<u8>,
-    product: u64,
-    pair: &PricePair,
-    held: u64,
-    limits: &[u64],
-) -> Result<(), NoMemory>
-    requires falls { NeverRises limits.now }
-    requires within { length limits.now ≤ held }
-    ensures { OnOk result (Adds (bids_text (rules.leaving_bids product held (rules.leaving_prices pair.now limits.now)))
-        text.old.items text.new.items) }
-{
-    let past = held - limits.len() as u64;
-    for block in (0..limits.len()).rev() {
-        let price = leaving_price(pair, limits[block]);
-        let next = last_leaving(pair, limits, block);
-        push_block(text, product, past + block as u64, price, next)?;
-    }
-    Ok(())
-}
-
-/// Adds the bids for a product of which so many blocks are held, in a later round: one that keeps them where none
-/// leaves.
-#[inline(always)]
+/// Adds the bids for a product of which so many blocks are held, in a later round: one for each different price at
+/// which one of them leaves, rising, and where none leaves one that keeps them. The blocks past the limits stay.
 fn push_held(
     text: &mut Vec<u8>,
     product: u64,
@@ -97,101 +49,87 @@ fn push_held(
         text.old.items text.new.items) }
 {
     let blocks = (held as usize).min(limits.len());
-    match last_leaving(pair, limits, blocks) {
-        Some(_) => push_leaving(text, product, pair, held, &limits[..blocks]),
-        None => push_bid(
-            text,
-            &Bid {
-                product,
-                quantity: held,
-                price: pair.clock.get(),
-            },
-        ),
+    let Some(_first) = last_leaving(pair, limits, blocks) else {
+        return push_bid(text, product, held, pair.clock.get());
+    };
+    let past = held - blocks as u64;
+    for block in (0..blocks).rev() {
+        let Some(price) = leaving_price(pair, limits[block]) else {
+            continue;
+        };
+        if last_leaving(pair, limits, block) == Some(price) {
+            continue;
+        }
+        push_bid(text, product, past + block as u64, price)?;
     }
+    Ok(())
 }
 
-/// Adds the bid for a product in the first round.
-#[inline(always)]
-fn push_opening(
+/// Adds the bids of the first round, for one product after another.
+fn push_first(text: &mut Vec<u8>, prices: &[PricePair], limits: &LimitLists) -> Result<(), NoMemory>
+    requires { length limits.now ≡ length prices.now }
+    ensures { OnOk result (Adds (bids_text (first_sheet prices.now limits.now)) text.old.items text.new.items) }
+{
+    let mut from = 0;
+    for (product, pair) in prices.iter().enumerate() {
+        let price = pair.start.get();
+        let list = limits.list(product, &mut from);
+        let wanted = list.iter().filter(|limit| price <= **limit).count() as u64;
+        if wanted == 0 {
+            continue;
+        }
+        push_bid(text, product as u64, wanted, price)?;
+    }
+    Ok(())
+}
+
+/// Adds the bids of a later round. Few of the products are held, and nothing is looked at of the others.
+#[inline(never)]
+fn push_later(
     text: &mut Vec<u8>,
-    product: u64,
-    pair: &PricePair,
-    limits: &[u64],
+    prices: &[PricePair],
+    demands: &Row,
+    limits: &LimitLists,
 ) -> Result<(), NoMemory>
-    ensures { OnOk result (Adds (bids_text (rules.opening_bids product pair.now limits.now))
+    requires held { length demands.now ≡ length prices.now }
+    requires each { length limits.now ≡ length prices.now }
+    requires falls { All NeverRises limits.now }
+    ensures { OnOk result (Adds (bids_text (later_sheet prices.now demands.now limits.now))
         text.old.items text.new.items) }
 {
-    let price = pair.start.get();
-    let quantity = limits.iter().filter(|limit| price <= **limit).count() as u64;
-    if quantity == 0 {
-        return Ok(());
+    let mut from = 0;
+    let mut held = demands.held();
+    'held: while let Some(one) = held.next() {
+        let pair = &prices[one.product];
+        let list = limits.list(one.product, &mut from);
+        push_held(text, one.product as u64, pair, one.demand, list)?;
     }
-    push_bid(
-        text,
-        &Bid {
-            product,
-            quantity,
-            price,
-        },
-    )
+    Ok(())
 }
 
-/// What the sheet of a sincere bidder follows from: the prices of the round, what it holds, and its limits, a list for
-/// each product that never rises.
-#[derive(Drop)]
-pub(crate) struct Sincere<'a> {
-    /// The prices of the round, a pair for each product.
-    pub(crate) prices: &'a [PricePair],
-    /// What it holds.
-    pub(crate) own: Own<'a>,
-    /// Up to which price it wants each block.
-    pub(crate) limits: &'a LimitLists,
-}
-
-impl Sincere<'_> {
-    /// Adds the bids of the first round, for one product after another.
-    fn push_first(&self, text: &mut Vec<u8>) -> Result<(), NoMemory>
-        requires sheet { IsSincere self.now }
-        requires first { self.now.own.round ≡ 1 }
-        ensures { OnOk result (Adds (bids_text (sheet_of self.now)) text.old.items text.new.items) }
-    {
-        let mut from = 0;
-        for (product, pair) in self.prices.iter().enumerate() {
-            let limits = self.limits.list(product, &mut from);
-            push_opening(text, product as u64, pair, limits)?;
-        }
-        Ok(())
+/// Adds the body of the sheet that a sincere bidder puts.
+pub(crate) fn push_sincere<P>(
+    text: &mut Vec<u8>,
+    house: &House<P>,
+    bidder: u32,
+    limits: &LimitLists,
+) -> Result<(), NoMemory>
+    requires known { bidder < length house.now.setup.bidders }
+    requires going { (standing_in house.now).ended ≡ false }
+    requires limits { IsLimits house.now.setup.products limits.now }
+    ensures { OnOk result (Adds (written_put (standing_in house.now).round
+        (sincere_sheet (standing_in house.now).round (standing_in house.now).prices
+        (holding_in house.now bidder).demands limits.now)) text.old.items text.new.items) }
+{
+    house.law_of_house();
+    let prices = house.prices().as_slice();
+    let own = house.own(bidder);
+    push_label(text, b"{\"bids\":")?;
+    let start = text.len();
+    if own.round == 1 {
+        push_first(text, prices, limits)?;
+    } else {
+        push_later(text, prices, own.demands, limits)?;
     }
-
-    /// Adds the bids of a later round. It holds few of the products, and nothing is looked at of the others.
-    #[inline(never)]
-    fn push_later(&self, text: &mut Vec<u8>) -> Result<(), NoMemory>
-        requires sheet { IsSincere self.now }
-        requires later { self.now.own.round ≢ 1 }
-        ensures { OnOk result (Adds (bids_text (sheet_of self.now)) text.old.items text.new.items) }
-    {
-        let mut from = 0;
-        let mut held = self.own.demands.held();
-        'held: while let Some(one) = held.next() {
-            let pair = &self.prices[one.product];
-            let limits = self.limits.list(one.product, &mut from);
-            push_held(text, one.product as u64, pair, one.demand, limits)?;
-        }
-        Ok(())
-    }
-
-    /// Adds the body of the sheet.
-    pub(crate) fn push(&self, text: &mut Vec<u8>) -> Result<(), NoMemory>
-        requires { IsSincere self.now }
-        ensures { OnOk result (Adds (written_put self.now.own.round (sheet_of self.now))
-            text.old.items text.new.items) }
-    {
-        let start = open_sheet(text)?;
-        if self.own.round == 1 {
-            self.push_first(text)?;
-        } else {
-            self.push_later(text)?;
-        }
-        close_sheet(text, start, self.own.round)
-    }
+    end_sheet(text, start, own.round)
 }

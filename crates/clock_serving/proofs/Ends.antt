@@ -7,10 +7,10 @@ use Rattle.clock_journal.specs.Kept.{JournalState}
 use Rattle.clock_keeping.specs.Keeping.{IsInStep, LeavesOneMore}
 use Rattle.clock_serving.specs.declared.serving.ServeFault.{ServeFault}
 use Rattle.clock_serving.specs.declared.serving.ServeFault.TheVariants.{Accept, Journal}
-use Rattle.clock_serving.specs.Exchanges.{Came, Exchange, GrowsBy, HasClosed, bytes_given}
+use Rattle.clock_serving.specs.Exchanges.{Came, Exchange, HasClosed, bytes_given}
 use Rattle.clock_serving.specs.Closings.{TellsClosings}
 use Rattle.clock_serving.specs.Serving.{AreServed, EndsServing, EndsUnkept, HasKeptTold}
-use Rattle.clock_serving.specs.inside.Served.{EndsOne, IsUnkept, round_if}
+use Rattle.clock_serving.specs.inside.Served.{EndsOne, IsUnkept}
 use Rattle.clock_serving.proofs.Walking.{came_more, grown_more}
 use Rattle.clock_serving.proofs.Served.{served_more}
 
@@ -27,16 +27,15 @@ module _ (count : ℕ) (coming_old coming_mid coming_new : Option (List (List �
     (journal_old journal_mid journal_new : JournalState) (old now new : HouseFields) (limits : IsSetup old.setup) (same : now.setup ≡ old.setup)
     (before : HasServed count coming_old coming_mid first mid told_old told_mid journal_old journal_mid old now) where
   -- one more was
-  pub one_more : {U : Type 0} (done : U) → EndsOne coming_mid coming_new mid last journal_mid journal_new now new (Ok done) → new.setup ≡ now.setup
-      → GrowsBy told_mid told_new (round_if (length now.closed) (length new.closed))
-      → HasServed (count + 1) coming_old coming_new first last told_old told_new journal_old journal_new old new
-  one_more done ends still tells = record {
+  pub one_more : {U : Type 0} (done : U) → EndsOne coming_mid coming_new mid last told_mid told_new journal_mid journal_new now new (Ok done)
+      → new.setup ≡ now.setup → HasServed (count + 1) coming_old coming_new first last told_old told_new journal_old journal_new old new
+  one_more done ends still = record {
     exchanges = before.exchanges ++ ends.0 ∷ [];
     closed = grown_more first mid last before.exchanges (ends.0 ∷ []) before.closed ends.1;
     came = came_more coming_old coming_mid coming_new before.exchanges ends.0 before.came ends.2;
     counted = omega (arith, length-append before.exchanges (ends.0 ∷ []), before.counted);
     served = served_more before.exchanges ends.0 told_old told_mid told_new journal_old journal_mid journal_new old now new limits same still before.served ends.3
-        tells;
+        ends.4;
   }
 
   told_are_kept : (text : List ℕ) (digest : List ℕ) (past : List (List ℕ)) → IsInStep digest past journal_old old
@@ -69,11 +68,10 @@ module _ (count : ℕ) (coming_old coming_mid coming_new : Option (List (List �
   }
 
   -- it ends the run
-  pub ends_by : {U : Type 0} (result : Result U ServeFault) (most : ℕ) (fault : ServeFault) → count < most → EndsOne {U = U} coming_mid coming_new mid last journal_mid journal_new now new (Err fault)
-      → told_new ≡ told_mid
+  pub ends_by : {U : Type 0} (result : Result U ServeFault) (most : ℕ) (fault : ServeFault) → count < most → EndsOne {U = U} coming_mid coming_new mid last told_mid told_new journal_mid journal_new now new (Err fault)
       → (exchanges : List Exchange) × HasClosed first last exchanges × Came coming_old coming_new (bytes_given exchanges)
       × EndsServing {U = U} most exchanges told_old told_new journal_old journal_new old new (Err fault)
-  ends_by result most Accept below ends untold = (
+  ends_by result most Accept below ends = (
     before.exchanges,
     subst (λ (closed : Option (List Exchange)). HasClosed first closed before.exchanges) (sym ends.0) before.closed,
     subst (λ (coming : Option (List (List ℕ))). Came coming_old coming (bytes_given before.exchanges)) (sym ends.1) before.came,
@@ -81,10 +79,10 @@ module _ (count : ℕ) (coming_old coming_mid coming_new : Option (List (List �
       omega (arith, before.counted, below),
       subst (λ (house : HouseFields). AreServed before.exchanges told_old told_new journal_old journal_new old house) (sym ends.3)
           (subst (λ (journal : JournalState). AreServed before.exchanges told_old told_new journal_old journal old now) (sym ends.2)
-          (subst (λ (told : Option (List ℕ)). AreServed before.exchanges told_old told journal_old journal_mid old now) (sym untold) before.served)),
+          (subst (λ (told : Option (List ℕ)). AreServed before.exchanges told_old told journal_old journal_mid old now) (sym ends.4) before.served)),
     ),
   )
-  ends_by result most Journal below ends untold = (
+  ends_by result most Journal below ends = (
     before.exchanges ++ ends.0 ∷ [],
     grown_more first mid last before.exchanges (ends.0 ∷ []) before.closed ends.1,
     came_more coming_old coming_mid coming_new before.exchanges ends.0 before.came ends.2,
@@ -93,6 +91,6 @@ module _ (count : ℕ) (coming_old coming_mid coming_new : Option (List (List �
       ends.0,
       refl,
       omega (arith, length-append before.exchanges (ends.0 ∷ []), before.counted, below),
-      ends_unkept ends.0 ends.3 untold,
+      ends_unkept ends.0 ends.3 ends.4,
     ),
   )

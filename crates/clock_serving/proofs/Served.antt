@@ -17,8 +17,8 @@ use Rattle.clock_journal.specs.Disks.{MayBeLeft}
 use Rattle.clock_journal.specs.Kept.{HasTexts, JournalState, file_of}
 use Rattle.clock_journal.specs.Reading.{onto}
 use Rattle.clock_journal.proofs.Moments.{every_front}
-use Rattle.clock_keeping.specs.Keeping.{IsInStep, IsKept}
-use Rattle.clock_serving.specs.Exchanges.{Exchange, GrowsBy}
+use Rattle.clock_keeping.specs.Keeping.{GrowsBy, IsInStep, IsKept}
+use Rattle.clock_serving.specs.Exchanges.{Exchange}
 use Rattle.clock_serving.specs.Serving.{AreServed, KeepsText, RepliesTo, Walks, WritesReply}
 use Rattle.clock_serving.specs.inside.Served.{IsAnswered, IsServed, round_if}
 use Rattle.clock_front.proofs.RunLaws.{right}

@@ -10,7 +10,8 @@ use Rattle.clock_house.specs.History.{Auction, history, after_closing, after_com
 use Rattle.clock_house.specs.House.{HouseFields}
 use Rattle.clock_front.specs.Fronts.{StandsForTexts, commands_of, text_command}
 use Rattle.clock_journal.proofs.Tested.{less_where, not_less}
-use Rattle.clock_serving.specs.Exchanges.{Exchange, GrowsBy}
+use Rattle.clock_keeping.specs.Keeping.{GrowsBy}
+use Rattle.clock_serving.specs.Exchanges.{Exchange}
 use Rattle.clock_serving.specs.Closings.{TellsClosings, closed_by, rounds_between}
 use Rattle.clock_serving.specs.inside.Served.{round_if}
 use Rattle.clock_serving.specs.Serving.{RepliesTo}

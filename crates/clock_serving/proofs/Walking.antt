@@ -3,7 +3,8 @@ use Rattle.std.proofs.Common.{◌≡◌, inl, inr, ℕ, List, [], ◌∷◌, ◌
 use Rattle.clock_terms.specs.Limits.{SetupFields}
 use Rattle.clock_device.specs.Told.{Reading, SinkTold, SourceTold, Writing}
 use Rattle.std.proofs.lemmas.List.{map-append}
-use Rattle.clock_serving.specs.Exchanges.{Came, Closes, Exchange, GrowsBy, HasClosed, Offer, bytes_given}
+use Rattle.clock_keeping.specs.Keeping.{GrowsBy}
+use Rattle.clock_serving.specs.Exchanges.{Came, Closes, Exchange, HasClosed, Offer, bytes_given}
 use Rattle.clock_serving.specs.Serving.{KeepsText, Walks}
 
 -- none was added

@@ -8,7 +8,7 @@ use Rattle.std.specs.List.{range_with_len}
 use Rattle.clock_terms.specs.Limits.{SetupFields}
 use Rattle.clock_house.specs.History.{history}
 use Rattle.clock_front.specs.Fronts.{commands_of}
-use Rattle.clock_serving.specs.Exchanges.{GrowsBy}
+use Rattle.clock_keeping.specs.Keeping.{GrowsBy}
 
 -- the closed rounds of the history that the commands in the texts make, from the beginning of the auction
 abbrev pub closed_by : SetupFields → List (List ℕ) → ℕ

@@ -6,9 +6,8 @@
 #![tactic(auto)]
 
 mod acceptor;
-mod keeper;
 mod serving;
 
 pub use acceptor::{Acceptor, Connection, Listening};
-pub use keeper::{Keeper, Unkept};
+pub use clock_keeping::{Keeper, Unkept};
 pub use serving::{ServeFault, law_told_bytes, serve_all, serve_on};

@@ -1,14 +1,13 @@
-ghost use Rattle.std.specs.Prelude.{◌≡◌, ◌≢◌, List, OnOk, MatchResult, None, Err, false, length};
+ghost use Rattle.std.specs.Prelude.{◌≡◌, List, OnOk, None, false};
 ghost use Rattle.clock_device.specs.Told.{IsUnread, IsUnused};
-ghost use Rattle.clock_serving.specs.Exchanges.{Came, Exchange, GrowsBy, HasClosed, bytes_given, no_journal};
-ghost use Rattle.clock_serving.specs.declared.serving.ServeFault.TheVariants.{Journal as JournalFault};
-ghost use Rattle.clock_serving.specs.Serving.{EndsServing, is_accept_fault};
-ghost use Rattle.clock_serving.specs.{inside.Served.{EndsOne, IsServed, IsUnkept, round_if}, Laws.{ToldBytes}};
+ghost use Rattle.clock_keeping.specs.Keeping.{no_journal};
+ghost use Rattle.clock_serving.specs.Exchanges.{Came, Exchange, HasClosed, bytes_given};
+ghost use Rattle.clock_serving.specs.{Laws.{ToldBytes}, Serving.{EndsServing, is_accept_fault}, inside.Served.{EndsOne, EndsTaken}};
 
 use crate::acceptor::{Acceptor, Listening};
-use crate::keeper::{Keeper, Unkept};
 use clock_device::{Failed, Sink, Source, write_all};
 use clock_front::{Front, Unread, no_memory_reply, read_request};
+use clock_keeping::{Keeper, Unkept};
 use clock_processor::Processor;
 use std::alloc::Global;
 use std::net::TcpListener;
@@ -39,12 +38,9 @@ fn serve_one<P: Processor, K: Keeper, R: Source, W: Sink>(
     requires unread { IsUnread (R.told source.old) }
     requires unused { IsUnused (W.told sink.old) }
     requires unfailed { (K.journal keeper.old).has_failed ≡ false }
-    ensures served { let one : Exchange = record {
-      reading = record { before = R.told source.old; after = R.told source.new };
-      writing = record { before = W.told sink.old; after = W.told sink.new };
-    } in MatchResult result
-        (λ done. IsServed one (K.journal keeper.old) (K.journal keeper.new) front.old front.new)
-        (λ failed. IsUnkept one (K.journal keeper.old) (K.journal keeper.new)) }
+    ensures served { EndsTaken (record { before = R.told source.old; after = R.told source.new })
+        (record { before = W.told sink.old; after = W.told sink.new }) (K.journal keeper.old) (K.journal keeper.new)
+        front.old front.new result }
     ensures unfailed { OnOk result ((K.journal keeper.new).has_failed ≡ false) }
     ensures told { K.told keeper.new ≡ K.told keeper.old }
     ensures setup { front.new.setup ≡ front.old.setup }
@@ -70,11 +66,8 @@ fn serve_next<P: Processor, K: Keeper, C: Acceptor>(
     requires closed { C.is_open connections.old ≡ false }
     requires taken { C.has_failed connections.old ≡ false }
     ensures ends { EndsOne (C.coming connections.old) (C.coming connections.new) (C.closed connections.old)
-        (C.closed connections.new) (K.journal keeper.old) (K.journal keeper.new) front.old front.new result }
-    ensures told { MatchResult result
-        (λ done. GrowsBy (K.told keeper.old) (K.told keeper.new) (round_if (length front.old.closed)
-        (length front.new.closed)))
-        (λ fault. K.told keeper.new ≡ K.told keeper.old) }
+        (C.closed connections.new) (K.told keeper.old) (K.told keeper.new) (K.journal keeper.old)
+        (K.journal keeper.new) front.old front.new result }
     ensures unfailed { OnOk result ((K.journal keeper.new).has_failed ≡ false) }
     ensures closed { C.is_open connections.new ≡ false }
     ensures taken { C.has_failed connections.new ≡ is_accept_fault result }
@@ -110,8 +103,8 @@ pub fn serve_all<P: Processor, K: Keeper, C: Acceptor>(
     requires unfailed { (K.journal keeper.old).has_failed ≡ false }
     requires closed { C.is_open connections.old ≡ false }
     requires taken { C.has_failed connections.old ≡ false }
-    ensures served { (exchanges : List Exchange) × HasClosed (C.closed connections.old)
-        (C.closed connections.new) exchanges
+    ensures served { (exchanges : List Exchange)
+        × HasClosed (C.closed connections.old) (C.closed connections.new) exchanges
         × Came (C.coming connections.old) (C.coming connections.new) (bytes_given exchanges)
         × EndsServing count exchanges (K.told keeper.old) (K.told keeper.new) (K.journal keeper.old)
         (K.journal keeper.new) front.old front.new result }
@@ -126,10 +119,7 @@ pub fn serve_all<P: Processor, K: Keeper, C: Acceptor>(
     Ok(())
 }
 
-/// Serves so many connections of a port, one after the other, with one request each. A fault of a stream ends its
-/// connection alone.
-///
-/// It waits for each connection, and for each peer, as long as these take.
+/// The same over the connections of a port, where nothing is kept.
 pub fn serve_on<P: Processor>(
     alloc: Global,
     front: &mut Front<P>,
@@ -138,7 +128,6 @@ pub fn serve_on<P: Processor>(
 ) -> Result<(), ServeFault>
     ensures served { (exchanges : List Exchange)
         × EndsServing connections exchanges None None no_journal no_journal front.old front.new result }
-    ensures kept { result ≢ Err JournalFault }
     ensures setup { front.new.setup ≡ front.old.setup }
 {
     let mut port = Listening::new(listener);

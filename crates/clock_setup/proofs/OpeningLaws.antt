@@ -29,6 +29,11 @@ pub zip_at : {A B : Type 0} (ks : List A) (vs : List B) (i : ℕ) (a : A) (b : B
 zip_at ks vs i a b h k first second =
     ap (λ x. (x, b)) first ∙ ap (λ y. (get_or ks i a, y)) second ∙ sym (get_or-zip ks vs i (a, b) h k)
 
+-- a row, where the rows are read as a slice
+pub row_at : {slice : List (List ℕ)} (rows : List (List ℕ)) (number : ℕ) (row : List ℕ) → slice ≡ rows → number < length rows → row ≡ get_or slice number row
+    → row ≡ get_or rows number []
+row_at rows number row same within is = is ∙ ap (λ (list : List (List ℕ)). get_or list number row) same ∙ get_or_default rows number row [] within
+
 -- a bidder with its row, where the bidders are read as a slice
 pub row_line : {slice : List Bidder} (bidders : List Bidder) (rows : List (List ℕ)) (number : ℕ) (bidder : Bidder) (row : List ℕ) → slice ≡ bidders
     → number < length slice → length rows ≡ length bidders → bidder ≡ get_or slice number bidder → row ≡ get_or rows number []

@@ -6,11 +6,10 @@ ghost use Rattle.clock_json.specs.Tree.{number_at};
 ghost use Rattle.clock_setup.specs.{SetupShape.{fields_of}, inside.SetupDocument.{distinct_checks}};
 ghost use Rattle.clock_setup.specs.SetupDocument as document;
 
-use crate::entries::SetupEntries;
+use crate::entries::{SetupEntries, entries_of};
 use crate::fault::{Place, SetupFault};
 use crate::setup_checks::{check, each_within, has_distinct_names, has_distinct_tokens, is_token};
 use crate::setup_scan::FoundSetup;
-use crate::setup_tree::entries_of;
 use clock_device::Text;
 use clock_json::scanned_text;
 use clock_json::tree::{number_at, read_value};
@@ -47,19 +46,13 @@ pub(crate) fn within_limits(alloc: Global, entries: &SetupEntries) -> Result<Set
     ensures ok { IfOk result (λ _. first_fault (document.setup_checks entries.now) ≡ None) }
     ensures err { IfErr result (IsFirstFault SetupFault.NoMemory (first_fault (document.setup_checks entries.now))) }
 {
-    check(
-        is_within(LEAST_REQUIREMENT, MOST_REQUIREMENT, entries.requirement),
-        Place::Requirement,
-    )?;
-    check(
-        is_within(LEAST_LIMIT, MOST_LIMIT, entries.limit),
-        Place::Limit,
-    )?;
+    let requirement = is_within(LEAST_REQUIREMENT, MOST_REQUIREMENT, entries.requirement);
+    check(requirement, Place::Requirement)?;
+    let limit = is_within(LEAST_LIMIT, MOST_LIMIT, entries.limit);
+    check(limit, Place::Limit)?;
     check(is_token(entries.operator), Place::Operator)?;
-    let products = entries.products.as_slice();
-    let products = each_within(alloc, Place::Products, MOST_PRODUCTS, products)?;
-    let bidders = entries.bidders.as_slice();
-    let bidders = each_within(alloc, Place::Bidders, MOST_BIDDERS, bidders)?;
+    let products = each_within(alloc, Place::Products, MOST_PRODUCTS, &entries.products)?;
+    let bidders = each_within(alloc, Place::Bidders, MOST_BIDDERS, &entries.bidders)?;
     let operator = distinct_operator(alloc, entries)?;
     Ok(Setup {
         version: entries.version,

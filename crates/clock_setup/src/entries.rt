@@ -1,9 +1,16 @@
-//! A set-up document of the right shape, with no limit tested yet.
-ghost use Rattle.std.specs.Prelude.{◌≡◌, All};
+//! A set-up document of the right shape, with no limit tested yet, and how it is read from a tree of values.
+ghost use Rattle.std.specs.Prelude.{◌≡◌, ◌≤◌, All, IfOk};
+ghost use Rattle.serde_json.specs.View.{view};
 ghost use Rattle.clock_terms.specs.{declared.setup.Product.{Product}, declared.setup.Bidder.{Bidder}};
 ghost use Rattle.clock_terms.specs.Limits.{IsWithin, IsOfFirstVersion, SetupFields, first_granule, latest_version};
+ghost use Rattle.clock_json.specs.Tree as members;
+ghost use Rattle.clock_setup.specs.SetupShape as shape;
 
-use clock_device::Items;
+use clock_device::{Items, NoMemory};
+use clock_json::tree::{PlainReader, each_at, has_members, number_at, text_at};
+use clock_terms::{FIRST_GRANULE, FIRST_LIMIT};
+use serde_json::Value;
+use std::alloc::Global;
 use std::marker::Model;
 
 /// A product as a document has it, with no limit tested yet. Contracts see a product.
@@ -91,4 +98,103 @@ pub(crate) struct ScannedSetup<'v> {
     pub entries: SetupEntries<'v>,
     ghost version: { IsWithin 1 latest_version entries.version },
     ghost first_version: { entries.version ≡ 1 → IsOfFirstVersion entries },
+}
+
+/// A number that documents have from version 2 on.
+fn added_number(value: &Value, version: u64, in_first: u64, key: &str) -> Option<u64>
+    ensures { result ≡ shape.added_number version in_first key.now (view value.now) }
+{
+    if version == 1 {
+        Some(in_first)
+    } else {
+        number_at(value, key)
+    }
+}
+
+/// Whether an object to which version 2 adds a key has its number of members.
+fn has_keys(value: &Value, version: u64, in_first: usize) -> bool
+    requires { in_first ≤ 5 }
+    ensures { result ≡ members.has_members (shape.key_count version in_first) (view value.now) }
+{
+    let count = if version == 1 { in_first } else { in_first + 1 };
+    has_members(value, count)
+}
+
+/// Products are read with the keys of a version.
+#[derive(Drop)]
+struct ProductReader {
+    version: u64,
+}
+
+#[tactic(auto, unfolding(crate::specs::SetupShape::product_of))]
+impl<'v> PlainReader<'v> for ProductReader {
+    type Part = ProductEntry<'v>;
+
+    ghost meaning = { λ reader. shape.product_of reader.version };
+
+    fn plain_part(&self, value: &'v Value) -> Option<ProductEntry<'v>> {
+        let product = ProductEntry {
+            name: text_at(value, "name")?,
+            units: number_at(value, "units")?,
+            supply: number_at(value, "supply")?,
+            cap: number_at(value, "cap")?,
+            opening: number_at(value, "opening")?,
+            granule: added_number(value, self.version, FIRST_GRANULE, "granule")?,
+        };
+        has_keys(value, self.version, 5).then_some(product)
+    }
+}
+
+/// Bidders are read with their keys.
+#[derive(Drop)]
+struct BidderReader;
+
+#[tactic(auto, unfolding(crate::specs::SetupShape::bidder_of))]
+impl<'v> PlainReader<'v> for BidderReader {
+    type Part = BidderEntry<'v>;
+
+    ghost meaning = { λ _. shape.bidder_of };
+
+    fn plain_part(&self, value: &'v Value) -> Option<BidderEntry<'v>> {
+        let bidder = BidderEntry {
+            name: text_at(value, "name")?,
+            token: text_at(value, "token")?,
+            eligibility: number_at(value, "eligibility")?,
+        };
+        has_members(value, 3).then_some(bidder)
+    }
+}
+
+/// A set-up document of the right shape, or none.
+#[tactic(auto, unfolding(crate::specs::SetupShape::fields_of))]
+pub(crate) fn entries_of(alloc: Global, value: &Value) -> Result<Option<SetupEntries<'_>>, NoMemory>
+    ensures { IfOk result (λ entries. entries ≡ shape.fields_of (view value.now)) }
+{
+    let Some(version) = number_at(value, "version") else {
+        return Ok(None);
+    };
+    let (Some(limit), Some(requirement), Some(operator)) = (
+        added_number(value, version, FIRST_LIMIT, "limit"),
+        number_at(value, "requirement"),
+        text_at(value, "operator"),
+    ) else {
+        return Ok(None);
+    };
+    if !has_keys(value, version, 5) {
+        return Ok(None);
+    }
+    let Some(products) = each_at(alloc, value, "products", &ProductReader { version })? else {
+        return Ok(None);
+    };
+    let Some(bidders) = each_at(alloc, value, "bidders", &BidderReader)? else {
+        return Ok(None);
+    };
+    Ok(Some(SetupEntries {
+        version,
+        limit,
+        requirement,
+        operator,
+        products,
+        bidders,
+    }))
 }

@@ -1,10 +1,10 @@
-ghost use Rattle.std.specs.Prelude.{◌≡◌, ◌≢◌, ◌≤◌, None, Some, Ok, length, zip, All, IfOk, IfErr};
+ghost use Rattle.std.specs.Prelude.{◌≡◌, ◌≢◌, None, Ok, length, All, IfOk, IfErr};
 ghost use Rattle.serde_json.specs.View.{view};
 ghost use Rattle.clock_terms.specs.{Demands.{IsGrid}, Eligibility.{activity}};
-ghost use Rattle.clock_terms.specs.Faults.{IsFirstFault, IsRefusal, first_fault, in_turn};
-ghost use Rattle.clock_terms.specs.Limits.{IsProduct, IsRow, IsWithin, most_products, least_increment, most_increment};
-ghost use Rattle.clock_setup.specs.OpeningDocument.{document_opening, has_counts, opening_of, opening_with, row_checks, demand_checks};
-ghost use Rattle.clock_setup.specs.inside.OpeningData.{short_rows_in, scanned_data, found_opening};
+ghost use Rattle.clock_terms.specs.Faults.{IsFirstFault, IsRefusal, first_fault};
+ghost use Rattle.clock_terms.specs.Limits.{IsProduct, IsRow, IsWithin, least_increment, most_increment};
+ghost use Rattle.clock_setup.specs.OpeningDocument.{document_opening, has_counts, opening_of, opening_with, row_checks};
+ghost use Rattle.clock_setup.specs.inside.OpeningData.{scanned_data, found_opening};
 ghost use Rattle.clock_setup.specs.declared.opening.OpeningFault.TheVariants as faults;
 
 use crate::document::setup_of;
@@ -13,10 +13,11 @@ use crate::setup_scan::HeldSetup;
 use clock_device::NoMemory;
 use clock_json::tree::{RowReader, each_at, has_members, number_at, read_value};
 use clock_json::{
-    FlatRows, PartReader, Scan, ScanStop, ScannedMembers, is_key, push, scanned_text, with_room,
+    PartReader, Scan, ScanStop, ScannedMembers, ShortRows, is_key, push, read_row, scanned_text,
+    short_rows, with_room,
 };
 use clock_money::{LEAST_INCREMENT, MOST_INCREMENT};
-use clock_terms::{Bidder, Grid, Product, Row, Setup, is_within};
+use clock_terms::{Bidder, Grid, Row, Setup, is_within};
 use serde_json::Value;
 use std::alloc::Global;
 use thiserror::Error;
@@ -36,28 +37,22 @@ pub struct Opening {
 /// Why an opening document is refused. The first fault in this order is answered, where faults of demands and
 /// activity go by rising bidder. A fault of the set-up is never `NoMemory`.
 #[derive(Clone, Copy, Debug, PartialEq, Eq, Error)]
+#[error("the opening is refused")]
 pub enum OpeningFault {
     /// The bytes are no JSON value.
-    #[error("not a JSON value")]
     NotJson,
     /// The document is of another shape. That there is a row for each bidder, and a number for each product in each
     /// row, is looked at only after the set-up's faults.
-    #[error("not of the shape of an opening")]
     Shape,
     /// The value under `setup` is no set-up.
-    #[error("the set-up is refused")]
     Setup(SetupFault),
     /// A bidder's demand for a product is above the product's cap; of one bidder its least such product.
-    #[error("a demand is above the cap")]
     Demand(u64, u64),
     /// The activity of a bidder's demands, none of which is above its cap, is above its eligibility.
-    #[error("an activity is above the eligibility")]
     Activity(u64),
     /// The increment is not 1 to 50.
-    #[error("the increment is outside its limits")]
     Increment,
     /// There was no memory. It stands in place of any other answer.
-    #[error("out of memory")]
     NoMemory,
 }
 
@@ -69,39 +64,16 @@ impl From<NoMemory> for OpeningFault {
     }
 }
 
-/// The bidding units that a row of demands takes, or the least product of which a bidder demands more than its cap.
-/// Each demand is looked at once, those that are 0 as well, since a branch for them is mostly guessed wrong where many
-/// are held.
-fn units_within(number: u64, products: &[Product], row: &[u64]) -> Result<u64, OpeningFault>
-    requires limits { All IsProduct products.now }
-    requires few { length products.now ≤ most_products }
-    requires row { length row.now ≡ length products.now }
-    ensures units { IfOk result (λ units. units ≡ activity products.now row.now) }
-    ensures capped { IfOk result (λ _. IsRow products.now row.now) }
-    ensures passed { IfOk result (λ _.
-        first_fault (in_turn (demand_checks number) 0 (zip products.now row.now)) ≡ None) }
-    ensures fault { IfErr result (λ fault.
-        first_fault (in_turn (demand_checks number) 0 (zip products.now row.now)) ≡ Some fault) }
-    ensures held { IfErr result (λ fault. fault ≢ OpeningFault.Setup SetupFault.NoMemory) }
-{
-    let mut units = 0u64;
-    for (product, demand) in row.iter().enumerate() {
-        if *demand > products[product].cap {
-            return Err(OpeningFault::Demand(number, product as u64));
-        }
-        units += products[product].units * *demand;
-    }
-    Ok(units)
-}
-
 /// Whether there is a row for each bidder, and in each row a number for each product.
-fn has_counts(setup: &Setup, demands: &FlatRows) -> bool
+fn has_counts(setup: &Setup, demands: &ShortRows) -> bool
     ensures { result ≡ has_counts setup.now demands.now }
 {
-    demands.count() == setup.bidders.len() && demands.has_lengths(setup.products.len())
+    let width = setup.products.len();
+    demands.len() == setup.bidders.len() && demands.iter().all(|row| row.len() == width)
 }
 
-/// A bidder's row, or the first fault of its demands and their activity.
+/// A bidder's row, or the first fault of its demands and their activity. Each demand is looked at once, those that are 0
+/// as well, since a branch for them is mostly guessed wrong where many are held.
 fn row_within(
     alloc: Global,
     setup: &Setup,
@@ -118,7 +90,14 @@ fn row_within(
         (first_fault (row_checks setup.now.products number (bidder.now, demands.now)))) }
     ensures held { IfErr result (λ fault. fault ≢ OpeningFault.Setup SetupFault.NoMemory) }
 {
-    let units = units_within(number, setup.products.as_slice(), demands)?;
+    let products = setup.products.as_slice();
+    let mut units = 0u64;
+    for (product, demand) in demands.iter().enumerate() {
+        if *demand > products[product].cap {
+            return Err(OpeningFault::Demand(number, product as u64));
+        }
+        units += products[product].units * *demand;
+    }
     if units > bidder.eligibility {
         return Err(OpeningFault::Activity(number));
     }
@@ -129,7 +108,7 @@ fn row_within(
 fn opening_grid(
     alloc: Global,
     setup: &Setup,
-    demands: &FlatRows,
+    demands: &ShortRows,
     increment: u64,
 ) -> Result<Grid, OpeningFault>
     ensures ok { IfOk result (λ grid. opening_with setup.now demands.now increment
@@ -139,14 +118,14 @@ fn opening_grid(
     ensures err { IfErr result (IsRefusal OpeningFault.NoMemory (opening_with setup.now demands.now increment)) }
     ensures held { IfErr result (λ fault. fault ≢ OpeningFault.Setup SetupFault.NoMemory) }
 {
+    let bidders = setup.bidders.as_slice();
     if !has_counts(setup, demands) {
         return Err(OpeningFault::Shape);
     }
-    let bidders = setup.bidders.as_slice();
     let mut numbers = with_room(alloc, setup.products.len())?;
     let mut rows = with_room(alloc, bidders.len())?;
     for (number, bidder) in bidders.iter().enumerate() {
-        demands.read_row(number, &mut numbers)?;
+        read_row(&demands[number], &mut numbers)?;
         let row = row_within(alloc, setup, number as u64, bidder, numbers.as_slice())?;
         push(&mut rows, row)?;
     }
@@ -161,7 +140,7 @@ fn opening_grid(
 fn compared(
     alloc: Global,
     setup: Setup,
-    demands: FlatRows,
+    demands: ShortRows,
     increment: u64,
 ) -> Result<Opening, OpeningFault>
     // A fact of every set-up, which a caller's proof takes from here.
@@ -188,20 +167,8 @@ fn compared(
     }
 }
 
-/// The rows of demands that a value of JSON has, or none. A demand above 65,535 stands there as that, which is above
-/// each cap as well.
-fn demands_in(alloc: Global, value: &Value) -> Result<Option<FlatRows>, NoMemory>
-    ensures { IfOk result (λ demands. demands ≡ short_rows_in (view value.now)) }
-{
-    let Some(rows) = each_at(alloc, value, "demands", &RowReader)? else {
-        return Ok(None);
-    };
-    let demands = FlatRows::from_lists(alloc, rows.as_slice());
-    drop(rows);
-    Ok(Some(demands?))
-}
-
-/// The opening that a value of JSON means, or its first fault.
+/// The opening that a value of JSON means, or its first fault. A demand above 65,535 counts as that, which is above each
+/// cap as well.
 #[tactic(auto, using(crate::proofs::OpeningLaws::opening_shape), unfolding(crate::specs::OpeningShape::parts_of))]
 fn opening_in(alloc: Global, value: &Value) -> Result<Opening, OpeningFault>
     ensures ok { IfOk result (λ opening. opening_of (view value.now) ≡ Ok opening) }
@@ -217,7 +184,10 @@ fn opening_in(alloc: Global, value: &Value) -> Result<Opening, OpeningFault>
     if !has_members(value, 3) {
         return Err(OpeningFault::Shape);
     }
-    let demands = demands_in(alloc, value)?.ok_or(OpeningFault::Shape)?;
+    let rows = each_at(alloc, value, "demands", &RowReader)?.ok_or(OpeningFault::Shape)?;
+    let demands = short_rows(alloc, rows.as_slice());
+    drop(rows);
+    let demands = demands?;
     match setup_of(alloc, setup) {
         Ok(setup) => compared(alloc, setup, demands, increment),
         Err(SetupFault::NoMemory) => Err(OpeningFault::NoMemory),
@@ -249,13 +219,13 @@ pub fn read_opening(alloc: Global, bytes: &[u8]) -> Result<Opening, OpeningFault
 /// and no demand is above 65,535.
 #[derive(Default, Drop)]
 struct FoundOpening {
-    demands: Option<FlatRows>,
+    demands: Option<ShortRows>,
     held: Option<HeldSetup>,
     increment: Option<u64>,
 }
 
 impl<'v> ScannedMembers<'v> for FoundOpening {
-    type Whole = (HeldSetup, FlatRows, u64);
+    type Whole = (HeldSetup, ShortRows, u64);
 
     ghost levels = { 3 };
 
@@ -268,19 +238,16 @@ impl<'v> ScannedMembers<'v> for FoundOpening {
     }
 
     fn read(&mut self, alloc: Global, key: &[u8], scan: &mut Scan<'v>) -> Result<(), ScanStop> {
-        if is_key(key, "demands") {
-            self.demands = Some(scan.flat_rows(alloc)?);
-        } else if is_key(key, "setup") {
-            self.held = Some(HeldSetup::part(alloc, scan)?);
-        } else if is_key(key, "increment") {
-            self.increment = Some(scan.number()?);
-        } else {
-            return Err(ScanStop::Unusual);
+        match key {
+            _ if is_key(key, "demands") => self.demands = Some(scan.short_rows(alloc)?),
+            _ if is_key(key, "setup") => self.held = Some(HeldSetup::part(alloc, scan)?),
+            _ if is_key(key, "increment") => self.increment = Some(scan.number()?),
+            _ => return Err(ScanStop::Unusual),
         }
         Ok(())
     }
 
-    fn whole(self) -> Option<(HeldSetup, FlatRows, u64)> {
+    fn whole(self) -> Option<(HeldSetup, ShortRows, u64)> {
         Some((self.held?, self.demands?, self.increment?))
     }
 }

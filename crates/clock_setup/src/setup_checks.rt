@@ -15,40 +15,22 @@ use clock_terms::{
 use std::alloc::Global;
 use std::collections::HashSet;
 
-/// An ASCII letter or digit.
-fn is_letter_or_digit(byte: u8) -> bool
-    ensures { result ≡ limits.is_letter_or_digit byte }
-{
-    matches!(byte, b'0'..=b'9' | b'A'..=b'Z' | b'a'..=b'z')
-}
-
-/// Letters, digits, dashes and underscores alone.
-fn has_name_characters(text: &[u8]) -> bool
-    ensures { result ≡ list_all limits.is_name_character text.now }
-{
-    text.iter().all(|byte| is_letter_or_digit(*byte) || *byte == b'-' || *byte == b'_')
-}
-
-/// Letters and digits alone.
-fn has_letters_and_digits(text: &[u8]) -> bool
-    ensures { result ≡ list_all limits.is_letter_or_digit text.now }
-{
-    text.iter().all(|byte| is_letter_or_digit(*byte))
-}
-
 /// A name has 1 to 32 letters, digits, dashes and underscores.
 fn is_name(name: &str) -> bool
     ensures { result ≡ limits.is_name name.now }
 {
-    is_within(1, LONGEST_NAME, name.len() as u64) && has_name_characters(name.as_bytes())
+    let text = name.as_bytes();
+    let fits = text.iter().all(|byte| byte.is_ascii_alphanumeric() || matches!(byte, b'-' | b'_'));
+    is_within(1, LONGEST_NAME, name.len() as u64) && fits
 }
 
 /// A token has 16 to 64 letters and digits.
 pub(crate) fn is_token(token: &str) -> bool
     ensures { result ≡ limits.is_token token.now }
 {
-    is_within(SHORTEST_TOKEN, LONGEST_TOKEN, token.len() as u64)
-        && has_letters_and_digits(token.as_bytes())
+    let text = token.as_bytes();
+    let fits = text.iter().all(|byte| byte.is_ascii_alphanumeric());
+    is_within(SHORTEST_TOKEN, LONGEST_TOKEN, token.len() as u64) && fits
 }
 
 /// The fault of a place, where the value there does not pass.

@@ -39,23 +39,14 @@ impl<'v> ScannedMembers<'v> for FoundProduct<'v> {
     }
 
     fn read(&mut self, _alloc: Global, key: &[u8], scan: &mut Scan<'v>) -> Result<(), ScanStop> {
-        if is_key(key, "name") {
-            self.name = Some(scan.text()?);
-            return Ok(());
-        }
-        let number = Some(scan.number()?);
-        if is_key(key, "cap") {
-            self.cap = number;
-        } else if is_key(key, "opening") {
-            self.opening = number;
-        } else if is_key(key, "supply") {
-            self.supply = number;
-        } else if is_key(key, "units") {
-            self.units = number;
-        } else if is_key(key, "granule") {
-            self.granule = number;
-        } else {
-            return Err(ScanStop::Unusual);
+        match key {
+            _ if is_key(key, "name") => self.name = Some(scan.text()?),
+            _ if is_key(key, "cap") => self.cap = Some(scan.number()?),
+            _ if is_key(key, "opening") => self.opening = Some(scan.number()?),
+            _ if is_key(key, "supply") => self.supply = Some(scan.number()?),
+            _ if is_key(key, "units") => self.units = Some(scan.number()?),
+            _ if is_key(key, "granule") => self.granule = Some(scan.number()?),
+            _ => return Err(ScanStop::Unusual),
         }
         Ok(())
     }
@@ -82,10 +73,10 @@ fn products<'v>(alloc: Global, scan: &mut Scan<'v>) -> Result<VersionedProducts<
     ensures value { IfOk result (λ list. Reads 2 scan.old (products_data list.version list.entries) scan.new) }
     ensures shorter { OnOk result (length scan.new < length scan.old) }
 {
-    scan.opens_array()?;
+    scan.opens(b'[')?;
     let mut version = 0;
     let mut entries = Items::new(alloc);
-    'items: while !scan.closes_array() {
+    'items: while !scan.closes(b']') {
         let next = FoundProduct::part(alloc, scan)?;
         if version != 0 && version != next.version {
             return Err(ScanStop::Unusual);
@@ -118,14 +109,11 @@ impl<'v> ScannedMembers<'v> for FoundBidder<'v> {
     }
 
     fn read(&mut self, _alloc: Global, key: &[u8], scan: &mut Scan<'v>) -> Result<(), ScanStop> {
-        if is_key(key, "name") {
-            self.name = Some(scan.text()?);
-        } else if is_key(key, "token") {
-            self.token = Some(scan.text()?);
-        } else if is_key(key, "eligibility") {
-            self.eligibility = Some(scan.number()?);
-        } else {
-            return Err(ScanStop::Unusual);
+        match key {
+            _ if is_key(key, "name") => self.name = Some(scan.text()?),
+            _ if is_key(key, "token") => self.token = Some(scan.text()?),
+            _ if is_key(key, "eligibility") => self.eligibility = Some(scan.number()?),
+            _ => return Err(ScanStop::Unusual),
         }
         Ok(())
     }
@@ -164,20 +152,16 @@ impl<'v> ScannedMembers<'v> for FoundSetup<'v> {
     }
 
     fn read(&mut self, alloc: Global, key: &[u8], scan: &mut Scan<'v>) -> Result<(), ScanStop> {
-        if is_key(key, "products") {
-            self.products = Some(products(alloc, scan)?);
-        } else if is_key(key, "bidders") {
-            self.bidders = Some(scanned_parts::<FoundBidder>(alloc, scan, 0)?);
-        } else if is_key(key, "operator") {
-            self.operator = Some(scan.text()?);
-        } else if is_key(key, "version") {
-            self.version = Some(scan.number()?);
-        } else if is_key(key, "requirement") {
-            self.requirement = Some(scan.number()?);
-        } else if is_key(key, "limit") {
-            self.limit = Some(scan.number()?);
-        } else {
-            return Err(ScanStop::Unusual);
+        match key {
+            _ if is_key(key, "products") => self.products = Some(products(alloc, scan)?),
+            _ if is_key(key, "bidders") => self.bidders = Some(scanned_parts::<FoundBidder>(
+                alloc, scan, 0,
+            )?),
+            _ if is_key(key, "operator") => self.operator = Some(scan.text()?),
+            _ if is_key(key, "version") => self.version = Some(scan.number()?),
+            _ if is_key(key, "requirement") => self.requirement = Some(scan.number()?),
+            _ if is_key(key, "limit") => self.limit = Some(scan.number()?),
+            _ => return Err(ScanStop::Unusual),
         }
         Ok(())
     }

@@ -21,8 +21,8 @@ use Rattle.clock_front.specs.Askers.{asker}
 use Rattle.clock_front.specs.Fronts.{commands_of}
 use Rattle.clock_http.specs.declared.routes.Page.{Page}
 use Rattle.clock_http.specs.declared.routes.Page.TheVariants.{Status, Products, Sheet, Account, Bids, Slip, Close, Results}
-use Rattle.clock_front.specs.declared.front.asked.Asker.{Asker}
-use Rattle.clock_front.specs.declared.front.asked.Asker.TheVariants.{Nobody, Operator, Bidder}
+use Rattle.clock_front.specs.declared.front.askers.Asker.{Asker}
+use Rattle.clock_front.specs.declared.front.askers.Asker.TheVariants.{Nobody, Operator, Bidder}
 use Rattle.clock_replays.specs.declared.replay.Script.{Script}
 use Rattle.clock_sim.specs.inside.Groups.{ClosesNoRound}
 use Rattle.clock_scripts.specs.RequestTexts.{put_text}

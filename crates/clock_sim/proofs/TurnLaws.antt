@@ -1,9 +1,10 @@
 -- The bidders' turns: each puts its sheet, whose request waits for others or is sent after those that wait.
-use Rattle.std.proofs.Common.{◌≡◌, ℕ, ◌+◌, ◌<◌, ◌≤◌, List, [], ◌∷◌, ◌++◌, length, drop, get_or, Option, Some, None, Result, Ok, Err, refl, sym, ◌∙◌}
+use Rattle.std.proofs.Common.{◌≡◌, ℕ, ◌+◌, ◌<◌, ◌≤◌, List, [], ◌∷◌, ◌++◌, Vec, true, length, drop, get_or, Option, Some, None, Result, Ok, Err, refl, sym, ◌∙◌}
 use Rattle.std.proofs.Common.{ap, subst, All, arith}
 use Rattle.std.specs.Prelude.{MatchResult, OnOk, option_map}
 use Rattle.std.proofs.lemmas.List.{drop_all}
-use Rattle.std.proofs.lemmas.List.Elements.{All-tail}
+use Rattle.std.proofs.lemmas.List.Elements.{All-tail, All-push}
+use Rattle.std.specs.declared.alloc.Global.{Global}
 use Rattle.clock_terms.specs.Limits.{SetupFields}
 use Rattle.clock_terms.specs.Faults.{◌>>=◌, IsRefusal}
 use Rattle.clock_house.specs.House.{HouseFields, standing_in}
@@ -14,21 +15,23 @@ use Rattle.clock_http.specs.declared.code.Code.TheVariants.{Done}
 use Rattle.clock_front.specs.Fronts.{StandsForTexts}
 use Rattle.clock_front.specs.Hubs.{HubFields}
 use Rattle.clock_replays.specs.declared.replay.Script.{Script}
-use Rattle.clock_sim.specs.declared.groups.Group.{Group}
+use Rattle.clock_sim.specs.declared.rounds.Group.{Group}
+use Rattle.clock_sim.specs.declared.rounds.Waiting.{Waiting}
 use Rattle.clock_sim.specs.declared.simulation.SimFault.{SimFault}
 use Rattle.clock_sim.specs.declared.simulation.SimFault.TheVariants.{NoMemory}
 use Rattle.clock_sim.specs.Rehearsal.{if_done, after_request, after_request_if, after_put, after_puts, rounds_after}
-use Rattle.clock_scripts.specs.declared.pieces.Pieces.{Pieces}
-use Rattle.clock_scripts.specs.declared.pieces.Written.{Written}
-use Rattle.clock_scripts.specs.Pieces.{WritesIf, text_at}
+use Rattle.clock_http.specs.Framing.{needs_more}
+use Rattle.clock_connections.specs.Connections.{IsConnected}
+use Rattle.clock_scripts.specs.declared.requests.Written.{Written}
+use Rattle.clock_scripts.specs.Pieces.{IsWrittenIn, WritesIf, head_in, text_at}
 use Rattle.clock_scripts.specs.ScriptedRequests.{scripted_put}
-use Rattle.clock_sim.specs.inside.Groups.{Request, ClosesNoRound, ComesUnderWay, IsGroup, IsNext, IsUnderWay, StillWait, text_in, after_group, requests_in}
+use Rattle.clock_sim.specs.inside.Groups.{Request, ClosesNoRound, ComesUnderWay, IsGroup, IsNext, IsUnderWay, StillWait, text_in, after_group, request_in, requests_in}
 use Rattle.clock_sim.specs.inside.Groups.{with_put, with_request, with_turn}
 use Rattle.clock_sim.specs.inside.Steps.{IsGoing, ComesTo, MakesStep, IsLeft, MakesWay}
 use Rattle.clock_sim.proofs.StepLaws.{Texts, Step, IsOnWay, and_then, left_as, next_at}
-use Rattle.clock_sim.proofs.GroupLaws.{ended_ok, one_step, with_one}
+use Rattle.clock_sim.proofs.GroupLaws.{ended_ok, joined_group, one_step, with_one}
 use Rattle.clock_sim.proofs.PutLaws.{scripted_closes_none}
-use Rattle.clock_sim.proofs.WrittenLaws.{kept_if, none_wait, reads_as, still_twice, still_wait}
+use Rattle.clock_sim.proofs.WrittenLaws.{kept_if, none_wait, one_more, reads_as, still_twice, still_wait}
 
 -- ---- steps with requests that wait
 
@@ -192,6 +195,56 @@ sent_alone {T = T} group next bidder round text old mid new done result before c
     (subst (λ (setup : SetupFields). MakesStep (last setup) mid.house new.house result) made.setup sent))
     (on_ok (requests_in next ≡ []) result none) (going_after_one bidder round text mid.house new.house result closes going sent)
 
+-- a request that waited was refused
+pub refused_before : {U T : Type 0} (group next : Group) (bidder round : ℕ) (text : List ℕ) (old new : HubFields) (fault : SimFault)
+    → MakesStep {T = U} (after_group old.house.setup (requests_in group)) old.house new.house (Err fault)
+    → ComesUnderWay {T = T} (with_request old.house.setup (requests_in group) bidder round text) old new next (Err fault)
+refused_before group next bidder round text old new fault made = record {
+  under_way = tt;
+  way = record {
+    setup = made.setup;
+    comes = λ texts stands other.
+        ap (λ (answer : Result Texts SimFault). answer >>= (λ sent. after_request old.house.setup sent (Some bidder) round text)) (made.comes texts stands other);
+  };
+}
+
+-- a request that needs its body waits, over a connection that was made for it
+pub joined : {T : Type 0} (done : T) (old new : HubFields) (group : Group) (waiting : Vec Waiting Global) (one : Waiting)
+    → IsNext old group one.written → needs_more (head_in group.text.items one.written) ≡ true → IsConnected old.connections new.connections one.conn
+    → new.house ≡ old.house → waiting.items ≡ group.waiting.items ++ one ∷ []
+    → ComesUnderWay (with_turn old.house.setup group one.bidder one.round one.written) old new (record group { waiting = waiting }) (Ok done)
+joined done old new group waiting one next needs connected front more =
+    let text = group.text.items in
+    let before = next.under_way in
+    let is = one_more text group.waiting.items waiting.items one more in
+    let Stands : Waiting → Type 0 = λ w. IsWrittenIn text w.written in
+    record {
+      under_way = record {
+        waits = record {
+          requests = subst (IsGroup new.connections) (sym is)
+              (joined_group old.connections new.connections (requests_in group) (request_in text one) before.waits.requests connected needs next.closes);
+          written = subst (λ (list : List Waiting). All Stands list) (sym more) (All-push Stands group.waiting.items one before.waits.written next.within);
+        };
+        going = subst IsGoing (sym front) before.going;
+      };
+      way = one_waits (requests_in group) (requests_in (record group { waiting = waiting })) (request_in text one) (text_at text one.written)
+          old.house new.house done front is refl;
+    }
+
+-- and where the group is full all are sent
+pub sent_full : {U T : Type 0} (done : U) (steps : Step) (old mid new : HubFields) (group next : Group) (result : Result T SimFault)
+    → ComesUnderWay steps old mid group (Ok done) → MakesStep (after_group mid.house.setup (requests_in group)) mid.house new.house result
+    → OnOk result (requests_in next ≡ []) → ComesUnderWay steps old new next result
+sent_full {T = T} done steps old mid new group next result one made none =
+    let waiting = requests_in group in
+    let left = requests_in next in
+    let sent = all_sent (after_group mid.house.setup waiting) next mid new result made none
+    (going_after_group waiting mid.house new.house result one.under_way.waits.requests.close one.under_way.going made) in record {
+      under_way = sent.under_way;
+      way = way_then steps (after_group old.house.setup waiting) (after_group old.house.setup left) old.house mid.house new.house done result one.way
+          (subst (λ (setup : SetupFields). MakesWay (after_group setup waiting) (after_group setup left) mid.house new.house result) one.way.setup sent.way);
+    }
+
 -- the sheet that a script gives is the same before and after the requests of the group
 module _ (old : HouseFields) (group : List Request) (bidder : ℕ) (script : Script) (close : All (λ one. ClosesNoRound (text_in one)) group) where
   abbrev given : List ClosedRound → Texts → Option (List ℕ) → Result Texts SimFault
@@ -238,41 +291,41 @@ module _ (old : HouseFields) (group : List Request) (bidder : ℕ) (script : Scr
 
 -- ---- a bidder's turn, before which there is room for its request
 
-module _ (hub : HubFields) (group room : Group) (pieces : Pieces) (house : HouseFields) (bidder : ℕ) (script : Script) (written : Option Written)
+module _ (hub : HubFields) (group room : Group) (text : Vec ℕ Global) (house : HouseFields) (bidder : ℕ) (script : Script) (written : Option Written)
     (before : IsUnderWay hub group) (has_room : StillWait group room) (same : house ≡ hub.house)
-    (writes : WritesIf room.pieces pieces (scripted_put house.setup house.closed bidder script) written) where
+    (writes : WritesIf room.text.items text.items (scripted_put house.setup house.closed bidder script) written) where
   -- the group with what was written
   abbrev pub grown : Group
-  grown = record room { pieces = pieces }
+  grown = record room { text = text }
 
   still : StillWait group grown
   still = still_twice group room grown has_room
-      (still_wait room pieces (kept_if room.pieces pieces (scripted_put house.setup house.closed bidder script) written writes))
+      (still_wait room text (kept_if room.text.items text.items (scripted_put house.setup house.closed bidder script) written writes))
 
-  puts : scripted_put hub.house.setup hub.house.closed bidder script ≡ option_map (text_at pieces) written
+  puts : scripted_put hub.house.setup hub.house.closed bidder script ≡ option_map (text_at text.items) written
   puts =
       ap (λ (now : HouseFields). scripted_put now.setup now.closed bidder script) (sym same)
-      ∙ reads_as room.pieces pieces (scripted_put house.setup house.closed bidder script) written writes
+      ∙ reads_as room.text.items text.items (scripted_put house.setup house.closed bidder script) written writes
 
   -- what was written comes next
-  pub written_next : (one : Written) (round : ℕ) → written ≡ Some one → IsNext hub grown (record { bidder = bidder; round = round; written = one })
-  written_next one round is =
-      let made = subst (WritesIf room.pieces pieces (scripted_put house.setup house.closed bidder script)) is writes in record {
+  pub written_next : (one : Written) → written ≡ Some one → IsNext hub grown one
+  written_next one is =
+      let made = subst (WritesIf room.text.items text.items (scripted_put house.setup house.closed bidder script)) is writes in record {
         under_way = still_under_way hub group grown before still;
         within = made.1.within;
-        closes = scripted_closes_none hub.house.setup hub.house.closed bidder script (text_at pieces one) (puts ∙ ap (option_map (text_at pieces)) is);
+        closes = scripted_closes_none hub.house.setup hub.house.closed bidder script (text_at text.items one) (puts ∙ ap (option_map (text_at text.items)) is);
       }
 
   pub turn_taken : {T : Type 0} (one : Written) (round : ℕ) (new : HubFields) (last : Group) (result : Result T SimFault) → written ≡ Some one
       → round ≡ (standing_in hub.house).round
-      → ComesUnderWay (with_turn hub.house.setup grown (record { bidder = bidder; round = round; written = one })) hub new last result
+      → ComesUnderWay (with_turn hub.house.setup grown bidder round one) hub new last result
       → ComesUnderWay (with_put hub.house.setup (requests_in group) bidder script) hub new last result
   turn_taken one round new last result is at made =
       let rest = after_group hub.house.setup (requests_in last) in record {
         under_way = made.under_way;
-        way = put_waits hub.house (requests_in group) bidder script before.waits.requests.close new.house rest (text_at pieces one) round result
-            (puts ∙ ap (option_map (text_at pieces)) is) at
-            (subst (λ (requests : List Request). MakesWay (with_request hub.house.setup requests bidder round (text_at pieces one)) rest hub.house new.house result)
+        way = put_waits hub.house (requests_in group) bidder script before.waits.requests.close new.house rest (text_at text.items one) round result
+            (puts ∙ ap (option_map (text_at text.items)) is) at
+            (subst (λ (requests : List Request). MakesWay (with_request hub.house.setup requests bidder round (text_at text.items one)) rest hub.house new.house result)
             (still before.waits.written).0 made.way);
       }
 
@@ -284,7 +337,7 @@ module _ (hub : HubFields) (group room : Group) (pieces : Pieces) (house : House
         (λ (requests : List Request). MakesWay (with_put hub.house.setup (requests_in group) bidder script) (after_group hub.house.setup requests) hub.house hub.house
         (Ok done))
         (sym (still before.waits.written).0)
-        (none_put hub.house (requests_in group) bidder script before.waits.requests.close done (puts ∙ ap (option_map (text_at pieces)) is));
+        (none_put hub.house (requests_in group) bidder script before.waits.requests.close done (puts ∙ ap (option_map (text_at text.items)) is));
   }
 
 -- ---- bidder after bidder

@@ -1,17 +1,17 @@
--- The requests that wait, by the pieces that were written.
-use Rattle.std.proofs.Common.{◌≡◌, ℕ, ◌+◌, ◌<◌, List, [], ◌∷◌, ◌++◌, All, length, drop, map, get_or, Option, Some, None, Result, Ok, Err}
-use Rattle.std.proofs.Common.{refl, sym, ◌∙◌, ap, ap₂, subst, subst₂, arith}
+-- The requests that wait, by the text in which they stand.
+use Rattle.std.proofs.Common.{◌≡◌, ℕ, ◌+◌, ◌-◌, ◌<◌, ◌≤◌, List, Vec, [], ◌∷◌, ◌++◌, All, length, take, drop, map, get_or, Option, Some, None, Result, Ok, Err}
+use Rattle.std.proofs.Common.{refl, sym, ◌∙◌, ap, ap₂, subst, subst₂, arith, append-nil}
 use Rattle.std.specs.Prelude.{option_map}
-use Rattle.std.proofs.lemmas.List.{length-map, get_or-map, map-append}
+use Rattle.std.specs.declared.alloc.Global.{Global}
+use Rattle.std.proofs.lemmas.List.{length-map, get_or-map, map-append, length-append, length-drop, drop-append-le, take-append-le}
 use Rattle.std.proofs.lemmas.List.Elements.{All-tail}
 use Rattle.clock_house.specs.House.{HouseFields}
 use Rattle.clock_connections.specs.Connections.{ConnectionFields, text_of, KeepsOthers}
 use Rattle.clock_front.specs.Hubs.{HubFields}
-use Rattle.clock_scripts.specs.declared.pieces.Pieces.{Pieces}
-use Rattle.clock_scripts.specs.declared.pieces.Written.{Written}
-use Rattle.clock_scripts.specs.Pieces.{IsWrittenIn, Keeps, WritesIf, piece_at, text_at}
-use Rattle.clock_sim.specs.declared.groups.Waiting.{Waiting}
-use Rattle.clock_sim.specs.declared.groups.Group.{Group}
+use Rattle.clock_scripts.specs.declared.requests.Written.{Written}
+use Rattle.clock_scripts.specs.Pieces.{Grows, IsWrittenIn, WritesIf, body_in, text_at}
+use Rattle.clock_sim.specs.declared.rounds.Waiting.{Waiting}
+use Rattle.clock_sim.specs.declared.rounds.Group.{Group}
 use Rattle.clock_sim.specs.declared.simulation.SimFault.{SimFault}
 use Rattle.clock_sim.specs.Rehearsal.{after_request}
 use Rattle.clock_sim.specs.inside.Groups.{Request, request_in, requests_in, after_group, AreApart, StandFrom, StillWait, Waits}
@@ -19,34 +19,57 @@ use Rattle.clock_sim.specs.inside.Steps.{MakesStep}
 use Rattle.clock_sim.proofs.GroupLaws.{body_done, body_refused, empty_group, head_at, heads_kept, one_step}
 use Rattle.clock_sim.proofs.StepLaws.{IsOnWay, Step}
 
--- where each piece stands still, the requests are the same
-module _ (old new : Pieces) (keeps : Keeps old new) where
-  requests_kept : (waiting : List Waiting) → All (λ one. IsWrittenIn old one.turn.written) waiting → map (request_in new) waiting ≡ map (request_in old) waiting
+-- a piece stands in a longer text still
+kept : (old new more : List ℕ) (from to : ℕ) → new ≡ old ++ more → from ≤ to → to ≤ length old
+    → take (to - from) (drop from new) ≡ take (to - from) (drop from old)
+kept old new more from to is order within =
+    let count : length (drop from old) ≡ length old - from = length-drop from old in
+    ap (λ (text : List ℕ). take (to - from) (drop from text)) is
+    ∙ ap (λ (rest : List ℕ). take (to - from) rest) (drop-append-le from old more (omega (arith, order, within)))
+    ∙ take-append-le (to - from) (drop from old) more (omega (arith, count, order, within))
+
+-- in a longer text the requests are the same
+module _ (old new : List ℕ) (grows : Grows old new) where
+  requests_kept : (waiting : List Waiting) → All (λ one. IsWrittenIn old one.written) waiting → map (request_in new) waiting ≡ map (request_in old) waiting
   requests_kept [] all = refl
   requests_kept (one ∷ waiting) all =
-      let here = keeps one.turn.written (all 0 one (omega arith)) in
+      let here = all 0 one (omega arith) in
+      let at = one.written in
       let first : request_in new one ≡ request_in old one =
-      ap₂ (λ (head body : List ℕ). record { bidder = one.turn.bidder; round = one.turn.round; conn = one.conn; head = head; body = body })
-      here.0.same here.1.same in
+      ap₂ (λ (head body : List ℕ). record { bidder = one.bidder; round = one.round; conn = one.conn; head = head; body = body })
+      (kept old new grows.more at.head at.end grows.is here.head here.end)
+      (kept old new grows.more at.body at.head grows.is here.body (omega (arith, here.head, here.end))) in
       ap₂ (λ (request : Request) (others : List Request). request ∷ others) first
-      (requests_kept waiting (All-tail (λ (w : Waiting). IsWrittenIn old w.turn.written) one waiting all))
+      (requests_kept waiting (All-tail (λ (w : Waiting). IsWrittenIn old w.written) one waiting all))
 
 -- so those that wait still do
-pub still_wait : (group : Group) (pieces : Pieces) → Keeps group.pieces pieces → StillWait group (record group { pieces = pieces })
-still_wait group pieces keeps = λ all. (
-  requests_kept group.pieces pieces keeps group.waiting.items all,
+pub still_wait : (group : Group) (text : Vec ℕ Global) → Grows group.text.items text.items → StillWait group (record group { text = text })
+still_wait group text grows = λ all. (
+  requests_kept group.text.items text.items grows group.waiting.items all,
   λ k other below.
-      let kept = keeps (get_or group.waiting.items k other).turn.written (all k other below) in
-      (kept.0.within, kept.1.within),
+      let here = all k other below in
+      let long = ap length grows.is ∙ length-append group.text.items grows.more in
+      record { body = here.body; head = here.head; end = omega (arith, here.end, long) },
 )
 
--- and so where one was written, if there is a text
-pub kept_if : (old new : Pieces) (text : Option (List ℕ)) (written : Option Written) → WritesIf old new text written → Keeps old new
-kept_if old new text None is = is.1
-kept_if old new text (Some one) is = is.1.kept
+none_of : (waiting : List Waiting) → length waiting ≡ 0 → waiting ≡ []
+none_of [] none = refl
+none_of (one ∷ waiting) none = absurd (omega (arith, none))
+
+-- where none waits the text may be another
+pub still_none : (group : Group) (text : Vec ℕ Global) → length group.waiting.items ≡ 0 → StillWait group (record group { text = text })
+still_none group text empty = (let none = none_of group.waiting.items empty in λ all. (
+  ap (λ (waiting : List Waiting). map (request_in text.items) waiting) none ∙ ap (λ (waiting : List Waiting). map (request_in group.text.items) waiting) (sym none),
+  λ k other below. absurd (omega (arith, below, empty)),
+))
+
+-- the text has grown where one was written, if there is a request
+pub kept_if : (old new : List ℕ) (text : Option (List ℕ)) (written : Option Written) → WritesIf old new text written → Grows old new
+kept_if old new text None is = record { more = []; is = is.1 ∙ sym (append-nil old) }
+kept_if old new text (Some one) is = is.1.grows
 
 -- what was written reads as the text
-pub reads_as : (old new : Pieces) (text : Option (List ℕ)) (written : Option Written) → WritesIf old new text written → text ≡ option_map (text_at new) written
+pub reads_as : (old new : List ℕ) (text : Option (List ℕ)) (written : Option Written) → WritesIf old new text written → text ≡ option_map (text_at new) written
 reads_as old new text None is = is.0
 reads_as old new text (Some one) is = is.0
 
@@ -58,14 +81,14 @@ still_twice first second third one two = λ all.
     (then_.0 ∙ now.0, then_.1)
 
 -- one more waits
-pub one_more : (pieces : Pieces) (waiting next : List Waiting) (one : Waiting) → next ≡ waiting ++ one ∷ []
-    → map (request_in pieces) next ≡ map (request_in pieces) waiting ++ request_in pieces one ∷ []
-one_more pieces waiting next one is = ap (λ (list : List Waiting). map (request_in pieces) list) is ∙ map-append (request_in pieces) waiting (one ∷ [])
+pub one_more : (text : List ℕ) (waiting next : List Waiting) (one : Waiting) → next ≡ waiting ++ one ∷ []
+    → map (request_in text) next ≡ map (request_in text) waiting ++ request_in text one ∷ []
+one_more text waiting next one is = ap (λ (list : List Waiting). map (request_in text) list) is ∙ map-append (request_in text) waiting (one ∷ [])
 
 -- no request waits
 pub none_wait : (connections : ConnectionFields) (group : Group) → requests_in group ≡ [] → Waits connections group
 none_wait connections group none =
-    let count = length-map group.waiting.items (request_in group.pieces) in
+    let count = length-map group.waiting.items (request_in group.text.items) in
     record {
       requests = empty_group connections (requests_in group) (ap length none);
       written = λ k other below. absurd (omega (arith, below, count, ap (λ (list : List Request). length list) none));
@@ -76,7 +99,9 @@ none_wait connections group none =
 -- what stands past the end of the list
 abbrev pub no_waiting : Waiting
 no_waiting = record {
-  turn = record { bidder = 0; round = 0; written = record { head = record { start = 0; end = 0 }; body = record { start = 0; end = 0 } } };
+  bidder = 0;
+  round = 0;
+  written = record { body = 0; head = 0; end = 0 };
   conn = record { slot = 0; serial = 0 };
 }
 
@@ -84,10 +109,10 @@ abbrev pub waiting_at : List Waiting → ℕ → Waiting
 waiting_at waiting i = get_or waiting i no_waiting
 
 pub request_at : (group : Group) (i : ℕ) → i < length group.waiting.items
-    → (i < length (requests_in group)) × (request_in group.pieces (waiting_at group.waiting.items i)
-    ≡ get_or (requests_in group) i (request_in group.pieces (waiting_at group.waiting.items i)))
+    → (i < length (requests_in group)) × (request_in group.text.items (waiting_at group.waiting.items i)
+    ≡ get_or (requests_in group) i (request_in group.text.items (waiting_at group.waiting.items i)))
 request_at group i below =
-    let f = request_in group.pieces in (
+    let f = request_in group.text.items in (
       omega (arith, below, length-map group.waiting.items f),
       sym (get_or-map f group.waiting.items i no_waiting (f (waiting_at group.waiting.items i)) below),
     )
@@ -99,16 +124,16 @@ abbrev pub IsMade : {U : Type 0} → ℕ → HubFields → HubFields → Result 
 IsMade i old new result waiting body =
     (head : List ℕ) → text_of old.connections (waiting_at waiting i).conn ≡ Some head
     → MakesStep
-    (λ texts. after_request old.house.setup texts (Some (waiting_at waiting i).turn.bidder) (waiting_at waiting i).turn.round (head ++ body))
+    (λ texts. after_request old.house.setup texts (Some (waiting_at waiting i).bidder) (waiting_at waiting i).round (head ++ body))
     old.house new.house result
 
 module _ (whole : Step) (group : Group) (i : ℕ) (waiting : List Waiting) (body : List ℕ) (initial : HouseFields) (old new : HubFields)
     (same : waiting ≡ group.waiting.items) (here : i < length waiting)
-    (is : body ≡ piece_at group.pieces.bodies.items (waiting_at waiting i).turn.written.body)
+    (is : body ≡ body_in group.text.items (waiting_at waiting i).written)
     (before : IsOnWay whole (after_group initial.setup (drop i (requests_in group))) initial old.house)
     (stand : StandFrom i old.connections (requests_in group) (λ k one. one.head)) where
   abbrev this : Request
-  this = request_in group.pieces (waiting_at group.waiting.items i)
+  this = request_in group.text.items (waiting_at group.waiting.items i)
 
   placed : (i < length (requests_in group)) × (this ≡ get_or (requests_in group) i this)
   placed = request_at group i (subst (λ (list : List Waiting). i < length list) same here)
@@ -119,7 +144,7 @@ module _ (whole : Step) (group : Group) (i : ℕ) (waiting : List Waiting) (body
   made_at : {U : Type 0} (result : Result U SimFault) → IsMade i old new result waiting body → MakesStep (one_step old.house.setup this) old.house new.house result
   made_at result made =
       let same_body : body ≡ this.body =
-      is ∙ ap (λ (list : List Waiting). piece_at group.pieces.bodies.items (waiting_at list i).turn.written.body) same in
+      is ∙ ap (λ (list : List Waiting). body_in group.text.items (waiting_at list i).written) same in
       subst₂ (IsMade i old new result) same same_body made this.head headed
 
   -- it is done, and the requests behind it are left

@@ -4,7 +4,6 @@
 //! a scripted bidder takes the path of a live one.
 #![tactic(auto)]
 
-mod groups;
 mod rounds;
 mod simulation;
 

@@ -1,19 +1,139 @@
-//! The rounds of a replay: each bidder's sheet, then the closing.
+//! The rounds of a replay: the sheet of each bidder, then the closing. A request is sent over a connection of its own,
+//! its head before its body. Sheets go in groups: their connections stand at once, all heads come before the first body.
 
-ghost use Rattle.std.specs.Prelude.{◌≡◌, ◌<◌, length, true, OnOk};
+ghost use Rattle.std.specs.Prelude.{◌≡◌, ◌<◌, [], ◌++◌, Some, ℕ, List, length, true, OnOk};
+ghost use Rattle.clock_connections.specs.Connections.{text_of, KeepsOthers};
 ghost use Rattle.clock_house.specs.House.{standing_in};
 ghost use Rattle.clock_replays.specs.Replays.{IsScript};
 ghost use Rattle.clock_sim.specs.Rehearsal as rules;
-ghost use Rattle.clock_sim.specs.inside.Groups.{ComesUnderWay, IsUnderWay, requests_in, with_put};
-ghost use Rattle.clock_sim.specs.inside.Steps.{AreScriptsOf, IsGoing, MakesStep};
+ghost use Rattle.clock_sim.specs.inside.Groups.{AreApart, AreWritten, ComesUnderWay, IsUnderWay, StandFrom, Waits, after_group, requests_in, with_put};
+ghost use Rattle.clock_sim.specs.inside.Steps.{AreScriptsOf, IsGoing, IsTold, MakesStep};
 
-use crate::groups::{Group, Turn, send};
 use crate::simulation::SimFault;
-use clock_front::Hub;
+use clock_device::NoMemory;
+use clock_front::{Conn, Fed, Hub, HubFault, Reply};
+use clock_http::{Code, law_decided_once, law_one_head};
 use clock_processor::Processor;
 use clock_replays::{Closing, Script};
+use clock_scripts::{Written, write_close, write_put};
+use std::alloc::Global;
 
-/// A bidder puts the sheet that its script gives, if any: the request joins the group, or what went before is sent.
+/// How many requests a group has at most.
+const MOST_WAITING: usize = 64;
+
+/// A bidder's request in a round, where it stands, and the connection over which it is sent.
+#[derive(Drop)]
+struct Waiting {
+    bidder: u64,
+    round: u64,
+    written: Written,
+    conn: Conn,
+}
+
+/// The requests of a group, and the text in which they stand. Its memory is used again from group to group.
+#[derive(Drop)]
+struct Group {
+    text: Vec<u8>,
+    waiting: Vec<Waiting>,
+}
+
+impl Group {
+    /// The head of each request that waits comes, in order.
+    fn feed_heads<P: Processor>(&self, hub: &mut Hub<P>) -> Result<(), HubFault>
+        requires { Waits hub.old.connections self.now }
+        ensures house { hub.new.house ≡ hub.old.house }
+        ensures heads { OnOk result (StandFrom 0 hub.new.connections (requests_in self.now) (λ k one. one.head)) }
+    {
+        for one in &self.waiting {
+            hub.feed(one.conn, &self.text[one.written.head..one.written.end])?;
+        }
+        Ok(())
+    }
+
+    /// The body of each request that waits comes, in order, and each request is answered.
+    fn send_bodies<P: Processor>(&self, hub: &mut Hub<P>) -> Result<(), SimFault>
+        requires heads { StandFrom 0 hub.old.connections (requests_in self.now) (λ k one. one.head) }
+        requires apart { AreApart (requests_in self.now) }
+        requires within { AreWritten self.now }
+        ensures { MakesStep (after_group hub.old.house.setup (requests_in self.now)) hub.old.house hub.new.house result }
+    {
+        for one in &self.waiting {
+            let body = &self.text[one.written.body..one.written.head];
+            send_body(hub, one.conn, Some(one.bidder), one.round, body)?;
+        }
+        Ok(())
+    }
+
+    /// Sends the requests that wait: none does then. What is written stays.
+    fn send_all<P: Processor>(&mut self, hub: &mut Hub<P>) -> Result<(), SimFault>
+        requires { Waits hub.old.connections self.old }
+        ensures step { MakesStep (after_group hub.old.house.setup (requests_in self.old)) hub.old.house
+            hub.new.house result }
+        ensures none { OnOk result (requests_in self.new ≡ []) }
+        ensures text { OnOk result (self.new.text ≡ self.old.text) }
+    {
+        self.feed_heads(hub)?;
+        self.send_bodies(hub)?;
+        self.waiting.clear();
+        Ok(())
+    }
+}
+
+/// What the code of a reply is told as: a refusal as the fault of a bidder, or of the operator.
+fn told(code: Code, sender: Option<u64>, round: u64) -> Result<(), SimFault>
+    ensures { IsTold code (rules.refused_by sender round code) result }
+{
+    match (code, sender) {
+        (Code::Done, _) => Ok(()),
+        (Code::Memory, _) => Err(SimFault::NoMemory),
+        (_, Some(bidder)) => Err(SimFault::Refused(bidder, round, code)),
+        (_, None) => Err(SimFault::Closing(round, code)),
+    }
+}
+
+/// Sends the body of a request whose head has come over a connection.
+fn send_body<P: Processor>(
+    hub: &mut Hub<P>,
+    conn: Conn,
+    sender: Option<u64>,
+    round: u64,
+    body: &[u8],
+) -> Result<(), SimFault>
+    ensures step { (head : List ℕ) → text_of hub.old.connections conn ≡ Some head
+        → MakesStep (λ texts. rules.after_request hub.old.house.setup texts sender round (head ++ body.now))
+        hub.old.house hub.new.house result }
+    ensures others { (head : List ℕ) → text_of hub.old.connections conn ≡ Some head
+        → OnOk result (KeepsOthers hub.old.connections hub.new.connections conn) }
+{
+    let reply = match hub.feed(conn, body)? {
+        Fed::Reply(reply) => reply,
+        Fed::More => hub.finish(conn)?,
+    };
+    told(reply.code(), sender, round)
+}
+
+/// Sends a request over a connection of its own. One that is refused at its head is answered before its body.
+fn send<P: Processor>(
+    hub: &mut Hub<P>,
+    sender: Option<u64>,
+    round: u64,
+    head: &[u8],
+    body: &[u8],
+) -> Result<(), SimFault>
+    ensures { MakesStep (λ texts. rules.after_request hub.old.house.setup texts sender round (head.now ++ body.now))
+        hub.old.house hub.new.house result }
+{
+    law_decided_once();
+    law_one_head();
+    let conn = hub.connect()?;
+    match hub.feed(conn, head)? {
+        Fed::More => send_body(hub, conn, sender, round, body),
+        Fed::Reply(reply) => told(reply.code(), sender, round),
+    }
+}
+
+/// A bidder puts the sheet that its script gives, if any: the request joins the group, which is sent where it is full.
+/// One that is answered at its head goes by itself, after those that wait.
 fn put_scripted<P: Processor>(
     hub: &mut Hub<P>,
     group: &mut Group,
@@ -26,17 +146,33 @@ fn put_scripted<P: Processor>(
     ensures { ComesUnderWay (with_put hub.old.house.setup (requests_in group.old) bidder script.now) hub.old hub.new
         group.new result }
 {
-    let round = hub.front().house().round();
-    group.make_room();
-    let Some(written) = group.pieces.write_put(hub.front().house(), bidder, script)? else {
+    if group.waiting.is_empty() {
+        group.text.clear();
+    }
+    let house = hub.front().house();
+    let round = house.round();
+    let Some(written) = write_put(&mut group.text, house, bidder, script)? else {
         return Ok(());
     };
-    let turn = Turn {
-        bidder: bidder as u64,
+    let bidder = bidder as u64;
+    if !written.needs_body() {
+        group.send_all(hub)?;
+        let head = &group.text[written.head..written.end];
+        let body = &group.text[written.body..written.head];
+        return send(hub, Some(bidder), round, head, body);
+    }
+    let conn = hub.connect()?;
+    let one = Waiting {
+        bidder,
         round,
         written,
+        conn,
     };
-    group.take_turn(hub, turn)
+    group.waiting.push(one).or(Err(NoMemory))?;
+    if group.waiting.len() >= MOST_WAITING {
+        return group.send_all(hub);
+    }
+    Ok(())
 }
 
 /// The bidders put their sheets, in the order of their numbers.
@@ -51,33 +187,33 @@ fn put_all<P: Processor>(
 {
     // the bidders are few enough to be numbered
     hub.front().house().law_of_house();
-    group.clear();
+    group.waiting.clear();
     for (bidder, script) in scripts.iter().enumerate() {
         put_scripted(hub, group, bidder as u32, script)?;
     }
     group.send_all(hub)
 }
 
-/// The operator closes the current round.
+/// The operator closes the current round. The text of the request takes the place of what was written before.
 fn close_scripted<P: Processor>(
     hub: &mut Hub<P>,
-    group: &mut Group,
+    text: &mut Vec<u8>,
     closing: &Closing,
 ) -> Result<(), SimFault>
     ensures { MakesStep (rules.after_close hub.old.house.setup closing.now) hub.old.house hub.new.house result }
 {
-    let round = hub.front().house().round();
-    group.make_room();
-    let written = group.pieces.write_close(hub.front().house(), closing)?;
-    let head = group.pieces.head(&written);
-    let body = group.pieces.body(&written);
-    send(hub, None, round, head, body)
+    text.clear();
+    let house = hub.front().house();
+    let round = house.round();
+    let written = write_close(text, house, closing)?;
+    let head = &text[written.head..written.end];
+    send(hub, None, round, head, &text[written.body..written.head])
 }
 
 /// Plays round after round until the end of the auction: in each the bidders put their sheets, and it is closed.
 pub(crate) fn play<P: Processor>(
+    alloc: Global,
     hub: &mut Hub<P>,
-    group: &mut Group,
     scripts: &[Script],
     closings: &[Closing],
 ) -> Result<(), SimFault>
@@ -87,13 +223,17 @@ pub(crate) fn play<P: Processor>(
         hub.new.house result }
     ensures ended { OnOk result ((standing_in hub.new.house).ended ≡ true) }
 {
+    let mut group = Group {
+        text: Vec::new(alloc),
+        waiting: Vec::new(alloc),
+    };
     for closing in closings {
-        put_all(hub, group, scripts)?;
-        close_scripted(hub, group, closing)?;
+        put_all(hub, &mut group, scripts)?;
+        close_scripted(hub, &mut group.text, closing)?;
         if hub.front().house().ended() {
             return Ok(());
         }
     }
-    put_all(hub, group, scripts)?;
+    put_all(hub, &mut group, scripts)?;
     Err(SimFault::ClosingsSpent)
 }

@@ -6,7 +6,6 @@ ghost use Rattle.clock_reports.specs.FinalReport.{report_of};
 ghost use Rattle.clock_sim.specs.Rehearsal as rules;
 ghost use Rattle.clock_sim.specs.{inside.Steps.{AreScriptsOf, replay_of}, declared.simulation.SimFault.TheVariants.{NoMemory}};
 
-use crate::groups::Group;
 use crate::rounds::play;
 use clock_device::{NoMemory, Text};
 use clock_front::{Front, Hub, HubFault};
@@ -69,7 +68,7 @@ fn play_out<P: Processor>(
     ensures err { IfErr result (IsRefusal SimFault.NoMemory
         (rules.simulated (replay_of hub.old.house scripts.now closings.now))) }
 {
-    play(hub, &mut Group::new(alloc), scripts, closings)
+    play(alloc, hub, scripts, closings)
 }
 
 /// Plays an auction before its first request, and makes its report.

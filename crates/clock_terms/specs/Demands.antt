@@ -2,12 +2,12 @@
 --     row_of grid bidder, demand_at grid bidder product      a row, and one demand
 --     total_of grid product      the demand for a product over all bidders
 --     with_demand grid bidder product demand      the grid with that one demand changed
---     demand_after new before      what a demand becomes
+--     changed_demand kind demand amount      a demand raised or reduced by so many blocks
 --     no_demands bidders products      all demands 0
 --     IsGrid bidders products grid      the grid has these numbers of rows and columns
 use Rattle.std.specs.Prelude.{◌≡◌, ℕ, ◌+◌, ◌-◌, List, [], length, replicate, slice_index, slice_index_or, slice_set, sum_by, All}
-use Rattle.clock_terms.specs.declared.row.NewDemand.{NewDemand}
-use Rattle.clock_terms.specs.declared.row.NewDemand.TheVariants.{Of, Raised, Lowered}
+use Rattle.clock_terms.specs.declared.change.Kind.{Kind}
+use Rattle.clock_terms.specs.declared.change.Kind.TheVariants.{Increase, Reduction}
 
 -- a bidder's demands
 abbrev pub row_of : List (List ℕ) → ℕ → List ℕ
@@ -25,11 +25,10 @@ total_of grid product = sum_by (λ row. slice_index row product) grid
 abbrev pub with_demand : List (List ℕ) → ℕ → ℕ → ℕ → List (List ℕ)
 with_demand grid bidder product demand = slice_set grid bidder (slice_set (row_of grid bidder) product demand)
 
--- what a demand becomes: so many blocks, or so many more or less than it was
-abbrev pub demand_after : NewDemand → ℕ → ℕ
-demand_after (Of demand) before = demand
-demand_after (Raised amount) before = before + amount
-demand_after (Lowered amount) before = before - amount
+-- a demand raised or reduced
+abbrev pub changed_demand : Kind → ℕ → ℕ → ℕ
+changed_demand Increase demand amount = demand + amount
+changed_demand Reduction demand amount = demand - amount
 
 -- nobody demands anything
 abbrev pub no_demands : ℕ → ℕ → List (List ℕ)

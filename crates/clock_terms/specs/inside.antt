@@ -1,3 +1,4 @@
 -- What only proofs and private functions use: no clause of a public call cites it.
 pub mod Demands
 pub mod Rows
+pub mod Setups

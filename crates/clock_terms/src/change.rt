@@ -1,3 +1,6 @@
+ghost use Rattle.std.specs.Prelude.{◌≡◌, ◌≤◌};
+ghost use Rattle.clock_terms.specs.{Demands.{changed_demand}, Limits.{most_supply}};
+
 use clock_device::Items;
 use clock_money::Point;
 
@@ -8,6 +11,19 @@ pub enum Kind {
     Increase,
     /// The demand is to fall.
     Reduction,
+}
+
+impl Kind {
+    /// What a demand becomes by so many blocks of such a change. It is at most 1,000 blocks.
+    pub(crate) fn after(self, demand: u64, amount: u64) -> u64
+        requires { changed_demand self demand amount ≤ most_supply }
+        ensures { result ≡ changed_demand self demand amount }
+    {
+        match self {
+            Kind::Increase => demand + amount,
+            Kind::Reduction => demand.saturating_sub(amount),
+        }
+    }
 }
 
 /// A request to change a bidder's demand for a product.

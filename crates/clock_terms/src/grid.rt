@@ -1,9 +1,10 @@
 ghost use Rattle.std.specs.Prelude.{◌≡◌, ℕ, List, ◌+◌, ◌*◌, ◌≤◌, ◌<◌, length, All, IfOk, slice_index};
 ghost use Rattle.clock_terms.specs.Limits.{IsRow, most_bidders, most_supply};
-ghost use Rattle.clock_terms.specs.Demands.{total_of, demand_at, demand_after, row_of, with_demand, no_demands};
+ghost use Rattle.clock_terms.specs.Demands.{total_of, demand_at, changed_demand, row_of, with_demand, no_demands};
 ghost use Rattle.clock_terms.specs.inside.Demands.{IsKeptGrid};
 
-use crate::row::{NewDemand, Row};
+use crate::change::Kind;
+use crate::row::Row;
 use crate::setup::Setup;
 use clock_device::{Items, NoMemory};
 use std::alloc::Global;
@@ -42,22 +43,6 @@ fn add_row(totals: &mut Amounts, row: &Row)
     }
 }
 
-/// The total of each product over some rows.
-fn totals_of(alloc: Global, products: usize, rows: &[Row]) -> Result<Amounts, NoMemory>
-    requires few { length rows.now ≤ most_bidders }
-    requires each { All (λ row. length row ≡ products) rows.now }
-    requires small { All (λ row. All (λ demand. demand ≤ most_supply) row) rows.now }
-    ensures each { IfOk result (λ totals. length totals ≡ products) }
-    ensures totals { IfOk result (λ totals. (product : ℕ) → product < products → slice_index totals product
-        ≡ total_of rows.now product) }
-{
-    let mut totals = Amounts::zeros(alloc, products)?;
-    for row in rows {
-        add_row(&mut totals, row);
-    }
-    Ok(totals)
-}
-
 impl Grid {
     /// The grid of these rows, which are taken over: one for each bidder of a set-up, and in each a demand for each
     /// product, none above its cap.
@@ -66,7 +51,10 @@ impl Grid {
         requires rows { All (IsRow setup.now.products) rows.items }
         ensures { IfOk result (λ grid. grid ≡ rows.items) }
     {
-        let totals = totals_of(alloc, setup.products.len(), rows.as_slice())?;
+        let mut totals = Amounts::zeros(alloc, setup.products.len())?;
+        for row in rows.as_slice() {
+            add_row(&mut totals, row);
+        }
         Ok(Grid { rows, totals })
     }
 
@@ -86,29 +74,19 @@ impl Grid {
     pub fn copy(&self, alloc: Global) -> Result<Grid, NoMemory>
         ensures { IfOk result (λ copy. copy ≡ self.now) }
     {
-        Grid::like(alloc, Vec::new(alloc), self)
+        self.copy_over(alloc, None)
     }
 
-    /// A grid that is equal to another, in the memory of this one as far as that reaches.
-    pub fn renewed(self, alloc: Global, other: &Grid) -> Result<Grid, NoMemory>
-        ensures { IfOk result (λ grid. grid ≡ other.now) }
+    /// An equal grid, in the memory of an old one as far as that reaches.
+    pub fn copy_over(&self, alloc: Global, old: Option<Grid>) -> Result<Grid, NoMemory>
+        ensures { IfOk result (λ copy. copy ≡ self.now) }
     {
-        Grid::like(alloc, self.rows, other)
-    }
-
-    /// A grid that is equal to another, in the memory of old rows as far as that reaches.
-    fn like(alloc: Global, old: Vec<Row>, other: &Grid) -> Result<Grid, NoMemory>
-        ensures { IfOk result (λ grid. grid ≡ other.now) }
-    {
-        let mut old = old.into_iter();
-        let mut rows = Vec::with_capacity(alloc, other.rows.len())?;
-        for row in other.rows.as_slice() {
-            rows.push(match old.next() {
-                Some(old) => old.renewed(row)?,
-                None => row.copy(alloc)?,
-            })?;
+        let mut old = old.map_or(Vec::new(alloc), |old| old.rows).into_iter();
+        let mut rows = Vec::with_capacity(alloc, self.rows.len())?;
+        for row in self.rows.as_slice() {
+            rows.push(row.copy_over(alloc, old.next())?)?;
         }
-        let totals = other.totals.copy(alloc)?;
+        let totals = self.totals.copy(alloc)?;
         Ok(Grid { rows, totals })
     }
 
@@ -146,19 +124,25 @@ impl Grid {
         requires small { demand ≤ most_supply }
         ensures { self.new ≡ with_demand self.old bidder product demand }
     {
-        self.change(bidder, product, NewDemand::Of(demand));
+        let before = self.get(bidder, product);
+        if before < demand {
+            self.change(bidder, product, Kind::Increase, demand - before);
+        } else {
+            self.change(bidder, product, Kind::Reduction, before - demand);
+        }
     }
 
-    /// Changes one demand, and no other, by what it was. Bidder and product are those of the grid, and the demand
-    /// becomes at most 1,000 blocks.
-    pub fn change(&mut self, bidder: usize, product: usize, new: NewDemand)
+    /// Raises or reduces one demand by so many blocks, and changes no other. Bidder and product are those of the grid,
+    /// and the demand becomes at most 1,000 blocks.
+    pub fn change(&mut self, bidder: usize, product: usize, kind: Kind, amount: u64)
         requires bidder { bidder < length self.old }
         requires product { All (λ row. product < length row) self.old }
-        requires small { demand_after new (demand_at self.old bidder product) ≤ most_supply }
-        ensures { self.new ≡ with_demand self.old bidder product (demand_after new (demand_at self.old bidder product)) }
+        requires small { changed_demand kind (demand_at self.old bidder product) amount ≤ most_supply }
+        ensures { self.new ≡ with_demand self.old bidder product (changed_demand kind (demand_at self.old bidder product) amount) }
     {
         let total = self.total(product);
-        let before = self.rows[bidder].change(product, new);
-        self.totals.set(product, total - before + new.after(before));
+        let before = self.rows[bidder].change(product, kind, amount);
+        self.totals
+            .set(product, total - before + kind.after(before, amount));
     }
 }

@@ -2,14 +2,11 @@ ghost use Rattle.std.specs.Prelude.{◌≡◌, ℕ, ◌≤◌, ◌<◌, slice_in
 ghost use Rattle.clock_terms.specs.{HeldDemands.{demand_for, demands_of}, Limits.{most_products, most_supply}};
 ghost use Rattle.clock_terms.specs.inside.Rows.{AreHeld, AreStarts, IsStart, IsStored, StandsAt, WouldStandAt};
 
-use clock_device::NoMemory;
-use std::alloc::Global;
-
 /// How many products a group has. A search for a product begins where those of its group begin.
 pub(crate) const GROUP_SIZE: usize = 16;
 
 /// What a bidder demands of a product of which it holds a block.
-#[derive(Clone, Copy)]
+#[derive(Clone, Copy, Default)]
 pub(crate) struct HeldDemand {
     pub(crate) product: u16,
     pub(crate) demand: u16,
@@ -29,20 +26,6 @@ fn first_from(held: &[HeldDemand], from: usize, product: usize) -> usize
     held.len()
 }
 
-/// Where the demand for a product stands, or else where it would stand, looked for from a place on.
-pub(crate) fn place_of(held: &[HeldDemand], from: usize, product: usize) -> Result<usize, usize>
-    requires { IsStart held.now product from }
-    ensures stands { IfOk result (λ place. StandsAt held.now product place) }
-    ensures lacks { IfErr result (λ place. WouldStandAt held.now product place) }
-{
-    let place = first_from(held, from, product);
-    if place < held.len() && held[place].product as usize == product {
-        Ok(place)
-    } else {
-        Err(place)
-    }
-}
-
 /// Whether a demand for a product stands at a place.
 #[inline(always)]
 pub(crate) fn is_at(held: &[HeldDemand], place: usize, product: usize) -> bool
@@ -53,8 +36,8 @@ pub(crate) fn is_at(held: &[HeldDemand], place: usize, product: usize) -> bool
         .is_some_and(|one| one.product as usize == product)
 }
 
-/// The same, looked for from the start of the product's group. Where all products of the group are held, it stands as
-/// far behind the start as the product behind the group's first one.
+/// Where the demand for a product stands, or else where it would stand, looked for from the start of its group, or of all.
+/// Where all products of the group are held, it stands as far behind the start as the product behind the group's first.
 pub(crate) fn place_in_group(
     held: &[HeldDemand],
     start: usize,
@@ -69,7 +52,12 @@ pub(crate) fn place_in_group(
     if is_at(held, likely, product) {
         return Ok(likely);
     }
-    place_of(held, start, product)
+    let place = first_from(held, start, product);
+    if place < held.len() && held[place].product as usize == product {
+        Ok(place)
+    } else {
+        Err(place)
+    }
 }
 
 /// The demand for a product whose place was looked for.
@@ -149,7 +137,7 @@ pub(crate) fn store(
 
 /// Writes the demands of which a block is held, of those for the products from the first on, and tells how many. Each is
 /// written at the next place in any case, since a jump past those that are not held is mostly guessed wrong.
-fn write_held(room: &mut [HeldDemand], demands: &[u64]) -> usize
+pub(crate) fn write_held(room: &mut [HeldDemand], demands: &[u64]) -> usize
     requires room { length room.old ≡ length demands.now }
     requires few { length demands.now ≤ most_products }
     requires small { All (λ demand. demand ≤ most_supply) demands.now }
@@ -169,25 +157,6 @@ fn write_held(room: &mut [HeldDemand], demands: &[u64]) -> usize
         }
     }
     kept
-}
-
-/// The demands of which a block is held, with room for one for each product.
-pub(crate) fn held_of(alloc: Global, demands: &[u64]) -> Result<Vec<HeldDemand>, NoMemory>
-    requires few { length demands.now ≤ most_products }
-    requires small { All (λ demand. demand ≤ most_supply) demands.now }
-    ensures order { IfOk result (λ held. AreHeld 0 held.items (length demands.now)) }
-    ensures demands { IfOk result (λ held. demands_of (length demands.now) held.items ≡ demands.now) }
-    ensures room { IfOk result (λ held. length demands.now ≤ vec_capacity held) }
-{
-    let none = HeldDemand {
-        product: 0,
-        demand: 0,
-    };
-    let mut room = vec![in alloc; none; demands.len()]?;
-    let kept = write_held(&mut room, demands);
-    let mut held = Vec::with_capacity(alloc, demands.len())?;
-    held.extend_from_slice(&room[..kept])?;
-    Ok(held)
 }
 
 /// Finds for each group where to look for its products.

@@ -1,5 +1,5 @@
 ghost use Rattle.std.specs.Prelude.{◌≡◌};
-ghost use Rattle.clock_terms.specs.Increments.{HasIncrement, are_increments, increment_at, is_increment};
+ghost use Rattle.clock_terms.specs.Increments.{HasIncrement, are_increments, increment_at};
 
 use crate::grid::Amounts;
 use crate::limits::is_within;
@@ -12,13 +12,6 @@ pub enum Increments {
     Single(u64),
     /// One for each product, in the order of the products' numbers.
     PerProduct(Amounts),
-}
-
-/// Whether a number of percent is 1 to 50.
-fn is_percentage(increment: u64) -> bool
-    ensures { result ≡ is_increment increment }
-{
-    is_within(LEAST_INCREMENT, MOST_INCREMENT, increment)
 }
 
 impl Increments {
@@ -40,9 +33,12 @@ impl Increments {
         ensures { result ≡ are_increments products self.now }
     {
         match self {
-            Increments::Single(increment) => is_percentage(*increment),
+            Increments::Single(increment) => is_within(LEAST_INCREMENT, MOST_INCREMENT, *increment),
             Increments::PerProduct(increments) => {
-                increments.len() == products && increments.iter().all(|i| is_percentage(*i))
+                increments.len() == products
+                    && increments
+                        .iter()
+                        .all(|i| is_within(LEAST_INCREMENT, MOST_INCREMENT, *i))
             }
         }
     }

@@ -1,5 +1,5 @@
 ghost use Rattle.std.specs.Prelude.{◌≡◌, IfOk};
-ghost use Rattle.clock_terms.specs.{Prices.{opening_prices}, declared.setup.Setup.{Setup}};
+ghost use Rattle.clock_terms.specs.Prices.{opening_prices};
 
 use crate::setup::Setup;
 use clock_device::{Items, NoMemory};
@@ -19,17 +19,13 @@ pub struct PricePair {
 pub type Prices = Items<PricePair>;
 
 /// Gives [`Prices`] the call `Prices::opening`.
-pub trait OpeningPrices: Sized {
-    ghost is_opening: { Setup → Self → Type 0 };
-
+pub trait OpeningPrices {
     /// The prices of the first round: of each product, start and clock price are its opening price.
-    fn opening(alloc: Global, setup: &Setup) -> Result<Self, NoMemory>
-        ensures { IfOk result (is_opening setup.now) };
+    fn opening(alloc: Global, setup: &Setup) -> Result<Prices, NoMemory>
+        ensures { IfOk result (λ prices. prices ≡ opening_prices setup.now.products) };
 }
 
 impl OpeningPrices for Prices {
-    ghost is_opening = { λ setup prices. prices ≡ opening_prices setup.products };
-
     fn opening(alloc: Global, setup: &Setup) -> Result<Prices, NoMemory> {
         let products = setup.products.as_slice();
         let mut prices = Prices::with_capacity(alloc, products.len())?;

@@ -1,41 +1,17 @@
 ghost use Rattle.std.specs.Prelude.{◌≡◌, ◌≤◌, ◌<◌, ◌+◌, ℕ, List, length, replicate, IfOk, slice_index, slice_set, vec_capacity, drop, unwrap_or, option_map, IfSome};
 ghost use Rattle.std.specs.List.{AllWithin};
-ghost use Rattle.clock_terms.specs.{Demands.{demand_after}, HeldDemands.{demands_of, next_of}};
+ghost use Rattle.clock_terms.specs.{Demands.{changed_demand}, HeldDemands.{demands_of, next_of}};
 ghost use Rattle.clock_terms.specs.{inside.Rows.{IsKeptRow, AreHeld, IsKeptWalk}, Limits.{IsRow, most_products, most_supply}};
 ghost use Rattle.clock_terms.specs.Walks.{Walk};
 
+use crate::change::Kind;
 use crate::held_list::{
-    GROUP_SIZE, HeldDemand, demand_at, find_starts, held_of, is_at, place_in_group, place_of, store,
+    GROUP_SIZE, HeldDemand, demand_at, find_starts, is_at, place_in_group, store, write_held,
 };
 use crate::setup::Setup;
 use clock_device::NoMemory;
 use std::alloc::Global;
 use std::marker::Model;
-
-/// What a demand is to become, in blocks.
-#[derive(Clone, Copy)]
-pub enum NewDemand {
-    /// So many blocks.
-    Of(u64),
-    /// So many blocks more.
-    Raised(u64),
-    /// So many blocks less.
-    Lowered(u64),
-}
-
-impl NewDemand {
-    /// What it becomes, by what it was. It is at most 1,000 blocks.
-    pub(crate) fn after(self, before: u64) -> u64
-        requires { demand_after self before ≤ most_supply }
-        ensures { result ≡ demand_after self before }
-    {
-        match self {
-            NewDemand::Of(demand) => demand,
-            NewDemand::Raised(amount) => before + amount,
-            NewDemand::Lowered(amount) => before.saturating_sub(amount),
-        }
-    }
-}
 
 /// A bidder's demands, one for each product, in blocks. None is above 1,000. Contracts see the list of the demands, and
 /// nothing of how it is kept.
@@ -77,7 +53,11 @@ impl Row {
         ensures { IfOk result (λ row. row ≡ demands.now) }
     {
         let count = setup.products.len();
-        let held = held_of(alloc, demands)?;
+        let mut room = vec![in alloc; HeldDemand::default(); count]?;
+        let kept = write_held(&mut room, demands);
+        // new memory: what no demand is written to is never touched
+        let mut held = Vec::with_capacity(alloc, count)?;
+        held.extend_from_slice(&room[..kept])?;
         let mut starts = vec![in alloc; 0; count / GROUP_SIZE + 1]?;
         find_starts(&mut starts, held.as_slice());
         Ok(Row {
@@ -87,31 +67,21 @@ impl Row {
         })
     }
 
-    /// A row that is equal to another, in the memory of this one as far as that reaches.
-    pub fn renewed(self, other: &Row) -> Result<Row, NoMemory>
-        ensures { IfOk result (λ row. row ≡ other.now) }
-    {
-        Row::like(self.held, self.starts, other)
-    }
-
-    /// An equal row.
-    pub fn copy(&self, alloc: Global) -> Result<Row, NoMemory>
+    /// An equal row, in the memory of an old one as far as that reaches.
+    pub(crate) fn copy_over(&self, alloc: Global, old: Option<Row>) -> Result<Row, NoMemory>
         ensures { IfOk result (λ copy. copy ≡ self.now) }
     {
-        Row::like(Vec::new(alloc), Vec::new(alloc), self)
-    }
-
-    /// A row that is equal to another, in the memory of these lists as far as that reaches.
-    fn like(mut held: Vec<HeldDemand>, mut starts: Vec<u16>, other: &Row) -> Result<Row, NoMemory>
-        ensures { IfOk result (λ row. row ≡ other.now) }
-    {
+        let (mut held, mut starts) = match old {
+            Some(old) => (old.held, old.starts),
+            None => (Vec::new(alloc), Vec::new(alloc)),
+        };
         held.clear();
-        held.reserve(other.count)?;
-        held.extend_from_slice(other.held.as_slice())?;
+        held.reserve(self.count)?;
+        held.extend_from_slice(self.held.as_slice())?;
         starts.clear();
-        starts.extend_from_slice(other.starts.as_slice())?;
+        starts.extend_from_slice(self.starts.as_slice())?;
         Ok(Row {
-            count: other.count,
+            count: self.count,
             held,
             starts,
         })
@@ -168,20 +138,20 @@ impl Row {
         demand_at(held, place, product)
     }
 
-    /// Changes the demand for a product, and no other, and tells what it was. The product is one of the row's, and the
-    /// demand becomes at most 1,000 blocks.
-    pub(crate) fn change(&mut self, product: usize, new: NewDemand) -> u64
+    /// Raises or reduces the demand for a product by so many blocks, changes no other, and tells what it was. The product
+    /// is one of the row's, and the demand becomes at most 1,000 blocks.
+    pub(crate) fn change(&mut self, product: usize, kind: Kind, amount: u64) -> u64
         requires product { product < length self.old }
-        requires small { demand_after new (slice_index self.old product) ≤ most_supply }
+        requires small { changed_demand kind (slice_index self.old product) amount ≤ most_supply }
         ensures before { result ≡ slice_index self.old product }
-        ensures changed { self.new ≡ slice_set self.old product (demand_after new (slice_index self.old product)) }
+        ensures changed { self.new ≡ slice_set self.old product (changed_demand kind (slice_index self.old product) amount) }
     {
         let start = self.starts[product / GROUP_SIZE] as usize;
         let place = place_in_group(self.held.as_slice(), start, product);
         let before = demand_at(self.held.as_slice(), place, product);
         let one = HeldDemand {
             product: product as u16,
-            demand: new.after(before) as u16,
+            demand: kind.after(before, amount) as u16,
         };
         store(&mut self.held, &mut self.starts, place, one);
         before
@@ -239,7 +209,7 @@ impl KeptRow {
         ensures { result ≡ slice_index self.now product }
     {
         let held = self.held.as_slice();
-        demand_at(held, place_of(held, 0, product), product)
+        demand_at(held, place_in_group(held, 0, product), product)
     }
 
     /// The products of which a block is held.

@@ -1,5 +1,4 @@
 ghost use Rattle.std.specs.Prelude.{◌≡◌, IfOk};
-ghost use Rattle.clock_terms.specs.Limits.{IsSetup, SetupFields};
 
 use clock_device::{Items, NoMemory, Text};
 use clock_money::Price;
@@ -7,7 +6,7 @@ use std::alloc::Global;
 use std::marker::Model;
 
 /// A product: generic blocks of one kind, which bidders want in numbers and not one by one.
-#[derive(Drop)]
+#[derive(Clone, Drop)]
 pub struct Product {
     /// 1 to 32 ASCII letters, digits, dashes and underscores; no other product has this name.
     pub name: Text,
@@ -24,7 +23,7 @@ pub struct Product {
 }
 
 /// A bidder, and its eligibility before the first round.
-#[derive(Drop)]
+#[derive(Clone, Drop)]
 pub struct Bidder {
     /// 1 to 32 ASCII letters, digits, dashes and underscores; no other bidder has this name.
     pub name: Text,
@@ -44,7 +43,7 @@ pub type Bidders = Items<Bidder>;
 /// given is within them: 1 to 4,096 products and 1 to 512 bidders with distinct names and tokens. The limits are
 /// this auction's own; the parts are those of an ascending clock auction of generic blocks as the FCC's
 /// procedures for Auction 105 have it.
-#[derive(Drop)]
+#[derive(Clone, Drop)]
 pub struct Setup {
     /// The version of the document that the set-up was read from, 1 or 2.
     pub version: u64,
@@ -62,90 +61,22 @@ pub struct Setup {
 }
 
 impl Model for Setup {
+    ghost use Rattle.clock_terms.specs.Limits.{IsSetup, SetupFields};
+
     ghost Value = { SetupFields };
 
-    ghost view = { λ s. record {
-      version = s.version;
-      limit = s.limit;
-      requirement = s.requirement;
-      operator = s.operator;
-      products = s.products;
-      bidders = s.bidders;
-    } };
+    ghost use Rattle.clock_terms.specs.inside.Setups.{fields_of};
 
-    ghost invariant = { λ s. IsSetup (record {
-      version = s.version;
-      limit = s.limit;
-      requirement = s.requirement;
-      operator = s.operator;
-      products = s.products;
-      bidders = s.bidders;
-    }) };
-}
+    ghost view = { fields_of };
 
-impl Product {
-    /// An equal product with a name of its own.
-    pub fn copy(&self, alloc: Global) -> Result<Product, NoMemory>
-        ensures { IfOk result (λ copy. copy ≡ self.now) }
-    {
-        Ok(Product {
-            name: self.name.copy(alloc)?,
-            units: self.units,
-            supply: self.supply,
-            cap: self.cap,
-            opening: self.opening,
-            granule: self.granule,
-        })
-    }
-}
-
-impl Bidder {
-    /// An equal bidder with texts of its own.
-    pub fn copy(&self, alloc: Global) -> Result<Bidder, NoMemory>
-        ensures { IfOk result (λ copy. copy ≡ self.now) }
-    {
-        Ok(Bidder {
-            name: self.name.copy(alloc)?,
-            token: self.token.copy(alloc)?,
-            eligibility: self.eligibility,
-        })
-    }
-}
-
-/// Equal products, in the same order.
-pub fn products_copy(alloc: Global, products: &[Product]) -> Result<Products, NoMemory>
-    ensures { IfOk result (λ copy. copy ≡ products.now) }
-{
-    let mut copy = Products::with_capacity(alloc, products.len())?;
-    for product in products {
-        copy.push(product.copy(alloc)?);
-    }
-    Ok(copy.into_items())
-}
-
-/// Equal bidders.
-fn bidders_copy(alloc: Global, bidders: &[Bidder]) -> Result<Bidders, NoMemory>
-    ensures { IfOk result (λ copy. copy ≡ bidders.now) }
-{
-    let mut copy = Bidders::with_capacity(alloc, bidders.len())?;
-    for bidder in bidders {
-        copy.push(bidder.copy(alloc)?);
-    }
-    Ok(copy.into_items())
+    ghost invariant = { λ s. IsSetup (fields_of s) };
 }
 
 impl Setup {
-    /// An equal set-up with lists of its own.
-    pub fn copy(&self, alloc: Global) -> Result<Setup, NoMemory>
+    /// An equal set-up with lists of its own, whose memory comes from where that of this one does.
+    pub fn copy(&self, _alloc: Global) -> Result<Setup, NoMemory>
         ensures { IfOk result (λ copy. copy ≡ self.now) }
     {
-        Ok(Setup {
-            version: self.version,
-            limit: self.limit,
-            requirement: self.requirement,
-            operator: self.operator.copy(alloc)?,
-            products: products_copy(alloc, self.products.as_slice())?,
-            bidders: bidders_copy(alloc, self.bidders.as_slice())?,
-        })
+        Ok(self.clone()?)
     }
 }

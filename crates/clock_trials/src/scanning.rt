@@ -1,5 +1,5 @@
 use crate::comparing::assert_is_at;
-use clock_json::{FlatRows, Scan, ScanStop, is_blank};
+use clock_json::{Scan, ScanStop, ShortRows, is_blank, read_row};
 use std::alloc::Global;
 
 /// A sum, and more numbers.
@@ -12,11 +12,11 @@ fn with_numbers(sum: u64, numbers: &[u64]) -> u64 {
 }
 
 /// The sum of the numbers of all rows.
-fn sum_of(alloc: Global, rows: &FlatRows) -> Option<u64> {
+fn sum_of(alloc: Global, rows: &ShortRows) -> Option<u64> {
     let mut row = Vec::new(alloc);
     let mut sum = 0u64;
-    for place in 0..rows.count() {
-        rows.read_row(place, &mut row).ok()?;
+    for numbers in rows.as_slice() {
+        read_row(numbers.as_slice(), &mut row).ok()?;
         sum = with_numbers(sum, row.as_slice());
     }
     Some(sum)
@@ -24,10 +24,10 @@ fn sum_of(alloc: Global, rows: &FlatRows) -> Option<u64> {
 
 /// The number of the rows, the sum of their numbers, and whether the rows have three numbers each; or 9 and what
 /// stopped the reading.
-fn flat_rows_of(alloc: Global, text: &[u8]) -> (usize, u64, bool) {
-    match Scan::new(text).flat_rows(alloc) {
+fn short_rows_of(alloc: Global, text: &[u8]) -> (usize, u64, bool) {
+    match Scan::new(text).short_rows(alloc) {
         Ok(rows) => match sum_of(alloc, &rows) {
-            Some(sum) => (rows.count(), sum, rows.has_lengths(3)),
+            Some(sum) => (rows.len(), sum, rows.iter().all(|row| row.len() == 3)),
             None => (9, 1, false),
         },
         Err(ScanStop::Unusual) => (9, 0, false),
@@ -37,10 +37,10 @@ fn flat_rows_of(alloc: Global, text: &[u8]) -> (usize, u64, bool) {
 
 /// How long the key and the text of an object with one member are, where it comes next.
 fn next_member(scan: &mut Scan<'_>) -> Option<(usize, usize)> {
-    scan.opens_object().ok()?;
+    scan.opens(b'{').ok()?;
     let key = scan.key().ok()?.len();
     let value = scan.text().ok()?.len();
-    if scan.closes_object() {
+    if scan.closes(b'}') {
         Some((key, value))
     } else {
         None
@@ -75,7 +75,7 @@ const ROWS: &[(&[u8], (usize, u64, bool))] = &[
 #[test]
 fn rows_in_one_list(rt: HostRuntime) {
     for &(text, shown) in ROWS {
-        assert_is_at(&rt, text, flat_rows_of(rt.alloc(), text), shown);
+        assert_is_at(&rt, text, short_rows_of(rt.alloc(), text), shown);
     }
 }
 
@@ -100,7 +100,7 @@ fn members_with_texts(rt: HostRuntime) {
 /// Whether a text is a list of one `null`.
 fn is_one_null(text: &[u8]) -> bool {
     let mut scan = Scan::new(text);
-    scan.opens_array().is_ok() && scan.null() && scan.closes_array() && scan.ends()
+    scan.opens(b'[').is_ok() && scan.null() && scan.closes(b']') && scan.ends()
 }
 
 /// Texts, whether each is blank, and whether it is a list of one `null`.

@@ -148,7 +148,7 @@ fn answer_in_two(
     if progress.needs_more() {
         return None;
     }
-    let reply = front.answer_known(text, progress);
+    let reply = front.answer_framed(progress.framing(text));
     String::from_utf8_lossy(alloc, reply.bytes()).ok()
 }
 

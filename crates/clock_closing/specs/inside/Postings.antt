@@ -3,19 +3,16 @@
 --     posted setup now increments result      the round that a result adds, or the product that has no next clock price
 --     first_posted round increments, posted_now round increments ties      what the first round comes to, and the
 --         current one
---     IsAsked round increments ties asked      these are asked for, and have no fault
 --     AreResults closing results      they are the round of a closing
 --     ComesTo closing result      these are the results of the closing, or its refusal
 --     Posts round increments result posting      the posting of a result, or why there is none
 --     IsRoundOf round demands posting result      whatever was posted of these demands, the results are that round
-use Rattle.std.specs.Prelude.{◌≡◌, ℕ, List, length, flat_map, IsPermutation, Result, Ok, MatchResult}
+use Rattle.std.specs.Prelude.{◌≡◌, ℕ, List, flat_map, IsPermutation, Result, Ok, MatchResult}
 use Rattle.clock_terms.specs.declared.increments.Increments.{Increments}
 use Rattle.clock_terms.specs.Limits.{PublicSetup, public_setup}
-use Rattle.clock_terms.specs.Increments.{AreIncrements}
 use Rattle.clock_terms.specs.Faults.{first_fault, unless, IsFirstFault, IsRefusal}
 use Rattle.clock_terms.specs.declared.change.Change.{Change}
 use Rattle.clock_order.specs.declared.ties.Tie.{Tie}
-use Rattle.clock_closing.specs.declared.closed_round.ClosingInputs.{ClosingInputs}
 use Rattle.clock_closing.specs.declared.fault.CloseFault.{CloseFault}
 use Rattle.clock_closing.specs.declared.closed_round.Results.{Results}
 use Rattle.clock_closing.specs.OpenRound.{OpenRound, OpenRoundFields, bidder_numbers}
@@ -25,8 +22,8 @@ use Rattle.clock_posting.specs.declared.posting.PostFault.TheVariants as post_fa
 use Rattle.clock_posting.specs.Posting.{IsPosting, IsConsistent, post_fault, price_limit_fault}
 use Rattle.clock_closing.specs.declared.fault.CloseFault.TheVariants as close_faults
 use Rattle.clock_closing.specs.Faults.{fault_check}
-use Rattle.clock_closing.specs.Closing.{ClosedRound, RoundResult, requests_by, first_result, round_result, closed_round, closing_now}
-use Rattle.clock_closing.specs.Results.{AreConsistent}
+use Rattle.clock_closing.specs.Closing.{ClosedRound, RoundResult, requests_by, first_result, round_result, closed_round}
+use Rattle.clock_closing.specs.inside.Results.{AreConsistent}
 
 -- all bidders' requests, in any order
 abbrev pub AreRequests : OpenRound → List Change → Type 0
@@ -46,12 +43,6 @@ first_posted round increments =
 abbrev pub posted_now : OpenRoundFields → Increments → List Tie → Result ClosedRound CloseFault
 posted_now round increments ties =
     posted (public_setup round.setup) round.before increments (round_result round.setup.products round.before ties)
-
--- what the closing of a round is asked for has no fault, so that it comes to what is posted
-pub record IsAsked (round : OpenRoundFields) (increments : Increments) (ties : List Tie) (asked : ClosingInputs) : Type 0 where
-  pub same : asked ≡ record { increments = increments; ties = ties }
-  pub within : AreIncrements (length round.setup.products) increments
-  pub good : closing_now round increments ties ≡ posted_now round increments ties
 
 -- the closing is accepted, and this is its round with what follows from it
 pub record AreResults (closing : Result ClosedRound CloseFault) (results : Results) : Type 0 where

@@ -1,7 +1,7 @@
 -- That an asking bidder is one of the set-up's.
 use Rattle.std.specs.Prelude.{ℕ, ◌<◌}
-use Rattle.clock_front.specs.declared.front.asked.Asker.{Asker}
-use Rattle.clock_front.specs.declared.front.asked.Asker.TheVariants.{Nobody, Operator, Bidder}
+use Rattle.clock_front.specs.declared.front.askers.Asker.{Asker}
+use Rattle.clock_front.specs.declared.front.askers.Asker.TheVariants.{Nobody, Operator, Bidder}
 
 -- a bidder that asks is one of so many
 abbrev pub IsKnown : ℕ → Asker → Type 0

@@ -8,8 +8,8 @@ use Rattle.std.specs.Prelude.{◌≡◌, ℕ, List, ◌∷◌, map, Option, Some
 use Rattle.std.specs.declared.alloc.Global.{Global}
 use Rattle.clock_terms.specs.Limits.{SetupFields}
 use Rattle.clock_front.specs.Askers.{bidder_tokens, holder}
-use Rattle.clock_front.specs.declared.front.asked.Asker.{Asker}
-use Rattle.clock_front.specs.declared.front.asked.Asker.TheVariants.{Nobody, Operator}
+use Rattle.clock_front.specs.declared.front.askers.Asker.{Asker}
+use Rattle.clock_front.specs.declared.front.askers.Asker.TheVariants.{Nobody, Operator}
 
 -- the bytes of an entry's key, and whose they are
 abbrev pub listed : List (Vec ℕ Global × Asker) → List (List ℕ × Asker)

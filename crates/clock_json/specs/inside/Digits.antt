@@ -1,5 +1,4 @@
 -- Digits that are counted sixteen at a time.
---     zero_digit      the digit 0, as a byte
 --     AreDigits bytes at count      so many bytes from a place on are digits
 --     IsNumberUpTo bytes start stop read      a number stands there in its digits, and where they end
 --     weight place      what a digit counts that stands there, of eight of which the last counts one
@@ -9,10 +8,6 @@ use Rattle.json.specs.Token.{number}
 use Rattle.json.specs.Lex.{lex, between, token}
 use Rattle.json.specs.Word.{ends_word}
 use Rattle.std.specs.Str.Parse.{AllDigits, digits_value}
-
--- the digit 0
-abbrev pub zero_digit : ℕ
-zero_digit = 48
 
 -- so many bytes from a place on are digits
 abbrev pub AreDigits : List ℕ → ℕ → ℕ → Type 0

@@ -2,15 +2,17 @@
 --     first_at_limit products increments posted      the first product that can have no next clock price
 --     lines_of_round products prices grid posted increments      a line for each product
 --     IsPriceRange pair      the start price is not above the clock price
+--     least_price products prices grid product      the least price that may be posted for a product
 --     applied_prices changes left product      the prices of the product's reductions of which a part was applied
-use Rattle.std.specs.Prelude.{ℕ, ◌≤◌, List, Option, is_none, length, map, filter, zip}
+use Rattle.std.specs.Prelude.{ℕ, ◌≤◌, List, Option, is_none, if◌then◌else◌, length, map, filter, zip}
 use Rattle.std.specs.List.{range_with_len, position_from}
 use Rattle.clock_terms.specs.declared.increments.Increments.{Increments}
 use Rattle.clock_terms.specs.declared.setup.Product.{Product}
 use Rattle.clock_terms.specs.declared.prices.PricePair.{PricePair}
+use Rattle.clock_terms.specs.Prices.{prices_at}
 use Rattle.clock_terms.specs.declared.change.Change.{Change}
 use Rattle.clock_posting.specs.declared.sheet.Line.{Line}
-use Rattle.clock_posting.specs.Posting.{next_clock, sheet_line}
+use Rattle.clock_posting.specs.Posting.{has_excess, next_clock, sheet_line}
 use Rattle.clock_posting.specs.PostedPrice.{is_applied_reduction}
 
 -- the first product that can have no next clock price
@@ -22,6 +24,11 @@ first_at_limit products increments posted =
 abbrev pub lines_of_round : List Product → List PricePair → List (List ℕ) → List ℕ → Increments → List Line
 lines_of_round products prices grid posted increments =
     map (sheet_line products prices grid posted increments) (range_with_len 0 (length products))
+
+-- the clock price of a product where its total exceeds its supply, otherwise its start price
+abbrev pub least_price : List Product → List PricePair → List (List ℕ) → ℕ → ℕ
+least_price products prices grid product =
+    if has_excess products grid product then (prices_at prices product).clock else (prices_at prices product).start
 
 -- the prices of the reductions of a product of which a part was applied
 abbrev pub applied_prices : List Change → List ℕ → ℕ → List ℕ

@@ -11,7 +11,7 @@ use Rattle.clock_terms.specs.declared.prices.PricePair.{PricePair}
 use Rattle.clock_terms.specs.Limits.{IsProduct}
 use Rattle.clock_terms.specs.Increments.{AreIncrements}
 use Rattle.clock_posting.specs.declared.posting.Posting.{Posting}
-use Rattle.clock_posting.specs.declared.round_end.RoundEnd.{RoundEnd}
+use Rattle.clock_posting.specs.declared.posting.RoundEnd.{RoundEnd}
 use Rattle.clock_posting.specs.declared.sheet.Line.{Line}
 use Rattle.clock_posting.specs.Posting.{next_clock, sheet_line, price_limit_fault, prices_after, IsBetween, IsPosting}
 use Rattle.clock_posting.specs.inside.Parts.{lines_of_round}

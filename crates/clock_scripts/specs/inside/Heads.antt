@@ -1,12 +1,13 @@
--- The head of a request that was written.
---     HasHead line token pieces written      it is that of a line, with a token
-use Rattle.std.specs.Prelude.{◌≡◌, ◌-◌, ℕ, List}
-use Rattle.clock_scripts.specs.declared.pieces.Written.{Written}
-use Rattle.clock_scripts.specs.declared.pieces.Pieces.{Pieces}
-use Rattle.clock_scripts.specs.Pieces.{piece_at}
+-- The head of a request, which is written behind its body.
+--     IsHeaded line token body old text written      the body is all that stands from a place on, and the head was added
+use Rattle.std.specs.Prelude.{◌≡◌, ◌-◌, ℕ, List, length}
+use Rattle.clock_views.specs.Values.{Adds}
+use Rattle.clock_scripts.specs.declared.requests.Written.{Written}
 use Rattle.clock_scripts.specs.RequestTexts.{request_head}
 
--- it is that of a line, with a token, before a body of so many bytes as its own
-abbrev pub HasHead : List ℕ → List ℕ → Pieces → Written → Type 0
-HasHead line token pieces written =
-    piece_at pieces.heads.items written.head ≡ request_head line token (written.body.end - written.body.start)
+-- that of a line, with a token and the length of the body
+pub record IsHeaded (line token : List ℕ) (body : ℕ) (old text : List ℕ) (written : Written) : Type 0 where
+  pub from : written.body ≡ body
+  pub behind : written.head ≡ length old
+  pub until : written.end ≡ length text
+  pub added : Adds (request_head line token (length old - body)) old text

@@ -1,16 +1,24 @@
--- The sheet of a sincere bidder, by what it follows from.
---     sheet_of sheet      the bids
---     IsSincere sheet      there is a price pair, a demand and a list of limits for each product, and no list rises
-use Rattle.std.specs.Prelude.{◌≡◌, List, All, length}
+-- The sheet of a sincere bidder in the first round, and in each other.
+--     first_sheet prices limits      the bids of the first round, in which nothing is held
+--     later_sheet prices demands limits      those of a later one
+use Rattle.std.specs.Prelude.{ℕ, List, flat_map, length, slice_index}
+use Rattle.std.specs.List.{range_with_len}
+use Rattle.clock_terms.specs.declared.prices.PricePair.{PricePair}
+use Rattle.clock_terms.specs.Prices.{prices_at}
+use Rattle.clock_terms.specs.Demands.{row_of}
 use Rattle.clock_bids.specs.declared.sheet.Bid.{Bid}
-use Rattle.clock_replays.specs.Replays.{NeverRises}
-use Rattle.clock_scripts.specs.declared.sincere.Sincere.{Sincere}
-use Rattle.clock_scripts.specs.Sincere.{sincere_sheet}
+use Rattle.clock_scripts.specs.Sincere.{opening_bids, later_bids}
 
-abbrev pub sheet_of : Sincere → List Bid
-sheet_of sheet = sincere_sheet sheet.own.round sheet.prices.now sheet.own.demands.now sheet.limits.now
+-- the bids for a product in the first round
+abbrev pub first_bids : List PricePair → List (List ℕ) → ℕ → List Bid
+first_bids prices limits product = opening_bids product (prices_at prices product) (row_of limits product)
 
-pub record IsSincere (sheet : Sincere) : Type 0 where
-  pub held : length sheet.own.demands.now ≡ length sheet.prices.now
-  pub each : length sheet.limits.now ≡ length sheet.prices.now
-  pub falling : All NeverRises sheet.limits.now
+-- and in a later one
+abbrev pub bids_held : List PricePair → List ℕ → List (List ℕ) → ℕ → List Bid
+bids_held prices demands limits product = later_bids product (prices_at prices product) (slice_index demands product) (row_of limits product)
+
+abbrev pub first_sheet : List PricePair → List (List ℕ) → List Bid
+first_sheet prices limits = flat_map (first_bids prices limits) (range_with_len 0 (length prices))
+
+abbrev pub later_sheet : List PricePair → List ℕ → List (List ℕ) → List Bid
+later_sheet prices demands limits = flat_map (bids_held prices demands limits) (range_with_len 0 (length prices))

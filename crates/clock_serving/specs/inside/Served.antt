@@ -3,10 +3,11 @@
 --     IsAnswered reading answer ..      the reply to what was read, or that of want of memory for it
 --     IsServed one ..      one connection was served
 --     IsUnkept one ..      its text could not be kept
---     EndsOne coming_old coming_new .. result      how serving one ends
+--     EndsTaken reading writing .. result      how serving one that was taken ends
+--     EndsOne coming_old coming_new .. result      how taking and serving one ends
 --     round_if before after      the last closed round, where it was not closed before
-use Rattle.std.specs.Prelude.{◌≡◌, ◌⊎◌, ℕ, true, List, [], ◌∷◌, Option, Result, Ok, Err, nat_lt, if◌then◌else◌}
-use Rattle.clock_device.specs.Told.{Reading}
+use Rattle.std.specs.Prelude.{◌≡◌, ◌⊎◌, ℕ, true, List, [], ◌∷◌, Option, Result, Ok, Err, length, nat_lt, if◌then◌else◌}
+use Rattle.clock_device.specs.Told.{Reading, Writing}
 use Rattle.clock_device.specs.Writings.{WritesNothing}
 use Rattle.clock_house.specs.House.{HouseFields}
 use Rattle.clock_http.specs.Replies.{Answer}
@@ -15,7 +16,7 @@ use Rattle.clock_front.specs.FixedReplies.{no_memory}
 use Rattle.clock_front.specs.Fronts.{AnswersText}
 use Rattle.clock_front.specs.Streamed.{IsLeftUnread}
 use Rattle.clock_journal.specs.Kept.{JournalState}
-use Rattle.clock_keeping.specs.Keeping.{IsInStep, IsKept, LeavesOneMore}
+use Rattle.clock_keeping.specs.Keeping.{GrowsBy, IsInStep, IsKept, LeavesOneMore}
 use Rattle.clock_serving.specs.Serving.{WritesReply}
 use Rattle.clock_serving.specs.Exchanges.{Came, Exchange, HasClosed, bytes_given}
 use Rattle.clock_serving.specs.declared.serving.ServeFault.{ServeFault}
@@ -58,19 +59,26 @@ pub record FailsToKeep (reading : Reading) (journal_old journal_new : JournalSta
 abbrev pub IsUnkept : Exchange → JournalState → JournalState → Type 0
 IsUnkept one journal_old journal_new = FailsToKeep one.reading journal_old journal_new × WritesNothing one.writing
 
--- how serving one connection ends: it was served; or it could not be taken, and nothing has changed; or its text could
--- not be kept
-abbrev pub EndsOne : {U : Type 0} → Option (List (List ℕ)) → Option (List (List ℕ)) → Option (List Exchange) → Option (List Exchange)
-    → JournalState → JournalState → HouseFields → HouseFields → Result U ServeFault → Type 0
-EndsOne coming_old coming_new closed_old closed_new journal_old journal_new old new (Ok done) =
-    (one : Exchange) × HasClosed closed_old closed_new (one ∷ []) × Came coming_old coming_new (bytes_given (one ∷ []))
-    × IsServed one journal_old journal_new old new
-EndsOne coming_old coming_new closed_old closed_new journal_old journal_new old new (Err fault.Accept) =
-    (closed_new ≡ closed_old) × (coming_new ≡ coming_old) × (journal_new ≡ journal_old) × (new ≡ old)
-EndsOne coming_old coming_new closed_old closed_new journal_old journal_new old new (Err fault.Journal) =
-    (one : Exchange) × HasClosed closed_old closed_new (one ∷ []) × Came coming_old coming_new (bytes_given (one ∷ []))
-    × IsUnkept one journal_old journal_new
+-- a connection that was taken was served, or its text could not be kept
+abbrev pub EndsTaken : {U E : Type 0} → Reading → Writing → JournalState → JournalState → HouseFields → HouseFields → Result U E → Type 0
+EndsTaken reading writing journal_old journal_new old new (Ok done) =
+    IsServed (record { reading = reading; writing = writing }) journal_old journal_new old new
+EndsTaken reading writing journal_old journal_new old new (Err failed) =
+    IsUnkept (record { reading = reading; writing = writing }) journal_old journal_new
 
 -- the last of so many closed rounds, where there were fewer before
 abbrev pub round_if : ℕ → ℕ → List ℕ
 round_if before after = if nat_lt before after then after ∷ [] else []
+
+-- how serving one connection ends: it was served, and told whether it closed a round; or it could not be taken, and
+-- nothing has changed; or its text could not be kept
+abbrev pub EndsOne : {U : Type 0} → Option (List (List ℕ)) → Option (List (List ℕ)) → Option (List Exchange) → Option (List Exchange)
+    → Option (List ℕ) → Option (List ℕ) → JournalState → JournalState → HouseFields → HouseFields → Result U ServeFault → Type 0
+EndsOne coming_old coming_new closed_old closed_new told_old told_new journal_old journal_new old new (Ok done) =
+    (one : Exchange) × HasClosed closed_old closed_new (one ∷ []) × Came coming_old coming_new (bytes_given (one ∷ []))
+    × IsServed one journal_old journal_new old new × GrowsBy told_old told_new (round_if (length old.closed) (length new.closed))
+EndsOne coming_old coming_new closed_old closed_new told_old told_new journal_old journal_new old new (Err fault.Accept) =
+    (closed_new ≡ closed_old) × (coming_new ≡ coming_old) × (journal_new ≡ journal_old) × (new ≡ old) × (told_new ≡ told_old)
+EndsOne coming_old coming_new closed_old closed_new told_old told_new journal_old journal_new old new (Err fault.Journal) =
+    (one : Exchange) × HasClosed closed_old closed_new (one ∷ []) × Came coming_old coming_new (bytes_given (one ∷ []))
+    × IsUnkept one journal_old journal_new × (told_new ≡ told_old)

@@ -1,20 +1,19 @@
 -- Requests of a group, which are sent over connections that stand at once.
 --     ClosesNoRound text      whatever was sent before, the text closes no round
---     Request, request_in pieces one, requests_in group      a request that waits, by the pieces of its group
---     AreWritten group, StillWait old group      the pieces of all that wait stand in the texts; the requests that wait
---         are the same
+--     Request, request_in text one, requests_in group      a request that waits, by the text of its group
+--     AreWritten group, StillWait old group      all that wait stand in the text; the requests that wait are the same
 --     text_in one, after_group setup group texts      the text of a request, and the requests of a group, answered one
 --         after the other
 --     with_request setup group bidder round text texts, with_put setup group bidder script texts      and then one more
 --         of a bidder
---     with_turn setup group turn texts      and then one that was written
+--     with_turn setup group bidder round written texts      and then one that was written
 --     StandFrom place connections group text      from a place on, each connection stands with these bytes
 --     AreApart group      no two of the connections are one
 --     IsGroup connections group      the requests wait, each over a connection of its own, over which nothing has come
 --         yet
 --     Waits connections group      those of a group do
 --     IsUnderWay hub group      they do, and the auction goes on
---     IsNext hub group turn      and a request that was written and closes no round may come behind them
+--     IsNext hub group written      and a request that was written and closes no round may come behind them
 --     ComesUnderWay steps old new group result      some steps were made but for the requests that wait
 use Rattle.std.specs.Prelude.{◌≡◌, ◌≤◌, ◌<◌, ℕ, List, [], ◌∷◌, ◌++◌, true, length, map, slice_index_or, Some, Result, Ok, OnOk, All}
 use Rattle.clock_terms.specs.Limits.{SetupFields}
@@ -23,11 +22,10 @@ use Rattle.clock_http.specs.Framing.{needs_more}
 use Rattle.clock_connections.specs.Connections.{ConnectionFields, text_of}
 use Rattle.clock_front.specs.Hubs.{HubFields}
 use Rattle.clock_connections.specs.declared.connections.Conn.{Conn}
-use Rattle.clock_scripts.specs.declared.pieces.Pieces.{Pieces}
-use Rattle.clock_scripts.specs.Pieces.{IsWrittenIn, piece_at, text_at}
-use Rattle.clock_sim.specs.declared.groups.Turn.{Turn}
-use Rattle.clock_sim.specs.declared.groups.Waiting.{Waiting}
-use Rattle.clock_sim.specs.declared.groups.Group.{Group}
+use Rattle.clock_scripts.specs.declared.requests.Written.{Written}
+use Rattle.clock_scripts.specs.Pieces.{IsWrittenIn, body_in, head_in, text_at}
+use Rattle.clock_sim.specs.declared.rounds.Waiting.{Waiting}
+use Rattle.clock_sim.specs.declared.rounds.Group.{Group}
 use Rattle.clock_replays.specs.declared.replay.Script.{Script}
 use Rattle.clock_sim.specs.declared.simulation.SimFault.{SimFault}
 use Rattle.clock_sim.specs.Rehearsal.{rounds_after, after_request, after_put}
@@ -45,23 +43,23 @@ pub record Request : Type 0 where
   pub head : List ℕ
   pub body : List ℕ
 
--- by the pieces that were written
-abbrev pub request_in : Pieces → Waiting → Request
-request_in pieces one = record {
-  bidder = one.turn.bidder;
-  round = one.turn.round;
+-- by the text in which it stands
+abbrev pub request_in : List ℕ → Waiting → Request
+request_in text one = record {
+  bidder = one.bidder;
+  round = one.round;
   conn = one.conn;
-  head = piece_at pieces.heads.items one.turn.written.head;
-  body = piece_at pieces.bodies.items one.turn.written.body;
+  head = head_in text one.written;
+  body = body_in text one.written;
 }
 
 -- the requests that wait
 abbrev pub requests_in : Group → List Request
-requests_in group = map (request_in group.pieces) group.waiting.items
+requests_in group = map (request_in group.text.items) group.waiting.items
 
--- the pieces of the requests that wait stand in the texts
+-- the requests that wait stand in the text
 abbrev pub AreWritten : Group → Type 0
-AreWritten group = All (λ one. IsWrittenIn group.pieces one.turn.written) group.waiting.items
+AreWritten group = All (λ one. IsWrittenIn group.text.items one.written) group.waiting.items
 
 -- the requests that wait are the same
 abbrev pub StillWait : Group → Group → Type 0
@@ -86,8 +84,8 @@ abbrev pub with_put : SetupFields → List Request → ℕ → Script → List (
 with_put setup group bidder script texts = after_group setup group texts >>= after_put setup bidder script
 
 -- the requests of a group, and then one that was written
-abbrev pub with_turn : SetupFields → Group → Turn → List (List ℕ) → Result (List (List ℕ)) SimFault
-with_turn setup group turn = with_request setup (requests_in group) turn.bidder turn.round (text_at group.pieces turn.written)
+abbrev pub with_turn : SetupFields → Group → ℕ → ℕ → Written → List (List ℕ) → Result (List (List ℕ)) SimFault
+with_turn setup group bidder round written = with_request setup (requests_in group) bidder round (text_at group.text.items written)
 
 -- from a place on, each connection stands with these bytes
 abbrev pub StandFrom : ℕ → ConnectionFields → List Request → (ℕ → Request → List ℕ) → Type 0
@@ -109,7 +107,7 @@ pub record IsGroup (connections : ConnectionFields) (group : List Request) : Typ
   pub need : All (λ one. needs_more one.head ≡ true) group
   pub close : All (λ one. ClosesNoRound (text_in one)) group
 
--- the requests of a group, which stand in its texts
+-- the requests of a group, which stand in its text
 pub record Waits (connections : ConnectionFields) (group : Group) : Type 0 where
   pub requests : IsGroup connections (requests_in group)
   pub written : AreWritten group
@@ -120,10 +118,10 @@ pub record IsUnderWay (hub : HubFields) (group : Group) : Type 0 where
   pub going : IsGoing hub.house
 
 -- behind the requests that wait one may come that was written and closes no round
-pub record IsNext (hub : HubFields) (group : Group) (turn : Turn) : Type 0 where
+pub record IsNext (hub : HubFields) (group : Group) (written : Written) : Type 0 where
   pub under_way : IsUnderWay hub group
-  pub within : IsWrittenIn group.pieces turn.written
-  pub closes : ClosesNoRound (text_at group.pieces turn.written)
+  pub within : IsWrittenIn group.text.items written
+  pub closes : ClosesNoRound (text_at group.text.items written)
 
 -- some steps were made but for the requests that wait now, and the auction goes on; or their fault is told
 pub record ComesUnderWay {T : Type 0} (steps : List (List ℕ) → Result (List (List ℕ)) SimFault) (old new : HubFields) (group : Group)

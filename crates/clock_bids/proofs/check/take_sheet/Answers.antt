@@ -1,34 +1,43 @@
--- What was judged of the slice is told of the list that it shows.
-use Rattle.std.proofs.Common.{◌≡◌, ◌<◌, List, length, sym, subst}
-use Rattle.std.specs.Prelude.{None}
+use Rattle.std.proofs.Common.{◌<◌, ◌≤◌, ◌≡◌, length, ap, arith, rules}
 use Rattle.std.proofs.lemmas.Result.{err_from_is_err_and}
-use Rattle.clock_terms.specs.Faults.{IsFirstFault}
 use Rattle.clock_terms.specs.Limits.{public_setup}
-use Rattle.clock_bids.specs.declared.sheet.Bid.{Bid}
-use Rattle.clock_bids.specs.declared.sheet.BidFault.TheVariants.{NoMemory}
-use Rattle.clock_bids.specs.Holding.{holding_of}
-use Rattle.clock_bids.specs.Sheet.{most_bids, sheet_fault}
+use Rattle.clock_terms.specs.Eligibility.{activity}
+use Rattle.clock_bids.specs.Holding.{holding_of, activity_limit}
+use Rattle.clock_bids.specs.Sheet.{asked_demands, most_bids}
+use Rattle.clock_bids.proofs.Good.{sheet_fault-of_bid, sheet_fault-over, sheet_fault-none}
 use Rattle.clock_bids.proofs.check.take_sheet.Goals as goal
 
-pub returns-in_err-judge_sheet-clause-fault : goal.returns-in_err-judge_sheet-clause-fault
-returns-in_err-judge_sheet-clause-fault c =
+pub returns-in_err-taken-clause-fault : goal.returns-in_err-taken-clause-fault
+returns-in_err-taken-clause-fault c =
+    let few : length c.args.bids ≤ most_bids = omega (arith, c.if-list-gt-MOST_BIDS.false, ap length c.as_slice-list.ensures) in
+    let found = rw (c.as_slice.ensures, c.as_slice-list.ensures) at c.in_err-taken.ensures.fault in
     let told = err_from_is_err_and c.from_residual.result c.from_residual.ensures.1 in
     rw (told.1, told.2)
-    (subst (λ (bids : List Bid). IsFirstFault NoMemory
-    (sheet_fault (public_setup c.args.setup.now) c.args.own.round c.args.prices.now (holding_of c.args.own) bids) c.in_err-judge_sheet.field-0.0)
-    c.as_slice.ensures c.in_err-judge_sheet.ensures.fault)
+    (λ known. sheet_fault-of_bid (public_setup c.args.setup.now) c.args.own.round c.args.prices.now (holding_of c.args.own) c.args.bids few
+    c.in_err-taken.field-0.0 (found known))
 
-pub returns-in_err-judge_sheet-clause-many : goal.returns-in_err-judge_sheet-clause-many
-returns-in_err-judge_sheet-clause-many c =
-    let told = err_from_is_err_and c.from_residual.result c.from_residual.ensures.1 in
-    rw (told.1, told.2)
-    (λ many. let judged = c.in_err-judge_sheet.ensures.many (subst (λ (bids : List Bid). most_bids < length bids) (sym c.as_slice.ensures) many) in cc)
+pub returns-then-taken-limit-clause-fault : goal.returns-then-taken-limit-clause-fault
+returns-then-taken-limit-clause-fault c =
+    let setup = public_setup c.args.setup.now in
+    let holding = holding_of c.args.own in
+    let few : length c.args.bids ≤ most_bids = omega (arith, c.if-list-gt-MOST_BIDS.false, ap length c.as_slice-list.ensures) in
+    let good = rw (c.as_slice.ensures, c.as_slice-list.ensures) at c.in_ok-taken.ensures.ok in
+    let taken = rw c.as_slice-list.ensures at c.in_ok-taken.ensures.taken in
+    let limit : c.match-own.limit ≡ activity_limit setup c.args.own.round holding.eligibility =
+    elim c.match-own.branch [ goal.in-1 w ↦ search rules | goal.in_default w ↦ search rules ] in
+    let over : activity_limit setup c.args.own.round holding.eligibility < activity setup.products (asked_demands (length setup.products) c.args.bids) =
+    omega (arith, c.if-taken-limit.true, limit, taken) in
+    λ known. sheet_fault-over setup c.args.own.round c.args.prices.now holding c.args.bids few good over
 
 pub returns-clause-good : goal.returns-clause-good
 returns-clause-good c =
-    subst (λ (bids : List Bid). sheet_fault (public_setup c.args.setup.now) c.args.own.round c.args.prices.now (holding_of c.args.own) bids ≡ None)
-    c.as_slice.ensures c.in_ok-judge_sheet.ensures.good
-
-pub returns-clause-many : goal.returns-clause-many
-returns-clause-many c =
-    λ many. let judged = c.in_ok-judge_sheet.ensures.many (subst (λ (bids : List Bid). most_bids < length bids) (sym c.as_slice.ensures) many) in cc
+    let setup = public_setup c.args.setup.now in
+    let holding = holding_of c.args.own in
+    let few : length c.args.bids ≤ most_bids = omega (arith, c.if-list-gt-MOST_BIDS.false, ap length c.as_slice-list.ensures) in
+    let good = rw (c.as_slice.ensures, c.as_slice-list.ensures) at c.in_ok-taken.ensures.ok in
+    let taken = rw c.as_slice-list.ensures at c.in_ok-taken.ensures.taken in
+    let limit : c.match-own.limit ≡ activity_limit setup c.args.own.round holding.eligibility =
+    elim c.match-own.branch [ goal.in-1 w ↦ search rules | goal.in_default w ↦ search rules ] in
+    let within : activity setup.products (asked_demands (length setup.products) c.args.bids) ≤ activity_limit setup c.args.own.round holding.eligibility =
+    omega (arith, c.if-taken-limit.false, limit, taken) in
+    sheet_fault-none setup c.args.own.round c.args.prices.now holding c.args.bids few good within

@@ -9,12 +9,12 @@ use Rattle.clock_bodies.proofs.put_body.bids.Goals as goal
 
 pub items-init : goal.items-init
 items-init c =
-    let start = c.opens_array.new.self in
+    let start = c.opens.new.self in
     let here = c.compact_bids.new.scan in
     let more = c.in_ok-compact_bids.ensures in
     let same = more.1 ∙ ap (λ known. known ++ more.0) c.in_ok-list.ensures.items in (
       start,
-      c.in_ok-opens_array.ensures,
+      c.in_ok-opens.ensures,
       subst (λ list. HasItems 1 start (map bid_data list) here) (sym same)
           (items_push_all 1 bid_data start start here [] more.0 (items_start 1 start) more.2),
       omega (arith, all_shorter 1 start (map bid_data more.0) here more.2),
@@ -24,7 +24,7 @@ pub items-preserved : goal.items-preserved
 items-preserved c =
     let l = c.items in
     let start = l.invariant.0 in
-    let same : c.closes_array.new.self ≡ l.scan = grind arith in
+    let same : c.closes.new.self ≡ l.scan = grind arith in
     let next = c.in_ok-next.next in
     let here = c.part.new.scan in
     let new = c.compact_bids-in-items.new.scan in
@@ -43,14 +43,14 @@ pub items-smaller : goal.items-smaller
 items-smaller c =
     let here = c.part.new.scan in
     let more = c.in_ok-compact_bids-2.ensures in
-    let same : c.closes_array.new.self ≡ c.items.scan = grind arith in
+    let same : c.closes.new.self ≡ c.items.scan = grind arith in
     omega (arith, c.in_ok-next.ensures.shorter, ap length same, all_shorter 1 here (map bid_data more.0) c.compact_bids-in-items.new.scan more.2)
 
 pub returns-clause-value : goal.returns-clause-value
 returns-clause-value c =
     let l = c.items in
     let old = c.args.scan.now in
-    let new = c.closes_array.new.self in
+    let new = c.closes.new.self in
     let closed : l.scan ≡ Token.end_array ∷ new = grind arith in
     subst (λ list. Reads 2 old (bids_data list) new) (sym c.from_vec.ensures)
     (items_end 1 old l.invariant.0 l.scan new (map bid_data l.list.items) l.invariant.1 l.invariant.2 closed)
@@ -58,5 +58,5 @@ returns-clause-value c =
 pub returns-clause-shorter : goal.returns-clause-shorter
 returns-clause-shorter c =
     let l = c.items in
-    let closed : l.scan ≡ Token.end_array ∷ c.closes_array.new.self = grind arith in
+    let closed : l.scan ≡ Token.end_array ∷ c.closes.new.self = grind arith in
     omega (arith, l.invariant.3, ap length l.invariant.1, ap length closed)

@@ -1,7 +1,7 @@
 use Rattle.std.proofs.Common.{◌+◌, ◌-◌, ◌*◌, ◌<◌, ◌^◌, [], ◌∷◌, ◌++◌, length, drop, get_or, append_assoc, length-append, refl, sym, ap, ◌∙◌, subst, arith}
 use Rattle.std.proofs.lemmas.Int.Digits.{digits_value_push}
 use Rattle.json.specs.Lex.{lex, between}
-use Rattle.clock_json.proofs.LexLaws.{at_byte, AllDigits-push, lex-digits, digit_is, first_of}
+use Rattle.clock_json.proofs.LexLaws.{at_byte, AllDigits-push, lex-digits, digit_is, first_of, alone}
 use Rattle.clock_json.proofs.CompactLaws.{digit_more}
 use Rattle.clock_json.proofs.digits.digits_up_to.Goals as goal
 
@@ -49,5 +49,5 @@ returns c =
       small = omega (arith, l.invariant.6);
       value = λ ended. ap (lex between) l.invariant.1
           ∙ lex-digits ds (drop l.end bytes) l.value l.invariant.2 l.invariant.3 (omega (arith, l.invariant.6)) some
-          (λ e. omega (arith, c.has_leading_zero.ensures c.if-has_leading_zero.false (sym first ∙ e), l.invariant.4)) ended;
+          (λ e. omega (arith, alone (get_or bytes c.args.start 0) (l.end - c.args.start) c.if-bytes-start.false (sym first ∙ e), l.invariant.4)) ended;
     }

@@ -1,18 +1,9 @@
-use Rattle.std.proofs.Common.{◌≡◌, ◌+◌, ◌∷◌, Bool, true, false, Option, IfSome, decimal, refl, sym, subst, ap, ◌∙◌, arith}
-use Rattle.std.specs.Bool.{then_some}
+use Rattle.std.proofs.Common.{◌+◌, ◌∷◌, decimal, ap, ◌∙◌, arith}
 use Rattle.std.proofs.lemmas.Bool.{eqb-true}
 use Rattle.json.specs.Token.{number}
 use Rattle.json.specs.Lex.{token}
-use Rattle.clock_json.proofs.CompactLaws.{one_then, comma_stands}
+use Rattle.clock_json.proofs.CompactLaws.{given, one_then, comma_stands}
 use Rattle.clock_json.proofs.digits.number_and_comma.Goals as goal
-
--- what is given where a test is passed
-passed : {A : Type 0} (P : A → Type 0) (is : Bool) (x : A) → (is ≡ true → P x) → IfSome (then_some is x) P
-passed P true x has = has refl
-passed P false x has = tt
-
-given : {A : Type 0} (P : A → Type 0) (is : Bool) (x : A) (result : Option A) → result ≡ then_some is x → (is ≡ true → P x) → IfSome result P
-given P is x result same has = subst (λ r. IfSome r P) (sym same) (passed P is x has)
 
 pub returns-clause-order : goal.returns-clause-order
 returns-clause-order c =

@@ -1,7 +1,7 @@
-use Rattle.std.proofs.Common.{◌≡◌, ◌+◌, ◌<◌, ◌++◌, length, take, drop, sym, ap, ◌∙◌, arith}
+use Rattle.std.proofs.Common.{◌≡◌, ◌+◌, ◌<◌, ◌++◌, length, take, drop, get_or, sym, ap, ◌∙◌, arith}
 use Rattle.std.proofs.lemmas.List.{take-append-drop, drop-drop, length-drop, length-take-le}
 use Rattle.json.specs.Lex.{lex, between}
-use Rattle.clock_json.proofs.LexLaws.{lex-digits, first_of}
+use Rattle.clock_json.proofs.LexLaws.{lex-digits, first_of, alone}
 use Rattle.clock_json.proofs.digits.uneven_digits_at.Goals as goal
 
 pub returns : goal.returns
@@ -20,5 +20,5 @@ returns c =
       small = omega (arith, c.value_of.ensures.small);
       value = λ ended. ap (lex between) split
           ∙ lex-digits ds (drop (start + count) bytes) c.value_of.result c.value_of.ensures.digits (sym c.value_of.ensures.value)
-          (omega (arith, c.value_of.ensures.small)) some (λ e. omega (arith, c.has_leading_zero.ensures c.if-has_leading_zero.false (sym first ∙ e), size)) ended;
+          (omega (arith, c.value_of.ensures.small)) some (λ e. omega (arith, alone (get_or bytes start 0) count c.if-bytes-start.false (sym first ∙ e), size)) ended;
     }

@@ -1,11 +1,9 @@
-use Rattle.std.proofs.Common.{sym, ap, ◌∙◌, arith}
+use Rattle.std.proofs.Common.{sym, ap, ◌∙◌}
 use Rattle.json.specs.Lex.{after_value, punctuate}
 use Rattle.clock_json.proofs.LexLaws.{comma_at, comma_follows}
 use Rattle.clock_json.proofs.words.after_value.Goals as goal
 
-pub returns-then-byte_at-eq44 : goal.returns-then-byte_at-eq44
-returns-then-byte_at-eq44 c =
-    let is = c.if-byte_at-eq44.true in
-    let at = c.after_space-at.result in
-    sym (ap (punctuate after_value) (sym c.after_space-at.ensures)
-    ∙ comma_follows _ _ (comma_at c.args.bytes.now at (c.byte_at.ensures.within (omega (arith, is))) (sym c.byte_at.ensures.value ∙ is)))
+pub returns-then-is_at : goal.returns-then-is_at
+returns-then-is_at c =
+    let there = c.is_at.ensures c.if-is_at.true in
+    sym (ap (punctuate after_value) (sym c.after_space-at.ensures) ∙ comma_follows _ _ (comma_at c.args.bytes.now c.after_space-at.result there.0 there.1))

@@ -1,6 +1,7 @@
-use Rattle.std.proofs.Common.{◌≡◌, ℕ, Bool, true, false, ◌||◌, List, ◌∷◌, eqb, refl, ap}
+use Rattle.std.proofs.Common.{◌≡◌, ℕ, Bool, true, false, ◌||◌, List, ◌∷◌, get_or, eqb, refl, ap, ◌∙◌}
 use Rattle.std.proofs.lemmas.Bool.{eqb-true}
 use Rattle.json.specs.Lex.{lex, between, begins_colon}
+use Rattle.clock_json.proofs.LexLaws.{at_byte}
 use Rattle.clock_json.proofs.words.ends_text.Goals as goal
 
 -- a byte that is one of three marks begins no colon
@@ -12,5 +13,8 @@ no_colon byte false true bracket _ is _ _ rest = ap (λ b. begins_colon (lex bet
 no_colon byte false false true _ _ is _ rest = ap (λ b. begins_colon (lex between (b ∷ rest))) (eqb-true byte 93 is)
 no_colon byte false false false _ _ _ none rest = absurd cc
 
-pub returns-clause-mark : goal.returns-clause-mark
-returns-clause-mark c = no_colon c.args.byte _ _ _ refl refl refl
+pub returns-then-at-bytes : goal.returns-then-at-bytes
+returns-then-at-bytes c = λ is.
+    let bytes = c.args.bytes.now in
+    ap (λ text. begins_colon (lex between text)) (at_byte bytes c.args.at _ c.if-at-bytes.true refl)
+    ∙ no_colon (get_or bytes c.args.at 0) _ _ _ refl refl refl is _

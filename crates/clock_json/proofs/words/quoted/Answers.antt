@@ -19,9 +19,8 @@ returns c =
     let s = take n rest in
     let is : rest ≡ s ++ drop end bytes =
     sym (take-append-drop n rest) ∙ ap (λ r. s ++ r) (drop-drop n (at + 1) bytes ∙ ap (λ k. drop k bytes) (sym c.plain_end-end.ensures)) in
-    let opens = c.if-byte_at-ne34.false in
-    let closes = c.if-byte_at-ne34-2.false in
-    quoted_at bytes s at end (c.byte_at.ensures.within (omega (arith, opens))) (sym c.byte_at.ensures.value ∙ opens) is (plain_front rest)
-    (c.byte_at-2.ensures.within (omega (arith, closes))) (sym c.byte_at-2.ensures.value ∙ closes)
+    let opens = c.is_at.ensures c.if-not-is_at.false in
+    let closes = c.is_at-2.ensures c.if-not-is_at-2.false in
+    quoted_at bytes s at end opens.0 opens.1 is (plain_front rest) closes.0 closes.1
     ∙ ap (λ t. token (string t) ∷ lex between (drop (end + 1) bytes))
     (taken bytes s at end is (omega (arith, length-prefix_len is_plain rest, c.plain_end-end.ensures)))

@@ -7,7 +7,7 @@ use Rattle.clock_replays.proofs.limit_lists.limit_lists.Goals as goal
 
 pub items-init : goal.items-init
 items-init c =
-    let start = c.opens_array.new.self in
+    let start = c.opens.new.self in
     record {
       read = subst (λ list. HasItems 1 start (map numbers list) start) (sym c.new-limits.ensures.none) (items_start 1 start);
       kept = c.new-limits.ensures.kept;
@@ -17,13 +17,13 @@ items-init c =
 pub items-preserved : goal.items-preserved
 items-preserved c =
     let l = c.items in
-    let start = c.opens_array.new.self in
+    let start = c.opens.new.self in
     let here = c.numbers_behind.new.self in
     let new = c.empty_arrays-empty.new.self in
     let row = c.as_slice.result.now in
     let count = c.empty_arrays-empty.result in
     let before = kept_limits l.limits in
-    let same : c.closes_array.new.self ≡ l.scan = grind arith in
+    let same : c.closes.new.self ≡ l.scan = grind arith in
     let read = c.in_ok-numbers_behind.ensures.value in
     let is : read.0 ≡ row = sym (c.as_slice.ensures.value ∙ read.1 ∙ ap (λ (old : List ℕ). old ++ read.0) c.clear.ensures.items) in
     let reads : Reads 1 l.scan (numbers row) here =
@@ -48,7 +48,7 @@ pub items-smaller : goal.items-smaller
 items-smaller c =
     let here = c.numbers_behind.new.self in
     let count = c.empty_arrays-empty.result in
-    let same : c.closes_array.new.self ≡ c.items.scan = grind arith in
+    let same : c.closes.new.self ≡ c.items.scan = grind arith in
     omega (
       arith,
       c.in_ok-numbers_behind.ensures.shorter,
@@ -59,7 +59,7 @@ items-smaller c =
 pub returns-clause-value : goal.returns-clause-value
 returns-clause-value c =
     let l = c.items in
-    let closed : l.scan ≡ Token.end_array ∷ c.closes_array.new.self = grind arith in
-    subst (λ lists. Reads 2 c.args.scan.now (rows lists) c.closes_array.new.self) (sym c.in_ok-lists.ensures)
-    (items_end 1 c.args.scan.now c.opens_array.new.self l.scan c.closes_array.new.self (map numbers (kept_limits l.limits))
-    c.in_ok-opens_array.ensures l.invariant.read closed)
+    let closed : l.scan ≡ Token.end_array ∷ c.closes.new.self = grind arith in
+    subst (λ lists. Reads 2 c.args.scan.now (rows lists) c.closes.new.self) (sym c.in_ok-lists.ensures)
+    (items_end 1 c.args.scan.now c.opens.new.self l.scan c.closes.new.self (map numbers (kept_limits l.limits))
+    c.in_ok-opens.ensures l.invariant.read closed)

@@ -2,7 +2,6 @@ use Rattle.std.proofs.Common.{◌≡◌, List, [], ◌∷◌, ◌++◌, All, map
 use Rattle.std.specs.Prelude.{reverse, Some, slice_get}
 use Rattle.std.proofs.lemmas.List.{length-map, length-reverse, take_all}
 use Rattle.std.proofs.lemmas.List.Elements.{All-push}
-use Rattle.clock_posting.specs.declared.sheet.Line.{Line}
 use Rattle.clock_posting.specs.declared.sheet.RoundSheet.{RoundSheet}
 use Rattle.clock_closing.specs.declared.closed_round.ClosedRound.{ClosedRound}
 use Rattle.clock_reports.specs.inside.Reports.{IsPricedLine}
@@ -13,16 +12,14 @@ pub loop-round-preserved : goal.loop-round-preserved
 loop-round-preserved g c =
     let all = map (λ (closed : ClosedRound). closed.sheet) (reverse c.args.house.now.closed) in
     let sheet = c.sheet_at-sheet.result.now in
-    let lines = c.in_ok-lines in
-    let with_lines : List Line → RoundSheet = λ list. record { round = sheet.round; ended = sheet.ended; lines = list } in
-    let copy = with_lines lines.lines in
-    let is : slice_get all c.loop-round.round ≡ Some copy =
-    c.sheet_at-sheet.ensures.is ∙ ap (λ list. Some (with_lines list)) (sym (lines.ensures.same ∙ c.as_slice.ensures)) in
+    let copy = c.in_ok-copy.field-0 in
+    let is : slice_get all c.loop-round.round ≡ Some copy = c.sheet_at-sheet.ensures.is ∙ ap (λ (one : RoundSheet). Some one) (sym c.in_ok-copy.ensures) in
     let P : RoundSheet → Type 0 = λ sheet. All IsPricedLine sheet.lines in
+    let priced : P copy = subst P (sym c.in_ok-copy.ensures) (subst (All IsPricedLine) c.as_slice.ensures c.law_of_prices.ensures) in
     record {
       same = c.in_ok-push.ensures.ok ∙ ap (λ (so_far : List RoundSheet). so_far ++ copy ∷ []) c.loop-round.invariant.same
           ∙ sym (take_next all c.loop-round.round copy is);
-      priced = subst (All P) (sym c.in_ok-push.ensures.ok) (All-push P c.loop-round.sheets copy c.loop-round.invariant.priced lines.ensures.priced);
+      priced = subst (All P) (sym c.in_ok-push.ensures.ok) (All-push P c.loop-round.sheets copy c.loop-round.invariant.priced priced);
     }
 
 pub returns-clause-same : goal.returns-clause-same

@@ -1,4 +1,4 @@
-use Rattle.std.proofs.Common.{◌≡◌, ◌≤◌, ◌<◌, ◌+◌, ◌*◌, min, ℕ, List, length, drop, ap, subst, ◌∙◌, arith}
+use Rattle.std.proofs.Common.{◌≡◌, ◌≤◌, ◌<◌, ◌+◌, ◌*◌, min, ℕ, List, length, drop, ap, sym, subst, ◌∙◌, arith}
 use Rattle.std.specs.Prelude.{slice_index, slice_index_or}
 use Rattle.std.specs.List.{AllWithin}
 use Rattle.std.proofs.lemmas.List.{drop_all}
@@ -46,7 +46,7 @@ held-preserved c =
     free lines row (product + 1) to c.requires.each (omega (arith, within, found.given)) (omega arith)
     (λ k d low high. subst (λ (demands : List ℕ). slice_index_or demands k d ≡ 0) same (found.ahead k d low (omega (arith, high)))) in
     let cost : c.get.result * c.in-Some.one.demand ≡ c.index-lines-one.result.posted * c.in-Some.one.demand =
-    ap (λ (posted : ℕ). posted * c.in-Some.one.demand) c.get.ensures.value in
+    ap (λ (posted : ℕ). posted * c.in-Some.one.demand) (c.get.ensures.value ∙ ap (λ (line : Line). line.posted) (sym c.index-lines-one.is)) in
     let price : c.get.result * c.in-Some.one.demand ≤ 1000000000000 * 1000 = mul-le c.get.result c.in-Some.one.demand 1000000000000 1000 c.get.ensures.in_range.1 found.small in
     record {
       row = found.row ∙ same;

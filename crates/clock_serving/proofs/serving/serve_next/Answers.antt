@@ -1,4 +1,4 @@
-use Rattle.std.proofs.Common.{refl, sym, subst, ◌∙◌}
+use Rattle.std.proofs.Common.{refl, sym, subst, ◌∙◌, rules}
 use Rattle.clock_journal.specs.Kept.{JournalState}
 use Rattle.clock_serving.specs.Exchanges.{Exchange}
 use Rattle.clock_serving.specs.inside.Served.{IsServed}
@@ -22,6 +22,7 @@ returns-then-before-after-clause-ends g c =
           (g.C.Acceptor.offer c.accept.new.self) one c.in-Ok.ensures.came c.close.ensures.coming c.in-Ok.ensures.source,
       subst (λ (kept : JournalState). IsServed one (journal c.args.keeper.now) kept c.args.front.now c.serve_one-kept.new.front)
           (sym c.round_closed.ensures.kept) c.in_default-kept.ensures.served,
+      search rules,
     )
 
 pub returns-else-before-after-clause-ends : goal.returns-else-before-after-clause-ends
@@ -39,6 +40,7 @@ returns-else-before-after-clause-ends g c =
       came_one (g.C.Acceptor.coming c.args.connections.now) (g.C.Acceptor.coming c.accept.new.self) (g.C.Acceptor.coming c.close.new.self)
           (g.C.Acceptor.offer c.accept.new.self) one c.in-Ok.ensures.came c.close.ensures.coming c.in-Ok.ensures.source,
       c.in_default-kept.ensures.served,
+      search rules,
     )
 
 pub returns-in-Err-clause-ends : goal.returns-in-Err-clause-ends
@@ -56,6 +58,7 @@ returns-in-Err-clause-ends g c =
       came_one (g.C.Acceptor.coming c.args.connections.now) (g.C.Acceptor.coming c.accept.new.self) (g.C.Acceptor.coming c.close.new.self)
           (g.C.Acceptor.offer c.accept.new.self) one c.in-Ok.ensures.came c.close.ensures.coming c.in-Ok.ensures.source,
       c.in-Err.ensures.served,
+      c.serve_one-kept.ensures.told,
     )
 
 pub returns-in-Err-clause-unfailed : goal.returns-in-Err-clause-unfailed

@@ -51,7 +51,7 @@ returns-in_err-check-clause-err c =
     rw (p.1, p.2)
     (λ known. head_first c.args.entries.now _
     (subst (λ (setup : SetupFields). first_fault (head_checks setup) ≡ Some (Range Requirement)) c.entries.view_is
-    (requirement_first _ (sym c.is_within.ensures ∙ told.0)) ∙ ap Some (sym told.1)))
+    (requirement_first _ (sym c.is_within-requirement.ensures ∙ told.0)) ∙ ap Some (sym told.1)))
 
 pub returns-in_err-check-2-clause-err : goal.returns-in_err-check-2-clause-err
 returns-in_err-check-2-clause-err c =
@@ -60,7 +60,7 @@ returns-in_err-check-2-clause-err c =
     rw (p.1, p.2)
     (λ known. head_first c.args.entries.now _
     (subst (λ (setup : SetupFields). first_fault (head_checks setup) ≡ Some (Range Limit)) c.entries.view_is
-    (limit_first _ (sym c.is_within.ensures ∙ c.in_ok-check.ensures.ok) (sym c.is_within-2.ensures ∙ told.0)) ∙ ap Some (sym told.1)))
+    (limit_first _ (sym c.is_within-requirement.ensures ∙ c.in_ok-check.ensures.ok) (sym c.is_within-limit.ensures ∙ told.0)) ∙ ap Some (sym told.1)))
 
 pub returns-in_err-check-3-clause-err : goal.returns-in_err-check-3-clause-err
 returns-in_err-check-3-clause-err c =
@@ -69,7 +69,7 @@ returns-in_err-check-3-clause-err c =
     rw (p.1, p.2)
     (λ known. head_first c.args.entries.now _
     (subst (λ (setup : SetupFields). first_fault (head_checks setup) ≡ Some (Range Operator)) c.entries.view_is
-    (operator_first _ (sym c.is_within.ensures ∙ c.in_ok-check.ensures.ok) (sym c.is_within-2.ensures ∙ c.in_ok-check-2.ensures.ok)
+    (operator_first _ (sym c.is_within-requirement.ensures ∙ c.in_ok-check.ensures.ok) (sym c.is_within-limit.ensures ∙ c.in_ok-check-2.ensures.ok)
     (sym c.is_token.ensures ∙ told.0)) ∙ ap Some (sym told.1)))
 
 pub returns-in_err-products-clause-err : goal.returns-in_err-products-clause-err
@@ -77,56 +77,56 @@ unfolding products_checks bidders_checks
 returns-in_err-products-clause-err c =
     let p = err_from_is_err_and c.from_residual-in_err-products.result c.from_residual-in_err-products.ensures.1 in
     rw (p.1, p.2)
-    (λ known. products_first c.args.entries.now _ (head_of c.entries.view_is c.is_within.ensures c.in_ok-check.ensures.ok c.is_within-2.ensures c.in_ok-check-2.ensures.ok c.is_token.ensures
+    (λ known. products_first c.args.entries.now _ (head_of c.entries.view_is c.is_within-requirement.ensures c.in_ok-check.ensures.ok c.is_within-limit.ensures c.in_ok-check-2.ensures.ok c.is_token.ensures
     c.in_ok-check-3.ensures.ok)
-    (first_of products_checks (λ s. s.products) c.as_slice-products.ensures c.entries.view_is (c.in_err-products.ensures.err known)))
+    (first_of products_checks (λ s. s.products) c.deref.ensures c.entries.view_is (c.in_err-products.ensures.err known)))
 
 pub returns-in_err-bidders-clause-err : goal.returns-in_err-bidders-clause-err
 unfolding products_checks bidders_checks
 returns-in_err-bidders-clause-err c =
     let p = err_from_is_err_and c.from_residual-in_err-bidders.result c.from_residual-in_err-bidders.ensures.1 in
     rw (p.1, p.2)
-    (λ known. bidders_first c.args.entries.now _ (head_of c.entries.view_is c.is_within.ensures c.in_ok-check.ensures.ok c.is_within-2.ensures c.in_ok-check-2.ensures.ok c.is_token.ensures
+    (λ known. bidders_first c.args.entries.now _ (head_of c.entries.view_is c.is_within-requirement.ensures c.in_ok-check.ensures.ok c.is_within-limit.ensures c.in_ok-check-2.ensures.ok c.is_token.ensures
     c.in_ok-check-3.ensures.ok)
-    (first_of products_checks (λ s. s.products) c.as_slice-products.ensures c.entries.view_is c.in_ok-products.ensures.ok)
-    (first_of bidders_checks (λ s. s.bidders) c.as_slice-bidders.ensures c.entries.view_is (c.in_err-bidders.ensures.err known)))
+    (first_of products_checks (λ s. s.products) c.deref.ensures c.entries.view_is c.in_ok-products.ensures.ok)
+    (first_of bidders_checks (λ s. s.bidders) c.deref-2.ensures c.entries.view_is (c.in_err-bidders.ensures.err known)))
 
 pub returns-in_err-operator-clause-err : goal.returns-in_err-operator-clause-err
 unfolding products_checks bidders_checks
 returns-in_err-operator-clause-err c =
     let p = err_from_is_err_and c.from_residual-in_err-operator.result c.from_residual-in_err-operator.ensures.1 in
     rw (p.1, p.2)
-    (λ known. distinct_decide c.args.entries.now _ (head_of c.entries.view_is c.is_within.ensures c.in_ok-check.ensures.ok c.is_within-2.ensures c.in_ok-check-2.ensures.ok c.is_token.ensures
+    (λ known. distinct_decide c.args.entries.now _ (head_of c.entries.view_is c.is_within-requirement.ensures c.in_ok-check.ensures.ok c.is_within-limit.ensures c.in_ok-check-2.ensures.ok c.is_token.ensures
     c.in_ok-check-3.ensures.ok)
-    (first_of products_checks (λ s. s.products) c.as_slice-products.ensures c.entries.view_is c.in_ok-products.ensures.ok)
-    (first_of bidders_checks (λ s. s.bidders) c.as_slice-bidders.ensures c.entries.view_is c.in_ok-bidders.ensures.ok)
+    (first_of products_checks (λ s. s.products) c.deref.ensures c.entries.view_is c.in_ok-products.ensures.ok)
+    (first_of bidders_checks (λ s. s.bidders) c.deref-2.ensures c.entries.view_is c.in_ok-bidders.ensures.ok)
     (c.in_err-operator.ensures.err known))
 
 pub invariant_of-result : goal.invariant_of-result
 unfolding products_checks bidders_checks
 invariant_of-result c =
     let within : IsSetup c.args.entries.now =
-    setup_within c.args.entries.now c.requires.version c.requires.first_version (head_of c.entries.view_is c.is_within.ensures c.in_ok-check.ensures.ok c.is_within-2.ensures c.in_ok-check-2.ensures.ok c.is_token.ensures
+    setup_within c.args.entries.now c.requires.version c.requires.first_version (head_of c.entries.view_is c.is_within-requirement.ensures c.in_ok-check.ensures.ok c.is_within-limit.ensures c.in_ok-check-2.ensures.ok c.is_token.ensures
     c.in_ok-check-3.ensures.ok)
-    (first_of products_checks (λ s. s.products) c.as_slice-products.ensures c.entries.view_is c.in_ok-products.ensures.ok)
-    (first_of bidders_checks (λ s. s.bidders) c.as_slice-bidders.ensures c.entries.view_is c.in_ok-bidders.ensures.ok)
+    (first_of products_checks (λ s. s.products) c.deref.ensures c.entries.view_is c.in_ok-products.ensures.ok)
+    (first_of bidders_checks (λ s. s.bidders) c.deref-2.ensures c.entries.view_is c.in_ok-bidders.ensures.ok)
     c.in_ok-operator.ensures.ok in
     rw (
       c.in_ok-operator.ensures.same ∙ ap (λ (s : SetupFields). s.operator) (sym c.entries.view_is),
       c.in_ok-products.ensures.same,
       map-id,
-      c.as_slice-products.ensures,
+      c.deref.ensures,
       c.in_ok-bidders.ensures.same,
       map-id,
-      c.as_slice-bidders.ensures,
+      c.deref-2.ensures,
       c.entries.view_is,
     ) within
 
 pub returns-clause-ok : goal.returns-clause-ok
 unfolding products_checks bidders_checks
 returns-clause-ok c =
-    distinct_decide c.args.entries.now None (head_of c.entries.view_is c.is_within.ensures c.in_ok-check.ensures.ok c.is_within-2.ensures c.in_ok-check-2.ensures.ok c.is_token.ensures
+    distinct_decide c.args.entries.now None (head_of c.entries.view_is c.is_within-requirement.ensures c.in_ok-check.ensures.ok c.is_within-limit.ensures c.in_ok-check-2.ensures.ok c.is_token.ensures
     c.in_ok-check-3.ensures.ok)
-    (first_of products_checks (λ s. s.products) c.as_slice-products.ensures c.entries.view_is c.in_ok-products.ensures.ok)
-    (first_of bidders_checks (λ s. s.bidders) c.as_slice-bidders.ensures c.entries.view_is c.in_ok-bidders.ensures.ok)
+    (first_of products_checks (λ s. s.products) c.deref.ensures c.entries.view_is c.in_ok-products.ensures.ok)
+    (first_of bidders_checks (λ s. s.bidders) c.deref-2.ensures c.entries.view_is c.in_ok-bidders.ensures.ok)
     c.in_ok-operator.ensures.ok

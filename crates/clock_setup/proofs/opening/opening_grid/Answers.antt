@@ -1,4 +1,4 @@
-use Rattle.std.proofs.Common.{◌≡◌, ◌≤◌, ◌++◌, ◌∷◌, [], List, ℕ, All, None, length, take, drop, zip, sym, ap, ◌∙◌, subst, refl, arith}
+use Rattle.std.proofs.Common.{◌≡◌, ◌≤◌, ◌++◌, ◌∷◌, [], List, ℕ, All, None, length, get_or, take, drop, zip, sym, ap, ◌∙◌, subst, refl, arith}
 use Rattle.std.proofs.lemmas.List.{take_more, take_all}
 use Rattle.std.proofs.lemmas.List.Elements.{All-nil, All-push}
 use Rattle.std.proofs.lemmas.Result.{err_from_is_err_and}
@@ -8,7 +8,7 @@ use Rattle.clock_terms.specs.Faults.{first_fault, in_turn}
 use Rattle.clock_terms.specs.Limits.{IsRow, SetupFields}
 use Rattle.clock_setup.specs.OpeningDocument.{row_checks}
 use Rattle.clock_terms.proofs.FaultLaws.{turn_passed, turn_failed, turn_none}
-use Rattle.clock_setup.proofs.OpeningLaws.{row_line, grid_of_counts, counts_refused, rows_refused, increment_refused, opened}
+use Rattle.clock_setup.proofs.OpeningLaws.{row_at, row_line, grid_of_counts, counts_refused, rows_refused, increment_refused, opened}
 use Rattle.clock_setup.proofs.opening.opening_grid.Goals as goal
 
 module _ (setup : SetupFields) (demands : List (List ℕ)) (number : ℕ) (grid : IsGrid (length setup.bidders) (length setup.products) demands)
@@ -43,8 +43,10 @@ returns-in_err-row-clause-err c =
     let setup = c.args.setup.now in
     let number = c.loop-number.number in
     let bidders = c.as_slice-bidders.ensures ∙ ap (λ (s : SetupFields). s.bidders) c.setup.view_is in
-    let line = row_line setup.bidders c.args.demands.now number c.index-bidders-number.result c.as_slice.result.now bidders c.loop-number-test.true
-    c.loop-number.invariant.grid.0 c.index-bidders-number.is (c.as_slice.ensures.value ∙ c.in_ok-read_row.ensures) in
+    let grid = c.loop-number.invariant.grid.0 in
+    let read = row_at c.args.demands.now number c.index-deref-number.result c.deref.ensures (omega (arith, grid, c.loop-number-test.true, ap length bidders)) c.index-deref-number.is in
+    let line = row_line setup.bidders c.args.demands.now number c.index-bidders-number.result c.as_slice.result.now bidders c.loop-number-test.true grid
+    c.index-bidders-number.is (c.as_slice.ensures.value ∙ c.in_ok-read_row.ensures ∙ c.deref-in-loop-number.ensures ∙ read) in
     let told = err_from_is_err_and c.from_residual-in_err-row.result c.from_residual-in_err-row.ensures.1 in
     rw (told.1, told.2)
     (λ known. rows_refused setup c.args.demands.now c.args.increment _ (sym c.has_counts.ensures ∙ c.if-not-has_counts.false)
@@ -58,7 +60,9 @@ loop-number-preserved c =
     let number = c.loop-number.number in
     let known = c.loop-number.invariant in
     let bidders = c.as_slice-bidders.ensures ∙ ap (λ (s : SetupFields). s.bidders) c.setup.view_is in
-    let read = c.as_slice.ensures.value ∙ c.in_ok-read_row.ensures in
+    let read : c.as_slice.result.now ≡ get_or demands number [] =
+    c.as_slice.ensures.value ∙ c.in_ok-read_row.ensures ∙ c.deref-in-loop-number.ensures
+    ∙ row_at demands number c.index-deref-number.result c.deref.ensures (omega (arith, known.grid.0, c.loop-number-test.true, ap length bidders)) c.index-deref-number.is in
     let line = row_line setup.bidders demands number c.index-bidders-number.result c.as_slice.result.now bidders c.loop-number-test.true known.grid.0
     c.index-bidders-number.is read in
     let row = c.in_ok-row.row in

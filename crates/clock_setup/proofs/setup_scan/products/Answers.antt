@@ -12,7 +12,7 @@ use Rattle.clock_setup.proofs.setup_scan.products.Goals.{else-version-ne0-via-th
 
 pub items-init : goal.items-init
 items-init c =
-    let start = c.opens_array.new.self in (
+    let start = c.opens.new.self in (
       subst (λ list. HasItems 1 start (map (product_data 0) list) start) (sym c.new-entries.ensures) (items_start 1 start),
       omega arith,
       λ _. c.new-entries.ensures,
@@ -23,7 +23,7 @@ items-init c =
 pub items-preserved : goal.items-preserved
 items-preserved c =
     let l = c.items in
-    let start = c.opens_array.new.self in
+    let start = c.opens.new.self in
     let after = c.part.new.scan in
     let next = c.in_ok-next.next in
     let version = next.version in
@@ -34,7 +34,7 @@ items-preserved c =
       | else-version-ne0-via-else-version-ne0 w ↦ inl w.if-version-ne0.false
     ] in
     let P = λ (product : Product). product.granule ≡ first_granule in
-    let same : c.closes_array.new.self ≡ l.scan = grind arith in
+    let same : c.closes.new.self ≡ l.scan = grind arith in
     let reads : Reads 1 l.scan (product_data version entry) after = subst (λ ts. Reads 1 ts (product_data version entry) after) same c.in_ok-next.ensures.value
     in
     let kept = of_common_version l.version version l.entries l.invariant.2 agrees in (
@@ -50,6 +50,6 @@ items-preserved c =
 pub returns-clause-value : goal.returns-clause-value
 returns-clause-value c =
     let l = c.items in
-    let closed : l.scan ≡ Token.end_array ∷ c.closes_array.new.self = grind arith in
-    items_end 1 c.args.scan.now c.opens_array.new.self l.scan c.closes_array.new.self (map (product_data l.version) l.entries)
-    c.in_ok-opens_array.ensures l.invariant.0 closed
+    let closed : l.scan ≡ Token.end_array ∷ c.closes.new.self = grind arith in
+    items_end 1 c.args.scan.now c.opens.new.self l.scan c.closes.new.self (map (product_data l.version) l.entries)
+    c.in_ok-opens.ensures l.invariant.0 closed

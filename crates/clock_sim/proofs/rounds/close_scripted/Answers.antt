@@ -1,8 +1,8 @@
-use Rattle.std.proofs.Common.{◌≡◌, ◌++◌, refl, ap, ◌∙◌}
+use Rattle.std.proofs.Common.{◌≡◌, ◌++◌, ℕ, List, refl, ap, ap₂, ◌∙◌}
 use Rattle.std.proofs.lemmas.Result.{err_from_is_err_and}
 use Rattle.clock_house.specs.House.{HouseFields, standing_in}
 use Rattle.clock_scripts.specs.ScriptedRequests.{scripted_close}
-use Rattle.clock_scripts.specs.Pieces.{text_at}
+use Rattle.clock_scripts.specs.Pieces.{body_in, head_in, text_at}
 use Rattle.clock_sim.specs.Rehearsal.{after_close}
 use Rattle.clock_sim.proofs.StepLaws.{out_of_memory, round_closed}
 use Rattle.clock_sim.proofs.rounds.close_scripted.Goals as goal
@@ -14,10 +14,12 @@ returns-in_err-written g c =
 
 pub returns : goal.returns
 returns g c =
-    let house_is = c.house-2.ensures ∙ c.front-2.ensures in
-    let pieces : c.head-head.result.now ++ c.body-body.result.now ≡ text_at c.write_close.new.self c.in_ok-written.written =
-    (λ k. c.head-head.ensures k ++ c.body-body.ensures k) in
-    round_closed c.args.hub.now.house c.send.new.hub.house c.args.closing.now (c.head-head.result.now ++ c.body-body.result.now) c.round-round.result
-    c.send.result
-    (pieces ∙ c.in_ok-written.ensures.reads ∙ ap (λ (house : HouseFields). scripted_close house.setup house.closed c.args.closing.now) house_is)
-    (c.round-round.ensures.is ∙ ap (λ (house : HouseFields). (standing_in house).round) (c.house.ensures ∙ c.front.ensures)) c.send.ensures
+    let one = c.in_ok-written.written in
+    let same = c.house-house.ensures ∙ c.front.ensures in
+    let head = head_in c.deref.result.now one in
+    let body = body_in c.deref-2.result.now one in
+    let text : head ++ body ≡ text_at c.write_close.new.text.items one =
+    ap₂ (λ (first second : List ℕ). head_in first one ++ body_in second one) c.deref.ensures.value c.deref-2.ensures.value in
+    round_closed c.args.hub.now.house c.send.new.hub.house c.args.closing.now (head ++ body) c.round-round.result c.send.result
+    (text ∙ c.in_ok-written.ensures.reads ∙ ap (λ (house : HouseFields). scripted_close house.setup house.closed c.args.closing.now) same)
+    (c.round-round.ensures.is ∙ ap (λ (house : HouseFields). (standing_in house).round) same) c.send.ensures

@@ -1,10 +1,12 @@
-use Rattle.std.proofs.Common.{◌≡◌, length, ap, refl, sym, subst, arith}
+use Rattle.std.proofs.Common.{◌≡◌, List, [], length, map, ap, refl, sym, subst, arith}
 use Rattle.std.proofs.lemmas.Result.{err_from_is_err_and}
 use Rattle.clock_terms.specs.Limits.{SetupFields}
 use Rattle.clock_replays.specs.declared.replay.Script.{Script}
 use Rattle.clock_replays.specs.Replays.{IsScript}
+use Rattle.clock_sim.specs.declared.rounds.Group.{Group}
+use Rattle.clock_sim.specs.declared.rounds.Waiting.{Waiting}
 use Rattle.clock_sim.specs.Rehearsal.{after_puts}
-use Rattle.clock_sim.specs.inside.Groups.{requests_in}
+use Rattle.clock_sim.specs.inside.Groups.{request_in, requests_in}
 use Rattle.clock_sim.proofs.WrittenLaws.{none_wait}
 use Rattle.clock_sim.proofs.TurnLaws.{first_turn, turn_over, turn_refused, last_sent}
 use Rattle.clock_sim.proofs.rounds.put_all.Goals as goal
@@ -12,10 +14,10 @@ use Rattle.clock_sim.proofs.rounds.put_all.Goals as goal
 pub loop-bidder-init : goal.loop-bidder-init
 loop-bidder-init g c =
     let old = c.args.hub.now in
-    let group = c.clear.new.self in
-    let none : length (requests_in group) ≡ 0 = ap length c.clear.ensures.none in (
-      first_turn old.house.setup (requests_in group) c.args.scripts.now old.house refl none,
-      record { waits = none_wait old.connections group c.clear.ensures.none; going = c.requires.going },
+    let group : Group = record { text = c.args.group.now.text; waiting = c.clear.new.self } in
+    let none : requests_in group ≡ [] = ap (λ (waiting : List Waiting). map (request_in group.text.items) waiting) c.clear.ensures.items in (
+      first_turn old.house.setup (requests_in group) c.args.scripts.now old.house refl (ap length none),
+      record { waits = none_wait old.connections group none; going = c.requires.going },
     )
 
 pub put_scripted-requires-clause-known : goal.put_scripted-requires-clause-known

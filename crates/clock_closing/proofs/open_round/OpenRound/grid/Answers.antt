@@ -5,14 +5,8 @@ use Rattle.clock_closing.specs.inside.OpenRound.{grid_of}
 use Rattle.clock_closing.proofs.Held.{held_demands}
 use Rattle.clock_closing.proofs.open_round.OpenRound.grid.Goals as goal
 
-pub returns-in-Some : goal.returns-in-Some
-returns-in-Some c =
-    subst (λ (held : List (List ℕ)). IfOk c.renewed.result (λ grid. grid ≡ held))
+pub returns : goal.returns
+returns c =
+    subst (λ (held : List (List ℕ)). IfOk c.copy_over.result (λ grid. grid ≡ held))
     (held_demands c.self.inside.eligibilities.now c.self.inside.demands.now c.self.invariant.0
-    ∙ ap (λ (round : OpenRoundFields). grid_of round.before) c.self.view_is) c.renewed.ensures
-
-pub returns-in-None : goal.returns-in-None
-returns-in-None c =
-    subst (λ (held : List (List ℕ)). IfOk c.copy.result (λ grid. grid ≡ held))
-    (held_demands c.self.inside.eligibilities.now c.self.inside.demands.now c.self.invariant.0
-    ∙ ap (λ (round : OpenRoundFields). grid_of round.before) c.self.view_is) c.copy.ensures
+    ∙ ap (λ (round : OpenRoundFields). grid_of round.before) c.self.view_is) c.copy_over.ensures

@@ -2,7 +2,8 @@ use Rattle.std.proofs.Common.{◌≡◌, ◌≢◌, ◌≤◌, ap, sym, ◌∙�
 use Rattle.std.proofs.lemmas.List.Sorted.{All-permutation}
 use Rattle.clock_posting.specs.PostedPrice.{IsWithinPrices}
 use Rattle.clock_posting.specs.Posting.{opening_posted}
-use Rattle.clock_closing.specs.OpenRound.{OpenRoundFields, IsOpenRound}
+use Rattle.clock_closing.specs.OpenRound.{OpenRoundFields}
+use Rattle.clock_closing.specs.inside.OpenRound.{IsOpenRound}
 use Rattle.clock_closing.specs.Closing.{requests, first_result, later_result}
 use Rattle.clock_closing.proofs.Posts.{posts_by}
 use Rattle.clock_closing.proofs.OpenRounds.{asked_within, priced_requests}
@@ -27,7 +28,7 @@ with_slips-requires g c = rw (c.in_ok-grid.ensures, ← c.self.view_is) (asked_w
 pub returns-then-self-eq1 : goal.returns-then-self-eq1
 returns-then-self-eq1 g c =
     let now = c.args.self.now in
-    let increments = c.args.asked.now.increments in
+    let increments = c.args.increments.now in
     let number : c.self.inside.round ≡ now.before.standing.round = ap (λ (round : OpenRoundFields). round.before.standing.round) c.self.view_is in
     let first = sym number ∙ c.if-self-eq1.true in
     let setup : c.self.inside.setup.now ≡ now.setup = ap (λ (round : OpenRoundFields). round.setup) c.self.view_is in
@@ -35,7 +36,7 @@ returns-then-self-eq1 g c =
     let posting = rw (c.in_ok-grid.ensures, setup) at c.post_first-posting.ensures.ok in
     let refused = rw (c.in_ok-grid.ensures, setup) at c.post_first-posting.ensures.err in
     let comes = rw c.in_ok-grid.ensures at c.with_slips.ensures in
-    rw (result-first now.setup.products now.before c.args.asked.now.ties first)
+    rw (result-first now.setup.products now.before c.args.ties.now first)
     (comes increments (opening_posted now.setup.products)
     (posts_by now increments (first_result now.setup.products now.before) c.post_first-posting.result (rw (first, opening) posting)
     c.post_first-posting.ensures.laws refused))
@@ -57,8 +58,8 @@ post-posting-requires-clause-changes g c =
 pub returns : goal.returns
 returns g c =
     let now = c.args.self.now in
-    let increments = c.args.asked.now.increments in
-    let ties = c.args.asked.now.ties in
+    let increments = c.args.increments.now in
+    let ties = c.args.ties.now in
     let setup : c.self.inside.setup.now ≡ c.args.self.now.setup = ap (λ (round : OpenRoundFields). round.setup) c.self.view_is in
     let number : c.self.inside.round ≡ c.args.self.now.before.standing.round =
     ap (λ (round : OpenRoundFields). round.before.standing.round) c.self.view_is in

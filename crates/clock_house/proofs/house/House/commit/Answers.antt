@@ -1,11 +1,13 @@
 use Rattle.std.proofs.Common.{◌≡◌, ℕ, List, [], ◌∷◌, ◌++◌, Bool, true, refl, ap, sym, subst, ◌∙◌, arith, length}
-use Rattle.std.specs.Prelude.{Option, None, map, reverse, is_ok, if◌then◌else◌}
+use Rattle.std.specs.Prelude.{Option, None, map, reverse, is_ok, if◌then◌else◌, unwrap_or}
 use Rattle.std.specs.List.{range_with_len}
 use Rattle.std.proofs.lemmas.List.{reverse-append}
 use Rattle.clock_terms.specs.Limits.{IsSetup}
+use Rattle.clock_terms.specs.declared.prices.PricePair.{PricePair}
 use Rattle.clock_bids.specs.declared.sheet.Bid.{Bid}
 use Rattle.clock_house.specs.Command.{close}
 use Rattle.clock_closing.specs.declared.closed_round.Slip.{Slip}
+use Rattle.clock_closing.specs.Prepared.{PreparedClosing}
 use Rattle.clock_closing.specs.inside.OpenRound.{eligibilities_of}
 use Rattle.clock_house.specs.Standing.{Holding, standing_after}
 use Rattle.clock_house.specs.History.{ClosedRound, standing}
@@ -25,21 +27,30 @@ round_after-self-inside-requires g c =
     let stands = subst (StandsFor c.self.invariant.commands) c.self.view_is c.self.invariant.stands in
     omega (
       arith,
-      ap (λ (one : ClosedRound). one.sheet.round) c.into_results-closed.ensures.closed,
+      ap (λ (one : ClosedRound). one.sheet.round) (ap (λ (one : PreparedClosing). one.closed) c.prepared.view_is),
       number.1,
       round_bounded c.args.self.now.setup.products (standing_in c.args.self.now) limits.product_count.1
           ((stands_sound c.args.self.now limits c.self.invariant.commands stands).priced number.0),
     )
 
-pub take_eligibilities-requires : goal.take_eligibilities-requires
-take_eligibilities-requires g c =
+pub take_slips-requires-clause-eligibilities : goal.take_slips-requires-clause-eligibilities
+take_slips-requires-clause-eligibilities g c =
     let slips = closed_slips c.args.self.now c.args.prepared.round c.args.prepared.increments c.args.prepared.ties c.args.prepared.closed c.requires.fits in
     let are = subst (λ (house : HouseFields). c.self.inside.eligibilities ≡ eligibilities_of (open_round_in house)) c.self.view_is
     c.self.invariant.eligibilities_are in
-    ap length c.as_slice.ensures
-    ∙ ap (λ (one : ClosedRound). length one.slips) c.into_results-closed.ensures.closed
+    ap length c.as_slice-slips.ensures
+    ∙ ap (λ (one : ClosedRound). length one.slips) (ap (λ (one : PreparedClosing). one.closed) c.prepared.view_is)
     ∙ slips
     ∙ sym (many_eligibilities c.args.self.now c.self.inside.eligibilities are)
+
+pub take_slips-requires-clause-sheets : goal.take_slips-requires-clause-sheets
+take_slips-requires-clause-sheets g c =
+    let slips = closed_slips c.args.self.now c.args.prepared.round c.args.prepared.increments c.args.prepared.ties c.args.prepared.closed c.requires.fits in
+    let setup = ap (λ (house : HouseFields). length house.setup.bidders) c.self.view_is in
+    ap length c.as_slice-slips.ensures
+    ∙ ap (λ (one : ClosedRound). length one.slips) (ap (λ (one : PreparedClosing). one.closed) c.prepared.view_is)
+    ∙ slips
+    ∙ sym (stands_sheets _ c.self.invariant.commands c.self.invariant.stands ∙ setup)
 
 pub unwrap-requires : goal.unwrap-requires
 unwrap-requires g c = c.push.ensures.succeeds (omega (arith, (rw (← c.self.view_is) at c.requires.room)))
@@ -54,12 +65,12 @@ pub invariant_of-self : goal.invariant_of-self
 invariant_of-self g c =
     let house : HouseFields = record { setup = c.self.inside.setup; closed = reverse c.self.inside.rounds.items; sheets = c.self.inside.sheets; spare = 0 } in
     let asked = c.args.prepared in
-    let results = c.into_results-closed.result in
+    let results = c.prepared.inside.results in
     let fits = fits_like _ c.args.self.now c.args.prepared (sym c.self.view_is) c.requires.fits in
-    let done = c.into_results-closed.ensures.closed in
-    let added = is_added c.self.inside.rounds.items c.push.new.self.items (is_ok c.push.result) c.into_results-closed.result.closed c.args.prepared.closed
+    let done = (ap (λ (one : PreparedClosing). one.closed) c.prepared.view_is) in
+    let added = is_added c.self.inside.rounds.items c.push.new.self.items (is_ok c.push.result) c.prepared.inside.results.closed c.args.prepared.closed
     (c.push.ensures.succeeds (omega (arith, (rw (← c.self.view_is) at c.requires.room)))) c.push.ensures.items done in
-    let none = c.clear.ensures ∙ ap (λ (n : ℕ). map (λ (bidder : ℕ). let sheet : Option (List Bid) = None in sheet) (range_with_len 0 n))
+    let none = c.take_slips.ensures.sheets ∙ ap (λ (n : ℕ). map (λ (bidder : ℕ). let sheet : Option (List Bid) = None in sheet) (range_with_len 0 n))
     (stands_sheets _ c.self.invariant.commands c.self.invariant.stands) in
     let slips = closed_slips house asked.round asked.increments asked.ties asked.closed fits in
     record {
@@ -72,22 +83,23 @@ invariant_of-self g c =
           ∙ ap (λ (one : ClosedRound). (standing_after one.sheet).round) done
           ∙ sym (ap (λ (closed : List ClosedRound). (standing c.self.inside.setup.products closed).round) added);
       prices_are = λ going.
-          c.take_prices.ensures
+          c.unwrap_or.ensures
+          ∙ ap (λ (old : List PricePair). unwrap_or results.next old) c.replace-prices.ensures.value
           ∙ taken_prices results.next c.self.inside.prices results.closed.sheet.lines results.closed.sheet.ended going
-          c.into_results-closed.ensures.consistent.end c.into_results-closed.ensures.consistent.shown
+          c.prepared.invariant.end c.prepared.invariant.shown
           ∙ ap (λ (one : ClosedRound). (standing_after one.sheet).prices) done
           ∙ sym (ap (λ (closed : List ClosedRound). (standing c.self.inside.setup.products closed).prices) added);
       eligibilities_are = next_held c.self.inside.setup (λ (held : Holding). held.eligibility) 0 _ results.closed asked.closed _ _
-          (c.take_eligibilities.ensures ∙ ap (map (λ (slip : Slip). slip.eligibility)) c.as_slice.ensures) done slips added;
+          (c.take_slips.ensures.eligibilities ∙ ap (map (λ (slip : Slip). slip.eligibility)) c.as_slice-slips.ensures) done slips added;
       demands_are = next_held c.self.inside.setup (λ (held : Holding). held.demands) [] _ results.closed asked.closed _ _
-          (c.replace.ensures.after ∙ c.into_results-closed.ensures.consistent.demands) done slips added;
+          (c.replace.ensures.after ∙ c.prepared.invariant.demands) done slips added;
     }
 
 pub returns-clause-closed : goal.returns-clause-closed
 returns-clause-closed g c =
-    let added = is_added c.self.inside.rounds.items c.push.new.self.items (is_ok c.push.result) c.into_results-closed.result.closed c.args.prepared.closed
-    (c.push.ensures.succeeds (omega (arith, (rw (← c.self.view_is) at c.requires.room)))) c.push.ensures.items c.into_results-closed.ensures.closed in
-    let none = c.clear.ensures ∙ ap (λ (n : ℕ). map (λ (bidder : ℕ). let sheet : Option (List Bid) = None in sheet) (range_with_len 0 n))
+    let added = is_added c.self.inside.rounds.items c.push.new.self.items (is_ok c.push.result) c.prepared.inside.results.closed c.args.prepared.closed
+    (c.push.ensures.succeeds (omega (arith, (rw (← c.self.view_is) at c.requires.room)))) c.push.ensures.items (ap (λ (one : PreparedClosing). one.closed) c.prepared.view_is) in
+    let none = c.take_slips.ensures.sheets ∙ ap (λ (n : ℕ). map (λ (bidder : ℕ). let sheet : Option (List Bid) = None in sheet) (range_with_len 0 n))
     (stands_sheets _ c.self.invariant.commands c.self.invariant.stands) in
     rw (← c.self.view_is) (record { setup = refl; closed = added; sheets = none })
 
@@ -95,9 +107,9 @@ pub returns-clause-followed : goal.returns-clause-followed
 returns-clause-followed g c =
     let asked = c.args.prepared in
     let fits = fits_like _ c.args.self.now c.args.prepared (sym c.self.view_is) c.requires.fits in
-    let added = is_added c.self.inside.rounds.items c.push.new.self.items (is_ok c.push.result) c.into_results-closed.result.closed c.args.prepared.closed
-    (c.push.ensures.succeeds (omega (arith, (rw (← c.self.view_is) at c.requires.room)))) c.push.ensures.items c.into_results-closed.ensures.closed in
-    let none = c.clear.ensures ∙ ap (λ (n : ℕ). map (λ (bidder : ℕ). let sheet : Option (List Bid) = None in sheet) (range_with_len 0 n))
+    let added = is_added c.self.inside.rounds.items c.push.new.self.items (is_ok c.push.result) c.prepared.inside.results.closed c.args.prepared.closed
+    (c.push.ensures.succeeds (omega (arith, (rw (← c.self.view_is) at c.requires.room)))) c.push.ensures.items (ap (λ (one : PreparedClosing). one.closed) c.prepared.view_is) in
+    let none = c.take_slips.ensures.sheets ∙ ap (λ (n : ℕ). map (λ (bidder : ℕ). let sheet : Option (List Bid) = None in sheet) (range_with_len 0 n))
     (stands_sheets _ c.self.invariant.commands c.self.invariant.stands) in
     rw (← c.self.view_is)
     (record {

@@ -6,12 +6,12 @@ pub invariant_of-result : goal.invariant_of-result
 invariant_of-result g c =
     rw c.new.ensures.items
     (record {
-      limits = c.in-Ok.ensures.limits;
+      limits = c.in_ok-prices.ensures.limits;
       commands = [];
-      stands = record { closed = refl; sheets = c.in-Ok.ensures.sheets };
+      stands = record { closed = refl; sheets = c.in_ok-prices.ensures.sheets };
       ended_is = refl;
       round_is = refl;
-      prices_are = λ going. c.in-Ok.ensures.prices;
-      eligibilities_are = c.in-Ok.ensures.eligibilities ∙ first_eligibilities c.args.setup;
-      demands_are = c.in-Ok.ensures.demands ∙ first_demands c.args.setup;
+      prices_are = λ going. c.in_ok-prices.ensures.prices;
+      eligibilities_are = c.in_ok-prices.ensures.eligibilities ∙ first_eligibilities c.args.setup;
+      demands_are = c.in_ok-prices.ensures.demands ∙ first_demands c.args.setup;
     })

@@ -9,15 +9,15 @@ use Rattle.clock_json.proofs.parts.AnyPartReader.part.Goals as goal
 pub members-init : goal.members-init
 members-init g c =
     let levels = g.M.ScannedMembers.levels in
-    let start = c.opens_object.new.self in
+    let start = c.opens.new.self in
     (subst (λ found. HasMembers levels start found start) (sym c.nothing-found.ensures) (members_start levels start), omega arith)
 
 pub members-preserved : goal.members-preserved
 members-preserved g c =
     let l = c.members in
     let members = g.M.ScannedMembers in
-    let start = c.opens_object.new.self in
-    let same : c.closes_object.new.self ≡ l.scan = grind arith in
+    let start = c.opens.new.self in
+    let same : c.closes.new.self ≡ l.scan = grind arith in
     let has = subst (λ ts. HasMembers members.levels start (members_of (members.fields l.found)) ts) (sym same) l.invariant.0 in (
       adds_member members.levels start _ _ _ _ _ _ has c.in_ok-key.ensures c.in_ok-read.ensures.value,
       omega (arith, l.invariant.1, c.in_ok-read.ensures.shorter, ap length c.in_ok-key.ensures, ap length same),
@@ -36,8 +36,8 @@ returns-clause-value g c =
     let members = g.M.ScannedMembers in
     let l = c.members in
     let old = c.args.scan.now in
-    let new = c.closes_object.new.self in
+    let new = c.closes.new.self in
     let found = members_of (members.fields l.found) in
     let closed : l.scan ≡ Token.end_object ∷ new = grind arith in
     whole_read (suc members.levels) old new (object found) members.shown c.whole.result c.ok_or.result c.ok_or.ensures.ok_part c.whole.ensures
-    (members_end members.levels old c.opens_object.new.self l.scan new found c.in_ok-opens_object.ensures l.invariant.0 closed)
+    (members_end members.levels old c.opens.new.self l.scan new found c.in_ok-opens.ensures l.invariant.0 closed)

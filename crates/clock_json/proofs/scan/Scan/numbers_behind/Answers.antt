@@ -7,7 +7,7 @@ use Rattle.clock_json.proofs.scan.Scan.numbers_behind.Goals as goal
 
 pub items-init : goal.items-init
 items-init c =
-    let start = c.opens_array.new.self in
+    let start = c.opens.new.self in
     ([], sym (append-nil c.args.list.now.items), items_start 0 start, omega arith)
 
 pub items-preserved : goal.items-preserved
@@ -18,9 +18,9 @@ items-preserved c =
     let here = c.number.new.self in
     let new = c.further_numbers.new.self in
     let more = c.in_ok-further_numbers.ensures in
-    let start = c.opens_array.new.self in
+    let start = c.opens.new.self in
     let had = c.args.list.now.items in
-    let same : c.closes_array.new.self ≡ l.self = grind arith in
+    let same : c.closes.new.self ≡ l.self = grind arith in
     let reads : Reads 0 l.self (whole next) here = subst (λ ts. Reads 0 ts (whole next) here) same c.in_ok-next.ensures.value in (
       (row ++ next ∷ []) ++ more.0,
       more.1
@@ -34,15 +34,15 @@ pub items-smaller : goal.items-smaller
 items-smaller c =
     let here = c.number.new.self in
     let more = c.in_ok-further_numbers.ensures in
-    let same : c.closes_array.new.self ≡ c.items.self = grind arith in
+    let same : c.closes.new.self ≡ c.items.self = grind arith in
     omega (arith, c.in_ok-next.ensures.shorter, ap length same, all_shorter 0 here (map whole more.0) c.further_numbers.new.self more.2)
 
 pub returns-clause-value : goal.returns-clause-value
 returns-clause-value c =
     let l = c.items in
-    let closed : l.self ≡ Token.end_array ∷ c.closes_array.new.self = grind arith in (
+    let closed : l.self ≡ Token.end_array ∷ c.closes.new.self = grind arith in (
       l.invariant.0,
       l.invariant.1,
-      items_end 0 c.args.self.now c.opens_array.new.self l.self c.closes_array.new.self (map whole l.invariant.0)
-          c.in_ok-opens_array.ensures l.invariant.2 closed,
+      items_end 0 c.args.self.now c.opens.new.self l.self c.closes.new.self (map whole l.invariant.0)
+          c.in_ok-opens.ensures l.invariant.2 closed,
     )

@@ -5,7 +5,7 @@ use Rattle.std.specs.Prelude.{drop}
 use Rattle.std.specs.Result.{MatchResult, result_or}
 use Rattle.serde_json.specs.Data.{string}
 use Rattle.clock_json.specs.Left.{place_of, left}
-use Rattle.clock_json.proofs.LexLaws.{text_begins, at_byte}
+use Rattle.clock_json.proofs.LexLaws.{text_begins}
 use Rattle.clock_json.proofs.Steps.{text_reads, reads_shorter}
 use Rattle.clock_json.proofs.scan.Scan.text.Goals as goal
 
@@ -20,14 +20,10 @@ read_text P Q (Err fault) told answer text is was cases = absurd cc
 pub returns-clause-value : goal.returns-clause-value
 returns-clause-value c =
     let s = c.self.inside in
-    let next = c.after_space-next.result in
     let text = c.in_ok-text.text.now in
-    let mark = c.ends_text.ensures in
-    let ends = c.if-not-ends_text.false in
     let may : may_begin (place_of s.expected) ≡ true = sym c.may_begin.ensures ∙ c.if-not-may_begin.false in
-    let here = at_byte s.bytes.now next _ (c.byte_at.ensures.within (mark.something ends)) (sym c.byte_at.ensures.value) in
     let still : begins_colon (lex between (drop c.in_ok-bytes.at s.bytes.now)) ≡ false =
-    ap begins_colon (sym c.after_space-next.ensures ∙ ap (lex between) here) ∙ mark.mark ends _ in
+    ap begins_colon (sym c.after_space.ensures) ∙ c.ends_text.ensures c.if-not-ends_text.false in
     let read : text ≡ c.in_ok-bytes.bytes.now = (read_text _ _ c.from_utf8.result _ _ c.in_ok-text.text c.or.ensures c.in_ok-text.was c.from_utf8.ensures.cases).0 in
     text_reads text c.args.self.now _
     (sym c.self.view_is ∙ text_begins (place_of s.expected) _ _ _ may (sym c.after_space-at.ensures ∙ c.in_ok-bytes.ensures) still

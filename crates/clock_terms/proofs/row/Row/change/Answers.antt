@@ -1,5 +1,5 @@
 use Rattle.std.proofs.Common.{ℕ, List, set, vec_capacity, ap, ◌∙◌, arith}
-use Rattle.clock_terms.specs.Demands.{demand_after}
+use Rattle.clock_terms.specs.Demands.{changed_demand}
 use Rattle.clock_terms.proofs.HeldLaws.{below_count, read_demand, updated}
 use Rattle.clock_terms.proofs.StartLaws.{start_read}
 use Rattle.clock_terms.proofs.row.Row.change.Goals as goal
@@ -25,7 +25,7 @@ after-requires c =
     let row = c.self.inside in
     let before = read_demand row.count row.held.items c.as_slice-2.result.now c.args.self.now c.args.product c.demand_at-before.result c.self.view_is
     c.requires.product c.as_slice-2.ensures.value c.demand_at-before.ensures.is in
-    omega (arith, ap (demand_after c.args.new) before, c.requires.small)
+    omega (arith, ap (λ (demand : ℕ). changed_demand c.args.kind demand c.args.amount) before, c.requires.small)
 
 pub store-requires-clause-room : goal.store-requires-clause-room
 store-requires-clause-room c =
@@ -42,7 +42,7 @@ store-requires-clause-small c =
     let row = c.self.inside in
     let before = read_demand row.count row.held.items c.as_slice-2.result.now c.args.self.now c.args.product c.demand_at-before.result c.self.view_is
     c.requires.product c.as_slice-2.ensures.value c.demand_at-before.ensures.is in
-    omega (arith, c.after.ensures, ap (demand_after c.args.new) before, c.requires.small)
+    omega (arith, c.after.ensures, ap (λ (demand : ℕ). changed_demand c.args.kind demand c.args.amount) before, c.requires.small)
 
 pub invariant_of-self : goal.invariant_of-self
 invariant_of-self c =
@@ -72,4 +72,4 @@ returns-clause-changed c =
     let within = below_count row.count row.held.items c.args.self.now product c.self.view_is c.requires.product in
     updated row.count row.held.items c.store.new.held.items product c.after.result c.store.ensures.stored within
     ∙ ap (λ (list : List ℕ). set list product c.after.result) c.self.view_is
-    ∙ ap (λ (demand : ℕ). set c.args.self.now product demand) (c.after.ensures ∙ ap (demand_after c.args.new) before)
+    ∙ ap (λ (demand : ℕ). set c.args.self.now product demand) (c.after.ensures ∙ ap (λ (demand : ℕ). changed_demand c.args.kind demand c.args.amount) before)

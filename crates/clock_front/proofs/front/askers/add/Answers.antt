@@ -1,0 +1,12 @@
+use Rattle.std.proofs.Common.{List, ℕ, cond, ap, ◌∙◌}
+use Rattle.clock_http.specs.Heads.{same_bytes}
+use Rattle.clock_front.specs.inside.HeldTokens.{found}
+use Rattle.clock_front.proofs.TokenLaws.{Entries, found-insert}
+use Rattle.clock_front.proofs.front.askers.add.Goals as goal
+
+pub returns : goal.returns
+returns c =
+    let before = c.args.tokens.now.entries in
+    λ other. ap (λ (entries : Entries). found entries other) c.in_ok-insert.ensures.entries
+    ∙ found-insert before _ c.args.asker other
+    ∙ ap (λ (bytes : List ℕ). cond (same_bytes other bytes) c.args.asker (found before other)) c.in_ok-from_slice.ensures.items

@@ -1,0 +1,21 @@
+use Rattle.std.proofs.Common.{Option, length, ap, subst, sym, ◌∙◌}
+use Rattle.std.specs.Prelude.{unwrap_or}
+use Rattle.clock_front.specs.Askers.{holder}
+use Rattle.clock_front.specs.inside.Askers.{IsKnown}
+use Rattle.clock_front.specs.inside.HeldTokens.{asker_by, found, tokens_of}
+use Rattle.clock_http.specs.Shown.{shown_bytes}
+use Rattle.clock_front.specs.declared.front.askers.Asker.{Asker}
+use Rattle.clock_front.specs.declared.front.askers.Asker.TheVariants.{Nobody}
+use Rattle.clock_front.proofs.TokenLaws.{asker_known, asker_same, found-lookup}
+use Rattle.clock_front.proofs.front.askers.asker_of.Goals as goal
+
+pub returns-in-Some-clause-shown : goal.returns-in-Some-clause-shown
+returns-in-Some-clause-shown c =
+    let entries = c.args.tokens.now.entries in
+    λ setup table. c.unwrap_or.ensures ∙ ap (λ (o : Option Asker). unwrap_or o Nobody) (c.copied.ensures ∙ c.get.ensures.value)
+    ∙ found-lookup entries c.in-Some.token.now ∙ ap (λ t. asker_by (found entries) (shown_bytes t)) (sym c.in-Some.is)
+    ∙ asker_same (found entries) (holder (tokens_of setup)) table (shown_bytes c.args.token)
+
+pub returns-in-Some-clause-known : goal.returns-in-Some-clause-known
+returns-in-Some-clause-known c =
+    λ setup table. subst (IsKnown (length setup.bidders)) (sym (returns-in-Some-clause-shown c setup table)) (asker_known setup (shown_bytes c.args.token))

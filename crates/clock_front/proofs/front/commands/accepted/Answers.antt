@@ -1,5 +1,0 @@
-use Rattle.clock_front.proofs.PageLaws.{written_page}
-use Rattle.clock_front.proofs.front.commands.accepted.Goals as goal
-
-pub returns : goal.returns
-returns c = written_page _ _ _ _ _ c.written.ensures c.in_ok-text.ensures

@@ -1,8 +1,0 @@
-use Rattle.clock_views.specs.OperatorPages.{results_value}
-use Rattle.clock_front.proofs.PageLaws.{written_page}
-use Rattle.clock_front.proofs.front.pages.results.Goals as goal
-
-pub returns-clause-reply : goal.returns-clause-reply
-unfolding results_value
-returns-clause-reply g c =
-    written_page _ _ _ _ (results_value c.args.house.now) c.written.ensures c.in_ok-text.ensures

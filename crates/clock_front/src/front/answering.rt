@@ -1,0 +1,151 @@
+//! The reply to a request, by the page that it names and by who asks. The page of a change is built before the change.
+
+ghost use Rattle.std.specs.Prelude.{◌≡◌, ◌≢◌, ◌<◌, Ok, Err, length, IfOk, IfErr, OnOk, OnErr};
+ghost use Rattle.clock_http.specs.{Routes.{page_of}, Shown.{shown_head}};
+ghost use Rattle.clock_house.specs.House.{StandsStill};
+ghost use Rattle.clock_views.specs.Refusals.{alone};
+ghost use Rattle.clock_bodies.specs.{Bodies.{put_body}, CloseBodies.{close_body, in_version}};
+ghost use Rattle.clock_front.specs.declared.front.askers.Asker.TheVariants as who;
+ghost use Rattle.clock_front.specs.{Outcomes.{answer_of, body_code, outcome, refused}, Rooms.{WantsRoom}};
+ghost use Rattle.clock_front.specs.Requests as asked;
+ghost use Rattle.clock_front.specs.inside.{Askers.{IsKnown}, KeptPage.{IsProductsPage}, Replies.{IsReplyTo}};
+
+use crate::front::Kept;
+use crate::front::askers::Asker;
+use crate::front::replies::{
+    Unanswered, account, bids, products, refusal, results, sheet, slip, status,
+};
+use clock_bodies::{BodyFault, CloseBody, is_of_version, read_close, read_put};
+use clock_device::NoMemory;
+use clock_house::{CloseFault, House, PutFault};
+use clock_http::{Code, HEADROOM, Head, Page, Reply, last_segment};
+use clock_processor::Processor;
+use clock_terms::Setup;
+use clock_views::{Refusal, headed_accepted, headed_closed};
+use std::alloc::Global;
+
+/// A refusal of a body for its fault, unless that is want of memory.
+fn refused_body(alloc: Global, fault: BodyFault) -> Result<Reply, NoMemory>
+    ensures reply { IfOk result (λ reply. reply ≡ answer_of (refused (alone (body_code fault)))) }
+    ensures known { OnOk result (fault ≢ BodyFault.NoMemory) }
+{
+    match fault {
+        BodyFault::NotJson => Ok(refusal(alloc, Refusal::alone(Code::BadJson), None)?),
+        BodyFault::Shape => Ok(refusal(alloc, Refusal::alone(Code::Shape), None)?),
+        BodyFault::NoMemory => Err(NoMemory),
+    }
+}
+
+/// Puts the sheet that a body means in force, or tells the first fault.
+fn put_sheet<P: Processor>(
+    alloc: Global,
+    house: &mut House<P>,
+    bidder: u32,
+    body: &[u8],
+) -> Result<Reply, NoMemory>
+    requires { bidder < length house.old.setup.bidders }
+    ensures done { IfOk result (IsReplyTo (who.Bidder bidder) (asked.put (put_body body.now)) house.old house.new) }
+    ensures still { OnErr result (StandsStill house.old house.new) }
+{
+    let sheet = match read_put(alloc, body) {
+        Ok(sheet) => sheet,
+        Err(fault) => return refused_body(alloc, fault),
+    };
+    let count = sheet.bids.as_slice().len() as u64;
+    match house.prepare_sheet(bidder, sheet.round, sheet.bids) {
+        Ok(prepared) => {
+            let text = headed_accepted(alloc, HEADROOM, sheet.round, count)?;
+            house.commit_put(prepared);
+            Ok(Reply::written(Code::Done, None, text))
+        }
+        Err(PutFault::NoMemory) => Err(NoMemory),
+        Err(fault) => Ok(refusal(alloc, Refusal::from(fault), None)?),
+    }
+}
+
+/// The closing that a body means under a set-up, or its first fault.
+fn closing_of(alloc: Global, setup: &Setup, body: &[u8]) -> Result<CloseBody, BodyFault>
+    ensures ok { IfOk result (λ closing. in_version setup.now.version (close_body body.now) ≡ Ok closing) }
+    ensures err { IfErr result (λ fault. fault ≢ BodyFault.NoMemory
+        → in_version setup.now.version (close_body body.now) ≡ Err fault) }
+{
+    let closing = read_close(alloc, body)?;
+    if is_of_version(setup.version, &closing.increments) {
+        Ok(closing)
+    } else {
+        Err(BodyFault::Shape)
+    }
+}
+
+/// Closes the round by a body, or tells the first fault.
+fn close_round<P: Processor>(
+    alloc: Global,
+    house: &mut House<P>,
+    body: &[u8],
+) -> Result<Reply, NoMemory>
+    ensures done { IfOk result (IsReplyTo who.Operator (asked.close (close_body body.now)) house.old house.new) }
+    ensures still { OnErr result (StandsStill house.old house.new) }
+{
+    let closing = match closing_of(alloc, house.setup(), body) {
+        Ok(closing) => closing,
+        Err(fault) => return refused_body(alloc, fault),
+    };
+    let round = closing.round;
+    let settled = house.prepare(round, &closing.increments, closing.ties.as_slice());
+    drop(closing);
+    match settled {
+        Ok(settled) => {
+            let text = headed_closed(alloc, HEADROOM, round, settled.ended())?;
+            house.commit(settled);
+            Ok(Reply::written(Code::Done, None, text))
+        }
+        Err(CloseFault::NoMemory) => Err(NoMemory),
+        Err(why) => Ok(refusal(alloc, Refusal::from(why), None)?),
+    }
+}
+
+/// The reply to a request, which tells a page, or makes a change, or refuses it.
+pub(crate) fn answer_request<P: Processor>(
+    alloc: Global,
+    house: &mut House<P>,
+    kept: &Kept,
+    asker: Asker,
+    head: &Head<'_>,
+    body: &[u8],
+) -> Result<Reply, Unanswered>
+    requires page { IsProductsPage house.old.setup kept.now.products }
+    requires known { IsKnown (length house.old.setup.bidders) asker }
+    ensures done { IfOk result (IsReplyTo asker (asked.ask_by_route (page_of head.now.path.now) (shown_head head.now)
+        body.now) house.old house.new) }
+    ensures wanted { IfErr result (WantsRoom asker (asked.ask_by_route (page_of head.now.path.now) (shown_head head.now)
+        body.now) (outcome house.old asker (asked.ask_by_route (page_of head.now.path.now) (shown_head head.now)
+        body.now))) }
+    ensures still { OnErr result (StandsStill house.old house.new) }
+{
+    let Some(page) = kept.routes.page_of(head.path) else {
+        return Ok(refusal(alloc, Refusal::alone(Code::NoPage), None)?);
+    };
+    if !page.has_method(head.method) {
+        return Ok(refusal(alloc, Refusal::alone(Code::Method), Some(page))?);
+    }
+    match (page, asker) {
+        (Page::Status, _) => Ok(status(alloc, house)?),
+        (Page::Products, _) => Ok(products(alloc, kept.products.as_slice())?),
+        (Page::Sheet, _) => Ok(sheet(alloc, house, last_segment(head.path))?),
+        (Page::Account, Asker::Bidder(bidder)) => Ok(account(alloc, house, bidder)?),
+        (Page::Bids, Asker::Bidder(bidder)) if head.is_put() => Ok(put_sheet(
+            alloc, house, bidder, body,
+        )?),
+        (Page::Bids, Asker::Bidder(bidder)) => Ok(bids(alloc, house, bidder)?),
+        (Page::Slip, Asker::Bidder(bidder)) => Ok(slip(
+            alloc,
+            house,
+            bidder,
+            last_segment(head.path),
+        )?),
+        (Page::Close, Asker::Operator) => Ok(close_round(alloc, house, body)?),
+        (Page::Results, Asker::Operator) => Ok(results(alloc, house)?),
+        (_, Asker::Nobody) => Ok(refusal(alloc, Refusal::alone(Code::Token), None)?),
+        (_, _) => Ok(refusal(alloc, Refusal::alone(Code::Role), None)?),
+    }
+}

@@ -1,0 +1,65 @@
+//! Who asks, by the token of a request.
+ghost use Rattle.std.specs.Prelude.{◌≡◌, ℕ, List, length, IfOk, OnOk, if◌then◌else◌};
+ghost use Rattle.clock_terms.specs.Limits.{SetupFields};
+ghost use Rattle.clock_http.specs.{Shown.{shown_bytes}, Heads.{same_bytes}};
+ghost use Rattle.clock_front.specs.{Askers.{asker as asker_with}, inside.Askers.{IsKnown}, inside.HeldTokens.{found, IsTableOf}};
+
+use clock_device::NoMemory;
+use clock_terms::Setup;
+use indexmap::IndexMap;
+use std::alloc::Global;
+
+/// Who asks.
+#[derive(Clone, Copy)]
+pub(crate) enum Asker {
+    /// Nobody that the set-up knows.
+    Nobody,
+    /// The operator.
+    Operator,
+    /// The bidder of this number.
+    Bidder(u32),
+}
+
+/// Whose each token is. A token is looked up by hash, in a time that does not grow with the number of bidders.
+pub(crate) type Tokens = IndexMap<Vec<u8>, Asker>;
+
+/// Adds a token, which is found before those that were added.
+fn add(alloc: Global, tokens: &mut Tokens, token: &[u8], asker: Asker) -> Result<(), NoMemory>
+    ensures { OnOk result ((other : List ℕ) → found tokens.new.entries other
+        ≡ (if same_bytes other token.now then asker else found tokens.old.entries other)) }
+{
+    tokens.insert(Vec::from_slice(alloc, token)?, asker)?;
+    Ok(())
+}
+
+/// The tokens of a set-up.
+pub(crate) fn tokens_of(alloc: Global, setup: &Setup) -> Result<Tokens, NoMemory>
+    ensures { IfOk result (λ tokens. IsTableOf setup.now tokens.entries) }
+{
+    let mut tokens = IndexMap::new(alloc);
+    let mut number = setup.bidders.len();
+    while number > 0 {
+        number -= 1;
+        let token = setup.bidders[number].token.as_slice();
+        add(alloc, &mut tokens, token, Asker::Bidder(number as u32))?;
+    }
+    add(
+        alloc,
+        &mut tokens,
+        setup.operator.as_slice(),
+        Asker::Operator,
+    )?;
+    Ok(tokens)
+}
+
+/// Who asks with a token, or with none. It takes no memory.
+pub(crate) fn asker_of(tokens: &Tokens, token: Option<&[u8]>) -> Asker
+    ensures shown { (setup : SetupFields) → IsTableOf setup tokens.now.entries → result
+        ≡ asker_with setup (shown_bytes token.entry) }
+    ensures known { (setup : SetupFields) → IsTableOf setup tokens.now.entries → IsKnown (length setup.bidders) result }
+{
+    match token {
+        Some(token) => tokens.get(token).copied().unwrap_or(Asker::Nobody),
+        None => Asker::Nobody,
+    }
+}

@@ -1,0 +1,164 @@
+//! Replies that tell of the auction and change nothing; those that are always the same, and take no memory; and why
+//! there is none.
+
+ghost use Rattle.std.specs.Prelude.{◌≡◌, ◌<◌, length, IfOk, IfErr, IsTrue};
+ghost use Rattle.clock_terms.specs.Limits.{SetupFields, public_setup};
+ghost use Rattle.clock_views.specs.{PublicPages.{products_value}, RefusalPage.{refusal_value}};
+ghost use Rattle.clock_front.specs.declared.front.askers.Asker.TheVariants as who;
+ghost use Rattle.clock_front.specs.declared.front.replies.Unanswered.TheVariants as unanswered;
+ghost use Rattle.clock_front.specs.{FixedReplies.{no_memory}, Outcomes.{answer_of, done, with_page}, Rooms.{refusal_room}};
+ghost use Rattle.clock_front.specs.inside.{FixedReplies.{is_fixed, refusal_of}, KeptPage.{IsProductsPage}, Replies.{IsPageIn, IsTold}};
+ghost use Rattle.clock_front.specs.Requests as asked;
+
+use clock_device::NoMemory;
+use clock_house::House;
+use clock_http::{Code, HEADROOM, NoRoom, Page, Reply, plain_number, text_with_room};
+use clock_views::{
+    Refusal, headed_account, headed_bids, headed_refusal, headed_results, headed_sheet,
+    headed_slip, headed_status,
+};
+use std::alloc::Global;
+
+/// Why a text gets no other reply than that of want of memory.
+#[derive(Debug, Drop)]
+pub enum Unanswered {
+    /// It changes nothing, and room for the page of its reply was asked for and refused.
+    Room(NoRoom),
+    /// It asks for a change, and memory was refused on the way to that.
+    Change,
+}
+
+impl From<NoRoom> for Unanswered {
+    ghost from_gives = { λ refused why. why ≡ unanswered.Room refused };
+
+    fn from(refused: NoRoom) -> Unanswered {
+        Unanswered::Room(refused)
+    }
+}
+
+impl From<NoMemory> for Unanswered {
+    ghost from_gives = { λ _ why. why ≡ unanswered.Change };
+
+    fn from(_refused: NoMemory) -> Unanswered {
+        Unanswered::Change
+    }
+}
+
+/// The reply that refuses by a code alone. It takes no memory.
+pub(crate) fn fixed_reply(code: Code) -> Reply
+    requires { IsTrue (is_fixed code) }
+    ensures { result ≡ refusal_of code }
+{
+    let bytes: &'static [u8] = match code {
+        Code::LongHead => b"HTTP/1.1 431 Request Header Fields Too Large\r\nconnection: close\r\n\
+            content-length: 33\r\ncontent-type: application/json\r\n\r\n{\"code\":\"long_head\",\"status\":431}",
+        Code::BadHead => b"HTTP/1.1 400 Bad Request\r\nconnection: close\r\n\
+            content-length: 32\r\ncontent-type: application/json\r\n\r\n{\"code\":\"bad_head\",\"status\":400}",
+        Code::Coding => b"HTTP/1.1 501 Not Implemented\r\nconnection: close\r\n\
+            content-length: 30\r\ncontent-type: application/json\r\n\r\n{\"code\":\"coding\",\"status\":501}",
+        Code::BadLength => b"HTTP/1.1 400 Bad Request\r\nconnection: close\r\n\
+            content-length: 34\r\ncontent-type: application/json\r\n\r\n{\"code\":\"bad_length\",\"status\":400}",
+        Code::LongBody => b"HTTP/1.1 413 Payload Too Large\r\nconnection: close\r\n\
+            content-length: 33\r\ncontent-type: application/json\r\n\r\n{\"code\":\"long_body\",\"status\":413}",
+        Code::Memory => b"HTTP/1.1 503 Service Unavailable\r\nconnection: close\r\n\
+            content-length: 30\r\ncontent-type: application/json\r\n\r\n{\"code\":\"memory\",\"status\":503}",
+        _ => unreachable!(),
+    };
+    Reply::constant(code, bytes)
+}
+
+/// The reply where there was no memory. It takes none.
+pub fn no_memory_reply() -> Reply
+    ensures { result ≡ no_memory }
+{
+    fixed_reply(Code::Memory)
+}
+
+/// A refusal; of a method that a page has not, with that page.
+pub(crate) fn refusal(alloc: Global, why: Refusal, page: Option<Page>) -> Result<Reply, NoRoom>
+    ensures { IsPageIn (with_page why.code page (refusal_value why)) refusal_room result }
+{
+    let text = headed_refusal(alloc, HEADROOM, why)?;
+    Ok(Reply::written(why.code, page, text))
+}
+
+/// Where the auction stands.
+pub(crate) fn status<P>(alloc: Global, house: &House<P>) -> Result<Reply, NoRoom>
+    ensures { IsTold house.now who.Nobody asked.status result }
+{
+    let text = headed_status(alloc, HEADROOM, house.setup(), house.round(), house.ended())?;
+    Ok(Reply::written(Code::Done, None, text))
+}
+
+/// What is auctioned: a page that is at hand, since it never changes.
+pub(crate) fn products(alloc: Global, page: &[u8]) -> Result<Reply, NoRoom>
+    ensures reply { IfOk result (λ reply. (setup : SetupFields) → IsProductsPage setup page.now
+        → reply ≡ answer_of (done (products_value (public_setup setup)))) }
+    ensures room { IfErr result (λ room. room ≡ length page.now) }
+{
+    let mut text = text_with_room(alloc, HEADROOM, page.len() as u128)?;
+    text.extend_from_slice(page);
+    Ok(Reply::written(Code::Done, None, text.into_items()))
+}
+
+/// The sheet of the round that a segment names.
+pub(crate) fn sheet<P>(alloc: Global, house: &House<P>, segment: &[u8]) -> Result<Reply, NoRoom>
+    ensures { IsTold house.now who.Nobody (asked.sheet segment.now) result }
+{
+    let Some(round) = plain_number(segment) else {
+        return refusal(alloc, Refusal::alone(Code::NoRound), None);
+    };
+    let Some(sheet) = house.sheet(round) else {
+        return refusal(alloc, Refusal::alone(Code::NoRound), None);
+    };
+    let text = headed_sheet(alloc, HEADROOM, house.setup(), sheet)?;
+    Ok(Reply::written(Code::Done, None, text))
+}
+
+/// What a bidder holds.
+pub(crate) fn account<P>(alloc: Global, house: &House<P>, bidder: u32) -> Result<Reply, NoRoom>
+    requires { bidder < length house.now.setup.bidders }
+    ensures { IsTold house.now (who.Bidder bidder) asked.account result }
+{
+    let own = house.own(bidder);
+    let text = headed_account(alloc, HEADROOM, house.setup(), bidder, own, house.ended())?;
+    Ok(Reply::written(Code::Done, None, text))
+}
+
+/// A bidder's sheet of bids in force.
+pub(crate) fn bids<P>(alloc: Global, house: &House<P>, bidder: u32) -> Result<Reply, NoRoom>
+    requires { bidder < length house.now.setup.bidders }
+    ensures { IsTold house.now (who.Bidder bidder) asked.bids result }
+{
+    let text = headed_bids(alloc, HEADROOM, house.round(), house.bids(bidder))?;
+    Ok(Reply::written(Code::Done, None, text))
+}
+
+/// A bidder's results of the round that a segment names.
+pub(crate) fn slip<P>(
+    alloc: Global,
+    house: &House<P>,
+    bidder: u32,
+    segment: &[u8],
+) -> Result<Reply, NoRoom>
+    requires { bidder < length house.now.setup.bidders }
+    ensures { IsTold house.now (who.Bidder bidder) (asked.slip segment.now) result }
+{
+    let Some(round) = plain_number(segment) else {
+        return refusal(alloc, Refusal::alone(Code::NoRound), None);
+    };
+    let Some(slip) = house.slip(bidder, round) else {
+        return refusal(alloc, Refusal::alone(Code::NoRound), None);
+    };
+    let text = headed_slip(alloc, HEADROOM, slip)?;
+    Ok(Reply::written(Code::Done, None, text))
+}
+
+/// What all bidders hold.
+#[tactic(auto, unfolding(clock_views::specs::OperatorPages::results_value))]
+pub(crate) fn results<P>(alloc: Global, house: &House<P>) -> Result<Reply, NoRoom>
+    ensures { IsTold house.now who.Operator asked.results result }
+{
+    let text = headed_results(alloc, HEADROOM, house)?;
+    Ok(Reply::written(Code::Done, None, text))
+}

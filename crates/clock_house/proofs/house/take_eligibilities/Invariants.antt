@@ -1,7 +1,0 @@
-use Rattle.std.proofs.Common.{◌≡◌, ℕ, ◌<◌, length, get_or}
-use Rattle.clock_house.specs.inside.OpenRounds.{no_slip}
-use Rattle.clock_house.proofs.house.take_eligibilities.Given as goal
-
-abbrev pub invariant-loop-bidder : goal.invariant-loop-bidder
-invariant-loop-bidder l = (length l.eligibilities ≡ length l.slips)
-    × ((k : ℕ) → k < l.bidder → get_or l.eligibilities k 0 ≡ (get_or l.slips k no_slip).eligibility)

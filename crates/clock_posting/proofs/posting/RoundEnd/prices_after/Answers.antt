@@ -1,0 +1,79 @@
+use Rattle.std.proofs.Common.{◌≡◌, ℕ, ◌+◌, ◌-◌, ◌<◌, Bool, false, Some, None, List, [], ◌∷◌, ◌++◌, length, get_or, map, ap, sym, subst, ◌∙◌, arith, length-append}
+use Rattle.std.specs.Prelude.{is_none, unwrap_or, All, if◌then◌else◌}
+use Rattle.std.specs.List.{position_from, range_with_len}
+use Rattle.std.proofs.lemmas.List.Elements.{All-push}
+use Rattle.std.proofs.lemmas.List.{get_or_default, map-append}
+use Rattle.std.proofs.lemmas.List.FromFn.{map-range_with_len_more}
+use Rattle.clock_terms.specs.declared.prices.PricePair.{PricePair}
+use Rattle.clock_posting.specs.declared.posting.RoundEnd.{RoundEnd}
+use Rattle.clock_posting.specs.inside.Parts.{first_at_limit}
+use Rattle.clock_posting.specs.inside.RoundEnd.{limit_of, next_of}
+use Rattle.clock_posting.specs.Posting.{has_ended, next_clock, next_price, next_prices, post_fault, IsRising}
+use Rattle.clock_posting.proofs.Ranges.{first_is, first_is_later}
+use Rattle.clock_posting.proofs.posting.RoundEnd.prices_after.Goals as goal
+
+-- where the auction goes on
+limit_going : (end : RoundEnd) → has_ended end.products.now end.grid.now ≡ false →
+    limit_of end ≡ first_at_limit end.products.now end.increments.now end.posted.now
+limit_going end going = ap (λ (ended : Bool). if ended then None else first_at_limit end.products.now end.increments.now end.posted.now) going
+
+next_going : (end : RoundEnd) → has_ended end.products.now end.grid.now ≡ false →
+    next_of end ≡ Some (next_prices end.products.now end.increments.now end.posted.now)
+next_going end going = ap (λ (ended : Bool). if ended then None else Some (next_prices end.products.now end.increments.now end.posted.now)) going
+
+pub returns-in_default-clause-err : goal.returns-in_default-clause-err
+returns-in_default-clause-err c = λ _.
+    let end = c.args.self.now in
+    let test = λ (product : ℕ). is_none (next_clock end.products.now end.increments.now end.posted.now product) in
+    ap post_fault (limit_going end (sym c.has_ended.ensures ∙ c.if-has_ended.false) ∙ sym c.loop-product.invariant.rest
+    ∙ first_is test c.loop-product.product (length end.products.now) c.loop-product-test.true (ap is_none (sym c.in_default.ensures.exact)))
+
+pub loop-product-preserved : goal.loop-product-preserved
+loop-product-preserved c =
+    let end = c.args.self.now in
+    let product = c.loop-product.product in
+    let posted = end.posted.now in
+    let clock = next_clock end.products.now end.increments.now posted in
+    let f = next_price end.products.now end.increments.now posted in
+    let g = λ (pair : PricePair). Some pair.clock in
+    let below : product < length end.products.now = c.loop-product-test.true in
+    let read = get_or posted product c.index-self-product.result in
+    let start : read ≡ get_or posted product 0 = get_or_default posted product c.index-self-product.result 0 (omega (arith, below, c.requires.posted_each)) in
+    let item : PricePair = record { start = read; clock = c.in-Some.clock } in
+    let pair : item ≡ f product = λ k. record { start = start k; clock = unwrap_or (c.in-Some.ensures.exact k) 0 } in
+    let rises : IsRising item = omega (arith, start, c.in-Some.ensures.above) in
+    record {
+      lengths = ap length c.push.ensures.items ∙ length-append c.loop-product.next.items (item ∷ []) ∙ ap (λ n. n + 1) c.loop-product.invariant.lengths;
+      room = omega (arith, c.loop-product.invariant.room, c.push.ensures.room);
+      so_far = c.push.ensures.items
+          ∙ ap (λ (xs : List PricePair). xs ++ item ∷ []) c.loop-product.invariant.so_far
+          ∙ ap (λ (one : PricePair). map f (range_with_len 0 product) ++ one ∷ []) pair
+          ∙ sym (map-range_with_len_more f 0 product product (omega arith));
+      clocks = map-range_with_len_more clock 0 product product (omega arith)
+          ∙ ap (λ xs. xs ++ clock product ∷ []) c.loop-product.invariant.clocks
+          ∙ ap (λ one. map g c.loop-product.next.items ++ one ∷ []) (sym c.in-Some.ensures.exact)
+          ∙ sym (map-append g c.loop-product.next.items (item ∷ []))
+          ∙ ap (map g) (sym c.push.ensures.items);
+      rising = rw c.push.ensures.items (All-push IsRising c.loop-product.next.items item c.loop-product.invariant.rising rises);
+      rest = sym (first_is_later (λ (k : ℕ). is_none (clock k)) product (length end.products.now) below (ap is_none (sym c.in-Some.ensures.exact)))
+          ∙ c.loop-product.invariant.rest;
+    }
+
+pub returns : goal.returns
+returns c =
+    let end = c.args.self.now in
+    let product = c.loop-product.product in
+    let clock = next_clock end.products.now end.increments.now end.posted.now in
+    let going : has_ended end.products.now end.grid.now ≡ false = sym c.has_ended.ensures ∙ c.if-has_ended.false in
+    let whole : product ≡ length end.products.now = omega (arith, c.loop-product-test.false, c.loop-product.auto.product-end) in
+    let none : length end.products.now - product ≡ 0 = omega (arith, whole) in
+    record {
+      ok = ap Some (c.into_items.ensures ∙ c.loop-product.invariant.so_far
+          ∙ ap (λ n. map (next_price end.products.now end.increments.now end.posted.now) (range_with_len 0 n)) whole) ∙ sym (next_going end going);
+      clocks = ap (λ n. map clock (range_with_len 0 n)) (sym whole) ∙ c.loop-product.invariant.clocks
+          ∙ ap (map (λ (pair : PricePair). Some pair.clock)) (sym c.into_items.ensures);
+      rising = subst (λ (list : List PricePair). All IsRising list) (sym c.into_items.ensures) c.loop-product.invariant.rising;
+      possible = limit_going end going ∙ sym c.loop-product.invariant.rest
+          ∙ ap (λ n. position_from (λ k. is_none (clock k)) product (range_with_len product n)) none;
+      err = tt;
+    }

@@ -1,0 +1,7 @@
+use Rattle.std.proofs.Common.{take, All}
+use Rattle.clock_reports.specs.inside.Reports.{IsPricedLine}
+use Rattle.clock_reports.proofs.report.law_of_prices.Given as goal
+
+-- the lines so far are priced
+abbrev pub invariant-loop-line : goal.invariant-loop-line
+invariant-loop-line l = All IsPricedLine (take l.line-index l.lines)

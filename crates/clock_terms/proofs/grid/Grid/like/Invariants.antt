@@ -1,6 +1,0 @@
-use Rattle.std.proofs.Common.{◌≡◌, take}
-use Rattle.clock_terms.proofs.grid.Grid.like.Given as goal
-
--- the rows so far are those of the others
-abbrev pub invariant-loop-row : goal.invariant-loop-row
-invariant-loop-row l = l.rows.items ≡ take l.row-index l.row-items
