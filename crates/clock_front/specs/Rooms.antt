@@ -53,7 +53,7 @@ abbrev pub page_room : Ask → Data → ℕ
 page_room asked.products value = length (compact_text value)
 page_room ask value = most_text value
 
--- what the page of any refusal may take: REFUSAL_ROOM of clock_views
+-- what the page of any refusal may take: that of `headed_refusal` of clock_views
 abbrev pub refusal_room : ℕ
 refusal_room = 132
 

@@ -24,5 +24,5 @@ pub use head::EndedHead;
 pub use headers::MOST_BODY;
 pub use laws::{law_decided_once, law_head_of_grammar, law_known_by_parts, law_one_head};
 pub use progress::{Framing, Head, Progress, frame};
-pub use reply::{NoRoom, Reply, text_with_room};
+pub use reply::{HEADROOM, NoRoom, Reply, text_with_room};
 pub use routes::{Page, Routes, last_segment};

@@ -8,8 +8,11 @@ use itoa::Buffer;
 use std::alloc::Global;
 use std::marker::Model;
 
-/// How many bytes a text has at its front for the head of a reply, which is written once the page behind it is there.
-pub(crate) const HEAD_ROOM: usize = 256;
+/// The most bytes of a reply's head. So many stand before its page, and the head is written there once the page is.
+const MOST_HEAD: usize = 256;
+
+/// What stands there until then.
+pub const HEADROOM: &[u8] = &[0; MOST_HEAD];
 
 /// The most bytes of each piece of a head that depends on the code or the page: a reason phrase has 31.
 const LONGEST_PIECE: usize = 31;
@@ -33,19 +36,17 @@ impl From<NoRoom> for NoMemory {
     }
 }
 
-/// A text with room for a head, and behind it for a page of so many bytes. It is the only memory that the reply takes.
-pub fn text_with_room(alloc: Global, page: u128) -> Result<Bounded<u8>, NoRoom>
-    ensures head { IfOk result (λ text. length text.items ≡ HEAD_ROOM) }
+/// A text of a head, with room behind it for a page of so many bytes. It is the only memory that the reply takes.
+pub fn text_with_room(alloc: Global, head: &[u8], page: u128) -> Result<Bounded<u8>, NoRoom>
+    ensures head { IfOk result (λ text. text.items ≡ head.now) }
     ensures room { IfOk result (λ text. page ≤ text.room) }
     ensures refused { IfErr result (λ refused. refused ≡ page) }
 {
-    let Ok(bytes) = usize::try_from(page.saturating_add(HEAD_ROOM as u128)) else {
+    let Ok(bytes) = usize::try_from(page.saturating_add(head.len() as u128)) else {
         return Err(NoRoom { page });
     };
-    let Ok(mut text) = Text::with_capacity(alloc, bytes) else {
-        return Err(NoRoom { page });
-    };
-    text.extend_from_slice(&[0; HEAD_ROOM]);
+    let mut text = Text::with_capacity(alloc, bytes).or(Err(NoRoom { page }))?;
+    text.extend_from_slice(head);
     Ok(text)
 }
 
@@ -129,15 +130,14 @@ impl Reply {
     }
 
     /// The reply whose page stands behind the room for its head.
-    pub fn written(code: Code, allowed: Option<Page>, text: Bounded<u8>) -> Reply
-        requires { HEAD_ROOM ≤ length text.items }
-        ensures { result ≡ record { code = code; bytes = reply_bytes code allowed (drop HEAD_ROOM text.items) } }
+    pub fn written(code: Code, allowed: Option<Page>, mut text: Text) -> Reply
+        requires { MOST_HEAD ≤ length text }
+        ensures { result ≡ record { code = code; bytes = reply_bytes code allowed (drop MOST_HEAD text) } }
     {
         // the head is written from its end to its start
-        let mut text = text.into_items();
-        let page = text.len() - HEAD_ROOM;
+        let page = text.len() - MOST_HEAD;
         let mut count = Buffer::new();
-        let last = put_before(&mut text, HEAD_ROOM, last_lines(code));
+        let last = put_before(&mut text, MOST_HEAD, last_lines(code));
         let kind = put_before(&mut text, last, b"\r\ncontent-type: application/json\r\n");
         let length = put_before(&mut text, kind, count.format(page).as_bytes());
         let connection = put_before(&mut text, length, b"connection: close\r\ncontent-length: ");

@@ -13,9 +13,7 @@ use Rattle.clock_posting.specs.declared.sheet.RoundSheet.{RoundSheet}
 use Rattle.clock_closing.specs.declared.closed_round.Slip.{Slip}
 use Rattle.clock_views.specs.Values.{whole, whole_or_null, list_of, items_of}
 use Rattle.clock_views.specs.Rooms.{most_text, most_items}
-use Rattle.clock_views.specs.PageRooms.{room_of_status, room_of_account, room_around_bids, room_of_accepted, room_of_slip, room_of_closed}
-use Rattle.clock_views.specs.PageRooms.{room_around_results, room_of_sheet}
-use Rattle.clock_views.specs.inside.Rooms.{room_of_item, room_of_bid, room_of_array, room_of_line, room_of_result}
+use Rattle.clock_views.specs.inside.Rooms.{room_of_item, room_of_bid, room_of_line, room_of_result}
 use Rattle.clock_views.specs.PublicPages.{status_value, line_value, sheet_value}
 use Rattle.clock_views.specs.BidderPages.{account_value, bid_value, bids_value, sheet_or_null, accepted_value, slip_value}
 use Rattle.clock_views.specs.OperatorPages.{closed_value, result_value, result_in, results_value}
@@ -66,31 +64,31 @@ same_zip (x ∷ xs) (y ∷ ys) e = ap suc (same_zip xs ys (omega (arith, e)))
 
 -- ---- pages
 
-pub status_most : (setup : PublicSetup) (round : ℕ) (ended : Bool) → most_text (status_value setup round ended) ≡ room_of_status
+pub status_most : (setup : PublicSetup) (round : ℕ) (ended : Bool) → most_text (status_value setup round ended) ≡ 76
 unfolding status_value
 status_most setup round ended = refl
 
 pub account_most : (products : List Product) (name : List ℕ) (round : ℕ) (held : Holding) (ended : Bool)
-    → most_text (account_value products name round held ended) ≡ room_of_account (length held.demands)
+    → most_text (account_value products name round held ended) ≡ 167 + 21 * length held.demands
 unfolding account_value
 account_most products name round held ended = omega (arith, numbers_most held.demands)
 
-pub bids_page_most : (round : ℕ) (sheet : Option (List Bid)) → most_text (bids_value round sheet) ≡ room_around_bids + most_text (sheet_or_null sheet)
+pub bids_page_most : (round : ℕ) (sheet : Option (List Bid)) → most_text (bids_value round sheet) ≡ 39 + most_text (sheet_or_null sheet)
 unfolding bids_value
 bids_page_most round sheet = omega arith
 
-pub some_bids_most : (bids : List Bid) → most_text (sheet_or_null (Some bids)) ≡ room_of_array room_of_bid (length bids)
-some_bids_most bids = omega (arith, bids_most bids)
+pub some_bids_most : (round : ℕ) (bids : List Bid) → most_text (bids_value round (Some bids)) ≡ 41 + 95 * length bids
+some_bids_most round bids = omega (arith, bids_page_most round (Some bids), bids_most bids)
 
-pub accepted_most : (round count : ℕ) → most_text (accepted_value round count) ≡ room_of_accepted
+pub accepted_most : (round count : ℕ) → most_text (accepted_value round count) ≡ 76
 unfolding accepted_value
 accepted_most round count = refl
 
-pub slip_most : (slip : Slip) → most_text (slip_value slip) ≡ room_of_slip (length slip.demands)
+pub slip_most : (slip : Slip) → most_text (slip_value slip) ≡ 111 + 21 * length slip.demands
 unfolding slip_value
 slip_most slip = omega (arith, numbers_most slip.demands)
 
-pub closed_most : (round : ℕ) (ended : Bool) → most_text (closed_value round ended) ≡ room_of_closed
+pub closed_most : (round : ℕ) (ended : Bool) → most_text (closed_value round ended) ≡ 46
 unfolding closed_value
 closed_most round ended = refl
 
@@ -105,7 +103,7 @@ result_in_most house i n below =
     omega (arith, one_most (result_in house) i n below, result_most (bidder_at house.setup i).name (holding_in house i))
 
 pub sheet_most : (setup : PublicSetup) (sheet : RoundSheet) → length sheet.lines ≡ length setup.products
-    → most_text (sheet_value setup sheet) ≡ room_of_sheet (length sheet.lines)
+    → most_text (sheet_value setup sheet) ≡ 59 + 191 * length sheet.lines
 unfolding sheet_value
 sheet_most setup sheet each =
     let rows = zip setup.products sheet.lines in
@@ -113,6 +111,6 @@ sheet_most setup sheet each =
     omega (arith, rows_most rows, many)
 
 pub results_most : (house : HouseFields)
-    → most_text (results_value house) ≡ room_around_results + most_text (list_of (result_in house) (range_with_len 0 (length house.setup.bidders)))
+    → most_text (results_value house) ≡ 56 + most_text (list_of (result_in house) (range_with_len 0 (length house.setup.bidders)))
 unfolding results_value
 results_most house = omega arith

@@ -143,6 +143,11 @@ pub bids_in_pieces : (round : ℕ) (sheet : Option (List Bid))
 unfolding bids_value serde_json_on_literals
 bids_in_pieces round sheet = refl
 
+pub no_bids_in_pieces : (round : ℕ)
+    → compact_text (bids_value round None) ≡ (codes "{\"bids\":null,\"round\":" ++ decimal round) ++ codes "}"
+unfolding bids_value serde_json_on_literals
+no_bids_in_pieces round = refl
+
 pub accepted_in_pieces : (round count : ℕ)
     → compact_text (accepted_value round count)
     ≡ (codes "{\"accepted\":true,\"bids\":" ++ decimal count) ++ ((codes ",\"round\":" ++ decimal round) ++ codes "}")

@@ -1,6 +1,5 @@
 pub mod BidderPages
 pub mod OperatorPages
-pub mod PageRooms
 pub mod PublicPages
 pub mod RefusalPage
 pub mod Refusals

@@ -1,6 +1,8 @@
--- How many bytes the text of a page is given, by its shape alone.
+-- How many bytes the text of a page is given, by its shape alone, and what stands there.
 --     most_text value      each number and each null counts as 20 bytes, and each name as 34
-use Rattle.std.specs.Prelude.{ℕ, ◌+◌, length}
+--     IsHeaded head value result      the page behind a head, or that just so much room was refused
+use Rattle.std.specs.Prelude.{◌≡◌, ℕ, ◌+◌, ◌++◌, List, Result, Ok, Err, length}
+use Rattle.serde_json.specs.Written.{compact_text}
 use Rattle.serde_json.specs.Data.{Data, null, boolean, number, string, array, object, Items, no_items, item, Members, no_members, member}
 
 -- a number has 20 digits at most, and a name 32 characters and two quotes
@@ -22,3 +24,8 @@ abbrev mutual
   pub most_members : Members → ℕ
   most_members no_members = 0
   most_members (member key value members) = 4 + length key + most_text value + most_members members
+
+-- the head and the value's compact text, or the most that this takes by its shape
+abbrev pub IsHeaded : List ℕ → Data → Result (List ℕ) ℕ → Type 0
+IsHeaded head value (Ok text) = text ≡ head ++ compact_text value
+IsHeaded head value (Err room) = room ≡ most_text value

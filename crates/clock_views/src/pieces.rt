@@ -1,35 +1,19 @@
 //! Pieces of compact JSON, which are pushed onto one text. There is room for each: it is taken before the first.
 
-ghost use Rattle.std.specs.Prelude.{◌≡◌, ◌≤◌, ◌+◌, ◌-◌, ◌*◌, ◌++◌, ℕ, List, [], IfOk, decimal, drop, length, nat_lt};
+ghost use Rattle.std.specs.Prelude.{◌≡◌, ◌≤◌, ◌+◌, ◌-◌, ◌*◌, ◌++◌, ℕ, List, decimal, drop, length, nat_lt};
 ghost use Rattle.std.specs.List.{AllWithin};
 ghost use Rattle.serde_json.specs.{Data.{string}, Written.{compact_text, comma_if}};
 ghost use Rattle.clock_terms.specs.Limits.{IsName};
 ghost use Rattle.clock_views.specs.Values.{whole, whole_or_null, list_of, number_if, true_or_false, Adds};
 ghost use Rattle.clock_views.specs.inside.Rooms.{room_of_number, room_of_name, room_of_truth, room_of_item, room_of_array};
-ghost use Rattle.clock_views.specs.inside.Values.{item_text, rest_text};
+ghost use Rattle.clock_views.specs.inside.Values.{rest_text};
 
-use clock_device::{Bounded, NoMemory, Text};
+use clock_device::{Bounded, Text};
+use clock_http::NoRoom;
 use clock_terms::HeldProducts;
-use std::alloc::Global;
 
-/// How many bytes an item of an array of numbers takes at most, with the comma before it.
-pub(crate) const ITEM_ROOM: u128 = 21;
-
-/// An empty text with room for so many bytes.
-pub(crate) fn page_with_room(alloc: Global, bytes: u128) -> Result<Bounded<u8>, NoMemory>
-    ensures { IfOk result (λ text. text ≡ record { items = []; room = bytes }) }
-{
-    Text::with_capacity(alloc, usize::try_from(bytes).or(Err(NoMemory))?)
-}
-
-/// Adds a label, as `{"bids":`, or a closing bracket.
-pub(crate) fn push_label(text: &mut Bounded<u8>, label: &[u8])
-    requires { length label.now ≤ text.old.room }
-    ensures adds { Adds label.now text.old.items text.new.items }
-    ensures room { text.old.room ≤ text.new.room + length label.now }
-{
-    text.extend_from_slice(label);
-}
+/// A head and a page behind it, or how much room for the page was refused.
+pub type Headed = Result<Text, NoRoom>;
 
 /// Adds a label, as `,"round":`, and the number behind it.
 pub(crate) fn push_number(text: &mut Bounded<u8>, label: &[u8], number: u64)
@@ -100,16 +84,6 @@ pub(crate) fn push_comma_if(text: &mut Bounded<u8>, later: bool)
     }
 }
 
-/// Adds an item of an array of numbers.
-fn push_item(text: &mut Bounded<u8>, later: bool, number: u64)
-    requires { room_of_item ≤ text.old.room }
-    ensures adds { Adds (item_text later (whole number)) text.old.items text.new.items }
-    ensures room { text.old.room ≤ text.new.room + room_of_item }
-{
-    push_comma_if(text, later);
-    text.push_number(number);
-}
-
 /// Adds zeros as items of an array of demands, for the products from one up to another.
 fn push_zeros(text: &mut Bounded<u8>, from: usize, until: usize)
     requires order { from ≤ until }
@@ -120,7 +94,8 @@ fn push_zeros(text: &mut Bounded<u8>, from: usize, until: usize)
     ensures room { text.old.room ≤ text.new.room + room_of_item * (until - from) }
 {
     for product in from..until {
-        push_item(text, product > 0, 0);
+        push_comma_if(text, product > 0);
+        text.push_number(0);
     }
 }
 
@@ -138,7 +113,8 @@ pub(crate) fn push_demands(text: &mut Bounded<u8>, label: &[u8], mut held: HeldP
     let mut from = 0;
     'held: while let Some(one) = held.next() {
         push_zeros(text, from, one.product);
-        push_item(text, one.product > 0, one.demand);
+        push_comma_if(text, one.product > 0);
+        text.push_number(one.demand);
         from = one.product + 1;
     }
     push_zeros(text, from, products);

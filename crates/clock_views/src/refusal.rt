@@ -1,22 +1,19 @@
 //! What a refusal shows, and its page.
 
-ghost use Rattle.std.specs.Prelude.{◌≡◌, ◌≤◌, IsTrue, IfOk, not};
+ghost use Rattle.std.specs.Prelude.{◌≡◌, ◌++◌, IsTrue, IfOk, IfErr, not};
 ghost use Rattle.serde_json.specs.Written.{compact_text};
 ghost use Rattle.clock_views.specs.RefusalPage.{refusal_value, refusal_bytes};
-ghost use Rattle.clock_views.specs.Refusals.{Shown, IsShown, has_place, has_round, is_refusal, shown_bid, shown_tie, shown_put, shown_close, alone as code_alone, at_place as code_at_place, wrong_round as shown_wrong_round};
-ghost use Rattle.clock_views.specs.Values.{IsPage, Adds};
+ghost use Rattle.clock_views.specs.Refusals.{Shown, IsShown, has_place, has_round, is_refusal, shown_bid, shown_tie, shown_put, shown_close, alone as code_alone};
+ghost use Rattle.clock_views.specs.Values.{IsPage};
 
-use crate::pieces::{page_with_room, push_label, push_number, push_number_if};
+use crate::pieces::{Headed, push_number, push_number_if};
 use clock_bids::BidFault;
-use clock_device::{Bounded, NoMemory, Text};
+use clock_device::{NoMemory, Text};
 use clock_house::{CloseFault, PutFault};
-use clock_http::Code;
+use clock_http::{Code, text_with_room};
 use clock_order::TieFault;
 use std::alloc::Global;
 use std::marker::Model;
-
-/// How many bytes the page of a refusal takes at most: a code of 32 letters, a place, a round and a status.
-pub const REFUSAL_ROOM: u128 = 132;
 
 /// What the page of a refusal shows: the code, and beside it a place exactly for the codes that have
 /// one, and the current round exactly for [`Code::WrongRound`].
@@ -48,34 +45,15 @@ impl Refusal {
         requires timeless { IsTrue (not (has_round code)) }
         ensures { result ≡ code_alone code }
     {
-        Refusal {
-            code,
-            place: None,
-            round: None,
-        }
+        Refusal::with(code, None, None)
     }
 
-    /// A code with a place.
-    fn at_place(code: Code, place: u64) -> Refusal
-        requires { IsTrue (has_place code) }
-        ensures { result ≡ code_at_place code place }
+    /// A code, with a place or the current round exactly where it has one.
+    fn with(code: Code, place: Option<u64>, round: Option<u64>) -> Refusal
+        requires { IsShown (record { code = code; place = place; round = round }) }
+        ensures { result ≡ record { code = code; place = place; round = round } }
     {
-        Refusal {
-            code,
-            place: Some(place),
-            round: None,
-        }
-    }
-
-    /// A request for another round than the current one.
-    fn wrong_round(current: u64) -> Refusal
-        ensures { result ≡ shown_wrong_round current }
-    {
-        Refusal {
-            code: Code::WrongRound,
-            place: None,
-            round: Some(current),
-        }
+        Refusal { code, place, round }
     }
 }
 
@@ -85,12 +63,12 @@ impl From<BidFault> for Refusal {
     fn from(fault: BidFault) -> Refusal {
         match fault {
             BidFault::TooMany => Refusal::alone(Code::TooMany),
-            BidFault::UnknownProduct(i) => Refusal::at_place(Code::UnknownProduct, i),
-            BidFault::PriceRange(i) => Refusal::at_place(Code::PriceRange, i),
-            BidFault::OverCap(i) => Refusal::at_place(Code::OverCap, i),
-            BidFault::PriceOrder(i) => Refusal::at_place(Code::PriceOrder, i),
-            BidFault::MixedDirection(i) => Refusal::at_place(Code::MixedDirection, i),
-            BidFault::KeepPrice(i) => Refusal::at_place(Code::KeepPrice, i),
+            BidFault::UnknownProduct(i) => Refusal::with(Code::UnknownProduct, Some(i), None),
+            BidFault::PriceRange(i) => Refusal::with(Code::PriceRange, Some(i), None),
+            BidFault::OverCap(i) => Refusal::with(Code::OverCap, Some(i), None),
+            BidFault::PriceOrder(i) => Refusal::with(Code::PriceOrder, Some(i), None),
+            BidFault::MixedDirection(i) => Refusal::with(Code::MixedDirection, Some(i), None),
+            BidFault::KeepPrice(i) => Refusal::with(Code::KeepPrice, Some(i), None),
             BidFault::OverActivity => Refusal::alone(Code::OverActivity),
             BidFault::NoMemory => Refusal::alone(Code::Memory),
         }
@@ -102,8 +80,8 @@ impl From<TieFault> for Refusal {
 
     fn from(fault: TieFault) -> Refusal {
         match fault {
-            TieFault::Range(i) => Refusal::at_place(Code::TieRange, i),
-            TieFault::Repeated(i) => Refusal::at_place(Code::TieRepeated, i),
+            TieFault::Range(i) => Refusal::with(Code::TieRange, Some(i), None),
+            TieFault::Repeated(i) => Refusal::with(Code::TieRepeated, Some(i), None),
             TieFault::TooMany => Refusal::alone(Code::TooManyTies),
             TieFault::NoMemory => Refusal::alone(Code::Memory),
         }
@@ -116,7 +94,7 @@ impl From<PutFault> for Refusal {
     fn from(fault: PutFault) -> Refusal {
         match fault {
             PutFault::Ended => Refusal::alone(Code::Ended),
-            PutFault::WrongRound(current) => Refusal::wrong_round(current),
+            PutFault::WrongRound(current) => Refusal::with(Code::WrongRound, None, Some(current)),
             PutFault::Bid(fault) => Refusal::from(fault),
             PutFault::NoMemory => Refusal::alone(Code::Memory),
         }
@@ -129,10 +107,10 @@ impl From<CloseFault> for Refusal {
     fn from(fault: CloseFault) -> Refusal {
         match fault {
             CloseFault::Ended => Refusal::alone(Code::Ended),
-            CloseFault::WrongRound(current) => Refusal::wrong_round(current),
+            CloseFault::WrongRound(current) => Refusal::with(Code::WrongRound, None, Some(current)),
             CloseFault::Increment => Refusal::alone(Code::Increment),
             CloseFault::Tie(fault) => Refusal::from(fault),
-            CloseFault::PriceLimit(product) => Refusal::at_place(Code::PriceLimit, product),
+            CloseFault::PriceLimit(product) => Refusal::with(Code::PriceLimit, Some(product), None),
             CloseFault::NoMemory => Refusal::alone(Code::Memory),
         }
     }
@@ -155,22 +133,21 @@ pub fn refusal_page(
     ensures value { IfOk result (IsPage (refusal_value (record { code = code; place = place; round = round }))) }
     ensures bytes { IfOk result (λ text. text ≡ refusal_bytes (record { code = code; place = place; round = round })) }
 {
-    let refusal = Refusal { code, place, round };
-    let mut text = page_with_room(alloc, REFUSAL_ROOM)?;
-    push_refusal_page(&mut text, refusal);
-    Ok(text.into_items())
+    Ok(headed_refusal(alloc, b"", Refusal { code, place, round })?)
 }
 
-/// Adds the same page to a text that has room for it.
-pub fn push_refusal_page(text: &mut Bounded<u8>, refusal: Refusal)
-    requires { REFUSAL_ROOM ≤ text.old.room }
-    ensures { Adds (compact_text (refusal_value refusal)) text.old.items text.new.items }
+/// The page of a refusal behind a head. Each is given room for a code of 32 letters, a place, a round and a status.
+pub fn headed_refusal(alloc: Global, head: &[u8], refusal: Refusal) -> Headed
+    ensures page { IfOk result (λ text. text ≡ head.now ++ compact_text (refusal_value refusal)) }
+    ensures room { IfErr result (λ room. room ≡ 132) }
 {
-    push_label(text, b"{\"code\":\"");
-    push_label(text, refusal.code.text().as_bytes());
-    push_label(text, b"\"");
-    push_number_if(text, b",\"place\":", refusal.place);
-    push_number_if(text, b",\"round\":", refusal.round);
-    push_number(text, b",\"status\":", u64::from(refusal.code.status()));
-    push_label(text, b"}");
+    let mut text = text_with_room(alloc, head, 132)?;
+    text.extend_from_slice(b"{\"code\":\"");
+    text.extend_from_slice(refusal.code.text().as_bytes());
+    text.extend_from_slice(b"\"");
+    push_number_if(&mut text, b",\"place\":", refusal.place);
+    push_number_if(&mut text, b",\"round\":", refusal.round);
+    push_number(&mut text, b",\"status\":", u64::from(refusal.code.status()));
+    text.extend_from_slice(b"}");
+    Ok(text.into_items())
 }

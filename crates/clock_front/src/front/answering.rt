@@ -18,10 +18,10 @@ use crate::front::replies::{
 use clock_bodies::{BodyFault, CloseBody, is_of_version, read_close, read_put};
 use clock_device::NoMemory;
 use clock_house::{CloseFault, House, PutFault};
-use clock_http::{Code, Head, Page, Reply, last_segment, text_with_room};
+use clock_http::{Code, HEADROOM, Head, Page, Reply, last_segment};
 use clock_processor::Processor;
 use clock_terms::Setup;
-use clock_views::{Refusal, accepted_room, closed_room, push_accepted_page, push_closed_page};
+use clock_views::{Refusal, headed_accepted, headed_closed};
 use std::alloc::Global;
 
 /// A refusal of a body for its fault, unless that is want of memory.
@@ -54,8 +54,7 @@ fn put_sheet<P: Processor>(
     let count = sheet.bids.as_slice().len() as u64;
     match house.prepare_sheet(bidder, sheet.round, sheet.bids) {
         Ok(prepared) => {
-            let mut text = text_with_room(alloc, accepted_room())?;
-            push_accepted_page(&mut text, sheet.round, count);
+            let text = headed_accepted(alloc, HEADROOM, sheet.round, count)?;
             house.commit_put(prepared);
             Ok(Reply::written(Code::Done, None, text))
         }
@@ -96,8 +95,7 @@ fn close_round<P: Processor>(
     drop(closing);
     match settled {
         Ok(settled) => {
-            let mut text = text_with_room(alloc, closed_room())?;
-            push_closed_page(&mut text, round, settled.ended());
+            let text = headed_closed(alloc, HEADROOM, round, settled.ended())?;
             house.commit(settled);
             Ok(Reply::written(Code::Done, None, text))
         }

@@ -12,11 +12,10 @@ ghost use Rattle.clock_front.specs.Requests as asked;
 
 use clock_device::NoMemory;
 use clock_house::House;
-use clock_http::{Code, NoRoom, Page, Reply, plain_number, text_with_room};
+use clock_http::{Code, HEADROOM, NoRoom, Page, Reply, plain_number, text_with_room};
 use clock_views::{
-    REFUSAL_ROOM, Refusal, account_room, bids_room, push_account_page, push_bids_page,
-    push_refusal_page, push_results_page, push_sheet_page, push_slip_page, push_status_page,
-    results_room, sheet_room, slip_room, status_room,
+    Refusal, headed_account, headed_bids, headed_refusal, headed_results, headed_sheet,
+    headed_slip, headed_status,
 };
 use std::alloc::Global;
 
@@ -79,8 +78,7 @@ pub fn no_memory_reply() -> Reply
 pub(crate) fn refusal(alloc: Global, why: Refusal, page: Option<Page>) -> Result<Reply, NoRoom>
     ensures { IsPageIn (with_page why.code page (refusal_value why)) refusal_room result }
 {
-    let mut text = text_with_room(alloc, REFUSAL_ROOM)?;
-    push_refusal_page(&mut text, why);
+    let text = headed_refusal(alloc, HEADROOM, why)?;
     Ok(Reply::written(why.code, page, text))
 }
 
@@ -88,8 +86,7 @@ pub(crate) fn refusal(alloc: Global, why: Refusal, page: Option<Page>) -> Result
 pub(crate) fn status<P>(alloc: Global, house: &House<P>) -> Result<Reply, NoRoom>
     ensures { IsTold house.now who.Nobody asked.status result }
 {
-    let mut text = text_with_room(alloc, status_room())?;
-    push_status_page(&mut text, house.setup(), house.round(), house.ended());
+    let text = headed_status(alloc, HEADROOM, house.setup(), house.round(), house.ended())?;
     Ok(Reply::written(Code::Done, None, text))
 }
 
@@ -99,9 +96,9 @@ pub(crate) fn products(alloc: Global, page: &[u8]) -> Result<Reply, NoRoom>
         → reply ≡ answer_of (done (products_value (public_setup setup)))) }
     ensures room { IfErr result (λ room. room ≡ length page.now) }
 {
-    let mut text = text_with_room(alloc, page.len() as u128)?;
+    let mut text = text_with_room(alloc, HEADROOM, page.len() as u128)?;
     text.extend_from_slice(page);
-    Ok(Reply::written(Code::Done, None, text))
+    Ok(Reply::written(Code::Done, None, text.into_items()))
 }
 
 /// The sheet of the round that a segment names.
@@ -114,8 +111,7 @@ pub(crate) fn sheet<P>(alloc: Global, house: &House<P>, segment: &[u8]) -> Resul
     let Some(sheet) = house.sheet(round) else {
         return refusal(alloc, Refusal::alone(Code::NoRound), None);
     };
-    let mut text = text_with_room(alloc, sheet_room(sheet))?;
-    push_sheet_page(&mut text, house.setup(), sheet);
+    let text = headed_sheet(alloc, HEADROOM, house.setup(), sheet)?;
     Ok(Reply::written(Code::Done, None, text))
 }
 
@@ -125,8 +121,7 @@ pub(crate) fn account<P>(alloc: Global, house: &House<P>, bidder: u32) -> Result
     ensures { IsTold house.now (who.Bidder bidder) asked.account result }
 {
     let own = house.own(bidder);
-    let mut text = text_with_room(alloc, account_room(own.demands))?;
-    push_account_page(&mut text, house.setup(), bidder, own, house.ended());
+    let text = headed_account(alloc, HEADROOM, house.setup(), bidder, own, house.ended())?;
     Ok(Reply::written(Code::Done, None, text))
 }
 
@@ -135,9 +130,7 @@ pub(crate) fn bids<P>(alloc: Global, house: &House<P>, bidder: u32) -> Result<Re
     requires { bidder < length house.now.setup.bidders }
     ensures { IsTold house.now (who.Bidder bidder) asked.bids result }
 {
-    let sheet = house.bids(bidder);
-    let mut text = text_with_room(alloc, bids_room(sheet))?;
-    push_bids_page(&mut text, house.round(), sheet);
+    let text = headed_bids(alloc, HEADROOM, house.round(), house.bids(bidder))?;
     Ok(Reply::written(Code::Done, None, text))
 }
 
@@ -157,8 +150,7 @@ pub(crate) fn slip<P>(
     let Some(slip) = house.slip(bidder, round) else {
         return refusal(alloc, Refusal::alone(Code::NoRound), None);
     };
-    let mut text = text_with_room(alloc, slip_room(slip))?;
-    push_slip_page(&mut text, slip);
+    let text = headed_slip(alloc, HEADROOM, slip)?;
     Ok(Reply::written(Code::Done, None, text))
 }
 
@@ -167,7 +159,6 @@ pub(crate) fn slip<P>(
 pub(crate) fn results<P>(alloc: Global, house: &House<P>) -> Result<Reply, NoRoom>
     ensures { IsTold house.now who.Operator asked.results result }
 {
-    let mut text = text_with_room(alloc, results_room(house))?;
-    push_results_page(&mut text, house);
+    let text = headed_results(alloc, HEADROOM, house)?;
     Ok(Reply::written(Code::Done, None, text))
 }

@@ -6,7 +6,7 @@ use clock_device::Text;
 use clock_house::{CloseFault, PutFault};
 use clock_http::Code;
 use clock_order::TieFault;
-use clock_views::{REFUSAL_ROOM, Refusal, push_refusal_page, refusal_page};
+use clock_views::{Refusal, headed_refusal, refusal_page};
 use std::alloc::Global;
 
 #[test]
@@ -23,9 +23,7 @@ fn codes_that_stand_alone(rt: HostRuntime) {
 
 /// The page of a refusal.
 fn page_of(alloc: Global, refusal: Refusal) -> Option<Text> {
-    let mut page = Text::with_capacity(alloc, REFUSAL_ROOM as usize).ok()?;
-    push_refusal_page(&mut page, refusal);
-    Some(page.into_items())
+    headed_refusal(alloc, b"", refusal).ok()
 }
 
 /// Faults of sheets, and their pages: two of sheets that come too late.

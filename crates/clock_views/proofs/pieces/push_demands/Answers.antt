@@ -5,6 +5,7 @@ use Rattle.std.specs.List.{AllWithin}
 use Rattle.clock_views.specs.Values.{whole}
 use Rattle.clock_views.specs.inside.Values.{rest_text}
 use Rattle.clock_views.proofs.Lists.{item_more}
+use Rattle.clock_views.proofs.Pushes.{added, before}
 use Rattle.clock_views.proofs.pieces.push_demands.Goals as goal
 
 -- no demand is held from one place to a third, where none is up to a second and none from there on
@@ -20,9 +21,13 @@ pub push_zeros-requires-clause-room : goal.push_zeros-requires-clause-room
 push_zeros-requires-clause-room c =
     omega (arith, c.in-Some.ensures.least, c.in-Some.ensures.within, ap (λ (row : List ℕ). length row) c.held.invariant.row)
 
-pub push_item-requires : goal.push_item-requires
-push_item-requires c =
+pub push_comma_if-requires : goal.push_comma_if-requires
+push_comma_if-requires c =
     omega (arith, c.in-Some.ensures.least, c.in-Some.ensures.within, ap (λ (row : List ℕ). length row) c.held.invariant.row)
+
+pub push_number-requires : goal.push_number-requires
+push_number-requires c =
+    omega (arith, c.in-Some.ensures.least, c.in-Some.ensures.within, c.push_comma_if.ensures.room, ap (λ (row : List ℕ). length row) c.held.invariant.row)
 
 pub held-preserved : goal.held-preserved
 held-preserved c =
@@ -37,10 +42,11 @@ held-preserved c =
       order = omega (arith, c.in-Some.ensures.given);
       within = omega (arith, within);
       passed = subst (λ (demands : List ℕ). AllWithin (λ demand. demand ≡ 0) demands (product + 1) c.next.new.self.from) same c.in-Some.ensures.ahead;
-      adds = item_more whole _ _ row product c.in-Some.one.demand 0 within demand c.push_item.ensures.adds
+      adds = item_more whole _ _ row product c.in-Some.one.demand 0 within demand
+          (before c.push_comma_if.ensures.adds (added c.push_number.ensures.items))
           ∙ c.push_zeros.ensures.adds row (omega (arith, within)) (joined row c.held.from c.held.held.from product c.held.invariant.passed between)
           ∙ c.held.invariant.adds;
-      room = omega (arith, c.push_item.ensures.room, c.push_zeros.ensures.room, c.held.invariant.room, c.held.invariant.order, c.in-Some.ensures.least);
+      room = omega (arith, c.push_comma_if.ensures.room, c.push_number.ensures.room, c.push_zeros.ensures.room, c.held.invariant.room, c.held.invariant.order, c.in-Some.ensures.least);
     }
 
 pub returns-clause-adds : goal.returns-clause-adds

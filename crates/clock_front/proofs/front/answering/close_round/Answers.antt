@@ -26,7 +26,7 @@ returns-in_ok-text-in-Ok-settled-clause-done g c =
     let asked = made.asked in
     close_reply house c.commit.new.self (close_body c.args.body.now) closing c.written.result
     (subst (λ (setup : SetupFields). in_version setup.version (close_body c.args.body.now) ≡ Ok closing) c.setup.ensures c.in-Ok.ensures.ok)
-    (written_page _ _ _ _ _ _ c.written.ensures c.in_ok-text-in-Ok-settled.ensures.head c.push_closed_page.ensures
+    (written_page _ _ _ _ _ c.written.ensures c.in_ok-text-in-Ok-settled.ensures
     ∙ ap (λ (ended : Bool). answer_of (done (closed_value closing.round ended))) c.ended.ensures
     ∙ ap answer_of (closed_outcome c.in-Ok-settled.settled house c.prepare-settled.new.self closing.round closing.increments closing.ties
     asked.0 asked.1 (asked.2 ∙ c.as_slice.ensures) made.fits made.same))

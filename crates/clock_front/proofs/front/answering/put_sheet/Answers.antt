@@ -19,7 +19,7 @@ pub returns-in_ok-text-in-Ok-prepare_sheet-clause-done : goal.returns-in_ok-text
 returns-in_ok-text-in-Ok-prepare_sheet-clause-done g c =
     let sheet = c.in-Ok.sheet in
     put_reply c.args.house.now c.commit_put.new.self c.args.bidder (put_body c.args.body.now) sheet c.written.result c.in-Ok.ensures.ok
-    (written_page _ _ _ _ _ _ c.written.ensures c.in_ok-text-in-Ok-prepare_sheet.ensures.head c.push_accepted_page.ensures
+    (written_page _ _ _ _ _ c.written.ensures c.in_ok-text-in-Ok-prepare_sheet.ensures
     ∙ ap (λ (count : ℕ). answer_of (done (accepted_value sheet.round count))) (ap length c.as_slice.ensures)
     ∙ ap (λ (first : Option PutFault). answer_of (put_outcome sheet first)) (sym c.in-Ok-prepare_sheet.ensures.answer))
     (subst (λ (made : PreparedSheet). IsFollowedBy (put made.bidder made.round made.bids) c.args.house.now c.commit_put.new.self)

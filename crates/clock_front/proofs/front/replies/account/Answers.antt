@@ -13,7 +13,7 @@ pub returns : goal.returns
 returns g c =
     let house = c.args.house.now in
     let held = held_is (holding_in house c.args.bidder) c.own-own.result.eligibility c.own-own.result.demands.now c.own-own.ensures.eligibility c.own-own.ensures.demands in
-    written_page _ _ _ _ _ _ c.written.ensures c.in_ok-text.ensures.head c.push_account_page.ensures
+    written_page _ _ _ _ _ c.written.ensures c.in_ok-text.ensures
     ∙ ap (λ (setup : SetupFields). with_page Done None (account_value setup.products (bidder_at setup c.args.bidder).name c.own-own.result.round
     (record { eligibility = c.own-own.result.eligibility; demands = c.own-own.result.demands.now }) c.ended.result)) c.setup.ensures
     ∙ ap (λ (round : ℕ). with_page Done None (account_value house.setup.products (bidder_at house.setup c.args.bidder).name round

@@ -7,5 +7,5 @@ use Rattle.clock_front.proofs.front.replies.refusal.Goals as goal
 
 pub returns : goal.returns
 returns c =
-    written_page _ _ _ _ _ _ c.written.ensures c.in_ok-text.ensures.head c.push_refusal_page.ensures
+    written_page _ _ _ _ _ c.written.ensures c.in_ok-text.ensures.page
     ∙ ap (λ (shown : Shown). with_page shown.code c.args.page (refusal_value c.args.why)) c.why.view_is

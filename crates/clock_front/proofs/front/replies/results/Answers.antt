@@ -5,4 +5,4 @@ use Rattle.clock_front.proofs.front.replies.results.Goals as goal
 pub returns : goal.returns
 unfolding results_value
 returns g c =
-    written_page _ _ _ _ _ (results_value c.args.house.now) c.written.ensures c.in_ok-text.ensures.head c.push_results_page.ensures
+    written_page _ _ _ _ (results_value c.args.house.now) c.written.ensures c.in_ok-text.ensures

@@ -1,0 +1,337 @@
+//! The pages that everyone may see, whose texts are functions of what is public of a set-up, those of one bidder, and
+//! those of the operator.
+
+ghost use Rattle.std.specs.{Prelude.{◌≡◌, ◌<◌, ◌+◌, length, option_copied, IfOk}, List.{range_with_len}};
+ghost use Rattle.clock_terms.specs.Limits.{IsName, IsRow, public_setup};
+ghost use Rattle.clock_house.specs.History.{bidder_at};
+ghost use Rattle.clock_views.specs.PublicPages.{status_value, status_bytes, sheet_value, products_value, from_version_2 as number_from_version_2};
+ghost use Rattle.clock_views.specs.BidderPages.{account_value, bids_value, accepted_value, accepted_bytes, slip_value};
+ghost use Rattle.clock_views.specs.OperatorPages.{closed_value, closed_bytes, results_value, result_in};
+ghost use Rattle.clock_views.specs.{Rooms.{IsHeaded, most_text}, Values.{list_of, IsPage}};
+
+use crate::pieces::{
+    Headed, push_comma_if, push_demands, push_name, push_number, push_number_if,
+    push_number_or_null, push_truth,
+};
+use clock_bids::{Own, Sheet};
+use clock_device::{NoMemory, Text};
+use clock_house::{House, Slip};
+use clock_http::text_with_room;
+use clock_posting::RoundSheet;
+use clock_terms::{Setup, units_held};
+use std::alloc::Global;
+
+/// Where the auction stands: the current round, and whether the auction has ended.
+///
+/// ```text
+/// {"ended":false,"round":1,"version":1}
+/// ```
+#[tactic(auto, using(crate::proofs::Texts::status_in_bytes))]
+pub fn status_page(alloc: Global, setup: &Setup, round: u64, ended: bool) -> Result<Text, NoMemory>
+    ensures value { IfOk result (IsPage (status_value (public_setup setup.now) round ended)) }
+    ensures bytes { IfOk result (λ text. text ≡ status_bytes (public_setup setup.now) round ended) }
+{
+    Ok(headed_status(alloc, b"", setup, round, ended)?)
+}
+
+/// The same page behind a head.
+pub fn headed_status(alloc: Global, head: &[u8], setup: &Setup, round: u64, ended: bool) -> Headed
+    ensures { IsHeaded head.now (status_value (public_setup setup.now) round ended) result }
+{
+    let mut text = text_with_room(alloc, head, 76)?;
+    push_truth(&mut text, b"{\"ended\":", ended);
+    push_number(&mut text, b",\"round\":", round);
+    push_number(&mut text, b",\"version\":", setup.version);
+    text.extend_from_slice(b"}");
+    Ok(text.into_items())
+}
+
+/// What is auctioned: the products in the order of the set-up, and the activity requirement, with the
+/// activity limit and the granules from version 2 of the set-up document on.
+///
+/// ```text
+/// {"products":[{"cap":2,"name":"A","opening":100,"supply":2,"units":1}],"requirement":95,"version":1}
+/// ```
+pub fn products_page(alloc: Global, setup: &Setup) -> Result<Text, NoMemory>
+    ensures { IfOk result (IsPage (products_value (public_setup setup.now))) }
+{
+    let products = setup.products.as_slice();
+    let mut text = text_with_room(alloc, b"", 111 + 193 * products.len() as u128)?;
+    let limit = from_version_2(setup.version, setup.limit);
+    text.extend_from_slice(b"{");
+    push_number_if(&mut text, b"\"limit\":", limit);
+    push_comma_if(&mut text, limit.is_some());
+    text.extend_from_slice(b"\"products\":[");
+    for (i, product) in products.iter().enumerate() {
+        let granule = from_version_2(setup.version, product.granule);
+        push_comma_if(&mut text, i > 0);
+        push_number(&mut text, b"{\"cap\":", product.cap);
+        push_number_if(&mut text, b",\"granule\":", granule);
+        push_name(&mut text, b",\"name\":", product.name.as_slice());
+        push_number(&mut text, b",\"opening\":", product.opening.get());
+        push_number(&mut text, b",\"supply\":", product.supply);
+        push_number(&mut text, b",\"units\":", product.units);
+        text.extend_from_slice(b"}");
+    }
+    push_number(&mut text, b"],\"requirement\":", setup.requirement);
+    push_number(&mut text, b",\"version\":", setup.version);
+    text.extend_from_slice(b"}");
+    Ok(text.into_items())
+}
+
+/// What a closed round has posted. There is a line for each product of the set-up.
+///
+/// ```text
+/// {"ended":true,"products":[{"clock":110,"demand":null,"name":"A","next":null,"posted":103,"start":100}],"round":2}
+/// ```
+pub fn sheet_page(alloc: Global, setup: &Setup, sheet: &RoundSheet) -> Result<Text, NoMemory>
+    requires { length sheet.now.lines ≡ length setup.now.products }
+    ensures { IfOk result (IsPage (sheet_value (public_setup setup.now) sheet.now)) }
+{
+    Ok(headed_sheet(alloc, b"", setup, sheet)?)
+}
+
+/// The same page behind a head.
+pub fn headed_sheet(alloc: Global, head: &[u8], setup: &Setup, sheet: &RoundSheet) -> Headed
+    requires { length sheet.now.lines ≡ length setup.now.products }
+    ensures { IsHeaded head.now (sheet_value (public_setup setup.now) sheet.now) result }
+{
+    let mut text = text_with_room(alloc, head, 59 + 191 * sheet.lines.len() as u128)?;
+    push_truth(&mut text, b"{\"ended\":", sheet.ended);
+    text.extend_from_slice(b",\"products\":[");
+    for (i, line) in sheet.lines.iter().enumerate() {
+        let product = &setup.products[i];
+        push_comma_if(&mut text, i > 0);
+        push_number(&mut text, b"{\"clock\":", line.clock.get());
+        push_number_or_null(&mut text, b",\"demand\":", line.demand);
+        push_name(&mut text, b",\"name\":", product.name.as_slice());
+        push_number_or_null(&mut text, b",\"next\":", line.next);
+        push_number(&mut text, b",\"posted\":", line.posted.get());
+        push_number(&mut text, b",\"start\":", line.start.get());
+        text.extend_from_slice(b"}");
+    }
+    push_number(&mut text, b"],\"round\":", sheet.round);
+    text.extend_from_slice(b"}");
+    Ok(text.into_items())
+}
+
+/// A number that set-up documents have from version 2 on.
+fn from_version_2(version: u64, number: u64) -> Option<u64>
+    ensures { result ≡ number_from_version_2 version number }
+{
+    if version >= 2 { Some(number) } else { None }
+}
+
+/// What a bidder holds before the current round. The bidder is one of the set-up's, and there is a
+/// demand for each product, none above its cap.
+///
+/// ```text
+/// {"activity":2,"demands":[2],"eligibility":3,"ended":false,"name":"X","round":2}
+/// ```
+pub fn account_page(
+    alloc: Global,
+    setup: &Setup,
+    bidder: u32,
+    own: Own,
+    ended: bool,
+) -> Result<Text, NoMemory>
+    requires bidder { bidder < length setup.now.bidders }
+    requires row { IsRow setup.now.products own.demands.now }
+    ensures { IfOk result (IsPage (account_value setup.now.products (bidder_at setup.now bidder).name own.entry.round
+        (record { eligibility = own.entry.eligibility; demands = own.entry.demands.now }) ended)) }
+{
+    Ok(headed_account(alloc, b"", setup, bidder, own, ended)?)
+}
+
+/// The same page behind a head.
+pub fn headed_account(
+    alloc: Global,
+    head: &[u8],
+    setup: &Setup,
+    bidder: u32,
+    own: Own,
+    ended: bool,
+) -> Headed
+    requires bidder { bidder < length setup.now.bidders }
+    requires row { IsRow setup.now.products own.demands.now }
+    ensures { IsHeaded head.now (account_value setup.now.products (bidder_at setup.now bidder).name own.entry.round
+        (record { eligibility = own.entry.eligibility; demands = own.entry.demands.now }) ended) result }
+{
+    let activity = units_held(setup.products.as_slice(), own.demands);
+    let mut text = text_with_room(alloc, head, 167 + 21 * own.demands.len() as u128)?;
+    push_number(&mut text, b"{\"activity\":", activity);
+    push_demands(&mut text, b",\"demands\":", own.demands.held());
+    push_number(&mut text, b",\"eligibility\":", own.eligibility);
+    push_truth(&mut text, b",\"ended\":", ended);
+    push_name(&mut text, b",\"name\":", name_of(setup, bidder));
+    push_number(&mut text, b",\"round\":", own.round);
+    text.extend_from_slice(b"}");
+    Ok(text.into_items())
+}
+
+/// The name of a bidder of the set-up.
+pub(crate) fn name_of(setup: &Setup, bidder: u32) -> &[u8]
+    requires { bidder < length setup.now.bidders }
+    ensures value { result.now ≡ (bidder_at setup.now bidder).name }
+    ensures name { IsName result.now }
+{
+    setup.bidders.as_slice()[bidder as usize].name.as_slice()
+}
+
+/// A bidder's sheet in force, or null where it has none, and the current round.
+///
+/// ```text
+/// {"bids":[{"price":100,"product":0,"quantity":2}],"round":1}
+/// ```
+pub fn bids_page(alloc: Global, round: u64, sheet: Option<&Sheet>) -> Result<Text, NoMemory>
+    ensures { IfOk result (IsPage (bids_value round (option_copied sheet.entry))) }
+{
+    Ok(headed_bids(alloc, b"", round, sheet)?)
+}
+
+/// The same page behind a head.
+pub fn headed_bids(alloc: Global, head: &[u8], round: u64, sheet: Option<&Sheet>) -> Headed
+    ensures { IsHeaded head.now (bids_value round (option_copied sheet.entry)) result }
+{
+    let Some(sheet) = sheet else {
+        let mut text = text_with_room(alloc, head, 59)?;
+        push_number(&mut text, b"{\"bids\":null,\"round\":", round);
+        text.extend_from_slice(b"}");
+        return Ok(text.into_items());
+    };
+    let bids = sheet.bids();
+    let mut text = text_with_room(alloc, head, 41 + 95 * bids.len() as u128)?;
+    text.extend_from_slice(b"{\"bids\":[");
+    for (i, bid) in bids.iter().enumerate() {
+        push_comma_if(&mut text, i > 0);
+        push_number(&mut text, b"{\"price\":", bid.price);
+        push_number(&mut text, b",\"product\":", bid.product);
+        push_number(&mut text, b",\"quantity\":", bid.quantity);
+        text.extend_from_slice(b"}");
+    }
+    push_number(&mut text, b"],\"round\":", round);
+    text.extend_from_slice(b"}");
+    Ok(text.into_items())
+}
+
+/// What answers a sheet that was accepted: how many bids it has, and the current round.
+///
+/// ```text
+/// {"accepted":true,"bids":1,"round":1}
+/// ```
+#[tactic(auto, using(crate::proofs::Texts::accepted_in_bytes))]
+pub fn accepted_page(alloc: Global, round: u64, bids: u64) -> Result<Text, NoMemory>
+    ensures value { IfOk result (IsPage (accepted_value round bids)) }
+    ensures bytes { IfOk result (λ text. text ≡ accepted_bytes round bids) }
+{
+    Ok(headed_accepted(alloc, b"", round, bids)?)
+}
+
+/// The same page behind a head.
+pub fn headed_accepted(alloc: Global, head: &[u8], round: u64, bids: u64) -> Headed
+    ensures { IsHeaded head.now (accepted_value round bids) result }
+{
+    let mut text = text_with_room(alloc, head, 76)?;
+    push_number(&mut text, b"{\"accepted\":true,\"bids\":", bids);
+    push_number(&mut text, b",\"round\":", round);
+    text.extend_from_slice(b"}");
+    Ok(text.into_items())
+}
+
+/// What a closed round has left a bidder with: its activity and demands, and its eligibility for the next round.
+///
+/// ```text
+/// {"activity":1,"demands":[1],"eligibility":2,"round":2}
+/// ```
+pub fn slip_page(alloc: Global, slip: &Slip) -> Result<Text, NoMemory>
+    ensures { IfOk result (IsPage (slip_value slip.now)) }
+{
+    Ok(headed_slip(alloc, b"", slip)?)
+}
+
+/// The same page behind a head.
+pub fn headed_slip(alloc: Global, head: &[u8], slip: &Slip) -> Headed
+    ensures { IsHeaded head.now (slip_value slip.now) result }
+{
+    let mut text = text_with_room(alloc, head, 111 + 21 * slip.demands.len() as u128)?;
+    push_number(&mut text, b"{\"activity\":", slip.activity);
+    push_demands(&mut text, b",\"demands\":", slip.demands.held());
+    push_number(&mut text, b",\"eligibility\":", slip.eligibility);
+    push_number(&mut text, b",\"round\":", slip.round);
+    text.extend_from_slice(b"}");
+    Ok(text.into_items())
+}
+
+/// What answers a closing that was accepted: the round that was closed, and whether the auction ends with it.
+///
+/// ```text
+/// {"closed":1,"ended":false}
+/// ```
+#[tactic(auto, using(crate::proofs::Texts::closed_in_bytes))]
+pub fn closed_page(alloc: Global, round: u64, ended: bool) -> Result<Text, NoMemory>
+    ensures value { IfOk result (IsPage (closed_value round ended)) }
+    ensures bytes { IfOk result (λ text. text ≡ closed_bytes round ended) }
+{
+    Ok(headed_closed(alloc, b"", round, ended)?)
+}
+
+/// The same page behind a head.
+pub fn headed_closed(alloc: Global, head: &[u8], round: u64, ended: bool) -> Headed
+    ensures { IsHeaded head.now (closed_value round ended) result }
+{
+    let mut text = text_with_room(alloc, head, 46)?;
+    push_number(&mut text, b"{\"closed\":", round);
+    push_truth(&mut text, b",\"ended\":", ended);
+    text.extend_from_slice(b"}");
+    Ok(text.into_items())
+}
+
+/// What each bidder holds now: its demands, its eligibility and its name, in the order of the
+/// set-up; whether the auction has ended, and the current round. At the end it is what each has won.
+///
+/// ```text
+/// {"bidders":[{"demands":[1],"eligibility":2,"name":"X"}],"ended":true,"round":2}
+/// ```
+pub fn results_page<P>(alloc: Global, house: &House<P>) -> Result<Text, NoMemory>
+    ensures { IfOk result (IsPage (results_value house.now)) }
+{
+    Ok(headed_results(alloc, b"", house)?)
+}
+
+/// How many bytes the page takes at most.
+fn results_room<P>(house: &House<P>) -> u128
+    ensures { result ≡ 56 + most_text (list_of (result_in house.now) (range_with_len 0 (length house.now.setup.bidders))) }
+{
+    let mut room = 58;
+    for bidder in 0..bidder_count(house.setup()) {
+        room += 93 + 21 * house.own(bidder).demands.len() as u128;
+    }
+    room
+}
+
+/// The same page behind a head.
+pub fn headed_results<P>(alloc: Global, head: &[u8], house: &House<P>) -> Headed
+    ensures { IsHeaded head.now (results_value house.now) result }
+{
+    let mut text = text_with_room(alloc, head, results_room(house))?;
+    text.extend_from_slice(b"{\"bidders\":[");
+    for bidder in 0..bidder_count(house.setup()) {
+        let own = house.own(bidder);
+        push_comma_if(&mut text, bidder > 0);
+        push_demands(&mut text, b"{\"demands\":", own.demands.held());
+        push_number(&mut text, b",\"eligibility\":", own.eligibility);
+        push_name(&mut text, b",\"name\":", name_of(house.setup(), bidder));
+        text.extend_from_slice(b"}");
+    }
+    push_truth(&mut text, b"],\"ended\":", house.ended());
+    push_number(&mut text, b",\"round\":", house.round());
+    text.extend_from_slice(b"}");
+    Ok(text.into_items())
+}
+
+/// How many bidders a set-up has.
+fn bidder_count(setup: &Setup) -> u32
+    ensures { result ≡ length setup.now.bidders }
+{
+    setup.bidders.as_slice().len() as u32
+}
