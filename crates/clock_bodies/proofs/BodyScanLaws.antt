@@ -15,7 +15,8 @@ use Rattle.clock_bodies.specs.declared.close_body.CloseBody.{CloseBody}
 use Rattle.clock_bodies.specs.Bodies.{bid_of, put_of}
 use Rattle.clock_bodies.specs.CloseBodies.{tie_of, close_of}
 use Rattle.clock_bodies.specs.QuickBodies.{bid_data, tie_data}
-use Rattle.clock_bodies.specs.inside.QuickBodies.{put_data, close_data}
+use Rattle.clock_bodies.specs.inside.QuickBodies.{put_data}
+use Rattle.clock_bodies.specs.QuickClosings.{close_data}
 
 -- a list of three numbers
 pub three_read : (first start after_first after_second after_third new : List Token) (a b c : ℕ) → first ≡ Token.begin_array ∷ start

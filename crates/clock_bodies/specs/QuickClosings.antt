@@ -3,11 +3,13 @@
 --     close_value increments round ties      a closing that names its round, or none, as a value
 --     close_members found      its keys, where they are known
 --     close_fields found, scanned_data close      its keys, each with what was found, and the value of a whole one
+--     close_data body      the value of a body
 use Rattle.std.specs.Prelude.{ℕ, List, [], ◌∷◌, map, Option, Some, option_map, codes}
 use Rattle.serde_json.specs.Data.{Data, object, array}
 use Rattle.clock_json.specs.Reading.{whole, numbers, items_of, Fields, members_of}
 use Rattle.clock_order.specs.declared.ties.Tie.{Tie}
 use Rattle.clock_terms.specs.declared.increments.Increments.{Increments}
+use Rattle.clock_bodies.specs.declared.close_body.CloseBody.{CloseBody}
 use Rattle.clock_bodies.specs.declared.close_body.FoundClose.{FoundClose}
 use Rattle.clock_bodies.specs.declared.close_body.ScannedClose.{ScannedClose}
 use Rattle.clock_bodies.specs.QuickBodies.{tie_data, single_of, listed_of}
@@ -36,3 +38,7 @@ close_value increments round ties = object (members_of (close_members (single_of
 -- what was read of a closing, as a value
 abbrev pub scanned_data : ScannedClose → Data
 scanned_data close = close_value close.increments close.round close.ties
+
+-- the body of a closing as a value
+abbrev pub close_data : CloseBody → Data
+close_data body = close_value body.increments (Some body.round) body.ties

@@ -1,7 +1,7 @@
 ghost use Rattle.std.specs.Prelude.{◌≡◌, ◌≢◌, Ok, Err, IfOk, IfErr};
 ghost use Rattle.serde_json.specs.View.{view};
 ghost use Rattle.clock_bodies.specs.CloseBodies as bodies;
-ghost use Rattle.clock_bodies.specs.{QuickBodies.{tie_data}, QuickClosings.{close_fields, scanned_data}, inside.QuickBodies.{close_data}};
+ghost use Rattle.clock_bodies.specs.{QuickBodies.{tie_data}, QuickClosings.{close_data, close_fields, scanned_data}};
 
 use crate::body::{Body, BodyFault, read_body};
 use clock_device::{Items, NoMemory};

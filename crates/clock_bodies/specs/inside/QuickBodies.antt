@@ -5,9 +5,7 @@ use Rattle.clock_json.specs.Reading.{whole, items_of, Fields, members_of}
 use Rattle.clock_bids.specs.declared.sheet.Bid.{Bid}
 use Rattle.clock_bodies.specs.declared.put_body.PutBody.{PutBody}
 use Rattle.clock_bodies.specs.declared.put_body.FoundPut.{FoundPut}
-use Rattle.clock_bodies.specs.declared.close_body.CloseBody.{CloseBody}
 use Rattle.clock_bodies.specs.QuickBodies.{bid_data}
-use Rattle.clock_bodies.specs.QuickClosings.{close_value}
 
 -- a list of bids as a value
 abbrev pub bids_data : List Bid → Data
@@ -27,7 +25,3 @@ put_fields found = put_members found.round found.bids
 -- a sheet as a value
 abbrev pub put_data : PutBody → Data
 put_data body = object (members_of (put_members (Some body.round) (Some body.bids)))
-
--- the body of a closing as a value
-abbrev pub close_data : CloseBody → Data
-close_data body = close_value body.increments (Some body.round) body.ties
