@@ -46,7 +46,7 @@ fn serve_one<P: Processor, K: Keeper, R: Source, W: Sink>(
     ensures setup { front.new.setup ≡ front.old.setup }
 {
     let reply = match read_request(alloc, source) {
-        Ok(request) => { let reply = front.answer_known(request.as_slice(), request.progress()); reply }
+        Ok(request) => keeper.answer(front, request.as_slice(), request.progress())?,
         Err(Unread::Memory) => no_memory_reply(),
         Err(Unread::Read) => return Ok(()),
     };
