@@ -50,14 +50,14 @@ enough_for_report first texts house chain count digests given report recounted i
     )
 
 -- what is shown of an auction that stands for all texts of a file, and goes by what it went by before them
-pub audit_is : (setup setup_new : SetupFields) (first first_new bytes shown : List ℕ) (texts : List (List ℕ)) (recovered : Recovered) (house : HouseFields)
-    (chain : List ℕ) (count : ℕ) (digests : List (List ℕ)) → setup_new ≡ setup → first_new ≡ first → IsPlaced first bytes texts recovered
+pub audit_is : (setup setup_new : SetupFields) (first first_new bytes given shown : List ℕ) (texts : List (List ℕ)) (recovered : Recovered) (house : HouseFields)
+    (chain : List ℕ) (count : ℕ) (digests : List (List ℕ)) → given ≡ bytes → setup_new ≡ setup → first_new ≡ first → IsPlaced first given texts recovered
     → IsRecounted first_new (onto texts []) house chain count digests → shown ≡ audited setup_new first_new (onto texts [])
     → IsAuditOf setup first bytes shown count chain
-audit_is setup setup_new first first_new bytes shown texts recovered house chain count digests same_setup same_first placed recounted is = record {
+audit_is setup setup_new first first_new bytes given shown texts recovered house chain count digests same same_setup same_first placed recounted is = record {
   texts = texts;
   recovered = recovered;
-  placed = placed;
+  placed = subst (λ (file : List ℕ). IsPlaced first file texts recovered) same placed;
   shown_is = is
       ∙ ap (λ (of_setup : SetupFields). audited of_setup first_new (onto texts [])) same_setup
       ∙ ap (λ (from : List ℕ). audited setup from (onto texts [])) same_first;
