@@ -1,10 +1,15 @@
--- Arrays of JSON that are not written to their end yet.
+-- Pieces of a text, and arrays of JSON that are not written to their end yet.
+--     Adds piece old new      a piece was added at the end of a text
 --     item_text later value      an item of an array, with the comma before it
 --     rest_text value later xs      the rest of an array, with its closing bracket
-use Rattle.std.specs.Prelude.{ℕ, List, ◌++◌, Bool}
+use Rattle.std.specs.Prelude.{◌≡◌, ℕ, List, ◌++◌, Bool}
 use Rattle.serde_json.specs.Data.{Data}
 use Rattle.serde_json.specs.Written.{compact_text, comma_if, items_text}
 use Rattle.clock_views.specs.Values.{items_of}
+
+-- a piece was added at the end of a text
+pub record Adds (piece old new : List ℕ) : Type 0 where
+  pub is : new ≡ old ++ piece
 
 -- an item of an array, behind a comma where it is a later one than the first
 abbrev pub item_text : Bool → Data → List ℕ
