@@ -6,7 +6,8 @@ use Rattle.std.proofs.lemmas.Bool.Decides.{nat_tests}
 use Rattle.std.proofs.lemmas.List.{drop_all, drop_more, length-append}
 use Rattle.serde_json.specs.Data.{Data}
 use Rattle.serde_json.specs.Written.{compact_text, items_text}
-use Rattle.clock_views.specs.Values.{items_of, list_of, Adds}
+use Rattle.clock_views.specs.Values.{items_of, list_of}
+use Rattle.clock_views.specs.inside.Values.{Adds}
 use Rattle.clock_scripts.specs.inside.Arrays.{with_comma, with_commas, array_ended}
 
 module _ {A : Type 0} (value : A → Data) where

@@ -29,7 +29,7 @@ use Rattle.clock_http.specs.HeaderLines.{pairs_of, body_length, body_limit, leng
 use Rattle.clock_http.specs.Framing.{head_limit, Head, kept, or_bad_head, ended_head, and_length, length_read, incomplete, whole, framed_at, framed_head, framing}
 use Rattle.clock_http.specs.Framing.{is_incomplete, needs_more}
 use Rattle.clock_http.specs.FramingLaws.{IsHeadOfGrammar}
-use Rattle.clock_views.specs.Values.{Adds}
+use Rattle.clock_views.specs.inside.Values.{Adds}
 use Rattle.clock_scripts.specs.declared.requests.Written.{Written}
 use Rattle.clock_scripts.specs.RequestTexts.{request_head}
 use Rattle.clock_scripts.specs.Pieces.{AwaitsBody, is_awaited}

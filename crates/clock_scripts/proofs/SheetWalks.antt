@@ -10,7 +10,7 @@ use Rattle.clock_terms.specs.declared.prices.PricePair.{PricePair}
 use Rattle.clock_terms.specs.Prices.{prices_at}
 use Rattle.clock_terms.specs.Demands.{row_of}
 use Rattle.clock_bids.specs.declared.sheet.Bid.{Bid}
-use Rattle.clock_views.specs.Values.{Adds}
+use Rattle.clock_views.specs.inside.Values.{Adds}
 use Rattle.clock_views.proofs.Pushes.{together}
 use Rattle.clock_scripts.specs.Sincere.{bid_for, bid_if_any, sincere_sheet, opening_bids, later_bids, wanted}
 use Rattle.clock_scripts.specs.inside.Bodies.{bid_text, bids_text}

@@ -7,7 +7,8 @@ use Rattle.clock_terms.specs.declared.increments.Increments.{Increments}
 use Rattle.clock_terms.specs.declared.increments.Increments.TheVariants.{Single, PerProduct}
 use Rattle.clock_bids.specs.declared.sheet.Bid.{Bid}
 use Rattle.clock_order.specs.declared.ties.Tie.{Tie}
-use Rattle.clock_views.specs.Values.{list_of, Adds}
+use Rattle.clock_views.specs.Values.{list_of}
+use Rattle.clock_views.specs.inside.Values.{Adds}
 use Rattle.clock_views.proofs.Pushes.{before, together}
 use Rattle.clock_views.proofs.Texts.{bid_in_pieces}
 use Rattle.clock_scripts.specs.RequestTexts.{tie_value, close_value}

@@ -4,7 +4,7 @@
 ghost use Rattle.std.specs.Prelude.{◌≡◌, ◌++◌, ℕ, List, codes, decimal, length, OnOk};
 ghost use Rattle.serde_json.specs.Written.{compact_text};
 ghost use Rattle.clock_bids.specs.declared.sheet.Bid.{Bid};
-ghost use Rattle.clock_views.specs.Values.{whole, list_of, Adds};
+ghost use Rattle.clock_views.specs.{Values.{whole, list_of}, inside.Values.{Adds}};
 ghost use Rattle.clock_scripts.specs.{RequestTexts.{tie_value, written_put, written_close}, Sincere.{bid_for}};
 ghost use Rattle.clock_scripts.specs.inside.{Arrays.{array_ended}, Bodies.{bid_text, bids_text}};
 

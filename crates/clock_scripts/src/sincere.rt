@@ -2,7 +2,7 @@
 
 ghost use Rattle.std.specs.Prelude.{◌≡◌, ◌≤◌, ◌<◌, [], All, false, length, take, reverse, OnOk};
 ghost use Rattle.clock_house.specs.House.{standing_in, holding_in};
-ghost use Rattle.clock_views.specs.Values.{Adds};
+ghost use Rattle.clock_views.specs.inside.Values.{Adds};
 ghost use Rattle.clock_replays.specs.Replays.{IsLimits, NeverRises};
 ghost use Rattle.clock_scripts.specs.{RequestTexts.{written_put}, Sincere.{sincere_sheet}, inside.Bodies.{bids_text}};
 ghost use Rattle.clock_scripts.specs.inside.SincereSheets.{first_sheet, later_sheet};

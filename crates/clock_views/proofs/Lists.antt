@@ -6,8 +6,8 @@ use Rattle.serde_json.specs.Written.{compact_text, comma_if}
 use Rattle.std.specs.List.{range_with_len}
 use Rattle.std.proofs.lemmas.Bool.Decides.{nat_tests}
 use Rattle.std.proofs.lemmas.List.{drop_all, drop_more}
-use Rattle.clock_views.specs.Values.{list_of, Adds}
-use Rattle.clock_views.specs.inside.Values.{item_text, rest_text}
+use Rattle.clock_views.specs.Values.{list_of}
+use Rattle.clock_views.specs.inside.Values.{Adds, item_text, rest_text}
 
 -- an item and the rest behind it are the rest before it
 pub next_item : {A : Type 0} (value : A → Data) (text : List ℕ) (later : Bool) (x : A) (xs : List A)

@@ -4,7 +4,7 @@ use Rattle.std.specs.Result.{IsErrAnd}
 use Rattle.serde_json.specs.Data.{Data}
 use Rattle.serde_json.specs.Written.{compact_text}
 use Rattle.clock_views.specs.Rooms.{IsHeaded, most_text}
-use Rattle.clock_views.specs.Values.{Adds}
+use Rattle.clock_views.specs.inside.Values.{Adds}
 
 pub added : {piece old new : List ℕ} → new ≡ old ++ piece → Adds piece old new
 added is = record { is = is }

@@ -7,7 +7,6 @@
 --     true_or_false b      the word that a truth value is written as
 --     number_if label number      a label and a number only where there is one
 --     IsPage value text      the text is the value's compact text
---     Adds piece old new      a piece was added at the end of a text
 use Prim.Native.String.{String}
 use Rattle.std.specs.Prelude.{◌≡◌, ℕ, List, [], ◌∷◌, ◌++◌, Bool, true, false, Option, Some, None, codes, decimal}
 use Rattle.serde_json.specs.Data.{Data, null, number, unsigned, array, object, Items, no_items, item, Members, no_members, member}
@@ -58,7 +57,3 @@ number_if label (Some n) = label ++ decimal n
 -- the text is the value's compact text
 abbrev pub IsPage : Data → List ℕ → Type 0
 IsPage value text = text ≡ compact_text value
-
--- a piece was added at the end of a text
-pub record Adds (piece old new : List ℕ) : Type 0 where
-  pub is : new ≡ old ++ piece

@@ -1,7 +1,7 @@
 -- The head of a request, which is written behind its body.
 --     IsHeaded line token body old text written      the body is all that stands from a place on, and the head was added
 use Rattle.std.specs.Prelude.{◌≡◌, ◌-◌, ℕ, List, length}
-use Rattle.clock_views.specs.Values.{Adds}
+use Rattle.clock_views.specs.inside.Values.{Adds}
 use Rattle.clock_scripts.specs.declared.requests.Written.{Written}
 use Rattle.clock_scripts.specs.RequestTexts.{request_head}
 

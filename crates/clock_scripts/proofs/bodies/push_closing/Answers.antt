@@ -1,7 +1,8 @@
 use Rattle.std.proofs.Common.{◌++◌, List, ℕ, codes, subst}
 use Rattle.serde_json.specs.Written.{compact_text}
 use Rattle.clock_order.specs.declared.ties.Tie.{Tie}
-use Rattle.clock_views.specs.Values.{whole, list_of, Adds}
+use Rattle.clock_views.specs.Values.{whole, list_of}
+use Rattle.clock_views.specs.inside.Values.{Adds}
 use Rattle.clock_views.proofs.Pushes.{before}
 use Rattle.clock_scripts.specs.RequestTexts.{tie_value}
 use Rattle.clock_scripts.specs.inside.RequestTexts.{increments_text}

@@ -5,7 +5,7 @@ use Rattle.clock_terms.specs.Limits.{IsBidder, IsToken, SetupFields}
 use Rattle.clock_terms.specs.declared.setup.Bidder.{Bidder}
 use Rattle.clock_house.specs.History.{bidder_at}
 use Rattle.clock_house.specs.House.{standing_in, holding_in}
-use Rattle.clock_views.specs.Values.{Adds}
+use Rattle.clock_views.specs.inside.Values.{Adds}
 use Rattle.clock_scripts.specs.RequestTexts.{written_put}
 use Rattle.clock_scripts.specs.Sincere.{sincere_sheet}
 use Rattle.clock_scripts.proofs.PutHeads.{put_awaits}

@@ -1,6 +1,6 @@
 use Rattle.std.proofs.Common.{◌≡◌, ◌++◌, ◌-◌, ℕ, List, length, flat_map, rules, sym, subst, ap, append-nil, ◌∙◌, arith}
 use Rattle.std.specs.List.{range_with_len}
-use Rattle.clock_views.specs.Values.{Adds}
+use Rattle.clock_views.specs.inside.Values.{Adds}
 use Rattle.clock_views.proofs.Pushes.{together}
 use Rattle.clock_scripts.specs.Sincere.{bid_for, wanted}
 use Rattle.clock_scripts.specs.inside.Bodies.{bid_text, bids_text}

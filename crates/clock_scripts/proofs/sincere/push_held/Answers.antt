@@ -1,7 +1,7 @@
 use Rattle.std.proofs.Common.{◌≡◌, ◌≤◌, ◌-◌, ◌++◌, ℕ, ◌∙◌, sym, ap, subst, length, reverse, take, arith, append-nil}
 use Rattle.std.specs.Prelude.{OnOk}
 use Rattle.std.proofs.lemmas.List.{length-take}
-use Rattle.clock_views.specs.Values.{Adds}
+use Rattle.clock_views.specs.inside.Values.{Adds}
 use Rattle.clock_views.proofs.Pushes.{together}
 use Rattle.clock_scripts.specs.Sincere.{bid_for}
 use Rattle.clock_scripts.specs.inside.Blocks.{block_bids}

@@ -1,7 +1,7 @@
 use Rattle.std.proofs.Common.{◌≡◌, ◌==◌, true, false, List, ℕ, OnOk, ap, refl, subst, ◌∙◌, arith}
 use Rattle.std.proofs.lemmas.Bool.{ne_eqb}
 use Rattle.clock_house.specs.House.{standing_in, holding_in}
-use Rattle.clock_views.specs.Values.{Adds}
+use Rattle.clock_views.specs.inside.Values.{Adds}
 use Rattle.clock_views.proofs.Pushes.{together}
 use Rattle.clock_scripts.specs.RequestTexts.{written_put}
 use Rattle.clock_scripts.specs.Sincere.{sincere_sheet}
