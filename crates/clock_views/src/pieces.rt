@@ -6,7 +6,7 @@ ghost use Rattle.serde_json.specs.{Data.{string}, Written.{compact_text, comma_i
 ghost use Rattle.clock_terms.specs.Limits.{IsName};
 ghost use Rattle.clock_views.specs.Values.{whole, whole_or_null, list_of, number_if, true_or_false};
 ghost use Rattle.clock_views.specs.inside.Rooms.{room_of_number, room_of_name, room_of_truth, room_of_item, room_of_array};
-ghost use Rattle.clock_views.specs.inside.Values.{Adds, rest_text};
+ghost use Rattle.clock_views.specs.inside.Values.{rest_text, Adds};
 
 use clock_device::{Bounded, Text};
 use clock_http::NoRoom;

@@ -1,15 +1,11 @@
--- Pieces of a text, and arrays of JSON that are not written to their end yet.
---     Adds piece old new      a piece was added at the end of a text
+-- Texts of JSON that are not written to their end yet.
 --     item_text later value      an item of an array, with the comma before it
 --     rest_text value later xs      the rest of an array, with its closing bracket
+--     Adds piece old new      a piece was added at the end of a text
 use Rattle.std.specs.Prelude.{◌≡◌, ℕ, List, ◌++◌, Bool}
 use Rattle.serde_json.specs.Data.{Data}
 use Rattle.serde_json.specs.Written.{compact_text, comma_if, items_text}
 use Rattle.clock_views.specs.Values.{items_of}
-
--- a piece was added at the end of a text
-pub record Adds (piece old new : List ℕ) : Type 0 where
-  pub is : new ≡ old ++ piece
 
 -- an item of an array, behind a comma where it is a later one than the first
 abbrev pub item_text : Bool → Data → List ℕ
@@ -18,3 +14,7 @@ item_text later value = comma_if later ++ compact_text value
 -- what the rest of an array adds, behind a comma where something stands before it
 abbrev pub rest_text : {A : Type 0} → (A → Data) → Bool → List A → List ℕ
 rest_text value later xs = items_text later (items_of value xs)
+
+-- a piece was added at the end of a text
+pub record Adds (piece old new : List ℕ) : Type 0 where
+  pub is : new ≡ old ++ piece
