@@ -1,10 +1,10 @@
-ghost use Rattle.std.specs.Prelude.{◌≡◌, ◌<◌, ◌≤◌, ◌+◌, ◌*◌, ℕ, Some, None, length, map, take, slice_index_or, All, Err, OnOk, OnSome, IfOk, IfErr};
+ghost use Rattle.std.specs.Prelude.{◌≡◌, ◌<◌, ◌≤◌, ℕ, Some, None, length, map, take, slice_index_or, All, Err, OnOk, OnSome, IfOk, IfErr};
 ghost use Rattle.std.specs.Option.{option_copied};
-ghost use Rattle.clock_terms.specs.{Limits.{IsRow, most_supply, most_units, public_setup}, Faults.{first_fault, IsFirstFault}};
+ghost use Rattle.clock_terms.specs.{Limits.{IsRow, public_setup}, Faults.{first_fault, IsFirstFault}};
 ghost use Rattle.clock_terms.specs.Eligibility as eligibilities;
 ghost use Rattle.clock_bids.specs.{Holding.{holding_of}, inside.Parts.{checks_of_bids}};
 ghost use Rattle.clock_bids.specs.Sheet.{IsGoodSheet, asked_demands, most_bids, sheet_fault};
-ghost use Rattle.clock_bids.specs.inside.Chains.{bid_at, checks_by_last, last_bids, quantity_of};
+ghost use Rattle.clock_bids.specs.inside.Chains.{bid_at, checks_by_last, last_bids};
 ghost use Rattle.clock_bids.specs.inside.LastBids.{AreLastPlaces};
 
 use crate::sheet::{Bid, BidFault, Own, Sheet};
@@ -122,24 +122,12 @@ fn judge(
             return Err(fault);
         }
         let units = products[bid.product as usize].units;
-        taken = taken_with(taken, units, last, bid.quantity);
+        taken = match last {
+            Some(last) => taken - units * last.quantity + units * bid.quantity,
+            None => taken + units * bid.quantity,
+        };
     }
     Ok(taken)
-}
-
-/// The bidding units that demands take once a quantity stands in the place of the last bid's.
-fn taken_with(taken: u64, units: u64, last: Option<&Bid>, quantity: u64) -> u64
-    requires limit { taken ≤ most_bids * (most_units * most_supply) }
-    requires units { units ≤ most_units }
-    requires quantity { quantity ≤ most_supply }
-    requires held { units * quantity_of (option_copied last) ≤ taken }
-    ensures exact { result + units * quantity_of (option_copied last.entry) ≡ taken + units * quantity }
-    ensures most { result ≤ taken + most_units * most_supply }
-{
-    match last {
-        Some(last) => taken - units * last.quantity + units * quantity,
-        None => taken + units * quantity,
-    }
 }
 
 /// The bid right before a place, where it is for a product: it is then the last one for it.

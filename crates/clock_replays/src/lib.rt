@@ -5,8 +5,6 @@
 mod limit_lists;
 mod read;
 mod replay;
-mod replay_scan;
-mod replay_tree;
 
 pub use limit_lists::LimitLists;
 pub use read::read_replay;

@@ -1,18 +1,214 @@
+//! How a replay document is read: by bytes, where no text has an escape and each number is written in digits alone, and
+//! else by a tree of values, which decides every text.
 ghost use Rattle.std.specs.{Prelude.{◌≡◌, ◌≢◌, ◌&&◌, Ok, IfOk, IfErr, true, Some, length, nat_le}, List.{list_all}};
 ghost use Rattle.serde_json.specs.View.{view};
 ghost use Rattle.clock_terms.specs.{Faults.{IsRefusal, first_fault, unless}, Limits.{IsSetup}};
 ghost use Rattle.clock_replays.specs.{Replays.{IsReplay, ReplayFields}, ReplayDocument.{document_replay, replay_of}};
 ghost use Rattle.clock_replays.specs.ReplayChecks as rules;
+ghost use Rattle.clock_replays.specs.ReplayShape as shape;
+ghost use Rattle.clock_replays.specs.inside.PartData.{sheet_data, found_script, script_data, closing_data};
+ghost use Rattle.clock_replays.specs.inside.ReplayData.{found_replay, found_data};
 
-use crate::replay::{Closing, Closings, Replay, Script, ScriptFault, Scripts};
-use crate::replay_scan::{ClosingReader, FoundReplay};
-use crate::replay_tree::ScriptReader;
-use clock_bodies::is_of_version;
-use clock_json::scanned_text;
-use clock_json::tree::{each_at, has_members, read_value};
-use clock_setup::{Product, Setup, SetupFault, setup_of};
+use crate::limit_lists::{LimitLists, limit_lists};
+use crate::replay::{BidList, Closing, Closings, Replay, Script, ScriptFault, Scripts, SheetList};
+use clock_bodies::{BidReader, FoundClose, TieReader, increments_of, is_of_version};
+use clock_device::NoMemory;
+use clock_json::tree::{
+    RowReader, ValueReader, each_at, each_of, has_members, read_value, text_at,
+};
+use clock_json::{PartReader, Scan, ScanStop, ScannedMembers, is_key, scanned_parts, scanned_text};
+use clock_setup::{HeldSetup, Product, Setup, SetupFault, setup_of};
 use serde_json::Value;
 use std::alloc::Global;
+
+/// A sheet of a literal script is read as a list of bids, or as `null` where there is none.
+#[derive(Drop)]
+struct SheetReader;
+
+impl<'v> PartReader<'v> for SheetReader {
+    type Part = Option<BidList>;
+
+    ghost levels = { 2 };
+
+    ghost shown = { sheet_data };
+
+    fn part(alloc: Global, scan: &mut Scan<'v>) -> Result<Option<BidList>, ScanStop> {
+        if scan.null() {
+            return Ok(None);
+        }
+        Ok(Some(scanned_parts::<BidReader>(alloc, scan, 0)?))
+    }
+}
+
+#[tactic(auto, unfolding(crate::specs::ReplayShape::sheet_of))]
+impl<'v> ValueReader<'v> for SheetReader {
+    type Part = Option<BidList>;
+
+    ghost meaning = { λ _. shape.sheet_of };
+
+    fn part_of(
+        &self,
+        alloc: Global,
+        value: &'v Value,
+    ) -> Result<Option<Option<BidList>>, NoMemory> {
+        if value.is_null() {
+            return Ok(Some(None));
+        }
+        let Some(items) = value.as_array() else {
+            return Ok(None);
+        };
+        Ok(each_of(alloc, &BidReader, items.as_slice())?.map(Some))
+    }
+}
+
+/// What was found of a script so far.
+#[derive(Default, Drop)]
+struct FoundScript<'v> {
+    kind: Option<&'v str>,
+    limits: Option<LimitLists>,
+    sheets: Option<SheetList>,
+}
+
+impl<'v> ScannedMembers<'v> for FoundScript<'v> {
+    type Whole = Script;
+
+    ghost levels = { 3 };
+
+    ghost fields = { found_script };
+
+    ghost shown = { script_data };
+
+    fn nothing() -> FoundScript<'v> {
+        FoundScript::default()
+    }
+
+    fn read(&mut self, alloc: Global, key: &[u8], scan: &mut Scan<'v>) -> Result<(), ScanStop> {
+        match key {
+            _ if is_key(key, "limits") => self.limits = Some(limit_lists(alloc, scan)?),
+            _ if is_key(key, "sheets") => self.sheets = Some(scanned_parts::<SheetReader>(
+                alloc, scan, 0,
+            )?),
+            _ if is_key(key, "kind") => self.kind = Some(scan.text()?),
+            _ => return Err(ScanStop::Unusual),
+        }
+        Ok(())
+    }
+
+    fn whole(self) -> Option<Script> {
+        match (self.kind?, self.limits, self.sheets) {
+            ("literal", None, Some(sheets)) => Some(Script::Literal(sheets)),
+            ("sincere", Some(limits), None) => Some(Script::Sincere(limits)),
+            _ => None,
+        }
+    }
+}
+
+/// What a bidder does is read by its kind.
+#[derive(Drop)]
+struct ScriptReader;
+
+#[tactic(auto, unfolding(crate::specs::ReplayShape::script_of))]
+impl<'v> ValueReader<'v> for ScriptReader {
+    type Part = Script;
+
+    ghost meaning = { λ _. shape.script_of };
+
+    fn part_of(&self, alloc: Global, value: &'v Value) -> Result<Option<Script>, NoMemory> {
+        match text_at(value, "kind") {
+            Some("literal") if has_members(value, 2) => {
+                Ok(each_at(alloc, value, "sheets", &SheetReader)?.map(Script::Literal))
+            }
+            Some("sincere") if has_members(value, 2) => {
+                let Some(lists) = each_at(alloc, value, "limits", &RowReader)? else {
+                    return Ok(None);
+                };
+                let limits = LimitLists::from_lists(alloc, lists.as_slice())?;
+                Ok(Some(Script::Sincere(limits)))
+            }
+            _ => Ok(None),
+        }
+    }
+}
+
+/// How a round is closed is read from a closing that names no round, or from a value under two keys.
+#[derive(Drop)]
+struct ClosingReader;
+
+impl<'v> PartReader<'v> for ClosingReader {
+    type Part = Closing;
+
+    ghost levels = { 3 };
+
+    ghost shown = { closing_data };
+
+    fn part(alloc: Global, scan: &mut Scan<'v>) -> Result<Closing, ScanStop> {
+        let close = FoundClose::part(alloc, scan)?;
+        if close.round.is_some() {
+            return Err(ScanStop::Unusual);
+        }
+        Ok(Closing {
+            increments: close.increments,
+            ties: close.ties,
+        })
+    }
+}
+
+#[tactic(auto, unfolding(crate::specs::ReplayShape::closing_from))]
+impl<'v> ValueReader<'v> for ClosingReader {
+    type Part = Closing;
+
+    ghost meaning = { λ _. shape.closing_from };
+
+    fn part_of(&self, alloc: Global, value: &'v Value) -> Result<Option<Closing>, NoMemory> {
+        let Some(increments) = increments_of(alloc, value)? else {
+            return Ok(None);
+        };
+        let Some(ties) = each_at(alloc, value, "ties", &TieReader)? else {
+            return Ok(None);
+        };
+        Ok(has_members(value, 2).then_some(Closing { increments, ties }))
+    }
+}
+
+/// What was found of a replay so far.
+#[derive(Default, Drop)]
+struct FoundReplay {
+    closings: Option<Closings>,
+    scripts: Option<Scripts>,
+    held: Option<HeldSetup>,
+}
+
+impl<'v> ScannedMembers<'v> for FoundReplay {
+    type Whole = (HeldSetup, Scripts, Closings);
+
+    ghost levels = { 5 };
+
+    ghost fields = { found_replay };
+
+    ghost shown = { found_data };
+
+    fn nothing() -> FoundReplay {
+        FoundReplay::default()
+    }
+
+    fn read(&mut self, alloc: Global, key: &[u8], scan: &mut Scan<'v>) -> Result<(), ScanStop> {
+        match key {
+            _ if is_key(key, "scripts") => self.scripts = Some(scanned_parts::<FoundScript>(
+                alloc, scan, 0,
+            )?),
+            _ if is_key(key, "closings") => self.closings = Some(scanned_parts::<ClosingReader>(
+                alloc, scan, 0,
+            )?),
+            _ if is_key(key, "setup") => self.held = Some(HeldSetup::part(alloc, scan)?),
+            _ => return Err(ScanStop::Unusual),
+        }
+        Ok(())
+    }
+
+    fn whole(self) -> Option<(HeldSetup, Scripts, Closings)> {
+        Some((self.held?, self.scripts?, self.closings?))
+    }
+}
 
 /// Whether each closing has the form of the version.
 fn are_of_version(version: u64, closings: &[Closing]) -> bool

@@ -10,7 +10,7 @@ use Rattle.clock_bodies.specs.inside.QuickBodies.{bids_data}
 use Rattle.clock_replays.specs.declared.replay.Script.{Script}
 use Rattle.clock_replays.specs.declared.replay.Script.TheVariants.{Literal, Sincere}
 use Rattle.clock_replays.specs.declared.replay.Closing.{Closing}
-use Rattle.clock_replays.specs.declared.replay_scan.FoundScript.{FoundScript}
+use Rattle.clock_replays.specs.declared.read.FoundScript.{FoundScript}
 
 -- a sheet of a literal script as a value
 abbrev pub sheet_data : Option (List Bid) → Data

@@ -6,7 +6,7 @@ use Rattle.clock_setup.specs.SetupData.{setup_data}
 use Rattle.clock_setup.specs.declared.setup_scan.HeldSetup.{HeldSetup}
 use Rattle.clock_replays.specs.declared.replay.Script.{Script}
 use Rattle.clock_replays.specs.declared.replay.Closing.{Closing}
-use Rattle.clock_replays.specs.declared.replay_scan.FoundReplay.{FoundReplay}
+use Rattle.clock_replays.specs.declared.read.FoundReplay.{FoundReplay}
 use Rattle.clock_replays.specs.inside.PartData.{script_data, closing_data}
 
 -- a replay's keys, each with its value where one was found

@@ -3,7 +3,7 @@ use Rattle.std.specs.Bool.{MatchBool}
 use Rattle.serde_json.specs.Data.{null}
 use Rattle.clock_json.specs.Reading.{Reads}
 use Rattle.clock_json.proofs.Steps.{reads_shorter}
-use Rattle.clock_replays.proofs.replay_scan.SheetReaderPartReader.part.Goals as goal
+use Rattle.clock_replays.proofs.read.SheetReaderPartReader.part.Goals as goal
 
 pub returns-then-null-clause-shorter : goal.returns-then-null-clause-shorter
 returns-then-null-clause-shorter c =
