@@ -1,20 +1,15 @@
 -- What is told of a closed round, and of none; which requests are no commands.
-use Rattle.std.proofs.Common.{◌≡◌, ℕ, Option, Some, None, Result, refl, sym, ◌∙◌, ap}
+use Rattle.std.proofs.Common.{◌≡◌, Option, Some, None, refl, ap}
 use Rattle.std.specs.Prelude.{option_map}
 use Rattle.serde_json.specs.Data.{Data}
 use Rattle.clock_terms.specs.Limits.{SetupFields}
 use Rattle.clock_house.specs.Command.{other}
 use Rattle.clock_closing.specs.declared.closed_round.ClosedRound.{ClosedRound}
 use Rattle.clock_http.specs.declared.code.Code.{Code}
-use Rattle.clock_views.specs.Refusals.{Shown}
-use Rattle.clock_http.specs.Replies.{Answer}
-use Rattle.clock_bodies.specs.declared.put_body.PutBody.{PutBody}
-use Rattle.clock_bodies.specs.declared.close_body.CloseBody.{CloseBody}
-use Rattle.clock_bodies.specs.declared.body.BodyFault.{BodyFault}
 use Rattle.clock_front.specs.declared.front.askers.Asker.{Asker}
 use Rattle.clock_front.specs.declared.front.askers.Asker.TheVariants.{Nobody, Operator, Bidder}
 use Rattle.clock_front.specs.Requests as asked
-use Rattle.clock_front.specs.Outcomes.{Outcome, answer_of, done, refused, page_or_no_round, command_of}
+use Rattle.clock_front.specs.Outcomes.{done, page_or_no_round, command_of}
 
 -- a page of a part of the closed round that is there
 pub found_page : {T : Type 0} (value : T → Data) (part : ClosedRound → T) (closed : Option ClosedRound) (x : T) → Some x ≡ option_map part closed

@@ -13,7 +13,6 @@ use Rattle.clock_front.specs.declared.front.replies.Unanswered.{Unanswered}
 use Rattle.clock_front.specs.declared.front.replies.Unanswered.TheVariants.{Room}
 use Rattle.clock_http.specs.Replies.{Answer}
 use Rattle.clock_front.specs.Requests.{request_of}
-use Rattle.clock_front.specs.declared.front.askers.Asker.{Asker}
 use Rattle.clock_front.proofs.FrontLaws.{ask_by, outcome_after}
 use Rattle.clock_front.proofs.RunLaws.{right}
 use Rattle.clock_front.proofs.AskerLaws.{asker_own}

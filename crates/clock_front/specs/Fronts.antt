@@ -39,17 +39,18 @@ house_after setup commands = record {
   spare = 0;
 }
 
--- the answer to a text as the house stands
-abbrev pub right_answer : HouseFields → List ℕ → Answer
-right_answer house text = answer_of (outcome house (asker house.setup (request_of text).token) (request_of text).ask)
-
 -- the answer to a text after others
 abbrev pub reply : SetupFields → List (List ℕ) → List ℕ → Answer
-reply setup texts text = right_answer (house_after setup (commands_of setup texts)) text
+reply setup texts text =
+    answer_of (outcome (house_after setup (commands_of setup texts)) (asker setup (request_of text).token) (request_of text).ask)
 
 -- the house stands for the commands of the texts
 abbrev pub StandsForTexts : List (List ℕ) → HouseFields → Type 0
 StandsForTexts texts house = StandsFor (commands_of house.setup texts) house
+
+-- the answer to a text as the house stands
+abbrev pub right_answer : HouseFields → List ℕ → Answer
+right_answer house text = answer_of (outcome house (asker house.setup (request_of text).token) (request_of text).ask)
 
 -- the reply to a text that still needed more when its input ended, or there was no memory for it
 abbrev pub IsCutShort : Answer → Type 0

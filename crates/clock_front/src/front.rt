@@ -1,9 +1,10 @@
 ghost use Rattle.std.specs.Prelude.{◌≡◌, ◌⊎◌, [], ℕ, List, IfOk, IfErr, IsOk, OnOk, OnErr};
 ghost use Rattle.clock_http.specs.declared.code.Code.{Code as ReplyCode};
-ghost use Rattle.clock_http.specs.{Framing.{framing as framing_of, incomplete, refusal as refusal_of}, Shown.{IsFramed, shown_framing}};
+ghost use Rattle.clock_http.specs.Framing.{framing as framing_of, incomplete, refusal as refusal_of};
+ghost use Rattle.clock_http.specs.Shown.{IsFramed, shown_framing};
 ghost use Rattle.clock_house.specs.House.{HouseFields, IsFollowedBy, StandsStill};
-ghost use Rattle.clock_front.specs.Fronts.{AnswersText, IsCutShort, IsDoneBy, IsStruckOut, StandsForTexts, right_answer, text_command};
-ghost use Rattle.clock_front.specs.{Private.{IsPrivateReply}, Rooms.{IsPrivateWant, IsWantOf}};
+ghost use Rattle.clock_front.specs.Fronts.{AnswersText, IsCutShort, IsDoneBy, IsStruckOut, StandsForTexts};
+ghost use Rattle.clock_front.specs.{Fronts.{right_answer, text_command}, Private.{IsPrivateReply}, Rooms.{IsPrivateWant, IsWantOf}};
 ghost use Rattle.clock_front.specs.inside.{HeldTokens.{IsTableOf}, KeptPage.{IsProductsPage}};
 
 mod answering;

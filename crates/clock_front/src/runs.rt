@@ -1,7 +1,6 @@
 ghost use Rattle.std.specs.Prelude.{[], ◌≡◌, ◌<◌, IfOk, length, Some, None, OnOk};
 ghost use Rattle.clock_connections.specs.{inside.Numbers.{Stands, conn_at}, Pieces.{Numbered, completed, after}};
 ghost use Rattle.clock_connections.specs.Connections.{most_serials};
-ghost use Rattle.clock_connections.specs.declared.connections.Event.TheVariants as events;
 ghost use Rattle.clock_front.specs.{Fronts.{StandsForTexts}, Headline.{IsRun, IsEventRun}, inside.NumberedHubs.{HasCompleted}};
 
 use crate::front::Front;

@@ -7,7 +7,8 @@ ghost use Rattle.clock_views.specs.{PublicPages.{products_value}, RefusalPage.{r
 ghost use Rattle.clock_front.specs.declared.front.askers.Asker.TheVariants as who;
 ghost use Rattle.clock_front.specs.declared.front.replies.Unanswered.TheVariants as unanswered;
 ghost use Rattle.clock_front.specs.{FixedReplies.{no_memory}, Outcomes.{answer_of, done, with_page}, Rooms.{refusal_room}};
-ghost use Rattle.clock_front.specs.inside.{FixedReplies.{is_fixed, refusal_of}, KeptPage.{IsProductsPage}, Replies.{IsPageIn, IsTold}};
+ghost use Rattle.clock_front.specs.inside.{FixedReplies.{is_fixed, refusal_of}, KeptPage.{IsProductsPage}};
+ghost use Rattle.clock_front.specs.inside.Replies.{IsPageIn, IsTold};
 ghost use Rattle.clock_front.specs.Requests as asked;
 
 use clock_device::NoMemory;

@@ -1,4 +1,4 @@
-use Rattle.std.proofs.Common.{◌≡◌, ◌++◌, ℕ, List, [], ◌∷◌, Option, None, Some, refl, sym, ap, subst, ◌∙◌}
+use Rattle.std.proofs.Common.{◌++◌, ℕ, List, [], ◌∷◌, Option, None, refl, sym, subst}
 use Rattle.clock_connections.specs.declared.connections.Conn.{Conn}
 use Rattle.clock_connections.specs.declared.connections.Event.{Event}
 use Rattle.clock_connections.specs.declared.connections.Event.TheVariants.{Piece}
@@ -7,7 +7,6 @@ use Rattle.clock_connections.specs.Pieces.{after, text_at}
 use Rattle.clock_connections.specs.inside.Numbers.{opened, Stands}
 use Rattle.clock_connections.proofs.NumberLaws.{connected_stands, refused_stands}
 use Rattle.clock_front.specs.Hubs.{HubFields, IsFedBy}
-use Rattle.clock_front.specs.declared.hub.Fed.{Fed}
 use Rattle.clock_front.specs.declared.hub.Fed.TheVariants.{More, Reply}
 use Rattle.clock_front.proofs.NumberedLaws.{more_stands, answered_stands, finished_stands}
 use Rattle.clock_front.proofs.runs.NumberedHub.take_event.Goals as goal
