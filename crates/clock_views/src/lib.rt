@@ -22,4 +22,4 @@ pub use pages::{
     products_page, results_page, sheet_page, slip_page, status_page,
 };
 pub use pieces::Headed;
-pub use refusal::{Refusal, headed_refusal, refusal_page};
+pub use refusal::{REFUSAL_ROOM, Refusal, headed_refusal, refusal_page};

@@ -15,6 +15,9 @@ use clock_order::TieFault;
 use std::alloc::Global;
 use std::marker::Model;
 
+/// The room that the page of a refusal is given: for a code of 32 letters, a place, a round and a status.
+pub const REFUSAL_ROOM: u128 = 132;
+
 /// What the page of a refusal shows: the code, and beside it a place exactly for the codes that have
 /// one, and the current round exactly for [`Code::WrongRound`].
 #[derive(Clone, Copy, Debug)]
@@ -136,12 +139,12 @@ pub fn refusal_page(
     Ok(headed_refusal(alloc, b"", Refusal { code, place, round })?)
 }
 
-/// The page of a refusal behind a head. Each is given room for a code of 32 letters, a place, a round and a status.
+/// The page of a refusal behind a head.
 pub fn headed_refusal(alloc: Global, head: &[u8], refusal: Refusal) -> Headed
     ensures page { IfOk result (λ text. text ≡ head.now ++ compact_text (refusal_value refusal)) }
-    ensures room { IfErr result (λ room. room ≡ 132) }
+    ensures room { IfErr result (λ room. room ≡ REFUSAL_ROOM) }
 {
-    let mut text = text_with_room(alloc, head, 132)?;
+    let mut text = text_with_room(alloc, head, REFUSAL_ROOM)?;
     text.extend_from_slice(b"{\"code\":\"");
     text.extend_from_slice(refusal.code.text().as_bytes());
     text.extend_from_slice(b"\"");
