@@ -1,6 +1,7 @@
-use Rattle.std.proofs.Common.{◌≡◌, ℕ, List, [], ◌∷◌, ◌++◌, Bool, true, refl, ap, sym, subst, ◌∙◌, arith, length}
+use Rattle.std.proofs.Common.{◌≡◌, ℕ, ◌+◌, ◌≤◌, List, [], ◌∷◌, ◌++◌, Bool, true, false, not, refl, ap, sym, subst, ◌∙◌, arith, length}
 use Rattle.std.specs.Prelude.{Option, None, map, reverse, is_ok, if◌then◌else◌, unwrap_or}
 use Rattle.std.specs.List.{range_with_len}
+use Rattle.std.specs.Int.{from_bool}
 use Rattle.std.proofs.lemmas.List.{reverse-append}
 use Rattle.clock_terms.specs.Limits.{IsSetup}
 use Rattle.clock_terms.specs.declared.prices.PricePair.{PricePair}
@@ -20,8 +21,17 @@ use Rattle.clock_house.proofs.Closes.{close-accepted, fits_like, closed_number, 
 use Rattle.clock_house.proofs.Rows.{next_held}
 use Rattle.clock_house.proofs.house.House.commit.Goals as goal
 
-pub round_after-self-inside-requires : goal.round_after-self-inside-requires
-round_after-self-inside-requires g c =
+at_most : (test : Bool) (more : ℕ) → more ≡ from_bool test → more ≤ 1
+at_most true more is = let one : more ≡ 1 = is in omega (arith, one)
+at_most false more is = let none : more ≡ 0 = is in omega (arith, none)
+
+-- the current round after a closed one
+next_number : (ended : Bool) (round more : ℕ) → more ≡ from_bool (not ended) → round + more ≡ (if ended then round else round + 1)
+next_number true round more is = let none : more ≡ 0 = is in omega (arith, none)
+next_number false round more is = let one : more ≡ 1 = is in omega (arith, one)
+
+pub overflow_add-self : goal.overflow_add-self
+overflow_add-self g c =
     let number = closed_number c.args.self.now c.args.prepared.round c.args.prepared.increments c.args.prepared.ties c.args.prepared.closed c.requires.fits in
     let limits = subst (λ (house : HouseFields). IsSetup house.setup) c.self.view_is c.self.invariant.limits in
     let stands = subst (StandsFor c.self.invariant.commands) c.self.view_is c.self.invariant.stands in
@@ -31,6 +41,7 @@ round_after-self-inside-requires g c =
       number.1,
       round_bounded c.args.self.now.setup.products (standing_in c.args.self.now) limits.product_count.1
           ((stands_sound c.args.self.now limits c.self.invariant.commands stands).priced number.0),
+      at_most (not c.prepared.inside.results.closed.sheet.ended) c.from.result c.from.ensures,
     )
 
 pub take_slips-requires-clause-eligibilities : goal.take_slips-requires-clause-eligibilities
@@ -79,7 +90,7 @@ invariant_of-self g c =
       stands = close-accepted _ asked.round asked.increments asked.ties c.self.invariant.commands c.self.invariant.stands asked.closed _ _ _ fits added none;
       ended_is = ap (λ (one : ClosedRound). one.sheet.ended) done
           ∙ sym (ap (λ (closed : List ClosedRound). (standing c.self.inside.setup.products closed).ended) added);
-      round_is = c.round_after-self-inside.ensures
+      round_is = next_number results.closed.sheet.ended results.closed.sheet.round c.from.result c.from.ensures
           ∙ ap (λ (one : ClosedRound). (standing_after one.sheet).round) done
           ∙ sym (ap (λ (closed : List ClosedRound). (standing c.self.inside.setup.products closed).round) added);
       prices_are = λ going.
