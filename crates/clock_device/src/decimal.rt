@@ -11,7 +11,8 @@ impl Items<u8> {
         ensures ok { OnOk result (self.new ≡ self.old ++ decimal number) }
         ensures err { OnErr result (self.new ≡ self.old) }
     {
-        self.extend_from_slice(Buffer::new().format(number).as_bytes())
+        let mut buffer = Buffer::new();
+        self.extend_from_slice(buffer.format(number).as_bytes())
     }
 
     /// Adds a number in plain decimal, or a dash where there is none.
