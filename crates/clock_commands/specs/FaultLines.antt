@@ -77,11 +77,15 @@ simulation_words in_simulation.NoMemory = codes "memory"
 
 -- the fault of a journal that is not taken over
 abbrev pub of_journal : JournalFault → Fault
-of_journal in_journal.Unknown = fault.JournalUnknown
-of_journal in_journal.Setup = fault.JournalSetup
-of_journal (in_journal.Damaged place) = fault.JournalDamaged place
-of_journal (in_journal.Refused place) = fault.JournalRefused place
 of_journal in_journal.NoMemory = fault.Memory
+of_journal other = fault.Recovery other
+
+abbrev pub recovery_words : JournalFault → List ℕ
+recovery_words in_journal.Unknown = codes "journal_unknown"
+recovery_words in_journal.Setup = codes "journal_setup"
+recovery_words (in_journal.Damaged place) = codes "journal_damaged " ++ decimal place
+recovery_words (in_journal.Refused place) = codes "journal_refused " ++ decimal place
+recovery_words in_journal.NoMemory = codes "memory"
 
 -- the fault of a loop that has not served all connections
 abbrev pub of_serving : ServeFault → Fault
@@ -100,10 +104,7 @@ fault_words (fault.PriceLimit product) = codes "price_limit " ++ decimal product
 fault_words (fault.Simulation inner) = simulation_words inner
 fault_words fault.Journal = codes "journal"
 fault_words fault.JournalBusy = codes "journal_busy"
-fault_words fault.JournalUnknown = codes "journal_unknown"
-fault_words fault.JournalSetup = codes "journal_setup"
-fault_words (fault.JournalDamaged place) = codes "journal_damaged " ++ decimal place
-fault_words (fault.JournalRefused place) = codes "journal_refused " ++ decimal place
+fault_words (fault.Recovery inner) = recovery_words inner
 fault_words fault.Bind = codes "bind"
 fault_words fault.Output = codes "output"
 fault_words fault.Accept = codes "accept"

@@ -1,6 +1,6 @@
 ghost use Rattle.std.specs.Prelude.{◌≡◌, ◌++◌, ◌||◌, codes, is_err};
 ghost use Rattle.clock_device.specs.Streams.{WritesText};
-ghost use Rattle.clock_commands.specs.FaultLines.{of_journal, of_serving, fault_line, fault_words, opening_words, place_words, script_words, setup_words, simulation_words};
+ghost use Rattle.clock_commands.specs.FaultLines.{of_journal, of_serving, fault_line, fault_words, opening_words, place_words, script_words, setup_words};
 ghost use Rattle.clock_commands.specs.declared.fault.Fault.TheVariants.{Memory};
 ghost use Rattle.clock_commands.specs.inside.Lines.{behind, code_behind, text_of_words};
 
@@ -36,14 +36,8 @@ pub enum Fault {
     Journal,
     /// Another server has the journal.
     JournalBusy,
-    /// The file does not begin as a journal does.
-    JournalUnknown,
-    /// It is the journal of another set-up document.
-    JournalSetup,
-    /// At this byte the journal has what no stop of the machine leaves.
-    JournalDamaged(u64),
-    /// The auction does not accept the text of the journal's record at this byte.
-    JournalRefused(u64),
+    /// The file is not taken over as the journal.
+    Recovery(JournalFault),
     /// The port could not be listened on.
     Bind,
     /// A write failed.
@@ -67,11 +61,8 @@ impl From<JournalFault> for Fault {
 
     fn from(fault: JournalFault) -> Fault {
         match fault {
-            JournalFault::Unknown => Fault::JournalUnknown,
-            JournalFault::Setup => Fault::JournalSetup,
-            JournalFault::Damaged(place) => Fault::JournalDamaged(place as u64),
-            JournalFault::Refused(place) => Fault::JournalRefused(place as u64),
             JournalFault::NoMemory => Fault::Memory,
+            _ => Fault::Recovery(fault),
         }
     }
 }
@@ -141,13 +132,25 @@ fn words_of(fault: Fault) -> Words
         Fault::Opening(fault) => words_of_opening(fault),
         Fault::Script(fault) => words_of_script(fault),
         Fault::PriceLimit(product) => Words("price_limit", Some(product), None, None),
-        Fault::Simulation(fault) => words_of_simulation(fault),
+        Fault::Simulation(SimFault::Refused(bidder, round, code)) => {
+            Words("refused", Some(bidder), Some(round), Some(code))
+        }
+        Fault::Simulation(SimFault::Closing(round, code)) => {
+            Words("closing", Some(round), None, Some(code))
+        }
+        Fault::Simulation(SimFault::ClosingsSpent) => Words("closings_spent", None, None, None),
+        Fault::Simulation(SimFault::NoMemory) => Words("memory", None, None, None),
         Fault::Journal => Words("journal", None, None, None),
         Fault::JournalBusy => Words("journal_busy", None, None, None),
-        Fault::JournalUnknown => Words("journal_unknown", None, None, None),
-        Fault::JournalSetup => Words("journal_setup", None, None, None),
-        Fault::JournalDamaged(place) => Words("journal_damaged", Some(place), None, None),
-        Fault::JournalRefused(place) => Words("journal_refused", Some(place), None, None),
+        Fault::Recovery(JournalFault::Unknown) => Words("journal_unknown", None, None, None),
+        Fault::Recovery(JournalFault::Setup) => Words("journal_setup", None, None, None),
+        Fault::Recovery(JournalFault::Damaged(place)) => {
+            Words("journal_damaged", Some(place as u64), None, None)
+        }
+        Fault::Recovery(JournalFault::Refused(place)) => {
+            Words("journal_refused", Some(place as u64), None, None)
+        }
+        Fault::Recovery(JournalFault::NoMemory) => Words("memory", None, None, None),
         Fault::Bind => Words("bind", None, None, None),
         Fault::Output => Words("output", None, None, None),
         Fault::Accept => Words("accept", None, None, None),
@@ -181,20 +184,6 @@ fn words_of_script(fault: ScriptFault) -> Words
         ScriptFault::Scripts => Words("scripts", None, None, None),
         ScriptFault::Limits(bidder, product) => Words("limits", Some(bidder), Some(product), None),
         ScriptFault::NoMemory => Words("memory", None, None, None),
-    }
-}
-
-/// The words for a replay that did not come to its end.
-fn words_of_simulation(fault: SimFault) -> Words
-    ensures { text_of_words result ≡ simulation_words fault }
-{
-    match fault {
-        SimFault::Refused(bidder, round, code) => {
-            Words("refused", Some(bidder), Some(round), Some(code))
-        }
-        SimFault::Closing(round, code) => Words("closing", Some(round), None, Some(code)),
-        SimFault::ClosingsSpent => Words("closings_spent", None, None, None),
-        SimFault::NoMemory => Words("memory", None, None, None),
     }
 }
 
