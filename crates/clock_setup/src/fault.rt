@@ -40,21 +40,27 @@ pub enum Place {
 /// Why a set-up document is refused. The cases stand in the order in which they are looked at, and a document with
 /// several faults has the first.
 #[derive(Clone, Copy, Debug, PartialEq, Eq, Error)]
-#[error("the set-up is refused")]
 pub enum SetupFault {
     /// The bytes are no JSON value.
+    #[error("not a JSON value")]
     NotJson,
     /// Not an object with a number under `version`, or, in a document of a known version, any other fault of its shape.
+    #[error("not of the shape of a set-up")]
     Shape,
     /// The version is another than 1 and 2.
+    #[error("not a version that is known")]
     Version,
     /// A value is outside its limits.
+    #[error("a value is outside its limits")]
     Range(Place),
     /// Two products, or two bidders, have one name.
+    #[error("a name stands twice")]
     DuplicateName,
     /// Two bidders, or a bidder and the operator, have one token.
+    #[error("a token stands twice")]
     DuplicateToken,
     /// There was no memory. It stands in place of any other answer.
+    #[error("out of memory")]
     NoMemory,
 }
 

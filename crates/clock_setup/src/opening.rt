@@ -37,22 +37,28 @@ pub struct Opening {
 /// Why an opening document is refused. The first fault in this order is answered, where faults of demands and
 /// activity go by rising bidder. A fault of the set-up is never `NoMemory`.
 #[derive(Clone, Copy, Debug, PartialEq, Eq, Error)]
-#[error("the opening is refused")]
 pub enum OpeningFault {
     /// The bytes are no JSON value.
+    #[error("not a JSON value")]
     NotJson,
     /// The document is of another shape. That there is a row for each bidder, and a number for each product in each
     /// row, is looked at only after the set-up's faults.
+    #[error("not of the shape of an opening")]
     Shape,
     /// The value under `setup` is no set-up.
+    #[error("the set-up is refused")]
     Setup(SetupFault),
     /// A bidder's demand for a product is above the product's cap; of one bidder its least such product.
+    #[error("a demand is above the cap")]
     Demand(u64, u64),
     /// The activity of a bidder's demands, none of which is above its cap, is above its eligibility.
+    #[error("an activity is above the eligibility")]
     Activity(u64),
     /// The increment is not 1 to 50.
+    #[error("the increment is outside its limits")]
     Increment,
     /// There was no memory. It stands in place of any other answer.
+    #[error("out of memory")]
     NoMemory,
 }
 
