@@ -1,17 +1,17 @@
--- No line has more requests than there are of one product or of one bidder.
-use Rattle.std.proofs.Common.{◌≡◌, ℕ, zero, suc, ◌+◌, ◌<◌, ◌≤◌, List, [], ◌∷◌, Bool, true, false, cond}
-use Rattle.std.proofs.Common.{refl, ap, subst, inl, inr, arith, get_or, length, eq-eqb, ne_eqb}
+-- No more requests are woken than there are of one product or of one bidder.
+use Rattle.std.proofs.Common.{◌≡◌, ℕ, zero, suc, ◌+◌, ◌*◌, ◌<◌, ◌≤◌, List, [], ◌∷◌, Bool, true, cond}
+use Rattle.std.proofs.Common.{refl, ap, arith, get_or, length, eq-eqb, inl, inr, ◌⊎◌}
 use Rattle.std.specs.Prelude.{max, count_by, ◌==◌}
 use Rattle.std.specs.List.{fold}
-use Rattle.std.proofs.lemmas.Bool.{cases_lt, eqb-true}
-use Rattle.std.proofs.lemmas.List.Sums.{sum_by-cons, sum_by-le-sum_by}
+use Rattle.std.proofs.Math.Nat.{mul-le-mul_left}
+use Rattle.std.proofs.lemmas.List.Sums.{sum_by-cons}
 use Rattle.clock_terms.specs.declared.change.Change.{Change}
 use Rattle.clock_terms.specs.declared.change.Kind.{Kind}
 use Rattle.clock_terms.specs.declared.change.Kind.TheVariants.{Increase, Reduction}
+use Rattle.clock_processor.specs.Settlement.{SettledFields}
 use Rattle.clock_processor.specs.Settling.{no_change}
-use Rattle.clock_processor.proofs.Supply.{same_or_not}
 use Rattle.clock_queue.specs.inside.Lines.{line_of, line_by, product_line, bidder_line}
-use Rattle.clock_queue.specs.Bound.{most_of_one, count_of_product, count_of_bidder}
+use Rattle.clock_queue.specs.Bound.{most_of_one, most_woken, count_of_product, count_of_bidder, IsWithinTests}
 
 -- a running greatest is no less than its start, and than each value
 fold_start : {X : Type 0} (f : X → ℕ) (a : ℕ) (xs : List X) → a ≤ fold (λ most x. max most (f x)) a xs
@@ -23,32 +23,6 @@ fold_value f a [] i d lt = absurd (omega (arith, lt))
 fold_value f a (x ∷ xs) zero d lt = omega (arith, fold_start f (max a (f x)) xs)
 fold_value f a (x ∷ xs) (suc i) d lt = fold_value f (max a (f x)) xs i d (omega (arith, lt))
 
--- what is counted stands somewhere
-record IsAt {X : Type 0} (p : X → Bool) (d : X) (xs : List X) : Type 0 where
-  place : ℕ
-  within : place < length xs
-  passes : p (get_or xs place d) ≡ true
-
-found_here : {X : Type 0} (p : X → Bool) (d x : X) (xs : List X) → (0 < count_by p xs → IsAt p d xs) → (passes : Bool) → p x ≡ passes →
-    0 < cond passes 1 0 + count_by p xs → IsAt p d (x ∷ xs)
-found_here p d x xs later true is some = record { place = 0; within = omega arith; passes = is }
-found_here p d x xs later false is some =
-    let found : IsAt p d xs = later (omega (arith, some)) in
-    record { place = suc found.place; within = omega (arith, found.within); passes = found.passes }
-
-found : {X : Type 0} (p : X → Bool) (d : X) (xs : List X) → 0 < count_by p xs → IsAt p d xs
-found p d [] some = absurd (omega (arith, some))
-found p d (x ∷ xs) some = found_here p d x xs (found p d xs) (p x) refl (omega (arith, some, sum_by-cons (λ y. cond (p y) 1 0) x xs))
-
--- a bound that holds where something is counted, holds always
-bounded : (p : Change → Bool) (changes : List Change) (most : ℕ) →
-    ((i : ℕ) → i < length changes → p (get_or changes i no_change) ≡ true → count_by p changes ≤ most) → count_by p changes ≤ most
-bounded p changes most each =
-    elim (cases_lt 0 (count_by p changes)) as (λ _. count_by p changes ≤ most) [
-      | inl some ↦ (let at : IsAt p no_change changes = found p no_change changes some in each at.place at.within at.passes)
-      | inr none ↦ omega (arith, none)
-    ]
-
 -- what is of the product or of the bidder of a request
 abbrev greater_of : List Change → Change → ℕ
 greater_of changes change = max (count_of_product changes change.product) (count_of_bidder changes change.bidder)
@@ -59,47 +33,102 @@ of_product changes i lt = omega (arith, fold_value (greater_of changes) 0 change
 of_bidder : (changes : List Change) (i : ℕ) → i < length changes → count_of_bidder changes (get_or changes i no_change).bidder ≤ most_of_one changes
 of_bidder changes i lt = omega (arith, fold_value (greater_of changes) 0 changes i no_change lt)
 
--- equal lines are those of equal numbers, where no two numbers have one line
-same_line : (line : ℕ → ℕ) → ((a b : ℕ) → line a ≡ line b → a ≡ b) → (a b : ℕ) → cond (line a == line b) 1 0 ≤ cond (a == b) 1 0
-same_line line apart a b = elim (same_or_not a b) as (λ _. cond (line a == line b) 1 0 ≤ cond (a == b) 1 0) [
-  | inl same ↦ (let one : (a == b) ≡ true = eq-eqb a b same in let both : (line a == line b) ≡ true = eq-eqb (line a) (line b) (ap line same) in
-      rw (one, both) (omega arith))
-  | inr differ ↦ (let none : (line a == line b) ≡ false = ne_eqb (line a) (line b) (λ e. differ (apart a b e)) in rw none (omega arith))
-]
+-- who passes is counted, and so are two that pass
+counted_here : (b : Bool) → b ≡ true → ◌≡◌ {A = ℕ} (cond b 1 0) 1
+counted_here b is = ap (λ (v : Bool). cond {A = ℕ} v 1 0) is
 
-other_line : (a b most : ℕ) → (a ≡ b → ⊥) → cond (a == b) 1 0 ≤ most
-other_line a b most differ = let none : (a == b) ≡ false = ne_eqb a b differ in rw none (omega arith)
+one_counted : {X : Type 0} (p : X → Bool) (xs : List X) (i : ℕ) (d : X) → i < length xs → p (get_or xs i d) ≡ true → 1 ≤ count_by p xs
+one_counted p [] i d lt passes = absurd (omega (arith, lt))
+one_counted p (x ∷ xs) zero d lt passes = omega (arith, sum_by-cons (λ y. cond (p y) 1 0) x xs, counted_here (p x) passes)
+one_counted p (x ∷ xs) (suc i) d lt passes =
+    omega (arith, sum_by-cons (λ y. cond (p y) 1 0) x xs, one_counted p xs i d (omega (arith, lt)) passes)
 
--- a request in a product's line is of the product, one in a bidder's line of the bidder
-product_part : (kind : Kind) (b p product : ℕ) → cond (line_by kind b p == product_line product) 1 0 ≤ cond (p == product) 1 0
-product_part Increase b p product = other_line (bidder_line b) (product_line product) (cond (p == product) 1 0) (λ e. omega (arith, e))
-product_part Reduction b p product = same_line product_line (λ a b e. omega (arith, e)) p product
+two_counted : {X : Type 0} (p : X → Bool) (xs : List X) (i j : ℕ) (d : X) → i < length xs → j < length xs → (i ≡ j → ⊥) →
+    p (get_or xs i d) ≡ true → p (get_or xs j d) ≡ true → 2 ≤ count_by p xs
+two_counted p [] i j d lt lt' differ passes passes' = absurd (omega (arith, lt))
+two_counted p (x ∷ xs) zero zero d lt lt' differ passes passes' = absurd (differ refl)
+two_counted p (x ∷ xs) zero (suc j) d lt lt' differ passes passes' =
+    omega (arith, sum_by-cons (λ y. cond (p y) 1 0) x xs, counted_here (p x) passes, one_counted p xs j d (omega (arith, lt')) passes')
+two_counted p (x ∷ xs) (suc i) zero d lt lt' differ passes passes' =
+    omega (arith, sum_by-cons (λ y. cond (p y) 1 0) x xs, counted_here (p x) passes', one_counted p xs i d (omega (arith, lt)) passes)
+two_counted p (x ∷ xs) (suc i) (suc j) d lt lt' differ passes passes' =
+    omega (
+      arith,
+      sum_by-cons (λ y. cond (p y) 1 0) x xs,
+      two_counted p xs i j d (omega (arith, lt)) (omega (arith, lt')) (λ e. differ (ap suc e)) passes passes',
+    )
 
-bidder_part : (kind : Kind) (b p bidder : ℕ) → cond (line_by kind b p == bidder_line bidder) 1 0 ≤ cond (b == bidder) 1 0
-bidder_part Reduction b p bidder = other_line (product_line p) (bidder_line bidder) (cond (b == bidder) 1 0) (λ e. omega (arith, e))
-bidder_part Increase b p bidder = same_line bidder_line (λ a b e. omega (arith, e)) b bidder
+-- where there is a request, there is one of its bidder
+pub some_of_one : (changes : List Change) (i : ℕ) → i < length changes → 1 ≤ most_of_one changes
+some_of_one changes i lt = omega (
+  arith,
+  of_bidder changes i lt,
+  one_counted (λ (change : Change). change.bidder == (get_or changes i no_change).bidder) changes i no_change lt
+      (eq-eqb (get_or changes i no_change).bidder (get_or changes i no_change).bidder refl),
+)
 
--- so there are no more of a line than of its product or bidder
-no_more : (changes : List Change) (line : ℕ) (of_one : Change → Bool) (most : ℕ) → count_by of_one changes ≤ most
-    → ((change : Change) → cond (line_of change == line) 1 0 ≤ cond (of_one change) 1 0)
-    → count_by (λ (change : Change). line_of change == line) changes ≤ most
-no_more changes line of_one most few part =
-    omega (arith, few, sum_by-le-sum_by (λ (change : Change). cond (line_of change == line) 1 0) (λ (change : Change). cond (of_one change) 1 0) changes part)
+-- two requests of one product, or of one bidder
+two_of_product : (changes : List Change) (i j : ℕ) → i < length changes → j < length changes → (i ≡ j → ⊥) →
+    (get_or changes j no_change).product ≡ (get_or changes i no_change).product → 2 ≤ most_of_one changes
+two_of_product changes i j lt lt' differ same = omega (
+  arith,
+  of_product changes i lt,
+  two_counted (λ (change : Change). change.product == (get_or changes i no_change).product) changes i j no_change lt lt' differ
+      (eq-eqb (get_or changes i no_change).product (get_or changes i no_change).product refl)
+      (eq-eqb (get_or changes j no_change).product (get_or changes i no_change).product same),
+)
 
-by_kind : (kind : Kind) (b p : ℕ) (changes : List Change) → count_of_product changes p ≤ most_of_one changes → count_of_bidder changes b ≤ most_of_one changes →
-    count_by (λ (change : Change). line_of change == line_by kind b p) changes ≤ most_of_one changes
-by_kind Reduction b p changes product bidder =
-    no_more changes (product_line p) (λ (change : Change). change.product == p) (most_of_one changes) product
-    (λ change. product_part change.kind change.bidder change.product p)
-by_kind Increase b p changes product bidder =
-    no_more changes (bidder_line b) (λ (change : Change). change.bidder == b) (most_of_one changes) bidder
-    (λ change. bidder_part change.kind change.bidder change.product b)
+two_of_bidder : (changes : List Change) (i j : ℕ) → i < length changes → j < length changes → (i ≡ j → ⊥) →
+    (get_or changes j no_change).bidder ≡ (get_or changes i no_change).bidder → 2 ≤ most_of_one changes
+two_of_bidder changes i j lt lt' differ same = omega (
+  arith,
+  of_bidder changes i lt,
+  two_counted (λ (change : Change). change.bidder == (get_or changes i no_change).bidder) changes i j no_change lt lt' differ
+      (eq-eqb (get_or changes i no_change).bidder (get_or changes i no_change).bidder refl)
+      (eq-eqb (get_or changes j no_change).bidder (get_or changes i no_change).bidder same),
+)
 
--- no line has more requests than there are of one product or of one bidder
-pub line_most : (changes : List Change) (line : ℕ) → count_by (λ (change : Change). line_of change == line) changes ≤ most_of_one changes
-line_most changes line =
-    bounded (λ (change : Change). line_of change == line) changes (most_of_one changes)
-    (λ i lt passes. (let change : Change = get_or changes i no_change in
-    let at : line_of change ≡ line = eqb-true (line_of change) line passes in
-    subst (λ l. count_by (λ (one : Change). line_of one == l) changes ≤ most_of_one changes) at
-    (by_kind change.kind change.bidder change.product changes (of_product changes i lt) (of_bidder changes i lt))))
+-- who waits for a product is of it, and who waits for a bidder is of that one
+product_of : (kind : Kind) (b q p : ℕ) → line_by kind b q ≡ product_line p → q ≡ p
+product_of Reduction b q p own = omega (arith, own)
+product_of Increase b q p own = absurd (omega (arith, own))
+
+bidder_of : (kind : Kind) (b q c : ℕ) → line_by kind b q ≡ bidder_line c → b ≡ c
+bidder_of Increase b q c own = omega (arith, own)
+bidder_of Reduction b q c own = absurd (omega (arith, own))
+
+-- a request stands in one of its two lines
+pub own_by : (kind : Kind) (b p : ℕ) → (line_by kind b p ≡ product_line p) ⊎ (line_by kind b p ≡ bidder_line b)
+own_by Reduction b p = inl refl
+own_by Increase b p = inr refl
+
+-- where one waits for the product of a request and another for its bidder, there are two of the product or of the bidder
+pub two_of_one : (changes : List Change) (i x y : ℕ) → i < length changes → x < length changes → y < length changes →
+    line_of (get_or changes x no_change) ≡ product_line (get_or changes i no_change).product →
+    line_of (get_or changes y no_change) ≡ bidder_line (get_or changes i no_change).bidder → 2 ≤ most_of_one changes
+two_of_one changes i x y lt x_in y_in of_x of_y =
+    let one : Change = get_or changes i no_change in
+    let at_x : Change = get_or changes x no_change in
+    let at_y : Change = get_or changes y no_change in
+    elim (own_by one.kind one.bidder one.product) as (λ _. 2 ≤ most_of_one changes) [
+      | inl product ↦ two_of_bidder changes i y lt y_in
+          (λ e. omega (arith, product, of_y, ap (λ n. line_of (get_or changes n no_change)) e))
+          (bidder_of at_y.kind at_y.bidder at_y.product one.bidder of_y)
+      | inr bidder ↦ two_of_product changes i x lt x_in
+          (λ e. omega (arith, bidder, of_x, ap (λ n. line_of (get_or changes n no_change)) e))
+          (product_of at_x.kind at_x.bidder at_x.product one.product of_x)
+    ]
+
+-- so a settling within the bound makes no more tests for an application than there are requests of one product or of one
+-- bidder
+pub law_most_of_one : (changes : List Change) (end : SettledFields) → IsWithinTests changes end →
+    end.tests ≤ length changes + end.applied * most_of_one changes
+law_most_of_one changes end within =
+    let fewer : end.applied * most_woken changes ≤ end.applied * most_of_one changes = mul-le-mul_left end.applied (omega arith) in
+    omega (arith, within, fewer)
+
+-- nor more than two
+pub law_two : (changes : List Change) (end : SettledFields) → IsWithinTests changes end → end.tests ≤ length changes + end.applied * 2
+law_two changes end within =
+    let fewer : end.applied * most_woken changes ≤ end.applied * 2 = mul-le-mul_left end.applied (omega arith) in
+    omega (arith, within, fewer)

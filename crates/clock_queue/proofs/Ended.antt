@@ -9,7 +9,7 @@ use Rattle.clock_processor.specs.inside.UnderWay.{progress_of}
 use Rattle.clock_processor.proofs.Apply.{settlement_reached}
 use Rattle.clock_processor.proofs.ProperEnd.{proper_end, held_at_end}
 use Rattle.clock_queue.specs.declared.queue.Queue.{Queue}
-use Rattle.clock_queue.specs.inside.Queue.{IsQueue, StaysWithinTests, progress}
+use Rattle.clock_queue.specs.inside.Queue.{IsKept, IsTracking, StaysWithinTests, progress}
 use Rattle.clock_queue.specs.Bound.{IsWithinTests}
 use Rattle.clock_queue.proofs.Steps.{ends}
 
@@ -19,7 +19,8 @@ handed_on queue = record { grid = queue.board.grid; left = queue.left; applied =
 
 -- all that is known of a queue when every request was admitted
 pub record IsDone (board : BoardFields) (changes : List Change) (queue : Queue) : Type 0 where
-  pub queue_is : IsQueue changes queue
+  pub kept : IsKept changes queue
+  pub tracked : IsTracking changes queue queue.ready
   pub counts : StaysWithinTests changes queue
   pub none : queue.ready ≡ []
   pub admitted : queue.admitted ≡ length changes
@@ -33,7 +34,7 @@ module _ (board : BoardFields) (changes : List Change) (queue : Queue) (end : Se
   has_ended =
       subst (λ products. HasEnded products board.eligibilities changes (progress queue)) done.products
       (subst (λ eligibilities. HasEnded queue.board.products eligibilities changes (progress queue)) done.eligibilities
-      (ends changes queue done.queue_is done.none done.admitted))
+      (ends changes queue done.kept done.tracked done.none done.admitted))
 
   pub is_settlement : CanSettle board changes → IsSettlement board changes end
   is_settlement can = settlement_reached board changes queue.board queue.left queue.admitted end can.applied (done.reached, has_ended) is

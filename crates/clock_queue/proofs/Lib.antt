@@ -1,9 +1,11 @@
-mod Shown
 pub mod Counts
 pub mod Rooms
 pub mod Members
-pub mod Waits
+pub mod Marks
+pub mod Wakes
 pub mod Applies
+pub mod Admits
 pub mod Start
 pub mod Steps
 pub mod Ended
+pub mod Turns

@@ -1,9 +1,9 @@
--- Laws of members and counts of lists.
-use Rattle.std.proofs.Common.{◌≡◌, ℕ, zero, suc, ◌<◌, ◌≤◌, List, [], ◌∷◌, ◌⊎◌, Bool, false, cond, inl, inr, arith, get_or, length, All}
-use Rattle.std.specs.Prelude.{count_by}
+-- Laws of members of lists, and of what is added to those that are ready.
+use Rattle.std.proofs.Common.{◌≡◌, ℕ, zero, suc, ◌<◌, List, [], ◌∷◌, ◌⊎◌, inl, inr, arith, get_or, length, refl, sym, subst, All}
 use Rattle.std.specs.List.{Contains}
-use Rattle.std.proofs.lemmas.List.Sums.{sum_by-le}
-use Rattle.std.proofs.lemmas.List.Elements.{All-weaker}
+use Rattle.std.proofs.lemmas.List.Sorted.{All-permutation, Contains-permutation}
+use Rattle.std.proofs.lemmas.List.Elements.{All-cons}
+use Rattle.clock_queue.specs.inside.Ready.{IsAdded}
 
 -- a member of a longer list is the first or one of the rest
 first_or_rest : (x : ℕ) (xs : List ℕ) (y k : ℕ) → k < length (x ∷ xs) → get_or (x ∷ xs) k y ≡ y → (x ≡ y) ⊎ Contains xs y
@@ -22,7 +22,16 @@ Contains-rest x xs y (k, lt, at) = (suc k, omega (arith, lt), at)
 pub none_in_nil : (y : ℕ) → Contains [] y → ⊥
 none_in_nil y (k, lt, at) = omega (arith, lt)
 
--- where none passes, none is counted
-pub count_by_none : (p : ℕ → Bool) (xs : List ℕ) → All (λ x. p x ≡ false) xs → count_by p xs ≡ 0
-count_by_none p xs none =
-    omega (arith, sum_by-le (λ x. cond (p x) 1 0) 0 xs (All-weaker (λ x. p x ≡ false) (λ x. cond (p x) 1 0 ≤ 0) (λ x fails. rw fails (omega arith)) xs none))
+-- what is added is there, and what was there is there
+pub added_there : (old : List ℕ) (place : ℕ) (new : List ℕ) → IsAdded old place new → Contains new place
+added_there old place new (inl was) = subst (λ (list : List ℕ). Contains list place) (sym was.same) was.there
+added_there old place new (inr moved) = Contains-permutation (place ∷ old) new place moved (Contains-first place old place refl)
+
+pub added_kept : (old : List ℕ) (place : ℕ) (new : List ℕ) → IsAdded old place new → (one : ℕ) → Contains old one → Contains new one
+added_kept old place new (inl was) one here = subst (λ (list : List ℕ). Contains list one) (sym was.same) here
+added_kept old place new (inr moved) one here = Contains-permutation (place ∷ old) new one moved (Contains-rest place old one here)
+
+pub added_below : (n : ℕ) (old : List ℕ) (place : ℕ) (new : List ℕ) → IsAdded old place new → place < n → All (λ one. one < n) old → All (λ one. one < n) new
+added_below n old place new (inl was) lt below = subst (All (λ one. one < n)) (sym was.same) below
+added_below n old place new (inr moved) lt below =
+    All-permutation (λ one. one < n) (place ∷ old) new moved (All-cons (λ one. one < n) place old lt below)

@@ -1,68 +1,108 @@
 -- The first of the ready requests is the first admitted one with room, if it has room.
-use Rattle.std.proofs.Common.{◌≡◌, ℕ, zero, suc, ◌<◌, ◌≤◌, List, [], Option, Some, None, cond, refl, ap, sym, subst, ◌∙◌, inl, inr, arith, length, All, lt-ltb}
+use Rattle.std.proofs.Common.{◌≡◌, ℕ, zero, suc, ◌+◌, ◌<◌, ◌≤◌, ◌⊎◌, List, [], ◌∷◌, Option, Some, None, cond, refl, ap, sym, subst, ◌∙◌, inl, inr, arith, length, All, lt-ltb}
 use Rattle.std.specs.List.{Contains}
 use Rattle.std.proofs.lemmas.Bool.{le-ltb}
 use Rattle.std.proofs.lemmas.List.Elements.{All-contains}
 use Rattle.clock_terms.specs.declared.setup.Product.{Product}
 use Rattle.clock_terms.specs.declared.change.Change.{Change}
-use Rattle.clock_processor.specs.Settling.{Progress, Reaches, next, next_by, after_steps, first_with_room, with_application, with_admission, HasEnded}
+use Rattle.clock_processor.specs.Settling.{Progress, Reaches, next, next_by, after_steps, first_with_room, with_admission, HasEnded}
 use Rattle.clock_processor.proofs.End.{step_reaches}
 use Rattle.clock_processor.proofs.FirstRoom.{first_has_room, none_has_room}
 use Rattle.clock_queue.specs.declared.queue.Queue.{Queue}
-use Rattle.clock_queue.specs.inside.Queue.{IsQueue, IsTracked, SameTerms, GoesOn, after_test, progress, room_in, with_first}
+use Rattle.clock_queue.specs.inside.Queue.{IsKept, IsTracking, HadRoom, HadNoRoom, SameTerms, GoesOn, progress, room_in, progress_with}
 use Rattle.clock_queue.proofs.Members.{Contains-cons_cases, none_in_nil}
 
--- a request that is not ready has no room
-no_room_elsewhere : (changes : List Change) (queue : Queue) (place : ℕ) → IsTracked changes queue place → (Contains queue.ready place → ⊥) →
-    room_in changes queue place ≡ 0
-no_room_elsewhere changes queue place (inl here) absent = absurd (absent here)
-no_room_elsewhere changes queue place (inr (inl nothing)) absent = omega (arith, nothing)
-no_room_elsewhere changes queue place (inr (inr waiting)) absent = waiting.no_room
-
 module _ (changes : List Change) (queue : Queue) where
-  -- before the first ready request none has room
-  none_before : (first : ℕ) → IsQueue changes (with_first first queue) → All (λ other. first ≤ other) queue.ready → (place : ℕ) → place < first →
-      room_in changes queue place ≡ 0
-  none_before first is least place lt =
-      let first_in : first < queue.admitted = is.ready 0 0 (omega arith) in
-      no_room_elsewhere changes (with_first first queue) place (is.tracked place (omega (arith, lt, first_in)))
-      (λ here. elim (Contains-cons_cases first queue.ready place here) as (λ _. ⊥) [
-        | inl same ↦ omega (arith, same, lt)
-        | inr later ↦ (let most : first ≤ place = All-contains (λ other. first ≤ other) queue.ready place least later in omega (arith, most, lt))
-      ])
-
-  -- the first ready request with room is the next that is applied
-  pub first_is_next : (first : ℕ) → IsQueue changes (with_first first queue) → All (λ other. first ≤ other) queue.ready → 0 < room_in changes queue first →
-      next queue.board.products queue.board.eligibilities changes (progress queue) ≡ Some
-      (with_application queue.board.products queue.board.eligibilities changes (progress queue) first)
-  first_is_next first is least some =
-      ap (next_by queue.board.products queue.board.eligibilities changes (progress queue))
-      (first_has_room queue.board changes queue.left queue.admitted is.under_way.admitted_within is.under_way.lengths first (is.ready 0 0 (omega arith))
-      (none_before first is least) some)
-
   -- with none ready no admitted request has room
-  none_ready : IsQueue changes queue → queue.ready ≡ [] → first_with_room queue.board.products queue.board.eligibilities changes (progress queue) ≡ None
-  none_ready is none =
-      none_has_room queue.board changes queue.left queue.admitted is.under_way.admitted_within is.under_way.lengths
-      (λ place lt. no_room_elsewhere changes queue place (is.tracked place lt)
-      (λ here. none_in_nil place (subst (λ (list : List ℕ). Contains list place) none here)))
+  pub none_elsewhere : IsTracking changes queue queue.ready → queue.ready ≡ [] → (place : ℕ) → place < queue.admitted → room_in changes queue place ≡ 0
+  none_elsewhere tracked none place within = elim (tracked place within) as (λ _. room_in changes queue place ≡ 0) [
+    | inl no_room ↦ no_room
+    | inr behind ↦ absurd (none_in_nil behind.at (subst (λ (list : List ℕ). Contains list behind.at) none behind.is_ready))
+  ]
 
-  -- then the next request is admitted
-  pub admission_is_next : IsQueue changes queue → queue.ready ≡ [] → queue.admitted < length changes →
+  -- before the first ready request none has room
+  none_before : (first : ℕ) (ready : List ℕ) → IsTracking changes queue (first ∷ ready) → All (λ other. first ≤ other) ready → first < queue.admitted →
+      (place : ℕ) → place < first → room_in changes queue place ≡ 0
+  none_before first ready tracked least admitted place lt = elim (tracked place (omega (arith, lt, admitted))) as (λ _. room_in changes queue place ≡ 0) [
+    | inl no_room ↦ no_room
+    | inr behind ↦ elim (Contains-cons_cases first ready behind.at behind.is_ready) as (λ _. room_in changes queue place ≡ 0) [
+      | inl same ↦ absurd (omega (arith, same, lt, behind.before))
+      | inr later ↦ (let most : first ≤ behind.at = All-contains (λ other. first ≤ other) ready behind.at least later in
+          absurd (omega (arith, most, lt, behind.before)))
+    ]
+  ]
+
+  -- an admitted request with room, before which none has room, is the next that is applied
+  next_is : IsKept changes queue → (first : ℕ) → first < queue.admitted → ((place : ℕ) → place < first → room_in changes queue place ≡ 0) →
+      0 < room_in changes queue first → next queue.board.products queue.board.eligibilities changes (progress queue) ≡ Some
+      (progress_with changes queue first)
+  next_is is first admitted before some =
+      ap (next_by queue.board.products queue.board.eligibilities changes (progress queue))
+      (first_has_room queue.board changes queue.left queue.admitted is.under_way.admitted_within is.under_way.lengths first admitted before some)
+
+  none_ready : IsKept changes queue → IsTracking changes queue queue.ready → queue.ready ≡ [] →
+      first_with_room queue.board.products queue.board.eligibilities changes (progress queue) ≡ None
+  none_ready is tracked none =
+      none_has_room queue.board changes queue.left queue.admitted is.under_way.admitted_within is.under_way.lengths (none_elsewhere tracked none)
+
+  -- with none ready the next request is admitted
+  admission_is_next : IsKept changes queue → IsTracking changes queue queue.ready → queue.ready ≡ [] → queue.admitted < length changes →
       next queue.board.products queue.board.eligibilities changes (progress queue) ≡ Some
       (with_admission queue.board.products queue.board.eligibilities changes (progress queue))
-  admission_is_next is none more =
-      ap (next_by queue.board.products queue.board.eligibilities changes (progress queue)) (none_ready is none)
+  admission_is_next is tracked none more =
+      ap (next_by queue.board.products queue.board.eligibilities changes (progress queue)) (none_ready is tracked none)
       ∙ ap (λ b. cond b (Some (with_admission queue.board.products queue.board.eligibilities changes (progress queue))) None)
       (lt-ltb queue.admitted (length changes) more)
 
   -- or it ends
-  pub ends : IsQueue changes queue → queue.ready ≡ [] → queue.admitted ≡ length changes → HasEnded queue.board.products queue.board.eligibilities
-      changes (progress queue)
-  ends is none all =
-      ap (next_by queue.board.products queue.board.eligibilities changes (progress queue)) (none_ready is none)
+  pub ends : IsKept changes queue → IsTracking changes queue queue.ready → queue.ready ≡ [] → queue.admitted ≡ length changes →
+      HasEnded queue.board.products queue.board.eligibilities changes (progress queue)
+  ends is tracked none all =
+      ap (next_by queue.board.products queue.board.eligibilities changes (progress queue)) (none_ready is tracked none)
       ∙ ap (λ b. cond b (Some (with_admission queue.board.products queue.board.eligibilities changes (progress queue))) None)
       (le-ltb queue.admitted (length changes) (omega (arith, all)))
+
+  -- the queue once the next request is admitted
+  abbrev admitting : Queue
+  admitting = record queue { admitted = queue.admitted + 1 }
+
+  admitting_kept : IsKept changes queue → queue.admitted < length changes → (place : ℕ) → place < queue.admitted + 1 →
+      ((before : ℕ) → before < place → room_in changes queue before ≡ 0) → 0 < room_in changes queue place →
+      next queue.board.products queue.board.eligibilities changes (progress admitting) ≡ Some (progress_with changes admitting place)
+  admitting_kept is more place within before some =
+      ap (next_by queue.board.products queue.board.eligibilities changes (progress admitting))
+      (first_has_room queue.board changes queue.left (queue.admitted + 1) (omega (arith, more)) is.under_way.lengths place within before some)
+
+  to_admitting : IsKept changes queue → IsTracking changes queue queue.ready → queue.ready ≡ [] → queue.admitted < length changes →
+      Reaches queue.board.products queue.board.eligibilities changes (progress queue) (progress admitting)
+  to_admitting is tracked none more =
+      step_reaches queue.board.products queue.board.eligibilities changes (progress queue) (progress queue) (progress admitting) (0, refl)
+      (admission_is_next is tracked none more)
+
+  -- the next request is tested and admitted
+  pub fresh_reaches : (new : Queue) → IsKept changes queue → IsTracking changes queue queue.ready → queue.ready ≡ [] → queue.admitted < length changes →
+      HadNoRoom changes queue.admitted queue new ⊎ HadRoom changes queue.admitted queue new →
+      Reaches queue.board.products queue.board.eligibilities changes (progress queue) (progress (record new { admitted = queue.admitted + 1 }))
+  fresh_reaches new is tracked none more (inl nothing) =
+      subst (Reaches queue.board.products queue.board.eligibilities changes (progress queue))
+      (ap (λ (on : Progress). record on { admitted = queue.admitted + 1 }) (sym nothing.same))
+      (to_admitting is tracked none more)
+  fresh_reaches new is tracked none more (inr applied) =
+      subst (Reaches queue.board.products queue.board.eligibilities changes (progress queue))
+      (ap (λ (on : Progress). record on { admitted = queue.admitted + 1 }) (sym applied.applied))
+      (step_reaches queue.board.products queue.board.eligibilities changes (progress queue) (progress admitting)
+      (progress_with changes admitting queue.admitted) (to_admitting is tracked none more)
+      (admitting_kept is more queue.admitted (omega arith) (none_elsewhere tracked none) applied.some))
+
+  -- a ready request is tested
+  pub popped_reaches : (new : Queue) (first : ℕ) (ready : List ℕ) → IsKept changes queue → IsTracking changes queue (first ∷ ready) →
+      All (λ other. first ≤ other) ready → first < queue.admitted → HadNoRoom changes first queue new ⊎ HadRoom changes first queue new →
+      Reaches queue.board.products queue.board.eligibilities changes (progress queue) (progress new)
+  popped_reaches new first ready is tracked least admitted (inl nothing) = (0, sym nothing.same)
+  popped_reaches new first ready is tracked least admitted (inr applied) =
+      subst (Reaches queue.board.products queue.board.eligibilities changes (progress queue)) (sym applied.applied)
+      (step_reaches queue.board.products queue.board.eligibilities changes (progress queue) (progress queue) (progress_with changes queue first) (0, refl)
+      (next_is is first admitted (none_before first ready tracked least admitted) applied.some))
 
 -- what is reached from what was reached
 module _ (products : List Product) (eligibilities : List ℕ) (changes : List Change) where
@@ -103,7 +143,8 @@ reaches_on changes start old new same to_old to_new =
 -- a settling that went on goes on from there
 pub goes_further : (changes : List Change) (start old new : Queue) → GoesOn changes start old → GoesOn changes old new → GoesOn changes start new
 goes_further changes start old new to_old to_new = record {
-  queue = to_new.queue;
+  kept = to_new.kept;
+  tracked = to_new.tracked;
   counts = to_new.counts;
   terms = record {
     products = to_new.terms.products ∙ to_old.terms.products;
@@ -111,19 +152,3 @@ goes_further changes start old new to_old to_new = record {
   };
   reached = reaches_on changes start old new to_old.terms to_old.reached to_new.reached;
 }
-
--- a test that applied the first ready request
-pub application_reaches : (changes : List Change) (old tested applied : Queue) (first : ℕ) (left : Progress) →
-    IsQueue changes (with_first first old) → All (λ other. first ≤ other) old.ready → 0 < room_in changes old first →
-    tested ≡ after_test old → progress applied ≡ with_application tested.board.products tested.board.eligibilities changes (progress tested) first →
-    left ≡ progress applied →
-    Reaches old.board.products old.board.eligibilities changes (progress old) left
-application_reaches changes old tested applied first left is least some was_tested was_applied same =
-    let step : next old.board.products old.board.eligibilities changes (progress old) ≡ Some
-    (with_application old.board.products old.board.eligibilities changes (progress old) first) = first_is_next changes old first is least some in
-    let at : with_application old.board.products old.board.eligibilities changes (progress old) first ≡ left =
-    ap (λ (queue : Queue). with_application queue.board.products queue.board.eligibilities changes (progress queue) first) (sym was_tested)
-    ∙ sym was_applied ∙ sym same in
-    subst (Reaches old.board.products old.board.eligibilities changes (progress old)) at
-    (step_reaches old.board.products old.board.eligibilities changes (progress old) (progress old)
-    (with_application old.board.products old.board.eligibilities changes (progress old) first) (0, refl) step)

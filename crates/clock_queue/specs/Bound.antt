@@ -1,7 +1,8 @@
 -- How often a processor tests for room.
 --     most_of_one changes      the greatest number of requests of one product or of one bidder
---     IsWithinTests changes end      no more tests than one for each request, and that number for each application
-use Rattle.std.specs.Prelude.{ℕ, ◌+◌, ◌*◌, ◌≤◌, ◌==◌, List, length, max, count_by}
+--     most_woken changes      that number, or 2 where it is more
+--     IsWithinTests changes end      no more tests than one for each request, and at most two for each application
+use Rattle.std.specs.Prelude.{ℕ, ◌+◌, ◌*◌, ◌≤◌, ◌==◌, List, length, max, min, count_by}
 use Rattle.std.specs.List.{fold}
 use Rattle.clock_terms.specs.declared.change.Change.{Change}
 use Rattle.clock_processor.specs.Settlement.{SettledFields}
@@ -18,6 +19,12 @@ count_of_bidder changes bidder = count_by (λ (change : Change). change.bidder =
 abbrev pub most_of_one : List Change → ℕ
 most_of_one changes = fold (λ most change. max most (max (count_of_product changes change.product) (count_of_bidder changes change.bidder))) 0 changes
 
--- one test for each request, and for each application no more than there are requests of one product or of one bidder
+-- the most requests that are tested again for an application: one of its product and one of its bidder, and never more
+-- than there are requests of one product or of one bidder
+abbrev pub most_woken : List Change → ℕ
+most_woken changes = min 2 (most_of_one changes)
+
+-- one test for each request, and for each application no more than two, nor than there are requests of one product or of
+-- one bidder
 abbrev pub IsWithinTests : List Change → SettledFields → Type 0
-IsWithinTests changes end = end.tests ≤ length changes + end.applied * most_of_one changes
+IsWithinTests changes end = end.tests ≤ length changes + end.applied * most_woken changes

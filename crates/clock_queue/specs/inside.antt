@@ -1,3 +1,5 @@
 -- What only proofs and private functions use: no clause of a public call cites it.
+pub mod Costs
 pub mod Lines
+pub mod Ready
 pub mod Queue

@@ -2,6 +2,7 @@
 //! again.
 #![tactic(auto)]
 
+mod costs;
 mod lines;
 mod queue;
 

@@ -1,68 +1,134 @@
 //! The lines in which requests wait, and the places of those that are ready to be tested.
 
-ghost use Rattle.std.specs.Prelude.{◌≡◌, ◌<◌, [], ◌∷◌, ◌++◌, ◌≤◌, ℕ, List, length, replicate, All, IfOk, OnOk, slice_index_or, slice_set, map, IfSome, IfNone};
-ghost use Rattle.std.specs.{BinaryHeap.{IsHeap, heap_items}, List.Sorted.{IsPermutation}, Ordering.{nat_cmp}};
+ghost use Rattle.std.specs.Prelude.{◌≡◌, ◌<◌, [], ◌∷◌, ◌++◌, ◌≤◌, ℕ, List, length, replicate, All, IfOk, OnOk, slice_index_or, slice_set, IfSome, IfNone};
+ghost use Rattle.std.specs.Prelude.{false};
+ghost use Rattle.std.specs.{BinaryHeap.{heap_items}, List.Sorted.{IsPermutation}};
+ghost use Rattle.clock_queue.specs.inside.Costs.{spent};
 ghost use Rattle.clock_queue.specs.inside.Lines as lines;
+ghost use Rattle.clock_queue.specs.inside.Ready as ready;
 
-use clock_device::NoMemory;
+use crate::costs::Costs;
+use clock_device::{Items, NoMemory};
 use clock_terms::{Change, Kind};
-use smallvec::SmallVec;
 use std::alloc::Global;
 use std::cmp::Reverse;
 use std::collections::BinaryHeap;
 use std::marker::Model;
 
+/// The requests that wait for one thing, in the order in which they were admitted: their places, and what a block of
+/// each costs. Those of which nothing is left are passed over.
+#[derive(Drop)]
+pub(crate) struct Line {
+    places: Vec<usize>,
+    costs: Costs,
+}
+
+impl Model for Line {
+    ghost Value = { lines.LineFields };
+
+    ghost view = { λ l. record { places = l.places.items; costs = l.costs } };
+
+    ghost invariant = { λ l. length l.costs ≤ length l.places.items };
+}
+
+impl Line {
+    /// A line in which nobody waits. It takes no memory yet.
+    pub(crate) fn new(alloc: Global) -> Line
+        ensures { result ≡ lines.empty_line }
+    {
+        Line {
+            places: Vec::new(alloc),
+            costs: Costs::new(alloc),
+        }
+    }
+
+    /// Adds a request at the end.
+    pub(crate) fn add(&mut self, place: usize, cost: u64) -> Result<(), NoMemory>
+        ensures { OnOk result (self.new ≡ lines.with_waiting self.old place cost) }
+    {
+        self.places.push(place)?;
+        self.costs.push(cost)?;
+        Ok(())
+    }
+
+    /// The first request of which something is left, and of which a block costs no more than the limit.
+    pub(crate) fn first_waiting(&mut self, left: &[u64], limit: u64) -> Option<usize>
+        requires limit { limit < spent }
+        requires places { All (λ place. place < length left.now) self.old.places }
+        ensures spent { lines.IsSpent left.now self.old self.new }
+        ensures found { IfSome result (lines.IsFirstWaiting left.now self.new limit) }
+        ensures none { IfNone result (All (λ cost. limit < cost) self.new.costs) }
+    {
+        'spent: while let Some(at) = self.costs.first_within(limit) {
+            let place = self.places[at];
+            if left[place] > 0 {
+                return Some(place);
+            }
+            self.costs.spend(at);
+        }
+        None
+    }
+}
+
 /// The lines in which requests wait: for each product one of its reductions, for each bidder one of its increases.
-/// Contracts see the list of the lines, and in each the places of its requests.
-///
-/// Most lines are short, and up to four places stand in the line itself: only longer ones ask for memory.
+/// Contracts see the list of the lines.
 #[derive(Drop)]
 pub(crate) struct WaitingLines {
-    lists: Vec<SmallVec<usize, 4>>,
+    lists: Vec<Line>,
 }
 
 impl Model for WaitingLines {
-    ghost Value = { List (List ℕ) };
+    ghost Value = { List lines.LineFields };
 
-    ghost view = { λ a. lines.places_of a.lists.items };
+    ghost view = { λ a. a.lists.items };
 }
 
 impl WaitingLines {
     /// So many lines, in which nobody waits.
     pub(crate) fn new(alloc: Global, count: usize) -> Result<WaitingLines, NoMemory>
-        ensures { IfOk result (λ new. new ≡ replicate count []) }
+        ensures { IfOk result (λ new. new ≡ replicate count lines.empty_line) }
     {
         let mut lists = Vec::with_capacity(alloc, count)?;
         for _line in 0..count {
-            lists.push(SmallVec::new(alloc))?;
+            lists.push(Line::new(alloc))?;
         }
         Ok(WaitingLines { lists })
     }
 
-    /// Adds a place at the end of a line.
-    pub(crate) fn add(&mut self, line: usize, place: usize) -> Result<(), NoMemory>
+    /// Adds a request at the end of a line.
+    pub(crate) fn add(&mut self, line: usize, place: usize, cost: u64) -> Result<(), NoMemory>
         requires { line < length self.old }
-        ensures { OnOk result (self.new ≡ slice_set self.old line (slice_index_or self.old line [] ++ place ∷ [])) }
+        ensures { OnOk result (self.new ≡ slice_set self.old line (lines.with_waiting (slice_index_or self.old line lines.empty_line) place cost)) }
     {
-        self.lists[line].push(place)?;
-        Ok(())
+        self.lists[line].add(place, cost)
     }
 
-    /// The places in a line.
-    pub(crate) fn at(&self, line: usize) -> &[usize]
-        requires { line < length self.now }
-        ensures { result.now ≡ slice_index_or self.now line [] }
+    /// The first request in a line of which something is left, and of which a block costs no more than the limit.
+    pub(crate) fn first_waiting(&mut self, line: usize, left: &[u64], limit: u64) -> Option<usize>
+        requires line { line < length self.old }
+        requires limit { limit < spent }
+        requires places { All (λ place. place < length left.now) (slice_index_or self.old line lines.empty_line).places }
+        ensures others { self.new ≡ slice_set self.old line (slice_index_or self.new line lines.empty_line) }
+        ensures spent { lines.IsSpent left.now (slice_index_or self.old line lines.empty_line) (slice_index_or self.new line lines.empty_line) }
+        ensures found { IfSome result (lines.IsFirstWaiting left.now (slice_index_or self.new line lines.empty_line) limit) }
+        ensures none { IfNone result (All (λ cost. limit < cost) (slice_index_or self.new line lines.empty_line).costs) }
     {
-        self.lists[line].as_slice()
+        self.lists[line].first_waiting(left, limit)
     }
+}
 
-    /// Takes all places out of a line, which keeps its room.
-    pub(crate) fn clear(&mut self, line: usize)
-        requires { line < length self.old }
-        ensures { self.new ≡ slice_set self.old line [] }
-    {
-        self.lists[line].clear();
-    }
+/// The line of a product's reductions.
+pub(crate) fn product_line(product: u32) -> usize
+    ensures { result ≡ lines.product_line product }
+{
+    2 * product as usize
+}
+
+/// The line of a bidder's increases.
+pub(crate) fn bidder_line(bidder: u32) -> usize
+    ensures { result ≡ lines.bidder_line bidder }
+{
+    2 * bidder as usize + 1
 }
 
 /// The line in which a request waits: a reduction in its product's, an increase in its bidder's.
@@ -70,19 +136,8 @@ pub(crate) fn line_of(change: &Change) -> usize
     ensures { result ≡ lines.line_of change.now }
 {
     match change.kind {
-        Kind::Reduction => 2 * change.product as usize,
-        Kind::Increase => 2 * change.bidder as usize + 1,
-    }
-}
-
-/// The line that may have room once a request is applied: after a reduction its bidder's, after an increase its
-/// product's.
-pub(crate) fn woken_line(change: &Change) -> usize
-    ensures { result ≡ lines.woken_line change.now }
-{
-    match change.kind {
-        Kind::Reduction => 2 * change.bidder as usize + 1,
-        Kind::Increase => 2 * change.product as usize,
+        Kind::Reduction => product_line(change.product),
+        Kind::Increase => bidder_line(change.bidder),
     }
 }
 
@@ -100,36 +155,42 @@ pub(crate) fn lines_for(changes: &[Change]) -> usize
 }
 
 /// The places of the requests that are to be tested. Contracts see them as a list in any order.
+///
+/// A place that is marked is among them and is not added once more, so they take no more memory than there are requests.
 #[derive(Drop)]
 pub(crate) struct Ready {
     heap: BinaryHeap<Reverse<usize>>,
+    marks: Items<bool>,
 }
 
 impl Model for Ready {
     ghost Value = { List ℕ };
 
-    ghost view = { λ a. map (λ item. item.0) (heap_items a.heap) };
+    ghost view = { λ a. ready.places_of (heap_items a.heap) };
 
-    ghost invariant = { λ a. IsHeap (λ x y. nat_cmp y.0 x.0) (heap_items a.heap) };
+    ghost invariant = { λ a. ready.IsMarked (heap_items a.heap) a.marks };
 }
 
 impl Ready {
-    /// No places. It takes no memory yet.
-    pub(crate) fn new(alloc: Global) -> Ready
-        ensures { result ≡ [] }
+    /// No places, of so many requests.
+    pub(crate) fn new(alloc: Global, count: usize) -> Result<Ready, NoMemory>
+        ensures { IfOk result (λ ready. ready ≡ []) }
     {
-        Ready {
+        Ok(Ready {
             heap: BinaryHeap::new(alloc),
-        }
+            marks: Items::from_vec(vec![in alloc; false; count]?),
+        })
     }
 
-    /// Adds places.
-    pub(crate) fn extend(&mut self, places: &[usize]) -> Result<(), NoMemory>
-        ensures { OnOk result (IsPermutation (self.old ++ places.now) self.new) }
+    /// Adds a place, if it is not marked.
+    pub(crate) fn add(&mut self, place: usize) -> Result<(), NoMemory>
+        ensures { OnOk result (ready.IsAdded self.old place self.new) }
     {
-        for place in places {
-            self.heap.push(Reverse(*place))?;
+        if is_marked(&self.marks, place) {
+            return Ok(());
         }
+        self.heap.push(Reverse(place))?;
+        mark(&mut self.marks, place, true);
         Ok(())
     }
 
@@ -141,6 +202,23 @@ impl Ready {
         ensures same { IfNone result (self.new ≡ []) }
     {
         let Reverse(place) = self.heap.pop()?;
+        mark(&mut self.marks, place, false);
         Some(place)
+    }
+}
+
+/// Whether a place is marked.
+fn is_marked(marks: &Items<bool>, place: usize) -> bool
+    ensures { result ≡ slice_index_or marks.now place false }
+{
+    place < marks.len() && marks.as_slice()[place]
+}
+
+/// Marks a place, or takes its mark away.
+fn mark(marks: &mut Items<bool>, place: usize, is_ready: bool)
+    ensures { marks.new ≡ slice_set marks.old place is_ready }
+{
+    if place < marks.len() {
+        marks.set(place, is_ready);
     }
 }

@@ -1,24 +1,28 @@
-ghost use Rattle.std.specs.Prelude.{◌≡◌, ◌+◌, ◌<◌, ◌≤◌, [], length, IfOk, OnOk, All};
+ghost use Rattle.std.specs.Prelude.{◌≡◌, ◌+◌, ◌<◌, ◌≤◌, [], ◌∷◌, length, IfOk, OnOk, All};
 ghost use Rattle.clock_processor.specs.{Board.{IsBoard}, Requests.{CanSettle}, Settlement.{IsSettlement, IsProperEnd}};
 ghost use Rattle.clock_queue.specs.Bound.{IsWithinTests};
-ghost use Rattle.clock_queue.specs.inside.Queue.{GoesOn, IsAppliedWhole, IsQueue, StaysWithinTests, after_test, room_in, with_first, work};
+ghost use Rattle.clock_queue.specs.inside.Costs.{spent};
+ghost use Rattle.clock_queue.specs.inside.Lines as lines;
+ghost use Rattle.clock_queue.specs.inside.Queue.{GoesOn, HasWoken, IsAppliedWhole, IsKept, IsTested, IsTracking, StaysWithinTests, after_test, line_in, room_in};
 
-use crate::lines::{Ready, WaitingLines, line_of, lines_for, woken_line};
+use crate::lines::{Ready, WaitingLines, bidder_line, line_of, lines_for, product_line};
 use clock_device::NoMemory;
 use clock_processor::{Board, Processor, Settled, amounts_of};
-use clock_terms::{Amounts, Change, Changes};
+use clock_terms::{Amounts, Change, Changes, Kind, MOST_UNITS};
 use std::alloc::Global;
 
-/// Tests a request once when it is admitted, and again after each application that may have made room for it.
+/// Tests a request once when it is admitted, and after each application at most two: the first that waits for the
+/// product, and the first that waits for the bidder and is within what is unused of its eligibility.
 ///
-/// An applied reduction frees eligibility of its bidder, so it wakes the bidder's increases that wait; an applied
-/// increase raises the demand for its product, so it wakes the product's reductions that wait.
+/// All reductions of a product have room or none has, and of a bidder's increases those have room that cost no more than
+/// its unused eligibility, which the board tells where it applies a request. So of each line the first with room is
+/// known, and it alone needs a test.
 #[derive(Clone, Copy, Debug, Default)]
 pub struct Woken;
 
 impl Processor for Woken {
     /// Settles the requests as the trait says. It tests at most once for each request, and for each application at most
-    /// as often as there are requests of one product or of one bidder.
+    /// twice, and no more often than there are requests of one product or of one bidder.
     fn settle(&self, alloc: Global, board: Board, changes: &Changes) -> Result<Settled, NoMemory>
         requires { CanSettle board changes.now }
         ensures settlement { IfOk result (λ settled. IsSettlement board.entry changes.now settled) }
@@ -30,7 +34,7 @@ impl Processor for Woken {
             board,
             left: amounts_of(alloc, requests)?,
             admitted: 0,
-            ready: Ready::new(alloc),
+            ready: Ready::new(alloc, requests.len())?,
             lines: WaitingLines::new(alloc, lines_for(requests))?,
         };
         for _place in 0..requests.len() {
@@ -51,10 +55,11 @@ struct Queue<'a> {
 }
 
 impl<'a> Queue<'a> {
-    /// Admits the next request and tests it, and then tests until none is ready. Mostly none is after its own test, so
+    /// Tests the next request and admits it, and then tests until none is ready. Mostly none is after its own test, so
     /// it goes past the ready requests, and takes no memory of theirs.
     fn settle_next(&mut self, changes: &[Change]) -> Result<(), NoMemory>
-        requires queue { IsQueue changes.now self.old }
+        requires kept { IsKept changes.now self.old }
+        requires tracked { IsTracking changes.now self.old self.old.ready }
         requires counts { StaysWithinTests changes.now self.old }
         requires none { self.old.ready ≡ [] }
         requires more { self.old.admitted < length changes.now }
@@ -63,35 +68,34 @@ impl<'a> Queue<'a> {
         ensures admitted { OnOk result (self.new.admitted ≡ self.old.admitted + 1) }
     {
         let place = self.admitted;
-        self.admitted += 1;
         self.test(changes, place)?;
+        self.admit(changes)?;
         while let Some(place) = self.ready.pop() {
             self.test(changes, place)?;
         }
         Ok(())
     }
 
-    /// Tests a request, which was the first of those that are ready. With room it is applied by its whole room, and
-    /// what is left of it waits; without room it waits whole.
+    /// Tests a request, which was the first of those that are ready or is the next to be admitted. With room it is
+    /// applied by its whole room.
     fn test(&mut self, changes: &[Change], place: usize) -> Result<(), NoMemory>
-        requires queue { IsQueue changes.now (with_first place self.old) }
-        requires counts { StaysWithinTests changes.now (with_first place self.old) }
-        requires least { All (λ other. place ≤ other) self.old.ready }
-        ensures goes_on { OnOk result (GoesOn changes.now self.old self.new) }
-        ensures admitted { OnOk result (self.new.admitted ≡ self.old.admitted) }
-        ensures less { OnOk result (work changes.now self.new < work changes.now (with_first place self.old)) }
+        requires kept { IsKept changes.now self.old }
+        requires tracked { IsTracking changes.now self.old (place ∷ self.old.ready) }
+        requires within { place < length changes.now }
+        ensures { OnOk result (IsTested changes.now place self.old self.new) }
     {
         let room = self.room(changes, place);
-        if room > 0 {
-            self.apply(changes, place, room)?;
+        if room == 0 {
+            return Ok(());
         }
-        self.wait(changes, place)?;
+        self.apply(changes, place, room)?;
         Ok(())
     }
 
     /// The room of a request.
     fn room(&mut self, changes: &[Change], place: usize) -> u64
-        requires { IsQueue changes.now (with_first place self.old) }
+        requires kept { IsKept changes.now self.old }
+        requires within { place < length changes.now }
         ensures room { result ≡ room_in changes.now self.old place }
         ensures counted { self.new ≡ after_test self.old }
         ensures is_board { IsBoard self.new.board.products self.new.board.eligibilities self.new.board.grid }
@@ -100,10 +104,12 @@ impl<'a> Queue<'a> {
         self.board.room(&changes[place], left)
     }
 
-    /// Applies a request by its whole room, and makes ready those that this may have made room for.
+    /// Applies a request by its whole room, and makes ready the first that this may have made room for of those that
+    /// wait for its product, and of those that wait for its bidder.
     fn apply(&mut self, changes: &[Change], place: usize, room: u64) -> Result<(), NoMemory>
-        requires queue { IsQueue changes.now (with_first place self.old) }
-        requires counts { StaysWithinTests changes.now self.old }
+        requires kept { IsKept changes.now self.old }
+        requires tracked { IsTracking changes.now self.old (place ∷ self.old.ready) }
+        requires within { place < length changes.now }
         requires is_board { IsBoard self.old.board.products self.old.board.eligibilities self.old.board.grid }
         requires room { room ≡ room_in changes.now self.old place }
         requires positive { 0 < room }
@@ -111,25 +117,55 @@ impl<'a> Queue<'a> {
     {
         let change = &changes[place];
         let left = self.left.as_slice()[place];
-        self.board.apply(change, room);
+        let unused = self.board.apply(change, room);
         self.left.set(place, left - room);
-        let line = woken_line(change);
-        let woken = self.lines.at(line);
-        self.ready.extend(woken)?;
-        self.lines.clear(line);
+        self.wake(product_line(change.product), 0)?;
+        self.wake(bidder_line(change.bidder), unused.min(MOST_UNITS))?;
         Ok(())
     }
 
-    /// What is left of a request waits, if there is anything.
-    fn wait(&mut self, changes: &[Change], place: usize) -> Result<(), NoMemory>
-        requires queue { IsQueue changes.now (with_first place self.old) }
-        requires no_room { room_in changes.now self.old place ≡ 0 }
-        ensures queue { OnOk result (IsQueue changes.now self.new) }
-        ensures same { OnOk result (self.new ≡ record self.old { lines = self.new.lines }) }
+    /// Makes ready the first request in a line of which something is left and a block costs no more than the limit.
+    fn wake(&mut self, line: usize, limit: u64) -> Result<(), NoMemory>
+        requires line { line < length self.old.lines }
+        requires limit { limit < spent }
+        requires places { All (λ place. place < length self.old.left) (line_in self.old line).places }
+        ensures { OnOk result (HasWoken line limit self.old self.new) }
     {
-        if self.left.as_slice()[place] > 0 {
-            self.lines.add(line_of(&changes[place]), place)?;
+        if let Some(place) = self.lines.first_waiting(line, self.left.as_slice(), limit) {
+            self.ready.add(place)?;
         }
         Ok(())
+    }
+
+    /// Admits the next request, which has no room: what is left of it waits in its line.
+    fn admit(&mut self, changes: &[Change]) -> Result<(), NoMemory>
+        requires kept { IsKept changes.now self.old }
+        requires tracked { IsTracking changes.now self.old self.old.ready }
+        requires more { self.old.admitted < length changes.now }
+        requires no_room { room_in changes.now self.old self.old.admitted ≡ 0 }
+        ensures kept { OnOk result (IsKept changes.now self.new) }
+        ensures tracked { OnOk result (IsTracking changes.now self.new self.new.ready) }
+        ensures same { OnOk result (self.new ≡ record self.old { admitted = self.old.admitted + 1; lines = self.new.lines }) }
+    {
+        let place = self.admitted;
+        self.admitted += 1;
+        if self.left.as_slice()[place] == 0 {
+            return Ok(());
+        }
+        let change = &changes[place];
+        let cost = cost_of(&self.board, change);
+        self.lines.add(line_of(change), place, cost)?;
+        Ok(())
+    }
+}
+
+/// What a block of a request costs in its line: of an increase the product's units, of a reduction nothing.
+fn cost_of(board: &Board, change: &Change) -> u64
+    requires { change.now.product < length board.now.products }
+    ensures { result ≡ lines.cost_of board.now.products change.now }
+{
+    match change.kind {
+        Kind::Reduction => 0,
+        Kind::Increase => board.units(change.product),
     }
 }

@@ -1,13 +1,18 @@
 -- The lines in which requests wait (own rule: a reduction waits for its product, an increase for its bidder).
 --     line_of change      the line in which a request waits
---     woken_line change      the line whose requests its application may make room for
---     HasLines count change      both are among so many lines
---     places_of lists      the places that wait in each line
-use Rattle.std.specs.Prelude.{ℕ, ◌+◌, ◌*◌, ◌<◌, List, map}
-use Rattle.smallvec.specs.SmallVec.{SmallVec}
+--     cost_of products change      what a block of it costs there
+--     HasLines count change      both lines of its product and bidder are among so many
+--     LineFields      a line: the places of its requests, and their costs
+--     with_waiting line place cost      the line with one more request
+--     IsSpent left old new      only costs of requests of which nothing is left were spent
+--     IsFirstWaiting left line limit place      the first request in a line of which something is left within the limit
+use Rattle.std.specs.Prelude.{◌≡◌, ℕ, ◌+◌, ◌*◌, ◌<◌, ◌⊎◌, List, [], ◌∷◌, ◌++◌, length, slice_index}
+use Rattle.clock_terms.specs.declared.setup.Product.{Product}
+use Rattle.clock_terms.specs.Limits.{units_of}
 use Rattle.clock_terms.specs.declared.change.Change.{Change}
 use Rattle.clock_terms.specs.declared.change.Kind.{Kind}
 use Rattle.clock_terms.specs.declared.change.Kind.TheVariants.{Increase, Reduction}
+use Rattle.clock_queue.specs.inside.Costs.{IsFirstWithin}
 
 -- the line of a product's reductions
 abbrev pub product_line : ℕ → ℕ
@@ -25,19 +30,41 @@ line_by Increase bidder product = bidder_line bidder
 abbrev pub line_of : Change → ℕ
 line_of change = line_by change.kind change.bidder change.product
 
-abbrev pub woken_by : Kind → ℕ → ℕ → ℕ
-woken_by Reduction bidder product = bidder_line bidder
-woken_by Increase bidder product = product_line product
+abbrev pub cost_by : Kind → ℕ → ℕ
+cost_by Reduction units = 0
+cost_by Increase units = units
 
--- an applied reduction frees eligibility of its bidder, an applied increase raises its product's demand
-abbrev pub woken_line : Change → ℕ
-woken_line change = woken_by change.kind change.bidder change.product
+-- a block of an increase costs its bidder the product's units; a reduction costs nothing
+abbrev pub cost_of : List Product → Change → ℕ
+cost_of products change = cost_by change.kind (units_of products change.product)
 
--- the request's lines are among so many
+-- the lines of the request's product and bidder are among so many
 pub record HasLines (count : ℕ) (change : Change) : Type 0 where
   pub product : product_line change.product < count
   pub bidder : bidder_line change.bidder < count
 
--- the places that wait in each line
-abbrev pub places_of : List (SmallVec ℕ) → List (List ℕ)
-places_of lists = map (λ list. list.items) lists
+-- the places of the requests in a line, and the cost of a block of each
+pub record LineFields : Type 0 where
+  pub places : List ℕ
+  pub costs : List ℕ
+
+-- a line in which nobody waits
+abbrev pub empty_line : LineFields
+empty_line = record { places = []; costs = [] }
+
+-- the line with one more request at its end
+abbrev pub with_waiting : LineFields → ℕ → ℕ → LineFields
+with_waiting line place cost = record { places = line.places ++ place ∷ []; costs = line.costs ++ cost ∷ [] }
+
+-- the same requests stand in the line, and only costs of those of which nothing is left have changed
+pub record IsSpent (left : List ℕ) (old new : LineFields) : Type 0 where
+  pub places : new.places ≡ old.places
+  pub costs : length new.costs ≡ length old.costs
+  pub spent : (at : ℕ) → at < length old.places → (slice_index new.costs at ≡ slice_index old.costs at) ⊎ (slice_index left (slice_index old.places at) ≡ 0)
+
+-- the first request in the line within the limit is the one at a place, and something of it is left
+pub record IsFirstWaiting (left : List ℕ) (line : LineFields) (limit : ℕ) (place : ℕ) : Type 0 where
+  pub at : ℕ
+  pub is_first : IsFirstWithin line.costs limit at
+  pub is : slice_index line.places at ≡ place
+  pub waits : 0 < slice_index left place

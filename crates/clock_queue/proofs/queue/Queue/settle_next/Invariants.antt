@@ -11,4 +11,4 @@ invariant-loop-place l = record {
 
 -- the blocks that are to be applied, and the tests to be made
 abbrev pub decreases-loop-place : goal.decreases-loop-place
-decreases-loop-place l = work l.changes l.self
+decreases-loop-place l = work l.self

@@ -4,7 +4,7 @@ use Rattle.clock_terms.specs.declared.change.Change.{Change}
 use Rattle.clock_processor.specs.Requests.{CanSettle}
 use Rattle.clock_processor.specs.Settlement.{IsSettlement, IsProperEnd}
 use Rattle.clock_queue.specs.Bound.{IsWithinTests}
-use Rattle.clock_queue.proofs.Start.{started}
+use Rattle.clock_queue.proofs.Start.{started, nothing_tracked}
 use Rattle.clock_queue.proofs.Steps.{reaches_from}
 use Rattle.clock_queue.proofs.Ended.{IsDone, is_settlement, is_proper, is_within}
 use Rattle.clock_queue.proofs.queue.WokenProcessor.settle.Goals as goal
@@ -14,10 +14,11 @@ loop-place-init c =
     let changes : List Change = c.as_slice-requests.result.now in
     let can : CanSettle c.args.board changes = subst (λ (list : List Change). CanSettle c.args.board list) (sym c.as_slice-requests.ensures) c.requires in
     record {
-      queue = started c.args.board changes c.lines_for.result c.in_ok-amounts_of.field-0 c.new.result c.in_ok-new.field-0 can c.lines_for.ensures
-          c.in_ok-amounts_of.ensures c.new.ensures c.in_ok-new.ensures;
-      counts = omega (arith, can.tests, ap (λ (ready : List ℕ). length ready) c.new.ensures);
-      none = c.new.ensures;
+      kept = started c.args.board changes c.lines_for.result c.in_ok-amounts_of.field-0 c.in_ok-new.field-0 c.in_ok-new-2.field-0 can c.lines_for.ensures
+          c.in_ok-amounts_of.ensures c.in_ok-new.ensures c.in_ok-new-2.ensures;
+      tracked = nothing_tracked changes _ refl;
+      counts = omega (arith, can.tests, ap (λ (ready : List ℕ). length ready) c.in_ok-new.ensures);
+      none = c.in_ok-new.ensures;
       admitted = refl;
       products = refl;
       eligibilities = refl;
@@ -29,7 +30,8 @@ loop-place-init c =
 
 pub loop-place-preserved : goal.loop-place-preserved
 loop-place-preserved c = record {
-  queue = c.in_ok-settle_next.ensures.goes_on.queue;
+  kept = c.in_ok-settle_next.ensures.goes_on.kept;
+  tracked = c.in_ok-settle_next.ensures.goes_on.tracked;
   counts = c.in_ok-settle_next.ensures.goes_on.counts;
   none = c.in_ok-settle_next.ensures.none;
   admitted = omega (arith, c.in_ok-settle_next.ensures.admitted, c.loop-place.invariant.admitted);
@@ -43,7 +45,8 @@ pub returns : goal.returns
 returns c =
     let changes : List Change = c.as_slice-requests.result.now in
     let done : IsDone c.args.board changes c.loop-place.queue = record {
-      queue_is = c.loop-place.invariant.queue;
+      kept = c.loop-place.invariant.kept;
+      tracked = c.loop-place.invariant.tracked;
       counts = c.loop-place.invariant.counts;
       none = c.loop-place.invariant.none;
       admitted = omega (arith, c.loop-place.invariant.admitted);

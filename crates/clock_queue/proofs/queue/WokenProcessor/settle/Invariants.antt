@@ -2,13 +2,14 @@ use Rattle.std.proofs.Common.{◌≡◌, [], map}
 use Rattle.clock_terms.specs.declared.change.Change.{Change}
 use Rattle.clock_processor.specs.Settling.{Reaches}
 use Rattle.clock_processor.specs.inside.UnderWay.{progress_of}
-use Rattle.clock_queue.specs.inside.Queue.{IsQueue, StaysWithinTests, progress}
+use Rattle.clock_queue.specs.inside.Queue.{IsKept, IsTracking, StaysWithinTests, progress}
 use Rattle.clock_queue.proofs.queue.WokenProcessor.settle.Given as goal
 
 -- the requests so far are admitted, and none is ready
 abbrev pub invariant-loop-place : goal.invariant-loop-place
 invariant-loop-place l = record {
-  queue : IsQueue l.requests l.queue;
+  kept : IsKept l.requests l.queue;
+  tracked : IsTracking l.requests l.queue l.queue.ready;
   counts : StaysWithinTests l.requests l.queue;
   none : l.queue.ready ≡ [];
   admitted : l.queue.admitted ≡ l._place;

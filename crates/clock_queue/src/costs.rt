@@ -1,0 +1,120 @@
+//! Costs in a row, of which the first within a limit is found without a look at each.
+
+ghost use Rattle.std.specs.Prelude.{◌≡◌, ◌<◌, ◌≤◌, ◌+◌, ◌*◌, [], ◌∷◌, ◌++◌, ℕ, List, length, All, IfSome, IfNone, OnOk, OnErr, slice_index, slice_set};
+ghost use Rattle.clock_queue.specs.inside.Costs.{AreAbove, AreFrom, HasBounds, IsFirstWithin, spent};
+
+use clock_device::NoMemory;
+use std::alloc::Global;
+use std::marker::Model;
+
+/// How many costs share a bound.
+const BLOCK: usize = 64;
+
+/// Above each limit: the cost of what is no more to be found.
+const SPENT: u64 = u64::MAX;
+
+/// Costs in a row. Contracts see them alone.
+///
+/// They stand in blocks of 64, and for each block there is a bound which none of its costs is below: a block whose bound
+/// is above a limit is passed over as a whole. Blocks at the front of which nothing is to be found any more are passed
+/// over together.
+#[derive(Drop)]
+pub(crate) struct Costs {
+    costs: Vec<u64>,
+    bounds: Vec<u64>,
+    passed: usize,
+}
+
+impl Model for Costs {
+    ghost Value = { List ℕ };
+
+    ghost view = { λ c. c.costs.items };
+
+    ghost invariant = { λ c. HasBounds c.costs.items c.bounds.items c.passed };
+}
+
+impl Costs {
+    /// No costs. It takes no memory yet.
+    pub(crate) fn new(alloc: Global) -> Costs
+        ensures { result ≡ [] }
+    {
+        Costs {
+            costs: Vec::new(alloc),
+            bounds: Vec::new(alloc),
+            passed: 0,
+        }
+    }
+
+    /// Adds a cost at the end.
+    pub(crate) fn push(&mut self, cost: u64) -> Result<(), NoMemory>
+        ensures ok { OnOk result (self.new ≡ self.old ++ cost ∷ []) }
+        ensures err { OnErr result (self.new ≡ self.old) }
+    {
+        let block = self.costs.len() / BLOCK;
+        if block == self.bounds.len() {
+            self.bounds.push(SPENT)?;
+        }
+        self.costs.push(cost)?;
+        self.bounds[block] = self.bounds[block].min(cost);
+        self.passed = self.passed.min(block);
+        Ok(())
+    }
+
+    /// Lets a cost be found no more.
+    pub(crate) fn spend(&mut self, place: usize)
+        requires { place < length self.old }
+        ensures { self.new ≡ slice_set self.old place spent }
+    {
+        self.costs[place] = SPENT;
+        let block = place / BLOCK;
+        self.bounds[block] = least_in(self.costs.as_slice(), block);
+        'passed: while self.passed < self.bounds.len() && self.bounds[self.passed] == SPENT {
+            self.passed += 1;
+        }
+    }
+
+    /// The place of the first cost within a limit.
+    pub(crate) fn first_within(&self, limit: u64) -> Option<usize>
+        requires { limit < spent }
+        ensures found { IfSome result (IsFirstWithin self.now limit) }
+        ensures none { IfNone result (All (λ cost. limit < cost) self.now) }
+    {
+        for block in self.passed..self.bounds.len() {
+            if self.bounds[block] <= limit {
+                if let Some(place) = first_in(self.costs.as_slice(), block, limit) {
+                    return Some(place);
+                }
+            }
+        }
+        None
+    }
+}
+
+/// The place of the first cost of a block within a limit.
+fn first_in(costs: &[u64], block: usize, limit: u64) -> Option<usize>
+    requires { BLOCK * block ≤ length costs.now }
+    ensures within { IfSome result (λ place. (place < length costs.now) × (slice_index costs.now place ≤ limit)) }
+    ensures before { IfSome result (λ place. AreAbove limit costs.now (BLOCK * block) place) }
+    ensures none { IfNone result (AreAbove limit costs.now (BLOCK * block) (BLOCK * block + BLOCK)) }
+{
+    let from = BLOCK * block;
+    for place in from..(from + BLOCK).min(costs.len()) {
+        if costs[place] <= limit {
+            return Some(place);
+        }
+    }
+    None
+}
+
+/// A bound for a block: none of its costs is below.
+fn least_in(costs: &[u64], block: usize) -> u64
+    requires { BLOCK * block ≤ length costs.now }
+    ensures { AreFrom result costs.now (BLOCK * block) (BLOCK * block + BLOCK) }
+{
+    let from = BLOCK * block;
+    let mut least = SPENT;
+    for place in from..(from + BLOCK).min(costs.len()) {
+        least = least.min(costs[place]);
+    }
+    least
+}
