@@ -1,4 +1,4 @@
-"""Stands between deploy/close and a server, and may lose a request or a reply."""
+"""A relay between deploy/close and a server, which may lose a request or a reply."""
 import socket
 import threading
 

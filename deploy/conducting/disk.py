@@ -1,0 +1,64 @@
+"""Files that survive a crash: each is written whole next to its place, synced, and renamed into it."""
+import contextlib
+import fcntl
+import os
+from collections.abc import Iterator
+from pathlib import Path
+from typing import TextIO
+
+PRIVATE, PUBLIC = 0o600, 0o644
+
+
+def store(path: Path, text: str, mode: int = PRIVATE) -> None:
+    """Writes a file and brings it to the disk. After a crash or a power loss it has its old text or this one, whole."""
+    with fresh_file(path, mode) as file:
+        file.write(text)
+        file.flush()
+        os.fsync(file.fileno())
+    os.rename(file.name, path)
+    sync_folder(path.parent)
+
+
+def show(path: Path, text: str, mode: int = PUBLIC) -> None:
+    """Writes a file whole, without waiting for the disk: for a report that is written again each second."""
+    with fresh_file(path, mode) as file:
+        file.write(text)
+    os.rename(file.name, path)
+
+
+def fresh_file(path: Path, mode: int) -> TextIO:
+    """A new file next to this place, open for writing, with exactly this mode whatever the umask is."""
+    opened = os.open(f"{path}.new", os.O_WRONLY | os.O_CREAT | os.O_TRUNC, mode)
+    os.fchmod(opened, mode)
+    return open(f"{path}.new", "w", encoding="utf-8", opener=lambda *_: opened)
+
+
+def remove(path: Path) -> None:
+    """Removes a file for good."""
+    os.unlink(path)
+    sync_folder(path.parent)
+
+
+def sync_folder(folder: Path) -> None:
+    """Brings the names in a folder to the disk."""
+    opened = os.open(folder, os.O_RDONLY)
+    try:
+        os.fsync(opened)
+    finally:
+        os.close(opened)
+
+
+def make_folder(path: Path, mode: int) -> None:
+    """Makes a folder with exactly this mode if it is not there, and leaves one that is there as it is."""
+    if not path.is_dir():
+        path.mkdir(parents=True)
+        path.chmod(mode)
+        sync_folder(path.parent)
+
+
+@contextlib.contextmanager
+def locked(path: Path) -> Iterator[None]:
+    """Waits until no other process has this lock. The system releases it however its owner ends."""
+    with open(os.open(path, os.O_WRONLY | os.O_CREAT, PRIVATE), "w", encoding="utf-8") as file:
+        fcntl.flock(file, fcntl.LOCK_EX)
+        yield
