@@ -27,7 +27,7 @@ ROUND = rf"round \d+\n(?:{NAME} \d+ \d+ \d+ (?:\d+|-) (?:\d+|-)\n)+"
 KINDS = [
     (["prices"], ["one_product", "granules_and_increments", "price_edges", "activity_limit"], rf"(?:{NAME} \d+ (?:\d+|-)\n)+", SETUP_FAULT),
     (["opening"], ["opening"], ROUND, OPENING_FAULT),
-    (["replay"], ["rehearsal", "rehearsal_version_2"], rf"(?:{ROUND})+(?:won {NAME}(?: \d+)+\n)+", REPLAY_FAULT),
+    (["replay"], ["rehearsal", "rehearsal_version_2", "tutorial"], rf"(?:{ROUND})+(?:won {NAME}(?: \d+)+\n)+", REPLAY_FAULT),
 ]
 
 

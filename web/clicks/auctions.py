@@ -94,13 +94,13 @@ def refused(window, words, step=0):
 def steps_refused(window):
     """The refusals that need blocks held, and those of more than one bid for a product."""
     window.bid(0, 2, 105)
-    refused(window, "to keep, bid at the clock price")
+    refused(window, "to maintain demand, bid at the clock price")
     window.bid(0, 1, 103)
     window.driver.find_element("css selector", "#body button").click()
     window.bid(0, 0, 103, 1)
-    refused(window, "with rising prices", 1)
+    refused(window, "at rising prices", 1)
     window.bid(0, 2, 104, 1)
-    refused(window, "only less and less", 1)
+    refused(window, "only falling or only rising", 1)
 
 
 def keep_and_drop(window):
@@ -122,15 +122,15 @@ def keep_and_drop(window):
 
 def faults(window, work):
     """Each refusal of a sheet that a person can cause, at its row; bids as CSV down, changed, and up again."""
-    for words, quantity, price in [("not from start to clock", 1, 101), ("above the product's cap", 3, 100)]:
+    for words, quantity, price in [("not between the start-of-round price", 1, 101), ("above the product's cap", 3, 100)]:
         window.bid(0, quantity, price)
         refused(window, words)
     expect("no sheet is said to stay in force where there is none", "in force" not in window.text("say"))
     window.bid(0, 2, 100)
     window.bid(1, 2, 100)
     wait_for("told above the table: too much activity",
-             lambda: "more activity than it may" in window.text("judged") and "⚠ 4 of 2" in window.text("sums"))
-    window.send("Refused: the sheet asks for more activity")
+             lambda: "more activity than the limit" in window.text("judged") and "⚠ 4 of 2" in window.text("sums"))
+    window.send("Refused: the sheet requests more activity")
     window.bid(1, "x", 100)
     wait_for("told at the row: no number", lambda: "no whole number" in window.wrong(1))
     window.send("Not sent: a row can't be read")
@@ -258,7 +258,7 @@ def closings_refused(steep, level, x, y, operator):
     sent(y, 1, 10**12)
     operator.close_round()
     wait_for("a price above the limit is told with its product",
-             lambda: "would be above 10^12 dollars: take a smaller increment (A). Nothing was closed." in operator.text("say"))
+             lambda: "would be above 10^12 dollars: use a smaller increment (A). Nothing was closed." in operator.text("say"))
     expect("the round is still open", operator.text("round") == "Round 1 is open")
     sent(y, 0, 10**12)
     y.deaf()
