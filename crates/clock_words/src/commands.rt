@@ -13,7 +13,7 @@ use clock_money::{LEAST_INCREMENT, MOST_INCREMENT};
 use std::alloc::{AllocError, Global};
 
 /// What is said of the file that each command on files takes.
-static SETUP_FILE: &str = "The file of the set-up document";
+static SETUP_FILE: &str = "The set-up document";
 
 /// The highest port.
 pub const MOST_PORT: u64 = 65_535;
@@ -69,8 +69,8 @@ fn with_command<'a>(
 fn prices_command<'a>(alloc: Global) -> Result<Command<'a>, AllocError>
     ensures { IfOk result (IsCommand prices_grammar) }
 {
-    let about = "Prints each product's opening price and next clock price";
-    let rise = "By how many percent prices rise, from 1 to 50";
+    let about = "Print the opening price of each product and its clock price of round 2";
+    let rise = "Percent by which prices rise, 1 to 50";
     let increment = option(alloc, "increment", "N", rise)
         .value_parser(ValueParser::Unsigned(LEAST_INCREMENT, MOST_INCREMENT))
         .default_value("10");
@@ -81,10 +81,10 @@ fn prices_command<'a>(alloc: Global) -> Result<Command<'a>, AllocError>
 fn serve_command<'a>(alloc: Global) -> Result<Command<'a>, AllocError>
     ensures { IfOk result (IsCommand serve_grammar) }
 {
-    let about = "Takes the bids and closings of an auction on a port of 127.0.0.1";
-    let port = "The port of 127.0.0.1, from 1 to 65535";
-    let served = "How many connections are served, from 1 to 1000000";
-    let kept = "The file in which accepted sheets and closings are kept";
+    let about = "Serve an auction to live bidders at a port of 127.0.0.1";
+    let port = "Port of 127.0.0.1 to listen at, 1 to 65535";
+    let served = "Connections to serve before ending, 1 to 1000000";
+    let kept = "Log of accepted sheets and closings, created if it does not exist";
     named(alloc, "serve", about, SERVE_HELP)
         .arg(needed_option(alloc, "setup", SETUP_FILE))?
         .arg(number_option(alloc, "port", MOST_PORT, port))?
@@ -101,7 +101,7 @@ fn files_command<'a>(
 ) -> Result<Command<'a>, AllocError>
     ensures { IfOk result (IsCommand (files_grammar name.now)) }
 {
-    let kept = "The file in which accepted sheets and closings were kept";
+    let kept = "Log of accepted sheets and closings that `serve` wrote";
     named(alloc, name, about, help)
         .arg(needed_option(alloc, "setup", SETUP_FILE))?
         .arg(needed_option(alloc, "journal", kept))
@@ -123,10 +123,10 @@ fn program_alone<'a>(alloc: Global) -> Result<Command<'a>, AllocError>
 pub fn program<'a>(alloc: Global) -> Result<Command<'a>, AllocError>
     ensures { IfOk result (IsCommand grammar) }
 {
-    let opening = "Prints the sheet of round 1";
-    let replay = "Plays an auction of scripted bidders and prints its rounds and what each won";
-    let kept = "Prints what a journal holds, text by text";
-    let won = "Recounts an auction from its journal and prints its rounds and what each bidder won";
+    let opening = "Print the results of round 1 for given demands";
+    let replay = "Rehearse an auction with scripted bidders";
+    let kept = "Print the requests that a journal contains";
+    let won = "Recount an auction from its set-up and journal";
     let journal = files_command(alloc, "journal", kept, JOURNAL_HELP);
     let audit = files_command(alloc, "audit", won, AUDIT_HELP);
     let program = with_command(program_alone(alloc), prices_command(alloc));
