@@ -1,9 +1,10 @@
 -- The raised price is the least that is high enough, and it is above the start price.
-use Rattle.std.proofs.Common.{◌≡◌, ℕ, ◌+◌, ◌*◌, ◌<◌, ◌≤◌, Bool, true, false, Some, None, refl, arith}
+use Rattle.std.proofs.Common.{◌≡◌, ℕ, ◌+◌, ◌*◌, ◌<◌, ◌≤◌, Bool, true, false, Some, None, refl, ap, subst, ◌∙◌, arith}
 use Rattle.std.specs.Prelude.{IfSome, IfNone, nat_le, if◌then◌else◌}
-use Rattle.std.proofs.lemmas.Bool.{leb-false}
+use Rattle.std.proofs.lemmas.Bool.{leb-false, leb-true, le-leb}
+use Rattle.std.proofs.lemmas.Option.{cond_some}
 use Rattle.std.proofs.Math.Nat.{mul-le-mul, mul-le-mul_left}
-use Rattle.clock_money.specs.Price.{rounded_up, IsHighEnough, IsRaised, highest_price, raise, raised}
+use Rattle.clock_money.specs.Price.{rounded_up, IsHighEnough, IsRaised, RaisesToTheLeast, highest_price, raise, raised}
 use Rattle.clock_money.proofs.RoundingLaws.{rounded_up_least}
 
 -- a price in whole dollars is high enough from the raised price rounded up to whole dollars on
@@ -54,3 +55,25 @@ raise_none start percent granule unit =
     no_price (raised start percent granule) ((price : ℕ) → IsRaised start percent granule price → highest_price < price)
     (nat_le (raised start percent granule) highest_price) refl
     (λ high price is. omega (arith, high, lowest start percent granule price unit is.0))
+
+-- the price that is given is the raised one, and not too high
+is_least : (start percent granule price : ℕ) → 1 ≤ granule → raise start percent granule ≡ Some price
+    → IsRaised start percent granule price × (price ≤ highest_price)
+is_least start percent granule price unit given =
+    let both = cond_some (nat_le (raised start percent granule) highest_price) (raised start percent granule) price given in
+    subst (λ p. IsRaised start percent granule p × (p ≤ highest_price)) both.1
+    (raised_is_raised start percent granule unit, leb-true (raised start percent granule) highest_price both.0)
+
+-- there is one least price, and it is given where it is not too high
+is_given : (start percent granule price : ℕ) → 1 ≤ granule → IsRaised start percent granule price → price ≤ highest_price
+    → raise start percent granule ≡ Some price
+is_given start percent granule price unit is high =
+    let least = raised_is_raised start percent granule unit in
+    let same : raised start percent granule ≡ price = omega (arith, least.1 price is.0, is.1 (raised start percent granule) least.0) in
+    ap (λ b. if b then Some (raised start percent granule) else None)
+    (le-leb (raised start percent granule) highest_price (omega (arith, same, high)))
+    ∙ ap (λ p. Some p) same
+
+pub raises_to_the_least : RaisesToTheLeast
+raises_to_the_least start percent granule price unit =
+    (is_least start percent granule price unit, λ is. is_given start percent granule price unit is.0 is.1)

@@ -94,6 +94,7 @@ fn put_in(held: &mut Vec<HeldDemand>, starts: &mut Vec<u16>, place: usize, one: 
 
 /// Takes out the demand for a product, at its place.
 fn take_out(held: &mut Vec<HeldDemand>, starts: &mut Vec<u16>, place: usize, product: usize)
+    requires order { (count : ℕ) × AreHeld 0 held.old.items count }
     requires place { StandsAt held.old.items product place }
     requires starts { AreStarts held.old.items starts.old.items }
     ensures taken { held.new.items ≡ remove held.old.items place }
@@ -104,7 +105,7 @@ fn take_out(held: &mut Vec<HeldDemand>, starts: &mut Vec<u16>, place: usize, pro
     held.remove(place);
     let from = product / GROUP_SIZE + 1;
     for group in from..starts.len() {
-        starts[group] = starts[group].saturating_sub(1);
+        starts[group] -= 1;
     }
 }
 

@@ -2,10 +2,11 @@
 -- for one.
 --     AreHeld from held count      demands of some blocks, by rising product, from one on and below a count
 --     IsStart held product start      before a place stand only products below one
+--     IsFirstFrom held product place      the place of the first product that is not below one
 --     StandsAt held product place, WouldStandAt held product place      where a product stands, and where it would
 --     IsStored held after product demand      of one product there is another demand, and of the others as before
 --     group_size      how many products a group has
---     AreStarts held starts      for each group of products a place before which none of them stands
+--     AreStarts held starts      for each group of products the place where they begin
 --     IsKeptRow count held starts capacity      what the type of rows keeps
 --     IsKeptWalk count held given      what a walk keeps
 use Rattle.std.specs.Prelude.{◌≡◌, ◌==◌, if◌then◌else◌, ℕ, ◌+◌, ◌*◌, ◌≤◌, ◌<◌, List, [], ◌∷◌, length, slice_index, slice_index_or}
@@ -22,6 +23,11 @@ AreHeld from (one ∷ held) count = (from ≤ one.product) × (0 < one.demand) �
 -- before a place stand only products below one
 abbrev pub IsStart : List HeldDemand → ℕ → ℕ → Type 0
 IsStart held product start = (start ≤ length held) × AllWithin (λ one. one.product < product) held 0 start
+
+-- before a place stand only products below one, and at the place none that is below it
+abbrev pub IsFirstFrom : List HeldDemand → ℕ → ℕ → Type 0
+IsFirstFrom held product place =
+    IsStart held product place × ((d : HeldDemand) → place < length held → product ≤ (slice_index_or held place d).product)
 
 -- a product stands at a place
 abbrev pub StandsAt : List HeldDemand → ℕ → ℕ → Type 0
@@ -42,9 +48,9 @@ IsStored held after product demand = (other : ℕ)
 abbrev pub group_size : ℕ
 group_size = 16
 
--- for each group of products a place before which none of them stands
+-- for each group of products the place where they begin
 abbrev pub AreStarts : List HeldDemand → List ℕ → Type 0
-AreStarts held starts = (group : ℕ) → group < length starts → IsStart held (group * group_size) (slice_index starts group)
+AreStarts held starts = (group : ℕ) → group < length starts → IsFirstFrom held (group * group_size) (slice_index starts group)
 
 -- what is held is in order, there is room for each product, and a start for each group of them
 pub record IsKeptRow (count : ℕ) (held : List HeldDemand) (places : List ℕ) (capacity : ℕ) : Type 0 where

@@ -19,7 +19,7 @@ invariant_of-result c =
       room = omega (arith, held.ensures.capacity);
       searched = omega (arith, count);
       groups = omega (arith, count, c.requires);
-      starts = starts_none held.field-0.items c.in_ok-vec.field-0.items groups zeros;
+      starts = starts_none held.field-0.items c.in_ok-vec.field-0.items groups held.ensures.items zeros;
     }
 
 pub returns : goal.returns
