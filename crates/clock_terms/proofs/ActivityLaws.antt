@@ -1,10 +1,11 @@
--- What a row of demands takes, where one of them changes.
-use Rattle.std.proofs.Common.{◌≡◌, ℕ, zero, suc, ◌+◌, ◌*◌, ◌<◌, ◌≤◌, List, [], ◌∷◌, length, arith, get_or, set}
+-- What a row of demands takes, where one of them changes, and the eligibility that an activity supports.
+use Rattle.std.proofs.Common.{◌≡◌, ℕ, zero, suc, ◌+◌, ◌*◌, ◌<◌, ◌≤◌, List, [], ◌∷◌, length, arith, get_or, set, subst}
 use Rattle.std.specs.Prelude.{zip}
 use Rattle.std.proofs.lemmas.List.Sums.{sum_by-cons}
 use Rattle.clock_terms.specs.declared.setup.Product.{Product}
 use Rattle.clock_terms.specs.Limits.{units_of}
-use Rattle.clock_terms.specs.Eligibility.{activity}
+use Rattle.clock_money.proofs.RoundingLaws.{rounded_up_least}
+use Rattle.clock_terms.specs.Eligibility.{activity, IsSupported, SupportsTheLeast, supported_eligibility}
 
 -- the activity of a row in which one demand changes
 pub activity-set : (products : List Product) (row : List ℕ) (p v : ℕ) → p < length products → p < length row →
@@ -29,3 +30,11 @@ activity-set (x ∷ products) (y ∷ row) (suc p) v a b =
 pub demand_taken : (products : List Product) (row : List ℕ) (p : ℕ) → p < length products → p < length row →
     units_of products p * get_or row p 0 ≤ activity products row
 demand_taken products row p a b = omega (arith, activity-set products row p 0 a b)
+
+-- the eligibility that is computed is the least that the activity supports, and there is only one
+pub supports_the_least : SupportsTheLeast
+supports_the_least used requirement eligibility some =
+    let least = rounded_up_least (100 * used) requirement (omega (arith, some)) in (
+      λ same. subst (IsSupported used requirement) same least,
+      λ is. omega (arith, least.1 eligibility is.0, is.1 (supported_eligibility used requirement) least.0),
+    )

@@ -14,8 +14,7 @@ pub starts_none : (held : List HeldDemand) (starts : List ℕ) (count : ℕ) →
 starts_none held starts count empty zeros = λ group within.
     let none : get_or starts group 0 ≡ 0 =
     ap (λ (list : List ℕ). get_or list group 0) zeros
-    ∙ get_or-replicate count group 0 0 (omega (arith, within, ap (λ (list : List ℕ). length list) zeros, length-replicate {A = ℕ} count 0)) in
-    (
+    ∙ get_or-replicate count group 0 0 (omega (arith, within, ap (λ (list : List ℕ). length list) zeros, length-replicate {A = ℕ} count 0)) in (
       (omega (arith, none), λ k d low high. absurd (omega (arith, high, none))),
       λ d inside. absurd (omega (arith, inside, ap (λ (list : List HeldDemand). length list) empty)),
     )

@@ -20,6 +20,12 @@ pub fn next_eligibility(held: u64, activity: u64, requirement: u64) -> u64
     held.min((100 * activity + (requirement - 1)) / requirement)
 }
 
+/// The eligibility that an activity supports is the least whole number of which the required percentage is at least the
+/// activity. It does nothing when it runs: a caller is handed the law.
+pub fn law_of_eligibility()
+    ensures { eligibility.SupportsTheLeast }
+{}
+
 /// The bidding units that a row of demands takes: the sum of units times demand, over the products of which a block is
 /// held. There is one demand for each product, at most its cap. It takes no memory.
 pub fn units_held(products: &[Product], row: &Row) -> u64

@@ -13,7 +13,7 @@ mod row;
 mod setup;
 
 pub use change::{Change, Changes, Kind};
-pub use eligibility::{activity, next_eligibility, units_held};
+pub use eligibility::{activity, law_of_eligibility, next_eligibility, units_held};
 pub use grid::{Amounts, Grid};
 pub use increments::Increments;
 pub use limits::{
