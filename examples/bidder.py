@@ -1,16 +1,22 @@
 #!/usr/bin/env python3
-"""A bidder that follows limits, as a sincere script of a replay document does.
+"""A bidder that follows price limits, like a sincere script of a replay document.
 
     TOKEN=.. examples/bidder.py URL LIMITS [--every SECONDS]
 
-LIMITS is a file as {"North": [2300, 1900], "South": [610]}: for each product, up to which price each block is wanted, never rising. The
-token comes from the environment, so that it stands neither in the shell's history nor in the list of processes. URL begins with http:// or
-https://; CA names a file of certificates where the system's own do not do. It prints each round's sheet and slip, and at the end what was
-won. It asks for the status each second, or as seldom as it is told, and misses no round that lasts longer than that. Where no reply comes,
-or another page than the server's, as a proxy gives one, it says so and asks again, for an hour. After that, and with each thirtieth status,
-it looks for its sheet: where none is in force any more, as when a server without a journal was started again within the round, it says so
-and puts it again; one that was put for the bidder by another way stays. It ends with status 1 where a sheet is refused, a round is missed,
-or the round falls: then another server answers; and before any bid where LIMITS names no product of the auction, or is otherwise wrong.
+URL begins with http:// or https://. LIMITS is a file such as {"North": [2300, 1900], "South": [610]}: for each product,
+up to which price you want the first block, the second, and so on, never rising. The token is in the environment, and so
+neither in the shell's history nor in the list of processes. CA names a file of certificates if the system's do not cover
+the server.
+
+It prints each round's sheet, then the round's results for this bidder ("slip"), and at the end what it won.
+
+It reads the status every SECONDS, by default 1, and misses no round that is open longer than that. If no reply comes,
+or a page that is not the server's, it says so and repeats the request for an hour. After such a failure, and at every
+thirtieth status, it checks its sheet. If none is in force, because a server without a journal was restarted, it submits
+the sheet again. It does not replace a sheet that you submitted in another way.
+
+Exit status: 1 if a sheet is refused, if it missed a round, or if the number of the round fell, which means that another
+server answers. Also 1, before any bid, if LIMITS is wrong or names a product that is not in the auction.
 """
 import argparse
 import http.client
@@ -26,7 +32,7 @@ BUSY = (408, 429, 500, 502, 503, 504)
 PATIENCE = 3600
 LOOK = 30
 
-# What is read of each page: some keys of an object, and each entry of a list, which has one for each product.
+# What is read of each page: some keys of an object, and each entry of a list that has one for each product.
 STATUS = {"ended": bool, "round": int}
 PRODUCTS = {"products": [{"name": str, "opening": int}]}
 PRICES = {"products": [{"next": int, "posted": int}]}
@@ -38,7 +44,7 @@ ACCEPTED = {"accepted": bool}
 
 
 def has_shape(page, shape, products):
-    """Whether a page has what is read of it; the number of products is None until it is known."""
+    """Whether a page has what is read of it. The number of products is None until it is known."""
     if isinstance(shape, dict):
         return isinstance(page, dict) and all(key in page and has_shape(page[key], inner, products) for key, inner in shape.items())
     if isinstance(shape, list):
@@ -47,7 +53,7 @@ def has_shape(page, shape, products):
 
 
 class EachReply(urllib.request.HTTPErrorProcessor):
-    """Hands on each reply as it came. No redirection is followed: the token is for one address alone."""
+    """Passes on each reply as it came. It follows no redirection, because the token is for one address only."""
 
     http_response = https_response = lambda self, request, reply: reply
 
@@ -59,11 +65,11 @@ class Auction:
         self.url, self.token, self.every = url.rstrip("/"), token, every
         self.products, self.is_in_doubt = None, False
         tls = ssl.create_default_context(cafile=os.environ.get("CA")) if url.startswith("https") else None
-        proxies = urllib.request.ProxyHandler(None if tls else {})      # without TLS `http_proxy` of the shell would be shown the token
+        proxies = urllib.request.ProxyHandler(None if tls else {})      # without TLS, the proxy of `http_proxy` would see the token
         self.opener = urllib.request.build_opener(EachReply, proxies, urllib.request.HTTPSHandler(context=tls))
 
     def ask(self, path, shape, sheet=None):
-        """The page; asks again where none came, or another, or who answered was busy. A refusal ends the program."""
+        """Returns the page. Repeats the request if no reply came, another page, or a busy server. A refusal ends the program."""
         body = None if sheet is None else json.dumps(sheet).encode()
         headers = {"authorization": "Bearer " + self.token, "content-type": "application/json"}
         request = urllib.request.Request(self.url + path, body, headers, method="GET" if sheet is None else "PUT")
@@ -76,7 +82,7 @@ class Auction:
                     sys.exit(f"{path} is refused: {reply.status} {text.decode(errors='replace')}")
                 if reply.status < 300 and has_shape(page := json.loads(text), shape, self.products):
                     return page
-                fault = f"{reply.status} {reply.reason}, and no page of the server: {text[:80]}"
+                fault = f"{reply.status} {reply.reason}, not a page of the server: {text[:80]}"
             except (OSError, http.client.HTTPException, RecursionError, ValueError) as error:
                 fault = error
             print(f"no reply to {path}: {fault}", file=sys.stderr)
@@ -85,36 +91,39 @@ class Auction:
         sys.exit(f"{path}: no reply for {PATIENCE} seconds")
 
     def prices(self, products, number):
-        """The start and clock prices of a round."""
+        """The start-of-round and clock prices of a round."""
         if number == 1:
             return [(product["opening"], product["opening"]) for product in products]
         return [(product["posted"], product["next"]) for product in self.ask(f"/v1/rounds/{number - 1}", PRICES)["products"]]
 
     def wait(self, number, sheet):
-        """Returns once a round is closed. It sleeps first: the status that a proxy keeps may be a second old."""
+        """Returns when a round is closed. It sleeps first, because a proxy's status may be a second old."""
         for times in itertools.count(1):
             time.sleep(self.every)
             if last_closed(self.ask("/v1/status", STATUS), number) == number:
                 return
             looks, self.is_in_doubt = self.is_in_doubt or times % LOOK == 0, False
             if looks and self.ask("/v1/me/bids", IN_FORCE)["bids"] is None:
-                if last_closed(self.ask("/v1/me", ACCOUNT), number) < number:       # else none is in force since the round is closed
-                    print(f"the sheet of round {number} is in force no more, and is put again", file=sys.stderr)
+                if last_closed(self.ask("/v1/me", ACCOUNT), number) < number:       # else none is in force because the round is closed
+                    print(f"the sheet of round {number} is no longer in force: submitting it again", file=sys.stderr)
                     self.ask("/v1/me/bids", ACCEPTED, sheet)
 
 
 def last_closed(page, number):
-    """The last closed round, by a page that tells the current one. Where that fell, or a round was missed, the program ends."""
+    """The last closed round, by a page that has the current one. Ends the program if that fell, or a round was missed."""
     closed = page["round"] if page["ended"] else page["round"] - 1
     if page["round"] < number:
-        sys.exit(f"the round fell from {number} to {page['round']}: this is another auction")
+        sys.exit(f"the round fell from {number} to {page['round']}: another server answers")
     if closed > number:
         sys.exit(f"round {number + 1} was missed")
     return closed
 
 
 def steps_of(limits, held, start, clock):
-    """Quantities and prices: a held block leaves at its limit, or at the start price if that is higher or none is given. Else all are kept."""
+    """Quantities and prices. A block leaves at its limit, but not below the start-of-round price, and there if it has none.
+
+    If no block leaves, the bid maintains demand.
+    """
     limits = (limits + [0] * held)[:held]
     leaving = sorted({max(start, limit) for limit in limits if limit < clock})
     if held and not leaving:
@@ -126,25 +135,25 @@ def bids_of(wanted, products, prices, held, number):
     bids = []
     for place, (product, (start, clock)) in enumerate(zip(products, prices)):
         limits = wanted.get(product["name"], [])
-        # in round 1 blocks with a limit at or above the opening price are asked for, as if they were held
+        # in round 1 it bids for the blocks with a limit at or above the opening price
         blocks = sum(limit >= clock for limit in limits) if number == 1 else held[place]
         bids += [{"price": price, "product": place, "quantity": quantity} for quantity, price in steps_of(limits, blocks, start, clock)]
     return bids
 
 
 def limits_of(path):
-    """The limits in a file. Where they are not what they should be, the program ends."""
+    """The limits in a file. Ends the program if they are wrong."""
     try:
         with open(path, encoding="utf-8-sig") as file:
             wanted = json.load(file)
     except (OSError, ValueError) as error:
         sys.exit(f"{path}: {error}")
     if not isinstance(wanted, dict):
-        sys.exit(f"{path}: an object is wanted, with a list for each product")
+        sys.exit(f"{path}: expected an object with a list for each product")
     for name, limits in wanted.items():
         whole = isinstance(limits, list) and all(type(limit) is int for limit in limits)
         if not whole or limits != sorted(limits, reverse=True):
-            sys.exit(f"{path}: the limits of {name} are to be a list of whole numbers, never rising")
+            sys.exit(f"{path}: the limits of {name} must be a list of whole numbers, never rising")
     return wanted
 
 
@@ -174,12 +183,12 @@ def main():
     parser.add_argument("--every", type=float, default=1.0)
     arguments = parser.parse_args()
     if not arguments.url.startswith(("http://", "https://")):
-        parser.error("URL begins with http:// or https://")
+        parser.error("URL must begin with http:// or https://")
     if not 0 < arguments.every <= PATIENCE:
-        parser.error(f"SECONDS are above 0, and {PATIENCE} at most")
+        parser.error(f"SECONDS must be above 0, and at most {PATIENCE}")
     token = os.environ.get("TOKEN", "").strip()
     if not token or not token.isascii() or not token.isprintable():
-        sys.exit("TOKEN is to be set in the environment, to letters and digits")
+        sys.exit("Set TOKEN in the environment to your token")
     try:
         auction = Auction(arguments.url, token, arguments.every)
     except OSError as error:
