@@ -1,0 +1,19 @@
+"""What a document shows of a shell: the lines that are typed, and what they print."""
+import collections.abc
+import re
+
+
+def typed_lines(text: str) -> collections.abc.Iterator[tuple[str, str]]:
+    """Each typed line of a Markdown text, with the lines that are shown below it. A typed line is indented and begins with `$ `."""
+    for block in re.findall(r"(?m)(?:^    .*\n)+", text):
+        for part in ("\n" + "".join(line[4:] for line in block.splitlines(True))).split("\n$ ")[1:]:
+            while "\\\n" in part:
+                part = re.sub(r"\\\n *", "", part, count=1)
+            command, _, output = part.partition("\n")
+            yield command, output.strip("\n")
+
+
+def comparable(text: str) -> str:
+    """A text without what depends on ports and on curl's version: digests, and places in a journal."""
+    text = re.sub(r"\b[0-9a-f]{64}\b|\b[0-9a-f]{12}\.\.", "DIGEST", text)
+    return re.sub(r"(?<=journal_damaged )\d+", "PLACE", text)
