@@ -4,7 +4,7 @@ import re
 
 
 def typed_lines(text: str) -> collections.abc.Iterator[tuple[str, str]]:
-    """Each typed line of a Markdown text, with the lines that are shown below it. A typed line is indented and begins with `$ `."""
+    """Each line of a Markdown text that is indented and begins with `$ `, with the lines that are shown below it."""
     for block in re.findall(r"(?m)(?:^    .*\n)+", text):
         for part in ("\n" + "".join(line[4:] for line in block.splitlines(True))).split("\n$ ")[1:]:
             while "\\\n" in part:
