@@ -1,1 +1,1 @@
-"""What scripts/explain is made of."""
+"""The parts of scripts/explain."""

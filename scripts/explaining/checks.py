@@ -1,6 +1,7 @@
-"""What may stand in a document, in the order in which the program looks: each fault with its path, a person's words, and the program's.
+"""What a document may contain, in the order in which the program checks it.
 
-A fault's rank is the step of docs/formats.md that finds it; the first fault of the least rank is the one that the program tells.
+A fault has a path, words for a person, and the program's code. Its rank is the step of docs/formats.md that finds it.
+The program reports the first fault of the lowest rank.
 """
 import re
 
@@ -8,9 +9,17 @@ from .reading import Odd
 
 PRICE = 10**12
 NAME, TOKEN = re.compile(r"[A-Za-z0-9_-]{1,32}"), re.compile(r"[A-Za-z0-9]{16,64}")
-NAME_WORDS, TOKEN_WORDS = "a name of 1 to 32 letters of ASCII, digits, - or _", "a token of 16 to 64 letters of ASCII or digits"
+NAME_WORDS = "a name of 1 to 32 ASCII letters, digits, - or _"
+TOKEN_WORDS = "a token of 16 to 64 ASCII letters or digits"
 KINDS = {dict: "an object", list: "a list", str: "a text", bool: "true or false", type(None): "null", int: "a number"}
+TIE_WORDS = "expected bidder, product, and tie-breaking number"
 BID_KEYS = ("price", "product", "quantity")
+# The numbers of a bid that an auction can accept at all, and the code for others.
+BID_RANGES = [
+    ("product", 0, 4095, "unknown_product"),
+    ("price", 1, PRICE, "price_range"),
+    ("quantity", 0, 1000, "over_cap"),
+]
 
 
 def kind_of(value):
@@ -22,57 +31,57 @@ def kind_of(value):
 
 
 class Checks:
-    """The faults of one document, as they are found."""
+    """The faults found in one document."""
 
     def __init__(self):
         self.faults = []
 
-    def tell(self, rank, code, path, words, key=None):
+    def note(self, rank, code, path, words, key=None):
         self.faults.append((rank, code, path, key, words))
 
     def is_kind(self, value, kind, rank, code, path):
         wanted = {int: "a whole number"}.get(kind, KINDS[kind])
         if type(value) is not kind:
-            self.tell(rank, code, path, f"{kind_of(value)}, where {wanted} is wanted")
+            self.note(rank, code, path, f"expected {wanted}, found {kind_of(value)}")
         return type(value) is kind
 
     def has_keys(self, value, wanted, rank, code, path, other=()):
-        """Tells missing and unknown keys of an object; answers whether it is an object at all."""
+        """Notes missing and unknown keys of an object. Returns whether it is an object at all."""
         if not self.is_kind(value, dict, rank, code, path):
             return False
         for key in wanted:
             if key not in value:
-                self.tell(rank, code, path, f'the key "{key}" is missing')
+                self.note(rank, code, path, f'the key "{key}" is missing')
         for key in value:
             if key not in wanted and key not in other:
-                self.tell(rank, code, path, f'the key "{key}" is not known here', key)
+                self.note(rank, code, path, f'unknown key "{key}"', key)
         return True
 
     def number(self, value, key, rank, code, path):
-        """The whole number under a key, or None where there is none."""
+        """Returns the whole number under a key, or None."""
         if key not in value or not self.is_kind(value[key], int, rank, code, (*path, key)):
             return None
         return value[key]
 
     def range(self, value, least, most, rank, code, path, words=""):
         if value is not None and not least <= value <= most:
-            self.tell(rank, code, path, f"{value} is not from {least:,} to {most:,}{words}")
+            self.note(rank, code, path, f"{value} is outside {least:,} to {most:,}{words}")
 
     def form(self, value, form, words, rank, code, path):
         if type(value) is str and not form.fullmatch(value):
-            self.tell(rank, code, path, f"{value[:70]!r} is not {words}")
+            self.note(rank, code, path, f"{value[:70]!r} is not {words}")
 
 
 def setup(checks, value, path=(), rank=1):
-    """Of a set-up; its ranks are six from the one that is given."""
+    """Checks a set-up. It uses six ranks, from the given one on."""
     shape = "setup_shape"
     if not checks.is_kind(value, dict, rank, shape, path):
         return
     if "version" not in value:
-        checks.tell(rank, shape, path, 'the key "version" is missing')
+        checks.note(rank, shape, path, 'the key "version" is missing')
     version = checks.number(value, "version", rank, shape, path)
     if version is not None and version not in (1, 2):
-        checks.tell(rank + 1, "setup_version", (*path, "version"), f"{version} is neither 1 nor 2")
+        checks.note(rank + 1, "setup_version", (*path, "version"), f"{version} is neither 1 nor 2")
     second = version == 2 or version != 1 and "limit" in value
     setup_shape(checks, value, second, path, rank + 2)
     setup_ranges(checks, value, second, path, rank + 3)
@@ -99,7 +108,7 @@ def setup_shape(checks, value, second, path, rank):
 
 
 def of(value, key, kind):
-    """The part under a key where it is of the kind, else None."""
+    """Returns the value under a key if it is of this kind, else None."""
     part = value.get(key) if type(value) is dict else None
     return part if type(part) is kind else None
 
@@ -115,7 +124,7 @@ def setup_ranges(checks, value, second, path, rank):
     for key, most in (("products", 4096), ("bidders", 512)):
         items = of(value, key, list)
         if items is not None and not 1 <= len(items) <= most:
-            checks.tell(rank, f"setup_range {key}", (*path, key), f"{len(items)} {key}, where 1 to {most:,} are wanted")
+            checks.note(rank, f"setup_range {key}", (*path, key), f"expected 1 to {most:,} {key}, found {len(items)}")
         for number, item in enumerate(items or ()):
             if type(item) is dict:
                 (product_ranges if key == "products" else bidder_ranges)(checks, item, number, second, (*path, key, number), rank, ranged)
@@ -126,7 +135,8 @@ def product_ranges(checks, item, number, second, here, rank, ranged):
     ranged(item, "units", 1, 1_000_000, f"units {number}", here)
     ranged(item, "supply", 1, 1_000, f"supply {number}", here)
     supply = of(item, "supply", int)
-    ranged(item, "cap", 1, 1_000 if supply is None else supply, f"cap {number}", here, "" if supply is None else ", the supply")
+    most, words = (1_000, "") if supply is None else (supply, " (the supply)")
+    ranged(item, "cap", 1, most, f"cap {number}", here, words)
     ranged(item, "opening", 1, PRICE, f"opening {number}", here)
     if second:
         ranged(item, "granule", 1, 1_000_000, f"granule {number}", here)
@@ -139,21 +149,21 @@ def bidder_ranges(checks, item, number, _, here, rank, ranged):
 
 
 def setup_twice(checks, value, path, rank):
-    """Names of products, names of bidders, and tokens, each given once."""
+    """Checks that no two products, no two bidders, and no two tokens are equal."""
     operator = of(value, "operator", str)
     tokens = {} if operator is None else {operator: "operator"}
     for key, name, seen, code in (("products", "name", {}, "name"), ("bidders", "name", {}, "name"), ("bidders", "token", tokens, "token")):
         for number, item in enumerate(of(value, key, list) or ()):
             text = of(item, name, str)
             if text in seen:
-                words = f"the {name} {text[:70]!r} was given before, at .{seen[text]}"
-                checks.tell(rank + (code == "token"), f"setup_duplicate_{code}", (*path, key, number, name), words)
+                words = f"the {name} {text[:70]!r} is already at .{seen[text]}"
+                checks.note(rank + (code == "token"), f"setup_duplicate_{code}", (*path, key, number, name), words)
             elif text is not None:
                 seen[text] = f"{key}[{number}].{name}"
 
 
 def numbers(checks, values, rank, code, path):
-    """A list of whole numbers; answers whether it is one."""
+    """Checks a list of whole numbers. Returns whether it is one."""
     if not checks.is_kind(values, list, rank, code, path):
         return False
     if set(map(type, values)) <= {int}:
@@ -165,7 +175,8 @@ def numbers(checks, values, rank, code, path):
 
 def counted(checks, values, wanted, what, code, rank, path):
     if wanted is not None and len(values) != len(wanted):
-        checks.tell(rank, code, path, f"{len(values)} entries, where one for each of the {len(wanted)} {what} is wanted")
+        words = f"expected {len(wanted)} entries, one for each of the {what}, found {len(values)}"
+        checks.note(rank, code, path, words)
 
 
 def bids(checks, values, code, path):
@@ -185,21 +196,21 @@ def ties(checks, values, code, path):
         return
     for number, tie in enumerate(values):
         if numbers(checks, tie, 1, code, (*path, number)) and len(tie) != 3:
-            checks.tell(1, code, (*path, number), f"{len(tie)} numbers, where bidder, product and tie number are wanted")
+            checks.note(1, code, (*path, number), f"{TIE_WORDS}, found {len(tie)} numbers")
         elif type(tie) is list and len(tie) != 3:
-            checks.tell(1, code, (*path, number), f"{len(tie)} entries, where bidder, product and tie number are wanted")
+            checks.note(1, code, (*path, number), f"{TIE_WORDS}, found {len(tie)} entries")
 
 
 def closing(checks, value, version, code, path, keys=()):
-    """Of a closing's shape, for an auction of a version, or of any where it is None. The other version's form is looked for later."""
+    """Checks a closing's shape, for a version, or for either if it is None. The other version's form has a later rank."""
     has_one, has_many = (type(value) is dict and key in value for key in ("increment", "increments"))
     if has_one and has_many:
-        checks.tell(1, code, path, '"increment" and "increments" stand beside each other; one of them is wanted', "increments")
+        checks.note(1, code, path, 'expected either "increment" or "increments", found both', "increments")
     elif type(value) is dict and not has_one and not has_many:
-        checks.tell(1, code, path, f'the key "{"increments" if version == 2 else "increment"}" is missing')
+        checks.note(1, code, path, f'the key "{"increments" if version == 2 else "increment"}" is missing')
     elif version == 2 and has_one or version == 1 and has_many:
         wanted, found = ("increments", "increment") if version == 2 else ("increment", "increments")
-        checks.tell(20, code, path, f'"{found}", where a set-up of version {version} wants "{wanted}"', found)
+        checks.note(20, code, path, f'a set-up of version {version} expects "{wanted}", found "{found}"', found)
     if not checks.has_keys(value, ("ties", *keys), 1, code, path, ("increment", "increments")):
         return
     if has_one:
@@ -232,16 +243,18 @@ def opening(checks, value):
 
 
 def demands(checks, row, products, bidder, number):
-    """Of one bidder's demands of round 1: caps, and its activity."""
+    """Checks one bidder's demands of round 1: the caps, and its activity."""
     activity = 0
     for place, (wanted, product) in enumerate(zip(row, products)):
         cap, units = of(product, "cap", int), of(product, "units", int)
         activity += wanted * (units or 0)
         if cap is not None and wanted > cap:
-            checks.tell(21, f"demand {number} {place}", ("demands", number, place), f"{wanted} is above the cap, {cap}")
+            words = f"{wanted} exceeds the cap of {cap}"
+            checks.note(21, f"demand {number} {place}", ("demands", number, place), words)
     eligibility = of(bidder, "eligibility", int)
     if eligibility is not None and activity > eligibility:
-        checks.tell(21, f"activity {number}", ("demands", number), f"an activity of {activity} is above the bidder's eligibility, {eligibility}")
+        words = f"an activity of {activity} exceeds the bidder's eligibility of {eligibility}"
+        checks.note(21, f"activity {number}", ("demands", number), words)
 
 
 def replay(checks, value):
@@ -268,7 +281,8 @@ def script(checks, value, products, number):
         if not checks.is_kind(value, dict, 1, "shape", path):
             return
         place = ("kind",) if "kind" in value else ()
-        checks.tell(1, "shape", (*path, *place), 'the key "kind" is missing' if not place else 'a kind is wanted, "literal" or "sincere"')
+        words = 'expected "literal" or "sincere"' if place else 'the key "kind" is missing'
+        checks.note(1, "shape", (*path, *place), words)
         return
     wanted = "sheets" if kind == "literal" else "limits"
     checks.has_keys(value, ("kind", wanted), 1, "shape", path)
@@ -288,10 +302,11 @@ def script(checks, value, products, number):
 def limits(checks, prices, product, number, place):
     path, cap = ("scripts", number, "limits", place), of(product, "cap", int)
     if cap is not None and len(prices) > cap:
-        checks.tell(23, f"limits {number} {place}", path, f"{len(prices)} limits, where the cap is {cap}")
+        checks.note(23, f"limits {number} {place}", path, f"{len(prices)} limits exceed the cap of {cap}")
     for step in range(1, len(prices)):
         if prices[step] > prices[step - 1]:
-            checks.tell(23, f"limits {number} {place}", (*path, step), f"{prices[step]} is above the limit before it, {prices[step - 1]}")
+            words = f"{prices[step]} exceeds the limit before it, {prices[step - 1]}"
+            checks.note(23, f"limits {number} {place}", (*path, step), words)
 
 
 def body_round(checks, value):
@@ -299,7 +314,7 @@ def body_round(checks, value):
 
 
 def sheet(checks, value):
-    """Of the body of a bidder's sheet. What no auction takes is told too; the rest only the auction knows."""
+    """Checks the body of a bidder's sheet, and what every auction refuses. The rest only the auction knows."""
     if not checks.has_keys(value, ("bids", "round"), 1, "422 shape", ()):
         return
     body_round(checks, value)
@@ -307,14 +322,15 @@ def sheet(checks, value):
         return
     bids(checks, value["bids"], "422 shape", ("bids",))
     if type(value["bids"]) is list and len(value["bids"]) > 8192:
-        checks.tell(31, "422 too_many", ("bids",), f"{len(value['bids'])} bids, where 8,192 are the most")
+        checks.note(31, "422 too_many", ("bids",), f"{len(value['bids'])} bids; at most 8,192 are allowed")
     for number, bid in enumerate(of(value, "bids", list) or ()):
-        for key, least, most, code in (("product", 0, 4095, "unknown_product"), ("price", 1, PRICE, "price_range"), ("quantity", 0, 1000, "over_cap")):
-            checks.range(of(bid, key, int), least, most, 32, f"422 {code}", ("bids", number, key), ", so no auction takes it")
+        for key, least, most, code in BID_RANGES:
+            path, words = ("bids", number, key), ", so every auction refuses it"
+            checks.range(of(bid, key, int), least, most, 32, f"422 {code}", path, words)
 
 
 def closing_body(checks, value):
-    """Of the body of a closing, for an auction of either version."""
+    """Checks the body of a closing, for an auction of either version."""
     closing(checks, value, None, "422 shape", (), ("round",))
     if type(value) is not dict:
         return
@@ -323,15 +339,17 @@ def closing_body(checks, value):
         checks.range(number if type(number) is int else None, 1, 50, 31, "422 increment", path, " percent")
     listed, seen = of(value, "ties", list) or (), {}
     if len(listed) > 16_384:
-        checks.tell(32, "422 too_many_ties", ("ties",), f"{len(listed)} tie numbers, where 16,384 are the most")
+        words = f"{len(listed)} tie-breaking numbers; at most 16,384 are allowed"
+        checks.note(32, "422 too_many_ties", ("ties",), words)
     for number, tie in enumerate(listed):
         if type(tie) is not list or len(tie) != 3 or not all(type(part) is int for part in tie):
             continue
-        checks.range(tie[0], 0, 511, 33, "422 tie_range", ("ties", number, 0), ", the bidders that there can be")
-        checks.range(tie[1], 0, 4095, 33, "422 tie_range", ("ties", number, 1), ", the products that there can be")
+        checks.range(tie[0], 0, 511, 33, "422 tie_range", ("ties", number, 0), ", the possible bidders")
+        checks.range(tie[1], 0, 4095, 33, "422 tie_range", ("ties", number, 1), ", the possible products")
         before = seen.setdefault((tie[0], tie[1]), number)
         if before != number:
-            checks.tell(33, "422 tie_repeated", ("ties", number), f"bidder {tie[0]} and product {tie[1]} were given before, at .ties[{before}]")
+            words = f"bidder {tie[0]} and product {tie[1]} are already at .ties[{before}]"
+            checks.note(33, "422 tie_repeated", ("ties", number), words)
 
 
 CHECKS = {"setup": setup, "opening": opening, "replay": replay, "sheet": sheet, "closing": closing_body}

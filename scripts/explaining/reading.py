@@ -1,6 +1,6 @@
-"""Reads a document as the program does, and finds where its parts stand.
+"""Reads a document as the program does, and finds where its parts are.
 
-Values are read by Python's own reader, which is fast; where one stands is looked up only for a part that is at fault.
+Python's own reader reads the values, because it is fast. The location of a part is looked up only if it has a fault.
 """
 import json
 import re
@@ -13,20 +13,20 @@ NUMBERS = re.compile(rf"{TEXT}|-?[0-9][0-9.eE+-]*|NaN|-?Infinity", re.S)
 ESCAPES = re.compile(r"\\(?:u([0-9a-fA-F]{4})|.)", re.S)
 MOST = 2**64 - 1
 WORDS = {
-    "Expecting property name enclosed in double quotes": 'a key in " is wanted',
+    "Expecting property name enclosed in double quotes": 'expected a key in double quotes',
     "Illegal trailing comma before end of object": "a comma too many",
     "Illegal trailing comma before end of array": "a comma too many",
-    "Expecting ':' delimiter": "a colon is wanted",
-    "Expecting ',' delimiter": "a comma, or the end of the list or object, is wanted",
-    "Expecting value": "a value is wanted",
-    "Extra data": "something stands behind the document",
+    "Expecting ':' delimiter": "expected a colon",
+    "Expecting ',' delimiter": "expected a comma, or the end of the list or object",
+    "Expecting value": "expected a value",
+    "Extra data": "there is more after the document",
     "Unterminated string starting at": "the text that begins here has no end",
-    "Invalid control character at": "a control character, as a line's end, within a text",
+    "Invalid control character at": "a control character, such as a line end, inside a text",
 }
 
 
 class NotJson(Exception):
-    """The text is no JSON; where, and in which words."""
+    """The text is not JSON; where, and the words for it."""
 
 
 class Odd:
@@ -48,7 +48,7 @@ def never(text):
 
 
 class Reader:
-    """A text, its value, and the places of the value's parts."""
+    """A text, its value, and the locations of the value's parts."""
 
     def __init__(self, data):
         self.repeats, self.tables = False, {}
@@ -83,13 +83,13 @@ class Reader:
 
     def words_of(self, error):
         here = self.text[error.pos:error.pos + 1]
-        words = WORDS.get(error.msg, "this cannot stand here")
+        words = WORDS.get(error.msg, "not allowed here")
         if not here:
             return "the text ends here, before the document does"
         before = self.text[:error.pos].rstrip()[-1:]
         if here in "]}" and before == ",":
             return "a comma too many"
-        return "comments are not known in JSON" if here in "/#" else words
+        return "JSON has no comments" if here in "/#" else words
 
     def object_of(self, pairs):
         found = dict(pairs)
@@ -97,7 +97,7 @@ class Reader:
         return found
 
     def look_at_depth(self):
-        """127 levels are read. It takes a while, and is needed only where the document has not the shape that it should have."""
+        """Checks that there are at most 127 levels. This is slow, and only needed for a document of another shape."""
         depth = 0
         for found in BRACKETS.finditer(self.text):
             mark = found[0]
@@ -106,15 +106,15 @@ class Reader:
                 raise NotJson(found.start(), "nested more than 127 deep")
 
     def look_at_numbers(self):
-        """No number is above what 64 bits of a floating number hold, and there are no others than numbers."""
+        """Checks that each number fits a 64-bit floating-point number, and that there is no NaN or Infinity."""
         if not re.search(r"[eE][+]?[0-9]|[0-9]{300}|N|Infinity", self.text):
             return
         for found in NUMBERS.finditer(self.text):
             if found[0][0] != '"' and (found[0][-1] in "Ny" or float(found[0]) in (float("inf"), float("-inf"))):
-                raise NotJson(found.start(), f"{found[0][:40]} is no number that is read")
+                raise NotJson(found.start(), f"{found[0][:40]} is not an accepted number")
 
     def look_at_escapes(self):
-        """An escape of half a letter is no text."""
+        """Checks that no escape is half a letter."""
         if not re.search(r"\\u[dD]", self.text):
             return
         half = None
@@ -122,16 +122,16 @@ class Reader:
             code = int(found[1], 16) if found[1] else 0
             follows = half is not None and half + 6 == found.start()
             if half is not None and not (follows and 0xDC00 <= code < 0xE000) or half is None and 0xDC00 <= code < 0xE000:
-                raise NotJson(found.start() if half is None else half, "an escape of half a letter (\\ud800 to \\udfff alone)")
+                raise NotJson(found.start() if half is None else half, "an escape of half a letter (\\ud800 to \\udfff by itself)")
             half = found.start() if 0xD800 <= code < 0xDC00 else None
         if half is not None:
-            raise NotJson(half, "an escape of half a letter (\\ud800 to \\udfff alone)")
+            raise NotJson(half, "an escape of half a letter (\\ud800 to \\udfff by itself)")
 
     def skip(self, at):
         return SPACE.match(self.text, at).end()
 
     def table(self, at):
-        """Of the object or list that begins at a place: where its parts begin, where its keys stand, and the keys that stand twice."""
+        """For the object or list at a place: where its parts begin, where its keys are, and the keys that occur twice."""
         if at in self.tables:
             return self.tables[at]
         parts, keys, twice = {}, {}, []
@@ -152,14 +152,14 @@ class Reader:
         return self.tables[at]
 
     def place(self, path, key=None):
-        """Where the part at a path begins, or a key of it."""
+        """Returns where the part at a path begins, or a key of it."""
         at = self.begin
         for step in path:
             at = self.table(at)[0][step]
         return at if key is None else self.table(at)[1][key]
 
     def repeated(self, at=None, path=()):
-        """Each key that stands twice: its place, the path of its object, the key."""
+        """Yields each key that occurs twice: its place, the path of its object, the key."""
         at = self.begin if at is None else at
         if self.text[at] in "[{":
             parts, _, twice = self.table(at)
