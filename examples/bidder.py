@@ -13,7 +13,7 @@ It prints each round's sheet, then the round's results for this bidder ("slip"),
 It reads the status every SECONDS, by default 1, and misses no round that is open longer than that. If no reply comes,
 or a page that is not the server's, it says so and repeats the request for an hour. After such a failure, and at every
 thirtieth status, it checks its sheet. If none is in force, because a server without a journal was restarted, it submits
-the sheet again. It does not replace a sheet that you submitted in another way.
+the sheet again. It does not replace a sheet that you submitted in another way. If no window is open, it waits for one.
 
 Exit status: 1 if a sheet is refused, if it missed a round, or if the number of the round fell, which means that another
 server answers. Also 1, before any bid, if LIMITS is wrong or names a product that is not in the auction.
@@ -78,6 +78,10 @@ class Auction:
             try:
                 with self.opener.open(request, timeout=30) as reply:
                     text = reply.read()
+                if reply.status == 409 and b'"window"' in text:         # from nginx; the timetable says for how long
+                    given_up = time.monotonic() + PATIENCE
+                    time.sleep(self.every)
+                    continue
                 if reply.status >= 300 and reply.status not in BUSY:
                     sys.exit(f"{path} is refused: {reply.status} {text.decode(errors='replace')}")
                 if reply.status < 300 and has_shape(page := json.loads(text), shape, self.products):

@@ -1,4 +1,5 @@
 """What a trial of program and nginx needs: free ports, waiting, and both started in a folder of their own."""
+import json
 import pathlib
 import re
 import shutil
@@ -91,13 +92,15 @@ class Place:
         self.folder.chmod(0o755)              # nginx's workers are another user
         (self.folder / "tmp").mkdir()
         (self.folder / "tmp" / "access.log").touch(0o600)
+        (self.folder / "gate").mkdir(0o755)
+        (self.folder / "gate" / "open").touch()      # sheets are taken at any time
         setup = self.folder / "setup.json"
         setup.touch(0o600)
         setup.write_text(setup_text)
         lines = subprocess.run([sys.executable, TOP / "deploy/tokens", setup], check=True, capture_output=True).stdout
-        tokens = self.folder / "bidders.map"
-        tokens.touch(0o600)
-        tokens.write_bytes(lines)
+        for name, text in (("bidders.map", lines), ("operator.map", b'"Bearer %s" yes;\n' % json.loads(setup_text)["operator"].encode())):
+            (self.folder / name).touch(0o600)
+            (self.folder / name).write_bytes(text)
         shutil.copytree(TOP / "web", self.folder / "web")
         ports = {"8105": self.server_port, "8106": self.inside, "8443": self.outside}
         text = (TOP / "deploy/nginx.conf").read_text().replace("listen 8443", "listen 127.0.0.1:8443")   # a trial is for this machine alone

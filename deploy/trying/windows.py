@@ -1,0 +1,139 @@
+"""What nginx does for an auction by timetable, without the server: windows, published files, and the conductor's report."""
+import concurrent.futures
+import http.client
+import json
+import shutil
+import time
+
+from trying.client import ADDRESSES, Client, ensure, is_refusal
+from trying.limits import connected, reply
+
+BIDDER, OTHER = "0NEBIDDERST0KEN1", "0THERBIDDERST0KEN"
+SHEET = b'{"bids":[],"round":1}'
+READERS, ASKING_ONCE = 100, 100
+
+
+def put(client, token=BIDDER):
+    return client.ask("PUT", "/v1/me/bids", token, body=SHEET)
+
+
+def ten(after=0):
+    """The name of the current ten seconds, or of another one after them."""
+    return str(int(time.time()) // 10 + after)
+
+
+def try_windows(place, server):
+    """A sheet is taken while gate/ has the file of these ten seconds, or `open`, and not without. A request that began in time passes."""
+    gate, client, before = place.folder / "gate", Client(place.outside), server.count("PUT /v1/me/bids")
+    shutil.rmtree(gate)
+    rows = [("no folder gate", ()), ("an empty gate", ()), ("times before and after", (ten(-1), ten(3), ten(-100000), "0"))]
+    for what, names in rows:
+        if what != "no folder gate":
+            gate.mkdir(exist_ok=True)
+        for name in names:
+            (gate / name).touch()
+        ensure(f"a sheet with {what}", is_refusal(answer := put(client), 409, "window"), answer)
+        ensure(f"the sheet in force with {what}", client.ask("GET", "/v1/me/bids", BIDDER)[0] == 200)
+        ensure(f"an account with {what}", client.ask("GET", "/v1/me", BIDDER)[0] == 200)
+    ensure("without a token", is_refusal(client.ask("PUT", "/v1/me/bids", body=SHEET), 401, "token"))
+    ensure("the page that refuses", is_refusal(client.ask("PUT", "/window", BIDDER, body=SHEET), 404, "no_page"))
+    ensure("a sheet out of the window reached the server", server.count("PUT /v1/me/bids") == before)
+    for names in ((ten(), ten(1)), ("open",)):
+        for file in gate.iterdir():
+            file.unlink()
+        for name in names:
+            (gate / name).touch()
+        late = Client(place.outside)
+        late.send(f"PUT /v1/me/bids HTTP/1.1\r\nhost: x\r\nauthorization: Bearer {BIDDER}\r\ncontent-length: {len(SHEET)}\r\n\r\n".encode() + SHEET[:5])
+        ensure(f"a sheet with {names}", put(client)[0] == 200)
+        time.sleep(0.2)
+        for name in names:
+            (gate / name).unlink()
+        ensure("a sheet after the window", is_refusal(put(client), 409, "window"))
+        late.send(SHEET[5:])
+        ensure("a sheet whose head came in the window", late.reply()[0] == 200)
+    ensure("four sheets reached the server", server.count("PUT /v1/me/bids") == before + 4)
+    refused = [put(client, OTHER)[0] for _ in range(80)]
+    ensure("sheets out of the window count against the rate", set(refused) == {409, 429}, refused)
+    (gate / "open").touch()
+    print("windows: a sheet passes while gate/ has its ten seconds or `open`, else 409 window; a body that came after the window passes if its "
+          "head came in it; the sheet in force is shown at any time")
+
+
+def publish(place):
+    """Files as the conductor publishes them, and some that must not be seen."""
+    public = place.folder / "public"
+    (public / "rounds").mkdir(parents=True)
+    names = ("timetable", "announcements", "winners", "rounds/1", "rounds/12")
+    for name in names:
+        (public / f"{name}.json").write_text(json.dumps({"file": name}))
+    for name in ("plan", "rounds/01", "rounds/x"):
+        (public / f"{name}.json").write_text("{}")
+    (place.folder / "kept").mkdir()
+    (place.folder / "kept" / "results-1.json").write_text("{}")
+    (place.folder / "plan.json").write_text("{}")
+    return names
+
+
+def asks_often(port):
+    """Some requests for the timetable in a row from an address of its own, and how many were answered by the file."""
+    peer = connected(port, next(ADDRESSES))
+    peer.sendall(b"GET /public/timetable.json HTTP/1.1\r\nhost: localhost\r\n\r\n" * ASKING_ONCE)
+    reader = peer.makefile("rb")
+    files = 0
+    for _ in range(ASKING_ONCE):
+        status, length = int(reader.readline().split()[1]), 0
+        while (line := reader.readline()) != b"\r\n":
+            if line.lower().startswith(b"content-length:"):
+                length = int(line.split()[1])
+        files += status == 200 and reader.read(length).startswith(b'{"file"')
+    peer.close()
+    return files
+
+
+def try_published(place, server):
+    """Published files are for everyone, and cost the server nothing."""
+    names, client, before = publish(place), Client(place.outside), len(server.seen)
+    for name in names:
+        status, head, page = client.ask("GET", f"/public/{name}.json")
+        ensure(name, status == 200 and json.loads(page) == {"file": name} and "\ncache-control: no-cache" in head, head)
+        tag = head.partition("\netag: ")[2].split("\r")[0]
+        ensure(f"{name} again", client.ask("GET", f"/public/{name}.json", None, f"if-none-match: {tag}")[0] == 304)
+        ensure(f"HEAD of {name}", client.ask("HEAD", f"/public/{name}.json")[0] == 200)
+    for path in ("/public/plan.json", "/public/rounds/01.json", "/public/rounds/x.json", "/public/rounds/", "/public/", "/public/rounds/1.json.new",
+                 "/public/../setup.json", "/public/%2e%2e/setup.json", "/plan.json", "/kept/results-1.json", "/gate/open", "/public/timetable.json%0a"):
+        ensure(path, is_refusal(answer := client.ask("GET", path), 404, "no_page"), answer)
+    for method in ("PUT", "POST", "DELETE"):
+        ensure(method, is_refusal(Client(place.outside).ask(method, "/public/timetable.json", body=b"x"), 405, "method"))
+    begun = time.monotonic()
+    with concurrent.futures.ThreadPoolExecutor(20) as pool:
+        files = sum(pool.map(asks_often, [place.outside] * READERS))
+    took = time.monotonic() - begun
+    ensure("each reader got the file", files == READERS * ASKING_ONCE, files)
+    ensure("a published file cost the server a connection", len(server.seen) == before, server.seen[before:])
+    print(f"published: five kinds of files and no other, without a token; {files} requests of {READERS} readers in {took:.1f} s, of which none "
+          "reached the server")
+
+
+def asked_inside(place, path, token=None):
+    """A page of the operator's port."""
+    connection = http.client.HTTPConnection("127.0.0.1", place.inside, timeout=10)
+    connection.request("GET", path, headers={"authorization": f"Bearer {token}"} if token else {})
+    page = json.load(connection.getresponse())
+    connection.close()
+    return page
+
+
+def try_report(place, server, operator):
+    """The conductor's report is for the operator's token at the operator's port, and costs the server nothing."""
+    before, report = len(server.seen), "/conductor.json"
+    for token in (None, BIDDER):
+        ensure(f"the report with {token}", asked_inside(place, report, token) == {"code": "token", "status": 401})
+    ensure("the report before there is one", asked_inside(place, report, operator) == {"code": "no_page", "status": 404})
+    (place.folder / "operator").mkdir()
+    (place.folder / "operator" / "conductor.json").write_text('{"state":"open"}')
+    ensure("the report", asked_inside(place, report, operator) == {"state": "open"})
+    ensure("the report at the bidders' port", is_refusal(Client(place.outside).ask("GET", report, operator), 404, "no_page"))
+    ensure("the timetable at the operator's port", asked_inside(place, "/public/timetable.json") == {"file": "timetable"})
+    ensure("a report cost the server a connection", len(server.seen) == before)
+    print("report: the conductor's report is for the operator's token at the operator's port only, and never reaches the server")
