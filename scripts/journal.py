@@ -14,6 +14,26 @@ def whole_texts_of(setup, bytes):
     return each_text_of(setup, bytes, place)
 
 
+def head_of(setup):
+    """The bytes with which the journal of a set-up document begins."""
+    return KIND + hashlib.sha256(setup).digest()
+
+
+def record_of(digest, text):
+    """The record of a text after a text, or a set-up document, of this digest. Its own digest is the 32 bytes from byte 8 on."""
+    length = len(text).to_bytes(4, "big")
+    return length + length + hashlib.sha256(digest + text).digest() + text
+
+
+def journal_of(setup, texts):
+    """The bytes of a journal of these texts, which need not be texts that the auction accepts."""
+    bytes, digest = head_of(setup), hashlib.sha256(setup).digest()
+    for text in texts:
+        record = record_of(digest, text)
+        bytes, digest = bytes + record, record[8:FRONT]
+    return bytes
+
+
 def token_in(text):
     """The bearer token of a request."""
     for line in text.partition(b"\r\n\r\n")[0].split(b"\r\n")[1:]:

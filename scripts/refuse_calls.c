@@ -1,7 +1,8 @@
-/* Refuses one call of a program to the system that names or writes a file: preloaded beside it.
+/* Refuses one call of a program to the system that names, reads or changes a file: preloaded next to it.
  *
- * REFUSE_CALL names the call, REFUSE_AT tells which one, from 1, and REFUSE_FILE the file, by its path. A write that is refused has
- * written half of its bytes, as on a disk that is full. */
+ * REFUSE_CALL names the call, REFUSE_FILE is the path of the file, and REFUSE_AT is the number of the call, from 1. If
+ * REFUSE_SIZE is set, only calls count that are made once the file has that many bytes. A write that is refused has
+ * written half of its bytes, as on a disk that is full. Any other refused call has done nothing. */
 #define _GNU_SOURCE
 #include <dlfcn.h>
 #include <errno.h>
@@ -24,9 +25,16 @@ static int is_file(int descriptor) {
     return !stat(path, &other) && one.st_ino == other.st_ino && one.st_dev == other.st_dev;
 }
 
+/* whether the file has the bytes from which on calls count */
+static int is_large(void) {
+    struct stat file;
+    const char *path = getenv("REFUSE_FILE"), *size = getenv("REFUSE_SIZE");
+    return !size || (path && !stat(path, &file) && file.st_size >= atol(size));
+}
+
 static int refuses(const char *call) {
     const char *wanted = getenv("REFUSE_CALL"), *at = getenv("REFUSE_AT");
-    return wanted && at && !strcmp(wanted, call) && ++calls == atoi(at);
+    return wanted && at && !strcmp(wanted, call) && is_large() && ++calls == atoi(at);
 }
 
 static int is_path(const char *path) {
@@ -57,6 +65,20 @@ int openat(int folder, const char *path, int flags, ...) {
     if (!real) real = dlsym(RTLD_NEXT, "openat");
     if (is_path(path) && refuses("open")) { errno = EIO; return -1; }
     return real(folder, path, flags, mode);
+}
+
+ssize_t read(int descriptor, void *bytes, size_t count) {
+    static ssize_t (*real)(int, void *, size_t);
+    if (!real) real = dlsym(RTLD_NEXT, "read");
+    if (is_file(descriptor) && refuses("read")) { errno = EIO; return -1; }
+    return real(descriptor, bytes, count);
+}
+
+int statx(int folder, const char *restrict path, int flags, unsigned mask, struct statx *restrict found) {
+    static int (*real)(int, const char *restrict, int, unsigned, struct statx *restrict);
+    if (!real) real = dlsym(RTLD_NEXT, "statx");
+    if (is_file(folder) && refuses("statx")) { errno = EIO; return -1; }
+    return real(folder, path, flags, mask, found);
 }
 
 ssize_t write(int descriptor, const void *bytes, size_t count) {

@@ -1,0 +1,1 @@
+"""What .ci/crash consists of: servers with a journal, what a crash can leave of it, and what a start makes of that."""

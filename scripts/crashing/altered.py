@@ -1,0 +1,67 @@
+"""Records of servers that are wrong: those of a right one, in which one call is missing, early, late or too much."""
+from collections.abc import Iterator
+
+from .order import SYNCS
+from .record import Call, Outcome, Recorded
+
+Calls = list[Call]
+
+
+def place_of(calls: Calls, *names: str) -> int:
+    """The place of the last of these calls."""
+    return max(place for place, call in enumerate(calls) if call.name in names)
+
+
+def without(calls: Calls, place: int) -> Calls:
+    return calls[:place] + calls[place + 1 :]
+
+
+def moved(calls: Calls, place: int, to: int) -> Calls:
+    rest = without(calls, place)
+    return rest[:to] + [calls[place]] + rest[to:]
+
+
+def altered_starts(calls: Calls, is_old: bool) -> Iterator[tuple[str, Calls]]:
+    """Starts that are wrong."""
+    synced, named = place_of(calls, *SYNCS), place_of(calls, "folder")
+    yield "no sync of the journal at a start", without(calls, synced)
+    yield "no sync of the folder", without(calls, named)
+    yield "the folder is synced after ready", moved(calls, named, len(calls) - 1)
+    if not is_old:
+        return
+    first = min(place for place, call in enumerate(calls) if call.name in SYNCS)
+    yield "a torn tail is cut off before it is synced", without(calls, first)
+    anew = [Call("ftruncate"), Call("write", 0, b"the same bytes"), Call("fdatasync")]
+    yield "an old journal is written anew", calls[:synced] + anew + calls[synced:]
+
+
+def altered_exchanges(calls: Calls, outcome: Outcome) -> Iterator[tuple[str, Calls]]:
+    """Exchanges that are wrong, of a request with this outcome."""
+    if outcome in (Outcome.PAGE, Outcome.REFUSED):
+        yield f"a sync for what is not logged: {outcome.value}", [Call("fdatasync"), *calls]
+        yield f"a write for what is not logged: {outcome.value}", [Call("write", 0, b"text"), *calls]
+    if outcome is not Outcome.LOGGED:
+        return
+    synced, written, replied = place_of(calls, *SYNCS), place_of(calls, "write"), place_of(calls, "send")
+    yield "no sync of a text", without(calls, synced)
+    yield "a text is synced after its reply begins", moved(calls, synced, replied)
+    yield "a text is synced before its last write", moved(calls, synced, written)
+    yield "a text is synced twice", [*calls[:synced], calls[synced], *calls[synced:]]
+    yield "a write of a text is missing", without(calls, written)
+
+
+def altered(generations: list[Recorded]) -> Iterator[tuple[str, list[Recorded]]]:
+    """Records with one wrong start or exchange, each with what is wrong in it."""
+    for number, generation in enumerate(generations):
+        calls = generation.calls
+        accepts = [place for place, call in enumerate(calls) if call.name == "accept"] + [len(calls)]
+
+        def with_calls(begin: int, end: int, wrong: Calls) -> list[Recorded]:
+            changed = Recorded(generation.requests, calls[:begin] + wrong + calls[end:])
+            return generations[:number] + [changed] + generations[number + 1 :]
+
+        for name, start in altered_starts(calls[: accepts[0]], number > 0):
+            yield name, with_calls(0, accepts[0], start)
+        for request, accept, end in zip(generation.requests, accepts, accepts[1:]):
+            for name, exchange in altered_exchanges(calls[accept + 1 : end], request.outcome):
+                yield name, with_calls(accept + 1, end, exchange)

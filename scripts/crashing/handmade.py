@@ -1,0 +1,32 @@
+"""Journals that no server wrote: their last record is whole, and its text is none that the auction accepts there."""
+from journal import FRONT, HEAD, journal_of
+
+from .auctions import BIDDERS, closing, sheet, text_of
+from .servers import Server
+from .trial import Run, Trial, ensure, expect, run_of
+
+REFUSED_TEXTS = (
+    ("a sheet for a later round", sheet(BIDDERS[1], 7, 100, 1)),
+    ("a sheet of an unknown token", sheet("N" * 16, 1, 100, 1)),
+    ("a sheet above the cap", sheet(BIDDERS[1], 1, 100, 3)),
+    ("a closing of a later round", closing(7)),
+    ("a request without a page", text_of("GET", "/none", BIDDERS[1])),
+    ("half a request", b"PUT /v1/me/bids HTTP/1.1\r\n"),
+)
+
+
+def play_handmade(trial: Trial) -> None:
+    """Starts on each, audits it, and lists it: `journal` shows its texts, whatever they are."""
+    file, first, document = trial.folder / "handmade.journal", sheet(BIDDERS[0], 1, 100, 2), trial.setup.read_bytes()
+    fault = f"fault: journal_refused {HEAD + FRONT + len(first)}\n"
+    for name, text in REFUSED_TEXTS:
+        journal = journal_of(document, [first, text])
+        file.write_bytes(journal)
+        expect(f"serve with {name}", Server(trial, file).ended(), (1, fault))
+        expect(f"audit with {name}", run_of(trial, "audit", file), Run(1, "", fault))
+        listed = run_of(trial, "journal", file)
+        expect(f"the status of journal with {name}", listed.status, 0)
+        ensure(text.decode() in listed.output, f"journal does not show {name}")
+        expect(f"the file with {name}", file.read_bytes(), journal)
+    names = ", ".join(name for name, _text in REFUSED_TEXTS)
+    print(f"journals made by hand that end with {names}: serve and audit refuse each there, and journal shows it")

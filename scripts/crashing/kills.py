@@ -1,0 +1,83 @@
+"""A server under load is killed again and again."""
+import hashlib
+import pathlib
+import signal
+import threading
+
+from journal import FRONT, HEAD, texts_of
+
+from .auctions import DRAW, Load, pages_of, same_auction
+from .servers import Server
+from .trial import Run, Trial, ensure, expect, run_of
+
+Texts = list[tuple[bytes, str]]
+
+
+def play_kills(trial: Trial, kills: int) -> list[bytes]:
+    """Kills a server under load at random moments, and replays without a crash what its journal has."""
+    journal, load = trial.folder / "kills.journal", Load()
+    closed: dict[int, str] = {}
+    cuts = 0
+    for kill in range(kills):
+        lines, fault = killed(trial, journal, load, kill)
+        cuts += fault.startswith("cut ")
+        closed.update((int(line.split()[1]), line.split()[2]) for line in lines if line.startswith("closed "))
+    last = Server(trial, journal)
+    if not last.is_ready():
+        ensure(False, f"after {kills} kills the server did not start: {last.ended()}")
+    pages, first_line = pages_of(last.port), last.lines[0]
+    last.kill()
+    found: Texts = texts_of(trial.setup.read_bytes(), journal.read_bytes())
+    texts = [text for text, _digest in found]
+    expect("what the last server printed of its journal", first_line, f"journal {len(found)} {found[-1][1]}")
+    compare_texts(load, texts, kills)
+    closings = [digest for text, digest in found if text.startswith(b"POST")]
+    for number, digest in closed.items():
+        expect(f"the digest of closing {number}", digest, closings[number - 1])
+    same_auction(trial, texts, pages)
+    compare_commands(trial, journal, found, closings)
+    print(f"{kills} kills: {load.answers} requests answered, {len(texts)} texts logged, "
+          f"{len(texts) - len(load.replied)} of them without a reply, {len(closings)} rounds closed, "
+          f"{cuts} torn tails cut off; the pages are those of the same texts without a crash")
+    return texts
+
+
+def killed(trial: Trial, journal: pathlib.Path, load: Load, kill: int) -> tuple[list[str], str]:
+    """Starts a server, loads it and kills it, and returns the lines that it printed after `ready`, and its errors."""
+    server = Server(trial, journal)
+    if not server.is_ready():
+        ensure(False, f"after {kill} kills the server did not start: {server.ended()}")
+    timer = threading.Timer(DRAW.uniform(0, 0.12), server.child.send_signal, [signal.SIGKILL])
+    timer.start()
+    load.send_to(server.port)
+    timer.join()
+    return server.kill()
+
+
+def compare_texts(load: Load, texts: list[bytes], kills: int) -> None:
+    """Compares the texts of the journal with those that were sent and replied to."""
+    rest = iter(texts)
+    in_order = all(text in rest for text in load.replied)
+    ensure(in_order, "a text that was replied to is not in the journal, or not in order")
+    few_more = len(texts) <= len(load.replied) + kills
+    ensure(few_more, "more texts without a reply are in the journal than there were kills")
+    ensure(all(text in load.sent for text in texts), "a text is in the journal that was not sent")
+    few = f"of {load.answers} requests only {len(texts)} were logged: the auction has ended too early"
+    ensure(2 * len(texts) >= load.answers, few)
+
+
+def compare_commands(trial: Trial, journal: pathlib.Path, found: Texts, closings: list[str]) -> None:
+    """Compares what `audit` and `journal` print of the journal."""
+    lines = run_of(trial, "audit", journal).output.splitlines()
+    expect("the closings of the audit", [line.split()[2] for line in lines if line.startswith("closed ")], closings)
+    listing = listing_of(trial.setup.read_bytes(), found)
+    expect("the listing of the journal", run_of(trial, "journal", journal), Run(0, listing, ""))
+
+
+def listing_of(document: bytes, found: Texts) -> str:
+    """What `journal` prints of these texts, each with its digest."""
+    lines, place = [f"setup {hashlib.sha256(document).hexdigest()}"], HEAD
+    for number, (text, digest) in enumerate(found, 1):
+        lines += [f"text {number} {place} {len(text)} {digest}", text.decode()]
+        place += FRONT + len(text)
+    return "\n".join([*lines, f"journal {len(found)} {found[-1][1]}", ""])

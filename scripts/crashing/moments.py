@@ -1,0 +1,112 @@
+"""What a journal has on the disk, and what it has beyond that, from one call of the system to the next."""
+import hashlib
+from dataclasses import dataclass, field
+
+from journal import FRONT, HEAD, each_text_of
+
+from .order import SYNCS
+from .record import Outcome, Recorded, Request
+
+
+@dataclass(frozen=True)
+class Texts:
+    """A whole journal: where its head and each record end, and the digests of the set-up and of each text."""
+
+    journal: bytes
+    ends: list[int]
+    digests: list[str]
+
+    def within(self, length: int) -> int:
+        """How many of its texts end within so many bytes."""
+        return sum(end <= length for end in self.ends[1:])
+
+    def whole_in(self, file: bytes) -> int:
+        """How many of its first texts a file begins with."""
+        return sum(end <= len(file) and file[:end] == self.journal[:end] for end in self.ends[1:])
+
+
+@dataclass(frozen=True)
+class Moment:
+    """The calls from one sync to the next: what is synced, and what is written before the next sync.
+
+    `sizes` are the lengths of the file after each write. If the file was cut off, `cut` is the place. `replied` counts
+    the texts up to the last one to which the reply had begun, `least` also those that are synced, `most` all that are
+    written.
+    """
+
+    synced: bytes
+    written: bytes
+    sizes: tuple[int, ...]
+    replied: int
+    least: int
+    most: int
+    cut: int | None = None
+
+
+@dataclass
+class Disk:
+    """The file while the calls of a record are made."""
+
+    texts: Texts
+    synced: bytes = b""
+    written: bytes = b""
+    sizes: list[int] = field(default_factory=list)
+    replied: int = 0
+    moments: list[Moment] = field(default_factory=list)
+
+    def write(self, content: bytes) -> None:
+        self.written += content
+        self.sizes.append(len(self.written))
+
+    def sync(self) -> None:
+        if self.sizes:
+            self.add_moment(None)
+        self.synced, self.sizes = self.written, []
+
+    def cut(self, place: int) -> None:
+        if place < len(self.written):
+            self.add_moment(place)
+        self.synced, self.written, self.sizes = self.synced[:place], self.written[:place], []
+
+    def end(self) -> None:
+        """The last moment, if something was never synced."""
+        self.sync()
+
+    def add_moment(self, cut: int | None) -> None:
+        least = max(self.replied, self.texts.whole_in(self.synced))
+        most = self.texts.whole_in(self.written)
+        self.moments.append(Moment(self.synced, self.written, tuple(self.sizes), self.replied, least, most, cut))
+
+    def reply(self, request: Request) -> None:
+        if request.outcome is Outcome.LOGGED:
+            self.replied = self.texts.whole_in(self.written)
+
+
+def texts_in(document: bytes, journal: bytes) -> Texts:
+    """The texts of a whole journal."""
+    ends, digests = [HEAD], [hashlib.sha256(document).hexdigest()]
+    for text, digest in each_text_of(document, journal, len(journal)):
+        ends.append(ends[-1] + FRONT + len(text))
+        digests.append(digest)
+    return Texts(journal, ends, digests)
+
+
+def moments_of(generations: list[Recorded], texts: Texts) -> list[Moment]:
+    """The moments of all generations of a journal. What one leaves without a sync is there at the start of the next."""
+    disk = Disk(texts)
+    for generation in generations:
+        requests = iter(generation.requests)
+        for call in generation.calls:
+            match call.name:
+                case "write":
+                    disk.write(call.content)
+                case "ftruncate":
+                    disk.cut(call.number)
+                case "accept":
+                    request = next(requests)
+                case "send":
+                    disk.reply(request)
+                case name if name in SYNCS:
+                    disk.sync()
+    disk.end()
+    return disk.moments

@@ -1,0 +1,185 @@
+"""A run of servers on one journal, with every call of the system on which the journal rests."""
+import pathlib
+from dataclasses import dataclass
+from enum import Enum
+
+from journal import FRONT, HEAD
+from loopback import reply_to
+
+from .auctions import BIDDERS, OPERATOR, closing, next_price, sheet, text_of
+from .servers import Server
+from .shims import Shims
+from .trial import Trial, expect
+
+PAGE = 4096
+STATUS = b"GET /v1/status HTTP/1.1\r\n\r\n"
+
+
+class Outcome(Enum):
+    """What must become of a request."""
+
+    LOGGED = "logged"
+    REFUSED = "refused"
+    PAGE = "page"
+    NO_REPLY = "no reply"
+
+
+@dataclass(frozen=True)
+class Request:
+    """A request, and what must become of it."""
+
+    text: bytes
+    outcome: Outcome
+
+
+@dataclass(frozen=True)
+class Generation:
+    """A server from start to end: its requests, and the call that is refused once the file has so many bytes."""
+
+    requests: list[Request]
+    refused: tuple[str, int] | None = None
+
+
+@dataclass(frozen=True)
+class Call:
+    """A call of the system: its name, its place, length or count, and its bytes."""
+
+    name: str
+    number: int = 0
+    content: bytes = b""
+
+
+@dataclass(frozen=True)
+class Recorded:
+    """A generation that was run, and its calls."""
+
+    requests: list[Request]
+    calls: list[Call]
+
+
+def calls_in(record: pathlib.Path) -> list[Call]:
+    """The calls of a record, which is removed. A server that makes none leaves none."""
+    lines = record.read_text().splitlines() if record.exists() else []
+    record.unlink(missing_ok=True)
+    return [call_in(line) for line in lines]
+
+
+def call_in(line: str) -> Call:
+    """The call in a line, as scripts/record_calls.c writes it."""
+    name, *words = line.split(" ")
+    match name:
+        case "write":
+            return Call(name, int(words[0]), bytes.fromhex(words[1]))
+        case "print":
+            return Call(name, 0, bytes.fromhex(words[0]))
+        case "ftruncate" | "send":
+            return Call(name, int(words[0]))
+        case _:
+            return Call(name)
+
+
+def padded(token: str, number: int, price: int, length: int) -> bytes:
+    """A sheet of exactly this length: spaces after its body make it so long."""
+    spaces = 0
+    while short := length - len(sheet(token, number, price, 2, spaces)):
+        spaces += short
+    return sheet(token, number, price, 2, spaces)
+
+
+class Plan:
+    """Requests that are sent to one generation after another, and the length that the journal must have then."""
+
+    def __init__(self) -> None:
+        self.size = HEAD
+        self.requests: list[Request] = []
+        self.generations: list[Generation] = []
+
+    def logs(self, text: bytes) -> None:
+        self.requests.append(Request(text, Outcome.LOGGED))
+        self.size += FRONT + len(text)
+
+    def logs_up_to(self, size: int, token: str, number: int, price: int) -> None:
+        """Logs a sheet that makes the journal so long."""
+        self.logs(padded(token, number, price, size - self.size - FRONT))
+
+    def shows(self, *texts: bytes) -> None:
+        self.requests += [Request(text, Outcome.PAGE) for text in texts]
+
+    def refuses(self, *texts: bytes) -> None:
+        self.requests += [Request(text, Outcome.REFUSED) for text in texts]
+
+    def ends_by_write(self, text: bytes) -> None:
+        """Ends a generation: half of this text can be written."""
+        self.ends(Request(text, Outcome.NO_REPLY), ("write", self.size + FRONT))
+
+    def ends_by_sync(self, text: bytes) -> None:
+        """Ends a generation: this text is written and can't be synced. The next start finds it."""
+        self.size += FRONT + len(text)
+        self.ends(Request(text, Outcome.NO_REPLY), ("fdatasync", self.size))
+
+    def ends(self, last: Request | None = None, refused: tuple[str, int] | None = None) -> None:
+        self.generations.append(Generation(self.requests + ([last] if last else []), refused))
+        self.requests = []
+
+
+def planned() -> list[Generation]:
+    """Three generations of a journal. Texts end before, at and after the end of a page, and one covers three pages."""
+    plan, (x, y, z) = Plan(), BIDDERS
+    plan_first(plan, x, y, z)
+    price = next_price(100)
+    plan.shows(STATUS)
+    plan.logs_up_to(3 * PAGE, x, 2, price)
+    plan.logs(sheet(z, 2, price, 1))
+    plan.refuses(closing(1))
+    plan.ends_by_sync(sheet(y, 2, price, 2))
+    plan.shows(text_of("GET", "/v1/me/bids", y))
+    plan.logs(sheet(z, 2, price, 2))
+    plan.logs(closing(2))
+    plan.refuses(closing(2))
+    plan.logs(sheet(x, 3, next_price(price), 1))
+    plan.ends()
+    return plan.generations
+
+
+def plan_first(plan: Plan, x: str, y: str, z: str) -> None:
+    """The first generation: round 1, and a sheet of round 2 of which half can be written."""
+    plan.shows(STATUS)
+    plan.refuses(b"GET /none HTTP/1.1\r\n\r\n", closing(2))
+    plan.logs(sheet(x, 1, 100, 1))
+    plan.shows(text_of("GET", "/v1/me/bids", x))
+    plan.refuses(sheet(x, 2, 100, 1), sheet("N" * 16, 1, 100, 1), text_of("PUT", "/v1/me/bids", y, b"{"))
+    plan.logs_up_to(3 * PAGE - 700, y, 1, 100)
+    plan.logs(sheet(z, 1, 100, 1))
+    plan.logs(closing(1))
+    plan.refuses(closing(1), sheet(x, 1, 100, 1))
+    plan.shows(text_of("GET", "/v1/results", OPERATOR))
+    plan.ends_by_write(padded(x, 2, next_price(100), 1000))
+
+
+def run(trial: Trial, shims: Shims, journal: pathlib.Path, generation: Generation) -> Recorded:
+    """Runs a generation, and compares what becomes of each request with what must become of it."""
+    lines = trial.folder / "record"
+    refusal = None
+    if generation.refused:
+        call, size = generation.refused
+        refusal = shims.refuse(journal, call, size=size)
+    environment = shims.record(journal, lines, refusal)
+    server = Server(trial, journal, connections=len(generation.requests), environment=environment)
+    sent = 0
+    for request in generation.requests:
+        reply = reply_to(server.port, request.text)
+        expect(f"what becomes of {request.text[:300]!r}", outcome_of(request, reply), request.outcome)
+        sent += len(reply)
+    expect("the status of a recorded server", server.ended()[0], 1 if generation.refused else 0)
+    calls = calls_in(lines)
+    expect("the bytes sent by the record", sum(call.number for call in calls if call.name == "send"), sent)
+    return Recorded(generation.requests, calls)
+
+
+def outcome_of(request: Request, reply: bytes) -> Outcome:
+    """What has become of a request, by its reply."""
+    if not reply:
+        return Outcome.NO_REPLY
+    if not reply.startswith(b"HTTP/1.1 200 OK"):
+        return Outcome.REFUSED
+    return Outcome.PAGE if request.text.startswith(b"GET") else Outcome.LOGGED

@@ -1,0 +1,128 @@
+/* Records, in order, the calls of a program to the system on which its journal rests: preloaded next to it.
+ *
+ * RECORD_FILE is the path of the journal. RECORD_TO is the file to which the lines are appended, one for each call:
+ *
+ *     write PLACE HEX       these bytes were added to the journal, from this place on
+ *     fdatasync, fsync      the journal was synced
+ *     ftruncate LENGTH      the journal was cut off at this length
+ *     folder                the folder of the journal was synced
+ *     print HEX             these bytes are about to be written to standard output
+ *     accept                a connection was taken
+ *     send COUNT            bytes are about to be sent on a connection
+ *
+ * A call that failed and changed nothing has no line. Preload it after refuse_calls.c: it then records only what that
+ * lets through. The program has one thread, so the order of the lines is the order of the calls. */
+#define _GNU_SOURCE
+#include <dlfcn.h>
+#include <fcntl.h>
+#include <libgen.h>
+#include <limits.h>
+#include <stdarg.h>
+#include <stdio.h>
+#include <stdlib.h>
+#include <string.h>
+#include <sys/socket.h>
+#include <sys/stat.h>
+#include <sys/syscall.h>
+#include <unistd.h>
+
+/* Appends bytes to the record. If that fails it ends the program: no record is short in silence. */
+static void put(const char *bytes, size_t count) {
+    static int record = -1;
+    int how = O_WRONLY | O_CREAT | O_APPEND | O_CLOEXEC;
+    if (record < 0) record = syscall(SYS_openat, AT_FDCWD, getenv("RECORD_TO"), how, 0600);
+    if (record < 0 || syscall(SYS_write, record, bytes, count) != (long)count) abort();
+}
+
+static void put_line(const char *format, ...) {
+    char line[64];
+    va_list rest;
+    va_start(rest, format);
+    int count = vsnprintf(line, sizeof line, format, rest);
+    va_end(rest);
+    put(line, count);
+}
+
+/* Ends a line with these bytes in hexadecimal digits. */
+static void put_hex(const unsigned char *bytes, size_t count) {
+    static const char digits[] = "0123456789abcdef";
+    char *line = malloc(2 * count + 1);
+    if (!line) abort();
+    for (size_t at = 0; at < count; at++) {
+        line[2 * at] = digits[bytes[at] >> 4];
+        line[2 * at + 1] = digits[bytes[at] & 15];
+    }
+    line[2 * count] = '\n';
+    put(line, 2 * count + 1);
+    free(line);
+}
+
+/* Returns whether a descriptor is open on the file of this path. */
+static int is_at(int descriptor, const char *path) {
+    struct stat one, other;
+    return !fstat(descriptor, &one) && !stat(path, &other) && one.st_ino == other.st_ino && one.st_dev == other.st_dev;
+}
+
+static int is_journal(int descriptor) {
+    const char *path = getenv("RECORD_FILE");
+    return path && is_at(descriptor, path);
+}
+
+static int is_folder(int descriptor) {
+    const char *path = getenv("RECORD_FILE");
+    char name[PATH_MAX];
+    return path && strlen(path) < sizeof name && is_at(descriptor, dirname(strcpy(name, path)));
+}
+
+ssize_t write(int descriptor, const void *bytes, size_t count) {
+    static ssize_t (*real)(int, const void *, size_t);
+    if (!real) real = dlsym(RTLD_NEXT, "write");
+    if (descriptor == STDOUT_FILENO) {
+        put_line("print ");
+        put_hex(bytes, count);
+    }
+    if (!is_journal(descriptor)) return real(descriptor, bytes, count);
+    struct stat before;
+    if (fstat(descriptor, &before)) abort();
+    ssize_t done = real(descriptor, bytes, count);
+    if (done > 0) {
+        put_line("write %ld ", (long)before.st_size);
+        put_hex(bytes, done);
+    }
+    return done;
+}
+
+#define SYNCS(name)                                                             \
+    int name(int descriptor) {                                                  \
+        static int (*real)(int);                                                \
+        if (!real) real = dlsym(RTLD_NEXT, #name);                              \
+        int failed = real(descriptor);                                          \
+        if (!failed && is_journal(descriptor)) put_line(#name "\n");            \
+        if (!failed && is_folder(descriptor)) put_line("folder\n");             \
+        return failed;                                                          \
+    }
+SYNCS(fdatasync)
+SYNCS(fsync)
+
+int ftruncate(int descriptor, off_t length) {
+    static int (*real)(int, off_t);
+    if (!real) real = dlsym(RTLD_NEXT, "ftruncate");
+    int failed = real(descriptor, length);
+    if (!failed && is_journal(descriptor)) put_line("ftruncate %ld\n", (long)length);
+    return failed;
+}
+
+int accept4(int descriptor, struct sockaddr *address, socklen_t *length, int flags) {
+    static int (*real)(int, struct sockaddr *, socklen_t *, int);
+    if (!real) real = dlsym(RTLD_NEXT, "accept4");
+    int taken = real(descriptor, address, length, flags);
+    if (taken >= 0) put_line("accept\n");
+    return taken;
+}
+
+ssize_t send(int descriptor, const void *bytes, size_t count, int flags) {
+    static ssize_t (*real)(int, const void *, size_t, int);
+    if (!real) real = dlsym(RTLD_NEXT, "send");
+    put_line("send %zu\n", count);
+    return real(descriptor, bytes, count, flags);
+}
