@@ -31,7 +31,7 @@ def text_of(method: str, path: str, token: str, body: bytes = b"") -> bytes:
 
 
 def sheet(token: str, number: int, price: int, quantity: int, spaces: int = 0) -> bytes:
-    """A sheet of one bid for so many blocks, at the clock price of a round, with spaces after its body."""
+    """A sheet of one bid, at the clock price of a round, with spaces after its body."""
     bids = [{"price": price, "product": 0, "quantity": quantity}]
     return text_of("PUT", "/v1/me/bids", token, compact({"bids": bids, "round": number}) + b" " * spaces)
 

@@ -17,7 +17,7 @@ class Texts:
     digests: list[str]
 
     def within(self, length: int) -> int:
-        """How many of its texts end within so many bytes."""
+        """How many of its texts end within this many bytes."""
         return sum(end <= length for end in self.ends[1:])
 
     def whole_in(self, file: bytes) -> int:

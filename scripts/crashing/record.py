@@ -34,7 +34,7 @@ class Request:
 
 @dataclass(frozen=True)
 class Generation:
-    """A server from start to end: its requests, and the call that is refused once the file has so many bytes."""
+    """A server from start to end: its requests, and the call that is refused once the file has this many bytes."""
 
     requests: list[Request]
     refused: tuple[str, int] | None = None
@@ -79,7 +79,7 @@ def call_in(line: str) -> Call:
 
 
 def padded(token: str, number: int, price: int, length: int) -> bytes:
-    """A sheet of exactly this length: spaces after its body make it so long."""
+    """A sheet of exactly this length, by spaces after its body."""
     spaces = 0
     while short := length - len(sheet(token, number, price, 2, spaces)):
         spaces += short
@@ -99,7 +99,7 @@ class Plan:
         self.size += FRONT + len(text)
 
     def logs_up_to(self, size: int, token: str, number: int, price: int) -> None:
-        """Logs a sheet that makes the journal so long."""
+        """Logs a sheet with which the journal has this length."""
         self.logs(padded(token, number, price, size - self.size - FRONT))
 
     def shows(self, *texts: bytes) -> None:

@@ -1,5 +1,7 @@
 """Each call of the system that a server makes on its journal is refused in turn, on a new file and on old ones."""
 import pathlib
+from collections.abc import Callable
+from functools import partial
 
 from journal import HEAD, whole_texts_of
 from loopback import reply_to
@@ -10,32 +12,36 @@ from .servers import Server
 from .shims import Shims
 from .trial import Trial, ensure, expect
 
-# The calls of a server that begins a journal, and those of a start on an old one.
-CALLS = ("open", "statx", "flock", "read", "write", "fdatasync", "fsync", "ftruncate")
-START_CALLS = ("open", "statx", "flock", "read", "fdatasync", "ftruncate", "fsync")
-# Of these calls some come after a torn tail was cut off.
+CALLS = ("open", "statx", "flock", "read", "write", "fdatasync", "ftruncate", "fsync")
+# Calls that a server must make on a new journal, and that a start must make on a whole one and on one with a torn tail.
+NEEDED_FOR_NEW = ("open", "write", "fdatasync", "fsync")
+NEEDED_FOR_WHOLE = ("open", "read", "fdatasync", "fsync")
+NEEDED_FOR_TORN = (*NEEDED_FOR_WHOLE, "ftruncate")
+# Calls of which some come after a torn tail was cut off.
 CALLS_AFTER_CUT = ("open", "fsync")
 
 
-def counted(counts: dict[str, int]) -> str:
-    return ", ".join(f"{count} of {call}" for call, count in counts.items())
+def refuse_each(name: str, needed: tuple[str, ...], is_refused: Callable[[str, int], bool]) -> None:
+    """Refuses each call in turn, until there is none of its number, and prints how many there are."""
+    counts = {}
+    for call in CALLS:
+        count = 0
+        while is_refused(call, count + 1):
+            count += 1
+        counts[call] = count
+        ensure(count > 0 or call not in needed, f"{name}: {call} is never called")
+    shown = ", ".join(f"{count} of {call}" for call, count in counts.items() if count)
+    print(f"{name}, with each call refused in turn: {shown}; each is a fault, and the file has all that was replied to")
 
 
 def play_new_file(trial: Trial, shims: Shims) -> None:
     """Refuses in turn each call that a start on a new journal, three texts and a closing make."""
     texts = [sheet(token, 1, 100, 1) for token in BIDDERS] + [closing(1)]
-    counts = {}
-    for call in CALLS:
-        count = 0
-        while refused_once(trial, shims, texts, call, count + 1):
-            count += 1
-        counts[call] = count
-        ensure(count > 0, f"a server that begins a journal never calls {call}")
-    print(f"calls of a server on a new journal, each refused in turn: {counted(counts)}; "
-          f"each ended the server with its fault, and no reply was given that the file does not hold")
+    name = "a server that begins a journal and logs four texts"
+    refuse_each(name, NEEDED_FOR_NEW, partial(is_refused, trial, shims, texts))
 
 
-def refused_once(trial: Trial, shims: Shims, texts: list[bytes], call: str, at: int) -> bool:
+def is_refused(trial: Trial, shims: Shims, texts: list[bytes], call: str, at: int) -> bool:
     """Refuses a call of this number. Returns False if the server makes fewer of them."""
     file = trial.folder / f"{call}.journal"
     file.unlink(missing_ok=True)
@@ -71,20 +77,12 @@ def replied_by(server: Server, texts: list[bytes]) -> list[bytes]:
 
 def play_old_files(trial: Trial, shims: Shims, ten: Ten) -> None:
     """Refuses in turn each call of a start on a journal of ten texts, whole and with a torn tail."""
-    for name, tail in (("a whole journal", b""), ("a journal with a torn tail", ten.content[HEAD : HEAD + 60])):
-        counts = {}
-        for call in START_CALLS:
-            count = 0
-            while refused_start(trial, shims, ten, tail, call, count + 1):
-                count += 1
-            counts[call] = count
-        for call in ("open", "read", "fdatasync", "fsync", "ftruncate") if tail else ("open", "read", "fdatasync"):
-            ensure(counts[call] > 0, f"a start on {name} never calls {call}")
-        print(f"calls of a start on {name}, each refused in turn: {counted(counts)}; "
-              f"each was a fault, and nothing was changed but a torn tail that was cut off")
+    torn = ten.content[HEAD : HEAD + 60]
+    for name, needed, tail in (("whole", NEEDED_FOR_WHOLE, b""), ("torn", NEEDED_FOR_TORN, torn)):
+        refuse_each(f"a start on a {name} journal", needed, partial(is_start_refused, trial, shims, ten, tail))
 
 
-def refused_start(trial: Trial, shims: Shims, ten: Ten, tail: bytes, call: str, at: int) -> bool:
+def is_start_refused(trial: Trial, shims: Shims, ten: Ten, tail: bytes, call: str, at: int) -> bool:
     """Refuses a call of a start of this number. Returns False if it makes fewer of them."""
     file = trial.folder / "old.journal"
     file.write_bytes(ten.content + tail)

@@ -16,7 +16,7 @@ class Shims:
     recording: pathlib.Path
 
     def refuse(self, file: pathlib.Path, call: str, at: int = 1, size: int = 0) -> dict[str, str]:
-        """An environment in which a call on a file is refused: that of this number, once the file has so many bytes."""
+        """An environment in which the call of this number on a file is refused, once the file has this many bytes."""
         wanted = {"REFUSE_CALL": call, "REFUSE_AT": str(at), "REFUSE_FILE": str(file)}
         from_size = {"REFUSE_SIZE": str(size)} if size else {}
         return os.environ | wanted | from_size | {"LD_PRELOAD": str(self.refusing)}

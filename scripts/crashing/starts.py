@@ -12,14 +12,14 @@ from .shims import Shims
 from .states import KINDS, State
 from .trial import WORKERS, Run, Trial, ensure, expect, in_parallel, last_line, run_of
 
-# One state of so many is started by `serve` too: of those that must be resumed, and of the others.
+# One state of this many is started by `serve` too: of those that must be resumed, and of the others.
 SAMPLE_OF_RESUMED, SAMPLE = 100, 8
 # By kind and by what became of it, how many states there were.
 Tally = Counter[tuple[str, str]]
 
 
 def counted(state: State, count: int | None, is_served: bool) -> Tally:
-    """The tally of one state, with which so many texts were resumed, or which was refused."""
+    """The tally of one state, with the count of texts that were resumed, or none if the start was refused."""
     name = state.kind.name
     lost = count is not None and count < state.moment.replied
     facts = {"states": True, "resumed": count is not None, "refused": count is None, "lost": lost, "served": is_served}
