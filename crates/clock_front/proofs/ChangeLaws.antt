@@ -1,5 +1,5 @@
 -- A closing that was prepared is the closing that was asked for; and what is no command.
-use Rattle.std.proofs.Common.{◌≡◌, ℕ, List, Option, Result, refl, sym, ◌∙◌, ap, subst}
+use Rattle.std.proofs.Common.{◌≡◌, ℕ, List, Option, Result, Ok, refl, sym, ◌∙◌, ap, subst}
 use Rattle.clock_terms.specs.Limits.{SetupFields}
 use Rattle.clock_terms.specs.declared.increments.Increments.{Increments}
 use Rattle.clock_bids.specs.declared.sheet.Bid.{Bid}
@@ -23,14 +23,22 @@ same_closing old mid round increments ties same =
     ∙ ap (λ closed. closing_by round increments ties old.setup closed mid.sheets) same.closed
     ∙ ap (closing_by round increments ties old.setup old.closed) same.sheets
 
--- a prepared closing tells what the closing that was asked for tells
+-- a prepared closing is what the closing that was asked for adds
+pub closing_fits : (prepared : PreparedClosing) (old mid : HouseFields) (round : ℕ) (increments : Increments) (ties : List Tie)
+    → prepared.round ≡ round → prepared.increments ≡ increments → prepared.ties ≡ ties → FitsClosing prepared mid → IsUnchanged old mid
+    → closing_in old round increments ties ≡ Ok prepared.closed
+closing_fits prepared old mid round increments ties r i t fits same =
+    sym (same_closing old mid round increments ties same)
+    ∙ sym (ap (λ n. closing_in mid n prepared.increments prepared.ties) r ∙ ap (λ list. closing_in mid round list prepared.ties) i
+    ∙ ap (closing_in mid round increments) t)
+    ∙ fits
+
+-- and tells what that tells
 pub closed_outcome : (prepared : PreparedClosing) (old mid : HouseFields) (round : ℕ) (increments : Increments) (ties : List Tie)
     → prepared.round ≡ round → prepared.increments ≡ increments → prepared.ties ≡ ties → FitsClosing prepared mid → IsUnchanged old mid
     → done (closed_value round prepared.closed.sheet.ended) ≡ close_outcome round (closing_in old round increments ties)
 closed_outcome prepared old mid round increments ties r i t fits same =
-    ap (close_outcome round)
-    (sym fits ∙ ap (λ n. closing_in mid n prepared.increments prepared.ties) r ∙ ap (λ list. closing_in mid round list prepared.ties) i
-    ∙ ap (closing_in mid round increments) t ∙ same_closing old mid round increments ties same)
+    ap (close_outcome round) (sym (closing_fits prepared old mid round increments ties r i t fits same))
 
 abbrev followed_by : HouseFields → HouseFields → ℕ → Increments → List Tie → Type 0
 followed_by old new round increments ties = IsFollowedBy (close round increments ties) old new

@@ -5,6 +5,7 @@ use Rattle.clock_terms.specs.Limits.{IsSetup}
 use Rattle.clock_house.specs.House.{HouseFields}
 use Rattle.clock_http.specs.Framing.{framing, incomplete}
 use Rattle.clock_front.specs.Askers.{asker}
+use Rattle.clock_front.specs.Effects.{IsRightResponse}
 use Rattle.clock_front.specs.Fronts.{commands_of}
 use Rattle.clock_front.specs.Outcomes.{outcome, answer_of}
 use Rattle.clock_front.specs.Private.{IsPrivateReply}
@@ -12,6 +13,7 @@ use Rattle.clock_front.specs.Rooms.{IsPrivateWant, IsWantOf, WantsRoom, asks_for
 use Rattle.clock_front.specs.declared.front.replies.Unanswered.{Unanswered}
 use Rattle.clock_front.specs.declared.front.replies.Unanswered.TheVariants.{Room}
 use Rattle.clock_http.specs.Replies.{Answer}
+use Rattle.clock_front.specs.declared.front.response.Response.{Response}
 use Rattle.clock_front.specs.Requests.{request_of}
 use Rattle.clock_front.proofs.FrontLaws.{ask_by, outcome_after}
 use Rattle.clock_front.proofs.RunLaws.{right}
@@ -27,11 +29,10 @@ private_reply house text answer limits is =
     (is ∙ ap answer_of (outcome_after house (commands_of house.setup texts) (asker house.setup (request_of text).token) (request_of text).ask stands))).private
     bidder lt own
 
-pub if_private : {N : Type 0} (told : Result Answer N) (house : HouseFields) (text : List ℕ) → IsSetup house.setup
-    → IfOk told (λ reply. reply ≡ answer_of (outcome house (asker house.setup (request_of text).token) (request_of text).ask))
-    → IfOk told (IsPrivateReply text house)
-if_private (Ok reply) house text limits is = private_reply house text reply limits is
-if_private (Err e) house text limits is = tt
+pub if_private : {N : Type 0} (told : Result Response N) (old new : HouseFields) (text : List ℕ) → IsSetup old.setup
+    → IfOk told (IsRightResponse text old new) → IfOk told (λ response. IsPrivateReply text old response.reply)
+if_private (Ok response) old new text limits is = private_reply old text response.reply limits is.reply
+if_private (Err e) old new text limits is = tt
 
 -- ---- what want of memory tells
 

@@ -1,7 +1,12 @@
--- What is replied to a request, taken apart, and to a body, put together.
-use Rattle.std.proofs.Common.{◌≡◌, ◌≢◌, ℕ, Result, Ok, Err, IfOk, OnOk, sym, subst}
+-- The response to a request, taken apart, and to a body, put together.
+use Rattle.std.proofs.Common.{◌≡◌, ◌≢◌, ℕ, List, Bool, Option, Some, None, Result, Ok, Err, IfOk, OnOk, refl, sym, ap, ◌∙◌, subst}
+use Rattle.clock_terms.specs.declared.increments.Increments.{Increments}
+use Rattle.clock_order.specs.declared.ties.Tie.{Tie}
 use Rattle.clock_house.specs.Command as command
-use Rattle.clock_house.specs.House.{HouseFields, IsFollowedBy, put_fault_in, closing_in}
+use Rattle.clock_closing.specs.declared.closed_round.ClosedRound.{ClosedRound}
+use Rattle.clock_closing.specs.declared.fault.CloseFault.{CloseFault}
+use Rattle.clock_house.specs.declared.fault.PutFault.{PutFault}
+use Rattle.clock_house.specs.House.{HouseFields, IsFollowedBy, StandsStill, put_fault_in, closing_in}
 use Rattle.clock_http.specs.Replies.{Answer}
 use Rattle.clock_views.specs.Refusals.{alone}
 use Rattle.clock_bodies.specs.CloseBodies.{in_version}
@@ -9,53 +14,135 @@ use Rattle.clock_bodies.specs.declared.put_body.PutBody.{PutBody}
 use Rattle.clock_bodies.specs.declared.close_body.CloseBody.{CloseBody}
 use Rattle.clock_bodies.specs.declared.body.BodyFault.{BodyFault}
 use Rattle.clock_bodies.specs.declared.body.BodyFault.TheVariants.{NoMemory}
+use Rattle.clock_front.specs.Effects.{IsRightFor, close_effect, effect_in, put_effect}
 use Rattle.clock_front.specs.Requests.{Ask, put, close}
 use Rattle.clock_front.specs.Outcomes.{answer_of, body_code, close_command, close_outcome, close_to, command_of, outcome, put_outcome, refused}
 use Rattle.clock_front.specs.declared.front.askers.Asker.{Asker}
 use Rattle.clock_front.specs.declared.front.askers.Asker.TheVariants.{Operator, Bidder}
-use Rattle.clock_front.specs.inside.Replies.{IsReplyTo}
+use Rattle.clock_front.specs.declared.front.response.Effect.{Effect}
+use Rattle.clock_front.specs.declared.front.response.Effect.TheVariants.{Nothing, Sheet, Closing}
+use Rattle.clock_front.specs.declared.front.response.Response.{Response}
 use Rattle.clock_front.specs.inside.Roomless.{without_room}
-use Rattle.clock_front.proofs.ChangeLaws.{other_followed}
+use Rattle.clock_front.proofs.ChangeLaws.{none_followed, other_followed}
 
--- the reply is the right one, and the house is followed by what was asked for
-pub replied : {N : Type 0} (told : Result Answer N) (old new : HouseFields) (who : Asker) (ask : Ask) → IfOk told (IsReplyTo who ask old new)
-    → IfOk told (λ reply. reply ≡ answer_of (outcome old who ask))
-replied (Ok reply) old new who ask is = is.0
-replied (Err why) old new who ask is = tt
+-- a house that is left as it is stands for what it stood for
+pub same_stands : (house : HouseFields) → StandsStill house house
+same_stands house = record { setup = refl; stands = λ commands stood. stood }
 
-pub followed_by_reply : {N : Type 0} (told : Result Answer N) (old new : HouseFields) (who : Asker) (ask : Ask) → IfOk told (IsReplyTo who ask old new)
-    → OnOk told (IsFollowedBy (command_of old.setup who ask) old new)
-followed_by_reply (Ok reply) old new who ask is = is.1
-followed_by_reply (Err why) old new who ask is = tt
+-- the response to what is no command
+pub unchanged_right : (who : Asker) (ask : Ask) (house : HouseFields) (response : Response) → response.reply ≡ answer_of (outcome house who ask)
+    → response.effect ≡ Nothing → command_of house.setup who ask ≡ command.other → IsRightFor who ask house house response
+unchanged_right who ask house response reply nothing none = record {
+  reply = reply;
+  effect = nothing ∙ ap (effect_in house) (sym none);
+  followed = none_followed _ house none;
+  still = λ changed. same_stands house;
+}
 
--- a sheet that was read, and one that was not
-pub put_reply : (old new : HouseFields) (bidder : ℕ) (sent : Result PutBody BodyFault) (sheet : PutBody) (reply : Answer) → sent ≡ Ok sheet
-    → reply ≡ answer_of (put_outcome sheet (put_fault_in old bidder sheet.round sheet.bids))
-    → IsFollowedBy (command.put bidder sheet.round sheet.bids) old new → IsReplyTo (Bidder bidder) (put sent) old new reply
-put_reply old new bidder sent sheet reply is told followed =
-    subst (λ body. IsReplyTo (Bidder bidder) (put body) old new reply) (sym is) (told, followed)
+-- the reply of a right response
+pub right_reply : {N : Type 0} (told : Result Response N) (old new : HouseFields) (who : Asker) (ask : Ask) → IfOk told (IsRightFor who ask old new)
+    → IfOk told (λ response. response.reply ≡ answer_of (outcome old who ask))
+right_reply (Ok response) old new who ask is = is.reply
+right_reply (Err why) old new who ask is = tt
 
-pub refused_put : {N : Type 0} (told : Result Answer N) (house : HouseFields) (bidder : ℕ) (sent : Result PutBody BodyFault) (fault : BodyFault)
+-- ---- sheets
+
+-- a sheet that was read, put in force or refused
+pub sheet_put : (old new : HouseFields) (bidder : ℕ) (sent : Result PutBody BodyFault) (sheet : PutBody) (reply : Answer) → sent ≡ Ok sheet
+    → reply ≡ answer_of (put_outcome sheet None) → put_fault_in old bidder sheet.round sheet.bids ≡ None
+    → IsFollowedBy (command.put bidder sheet.round sheet.bids) old new
+    → IsRightFor (Bidder bidder) (put sent) old new (record { reply = reply; effect = Sheet })
+sheet_put old new bidder sent sheet reply is told none followed =
+    subst (λ body. IsRightFor (Bidder bidder) (put body) old new (record { reply = reply; effect = Sheet })) (sym is)
+    (record {
+      reply = told ∙ ap (λ (first : Option PutFault). answer_of (put_outcome sheet first)) (sym none);
+      effect = ap put_effect (sym none);
+      followed = followed;
+      still = λ (nothing : Sheet ≡ Nothing). cc;
+    })
+
+pub sheet_refused : (house : HouseFields) (bidder : ℕ) (sent : Result PutBody BodyFault) (sheet : PutBody) (fault : PutFault) (response : Response) → sent ≡ Ok sheet
+    → response.reply ≡ answer_of (put_outcome sheet (Some fault)) → response.effect ≡ Nothing → put_fault_in house bidder sheet.round sheet.bids ≡ Some fault
+    → IsFollowedBy (command.put bidder sheet.round sheet.bids) house house → IsRightFor (Bidder bidder) (put sent) house house response
+sheet_refused house bidder sent sheet fault response is told nothing faulty followed =
+    subst (λ body. IsRightFor (Bidder bidder) (put body) house house response) (sym is)
+    (record {
+      reply = told ∙ ap (λ (first : Option PutFault). answer_of (put_outcome sheet first)) (sym faulty);
+      effect = nothing ∙ ap put_effect (sym faulty);
+      followed = followed;
+      still = λ changed. same_stands house;
+    })
+
+-- and one that was not
+refused_body : (who : Asker) (ask : Ask) (house : HouseFields) (response : Response) (answer : Answer) → response ≡ record { reply = answer; effect = Nothing }
+    → answer ≡ answer_of (outcome house who ask) → command_of house.setup who ask ≡ command.other → IsRightFor who ask house house response
+refused_body who ask house response answer is right none =
+    unchanged_right who ask house response (ap (λ (one : Response). one.reply) is ∙ right) (ap (λ (one : Response). one.effect) is) none
+
+pub refused_put : {N : Type 0} (told : Result Response N) (house : HouseFields) (bidder : ℕ) (sent : Result PutBody BodyFault) (fault : BodyFault)
     → (fault ≢ NoMemory → sent ≡ Err fault) → OnOk told (fault ≢ NoMemory)
-    → IfOk told (λ reply. reply ≡ answer_of (refused (alone (body_code fault)))) → IfOk told (IsReplyTo (Bidder bidder) (put sent) house house)
-refused_put (Ok reply) house bidder sent fault err known is =
-    subst (λ body. IsReplyTo (Bidder bidder) (put body) house house reply) (sym (err known)) (is, other_followed house)
+    → IfOk told (λ response. response ≡ record { reply = answer_of (refused (alone (body_code fault))); effect = Nothing })
+    → IfOk told (IsRightFor (Bidder bidder) (put sent) house house)
+refused_put (Ok response) house bidder sent fault err known is =
+    subst (λ body. IsRightFor (Bidder bidder) (put body) house house response) (sym (err known))
+    (refused_body (Bidder bidder) (put (Err fault)) house response _ is refl refl)
 refused_put (Err none) house bidder sent fault err known is = tt
 
-abbrev IsClosingReply : HouseFields → HouseFields → Answer → Result CloseBody BodyFault → Type 0
-IsClosingReply old new reply body =
-    (reply ≡ answer_of (close_to (without_room old) body))
-    × IsFollowedBy (close_command body) old new
+-- ---- closings
 
--- a closing that was read, and one that was not
-pub close_reply : (old new : HouseFields) (sent : Result CloseBody BodyFault) (closing : CloseBody) (reply : Answer)
-    → in_version old.setup.version sent ≡ Ok closing
+-- what holds of a closing as its set-up's version reads it
+record IsClosingResponse (old new : HouseFields) (response : Response) (body : Result CloseBody BodyFault) : Type 0 where
+  reply : response.reply ≡ answer_of (close_to (without_room old) body)
+  effect : response.effect ≡ effect_in old (close_command body)
+  followed : IsFollowedBy (close_command body) old new
+  still : response.effect ≡ Nothing → StandsStill old new
+
+closing_response : (old new : HouseFields) (response : Response) (sent : Result CloseBody BodyFault)
+    → IsClosingResponse old new response (in_version old.setup.version sent) → IsRightFor Operator (close sent) old new response
+closing_response old new response sent is = record { reply = is.reply; effect = is.effect; followed = is.followed; still = is.still }
+
+-- a closing that was read
+pub closing_made : (old new : HouseFields) (sent : Result CloseBody BodyFault) (closing : CloseBody) (closed : ClosedRound) (reply : Answer)
+    → in_version old.setup.version sent ≡ Ok closing → closing_in old closing.round closing.increments closing.ties ≡ Ok closed
     → reply ≡ answer_of (close_outcome closing.round (closing_in old closing.round closing.increments closing.ties))
-    → IsFollowedBy (command.close closing.round closing.increments closing.ties) old new → IsReplyTo Operator (close sent) old new reply
-close_reply old new sent closing reply is told followed = subst (IsClosingReply old new reply) (sym is) (told, followed)
+    → IsFollowedBy (command.close closing.round closing.increments closing.ties) old new
+    → IsRightFor Operator (close sent) old new (record { reply = reply; effect = Closing closing.round })
+closing_made old new sent closing closed reply is made told followed =
+    closing_response old new (record { reply = reply; effect = Closing closing.round }) sent
+    (subst (IsClosingResponse old new (record { reply = reply; effect = Closing closing.round })) (sym is)
+    (record {
+      reply = told;
+      effect = ap (close_effect closing.round) (sym made);
+      followed = followed;
+      still = λ (nothing : Closing closing.round ≡ Nothing). cc;
+    }))
 
-pub refused_close : {N : Type 0} (told : Result Answer N) (house : HouseFields) (sent : Result CloseBody BodyFault) (fault : BodyFault)
+pub closing_refused : (old new : HouseFields) (sent : Result CloseBody BodyFault) (closing : CloseBody) (fault : CloseFault) (response : Response)
+    → in_version old.setup.version sent ≡ Ok closing → closing_in old closing.round closing.increments closing.ties ≡ Err fault
+    → response.reply ≡ answer_of (close_outcome closing.round (closing_in old closing.round closing.increments closing.ties)) → response.effect ≡ Nothing
+    → IsFollowedBy (command.close closing.round closing.increments closing.ties) old new → StandsStill old new → IsRightFor Operator (close sent) old new response
+closing_refused old new sent closing fault response is faulty told nothing followed still =
+    closing_response old new response sent
+    (subst (IsClosingResponse old new response) (sym is)
+    (record {
+      reply = told;
+      effect = nothing ∙ ap (close_effect closing.round) (sym faulty);
+      followed = followed;
+      still = λ changed. still;
+    }))
+
+-- and one that was not
+pub refused_close : {N : Type 0} (told : Result Response N) (house : HouseFields) (sent : Result CloseBody BodyFault) (fault : BodyFault)
     → (fault ≢ NoMemory → in_version house.setup.version sent ≡ Err fault) → OnOk told (fault ≢ NoMemory)
-    → IfOk told (λ reply. reply ≡ answer_of (refused (alone (body_code fault)))) → IfOk told (IsReplyTo Operator (close sent) house house)
-refused_close (Ok reply) house sent fault err known is = subst (IsClosingReply house house reply) (sym (err known)) (is, other_followed house)
+    → IfOk told (λ response. response ≡ record { reply = answer_of (refused (alone (body_code fault))); effect = Nothing })
+    → IfOk told (IsRightFor Operator (close sent) house house)
+refused_close (Ok response) house sent fault err known is =
+    closing_response house house response sent
+    (subst (IsClosingResponse house house response) (sym (err known))
+    (record {
+      reply = ap (λ (one : Response). one.reply) is;
+      effect = ap (λ (one : Response). one.effect) is;
+      followed = other_followed house;
+      still = λ changed. same_stands house;
+    }))
 refused_close (Err none) house sent fault err known is = tt

@@ -3,6 +3,7 @@ pub mod Askers
 pub mod Requests
 pub mod Outcomes
 pub mod Fronts
+pub mod Effects
 pub mod Hubs
 pub mod Streamed
 pub mod Views

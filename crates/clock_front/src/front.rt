@@ -2,18 +2,21 @@ ghost use Rattle.std.specs.Prelude.{◌≡◌, ◌⊎◌, [], ℕ, List, IfOk, I
 ghost use Rattle.clock_http.specs.declared.code.Code.{Code as ReplyCode};
 ghost use Rattle.clock_http.specs.Framing.{framing as framing_of, incomplete, refusal as refusal_of};
 ghost use Rattle.clock_http.specs.Shown.{IsFramed, shown_framing};
-ghost use Rattle.clock_house.specs.House.{HouseFields, IsFollowedBy, StandsStill};
+ghost use Rattle.clock_house.specs.House.{HouseFields, StandsStill};
 ghost use Rattle.clock_front.specs.Fronts.{AnswersText, IsCutShort, IsDoneBy, IsStruckOut, StandsForTexts};
-ghost use Rattle.clock_front.specs.{Fronts.{right_answer, text_command}, Private.{IsPrivateReply}, Rooms.{IsPrivateWant, IsWantOf}};
+ghost use Rattle.clock_front.specs.{Effects.{IsRightResponse, RespondsTo}, Private.{IsPrivateReply}};
+ghost use Rattle.clock_front.specs.Rooms.{IsPrivateWant, IsWantOf};
 ghost use Rattle.clock_front.specs.inside.{HeldTokens.{IsTableOf}, KeptPage.{IsProductsPage}};
 
 mod answering;
 mod askers;
 mod replies;
+mod response;
 
 use crate::front::answering::answer_request;
 use crate::front::askers::{Tokens, asker_of, tokens_of};
 use crate::front::replies::{fixed_reply, refusal};
+use crate::front::response::unchanged;
 use clock_device::{NoMemory, Text};
 use clock_house::House;
 use clock_http::{Code, Framing, Reply, Routes, frame};
@@ -21,6 +24,7 @@ use clock_processor::Processor;
 use clock_terms::Setup;
 use clock_views::{Refusal, products_page};
 pub use replies::{Unanswered, no_memory_reply};
+pub use response::{Effect, Response};
 use std::alloc::Global;
 use std::marker::Model;
 
@@ -73,17 +77,16 @@ impl<P: Processor> Front<P> {
         Ok(Front { alloc, house, kept })
     }
 
-    /// The reply to a text that is framed so, where there is memory for it; otherwise what was refused, and nothing has
-    /// changed. A text that asks for a page alone goes without a reply only with the refusal of room for it, of a size
-    /// that follows from the right reply: so for a bidder's own text it follows from its view.
-    pub fn try_answer(&mut self, framing: Framing<'_>) -> Result<Reply, Unanswered>
+    /// Responds to a text that is framed so. Without memory it returns what was refused, and nothing has changed. A text
+    /// that asks for a page alone then wanted room for that page, of a size that follows from the right reply: so for a
+    /// bidder's own text it follows from its view.
+    pub fn try_answer(&mut self, framing: Framing<'_>) -> Result<Response, Unanswered>
         requires { (text : List ℕ) × IsFramed text framing }
-        ensures reply { (text : List ℕ) → IsFramed text framing.entry
-            → IfOk result (λ reply. reply ≡ right_answer self.old text) }
-        ensures followed { (text : List ℕ) → IsFramed text framing.entry
-            → OnOk result (IsFollowedBy (text_command self.old.setup text) self.old self.new) }
+        ensures response { (text : List ℕ) → IsFramed text framing.entry
+            → IfOk result (IsRightResponse text self.old self.new) }
         ensures still { OnErr result (StandsStill self.old self.new) }
-        ensures private { (text : List ℕ) → IsFramed text framing.entry → IfOk result (IsPrivateReply text self.old) }
+        ensures private { (text : List ℕ) → IsFramed text framing.entry
+            → IfOk result (λ response. IsPrivateReply text self.old response.reply) }
         ensures wanted { (text : List ℕ) → IsFramed text framing.entry → IfErr result (IsWantOf text self.old) }
         ensures wanted_privately { (text : List ℕ) → IsFramed text framing.entry
             → IfErr result (IsPrivateWant text self.old) }
@@ -91,12 +94,34 @@ impl<P: Processor> Front<P> {
     {
         self.house.law_of_house();
         match framing {
-            Framing::NeedMore => Ok(refusal(self.alloc, Refusal::alone(Code::CutShort), None)?),
-            Framing::Refused(code) => Ok(fixed_reply(code)),
+            Framing::NeedMore => {
+                let reply = refusal(self.alloc, Refusal::alone(Code::CutShort), None)?;
+                Ok(unchanged(reply))
+            }
+            Framing::Refused(code) => Ok(unchanged(fixed_reply(code))),
             Framing::Whole { head, body } => {
                 let asker = asker_of(&self.kept.tokens, head.token);
                 answer_request(self.alloc, &mut self.house, &self.kept, asker, &head, body)
             }
+        }
+    }
+
+    /// Responds to a text that is framed so, after which the input has ended: the reply is that of [`Front::answer`],
+    /// and the effect says what the text changed. Head and body need not stand together.
+    pub fn respond(&mut self, framing: Framing<'_>) -> Response
+        requires { (text : List ℕ) × IsFramed text framing }
+        ensures response { (text : List ℕ) → IsFramed text framing.entry
+            → RespondsTo text result self.old self.new }
+        ensures private { (text : List ℕ) → IsFramed text framing.entry
+            → IsStruckOut text result.reply ⊎ IsPrivateReply text self.old result.reply }
+        ensures setup { self.new.setup ≡ self.old.setup }
+        ensures refused { (code : ReplyCode) → shown_framing framing.entry ≡ refusal_of code
+            → result.reply.code ≡ code }
+        ensures cut_short { shown_framing framing.entry ≡ incomplete → IsCutShort result.reply }
+    {
+        match self.try_answer(framing) {
+            Ok(response) => response,
+            Err(_) => unchanged(no_memory_reply()),
         }
     }
 
@@ -112,10 +137,7 @@ impl<P: Processor> Front<P> {
         ensures refused { (code : ReplyCode) → shown_framing framing.entry ≡ refusal_of code → result.code ≡ code }
         ensures cut_short { shown_framing framing.entry ≡ incomplete → IsCutShort result }
     {
-        match self.try_answer(framing) {
-            Ok(reply) => reply,
-            Err(_) => no_memory_reply(),
-        }
+        self.respond(framing).reply
     }
 
     /// The reply to a text, after which the input has ended: a request, less than one, or none at all.

@@ -14,7 +14,7 @@ mod stream;
 pub use clock_bodies::{BodyFault, CloseBody, PutBody, read_close, read_put};
 pub use clock_connections::{Conn, Event, HubFault, Unread, read_request};
 pub use clock_http::{Framing, Head, Page, Progress, Reply, frame};
-pub use front::{Front, Unanswered, no_memory_reply};
+pub use front::{Effect, Front, Response, Unanswered, no_memory_reply};
 pub use hub::{Fed, Hub};
 pub use runs::{EventReplies, EventReply, Replies, run, run_events};
 pub use stream::{StreamFault, serve_stream};

@@ -6,15 +6,17 @@ ghost use Rattle.clock_house.specs.House.{StandsStill};
 ghost use Rattle.clock_views.specs.Refusals.{alone};
 ghost use Rattle.clock_bodies.specs.{Bodies.{put_body}, CloseBodies.{close_body, in_version}};
 ghost use Rattle.clock_front.specs.declared.front.askers.Asker.TheVariants as who;
-ghost use Rattle.clock_front.specs.{Outcomes.{answer_of, body_code, outcome, refused}, Rooms.{WantsRoom}};
+ghost use Rattle.clock_front.specs.{Effects.{IsRightFor}, Outcomes.{answer_of, body_code, outcome, refused}};
+ghost use Rattle.clock_front.specs.Rooms.{WantsRoom};
 ghost use Rattle.clock_front.specs.Requests as asked;
-ghost use Rattle.clock_front.specs.inside.{Askers.{IsKnown}, KeptPage.{IsProductsPage}, Replies.{IsReplyTo}};
+ghost use Rattle.clock_front.specs.inside.{Askers.{IsKnown}, KeptPage.{IsProductsPage}};
 
 use crate::front::Kept;
 use crate::front::askers::Asker;
 use crate::front::replies::{
     Unanswered, account, bids, products, refusal, results, sheet, slip, status,
 };
+use crate::front::response::{Effect, Response, unchanged};
 use clock_bodies::{BodyFault, CloseBody, is_of_version, read_close, read_put};
 use clock_device::NoMemory;
 use clock_house::{CloseFault, House, PutFault};
@@ -24,14 +26,17 @@ use clock_terms::Setup;
 use clock_views::{Refusal, headed_accepted, headed_closed};
 use std::alloc::Global;
 
-/// A refusal of a body for its fault, unless that is want of memory.
-fn refused_body(alloc: Global, fault: BodyFault) -> Result<Reply, NoMemory>
-    ensures reply { IfOk result (λ reply. reply ≡ answer_of (refused (alone (body_code fault)))) }
+/// Refuses a body for its fault, unless that is `NoMemory`.
+fn refused_body(alloc: Global, fault: BodyFault) -> Result<Response, NoMemory>
+    ensures response { IfOk result (λ response. response ≡ record {
+      reply = answer_of (refused (alone (body_code fault)));
+      effect = Effect.Nothing;
+    }) }
     ensures known { OnOk result (fault ≢ BodyFault.NoMemory) }
 {
     match fault {
-        BodyFault::NotJson => Ok(refusal(alloc, Refusal::alone(Code::BadJson), None)?),
-        BodyFault::Shape => Ok(refusal(alloc, Refusal::alone(Code::Shape), None)?),
+        BodyFault::NotJson => Ok(unchanged(refusal(alloc, Refusal::alone(Code::BadJson), None)?)),
+        BodyFault::Shape => Ok(unchanged(refusal(alloc, Refusal::alone(Code::Shape), None)?)),
         BodyFault::NoMemory => Err(NoMemory),
     }
 }
@@ -42,9 +47,9 @@ fn put_sheet<P: Processor>(
     house: &mut House<P>,
     bidder: u32,
     body: &[u8],
-) -> Result<Reply, NoMemory>
+) -> Result<Response, NoMemory>
     requires { bidder < length house.old.setup.bidders }
-    ensures done { IfOk result (IsReplyTo (who.Bidder bidder) (asked.put (put_body body.now)) house.old house.new) }
+    ensures done { IfOk result (IsRightFor (who.Bidder bidder) (asked.put (put_body body.now)) house.old house.new) }
     ensures still { OnErr result (StandsStill house.old house.new) }
 {
     let sheet = match read_put(alloc, body) {
@@ -56,10 +61,13 @@ fn put_sheet<P: Processor>(
         Ok(prepared) => {
             let text = headed_accepted(alloc, HEADROOM, sheet.round, count)?;
             house.commit_put(prepared);
-            Ok(Reply::written(Code::Done, None, text))
+            Ok(Response {
+                reply: Reply::written(Code::Done, None, text),
+                effect: Effect::Sheet,
+            })
         }
         Err(PutFault::NoMemory) => Err(NoMemory),
-        Err(fault) => Ok(refusal(alloc, Refusal::from(fault), None)?),
+        Err(fault) => Ok(unchanged(refusal(alloc, Refusal::from(fault), None)?)),
     }
 }
 
@@ -82,8 +90,8 @@ fn close_round<P: Processor>(
     alloc: Global,
     house: &mut House<P>,
     body: &[u8],
-) -> Result<Reply, NoMemory>
-    ensures done { IfOk result (IsReplyTo who.Operator (asked.close (close_body body.now)) house.old house.new) }
+) -> Result<Response, NoMemory>
+    ensures done { IfOk result (IsRightFor who.Operator (asked.close (close_body body.now)) house.old house.new) }
     ensures still { OnErr result (StandsStill house.old house.new) }
 {
     let closing = match closing_of(alloc, house.setup(), body) {
@@ -97,14 +105,17 @@ fn close_round<P: Processor>(
         Ok(settled) => {
             let text = headed_closed(alloc, HEADROOM, round, settled.ended())?;
             house.commit(settled);
-            Ok(Reply::written(Code::Done, None, text))
+            Ok(Response {
+                reply: Reply::written(Code::Done, None, text),
+                effect: Effect::Closing(round),
+            })
         }
         Err(CloseFault::NoMemory) => Err(NoMemory),
-        Err(why) => Ok(refusal(alloc, Refusal::from(why), None)?),
+        Err(why) => Ok(unchanged(refusal(alloc, Refusal::from(why), None)?)),
     }
 }
 
-/// The reply to a request, which tells a page, or makes a change, or refuses it.
+/// Responds to a request: shows a page, makes a change, or refuses it.
 pub(crate) fn answer_request<P: Processor>(
     alloc: Global,
     house: &mut House<P>,
@@ -112,10 +123,10 @@ pub(crate) fn answer_request<P: Processor>(
     asker: Asker,
     head: &Head<'_>,
     body: &[u8],
-) -> Result<Reply, Unanswered>
+) -> Result<Response, Unanswered>
     requires page { IsProductsPage house.old.setup kept.now.products }
     requires known { IsKnown (length house.old.setup.bidders) asker }
-    ensures done { IfOk result (IsReplyTo asker (asked.ask_by_route (page_of head.now.path.now) (shown_head head.now)
+    ensures done { IfOk result (IsRightFor asker (asked.ask_by_route (page_of head.now.path.now) (shown_head head.now)
         body.now) house.old house.new) }
     ensures wanted { IfErr result (WantsRoom asker (asked.ask_by_route (page_of head.now.path.now) (shown_head head.now)
         body.now) (outcome house.old asker (asked.ask_by_route (page_of head.now.path.now) (shown_head head.now)
@@ -123,29 +134,29 @@ pub(crate) fn answer_request<P: Processor>(
     ensures still { OnErr result (StandsStill house.old house.new) }
 {
     let Some(page) = kept.routes.page_of(head.path) else {
-        return Ok(refusal(alloc, Refusal::alone(Code::NoPage), None)?);
+        return Ok(unchanged(refusal(alloc, Refusal::alone(Code::NoPage), None)?));
     };
     if !page.has_method(head.method) {
-        return Ok(refusal(alloc, Refusal::alone(Code::Method), Some(page))?);
+        return Ok(unchanged(refusal(alloc, Refusal::alone(Code::Method), Some(page))?));
     }
     match (page, asker) {
-        (Page::Status, _) => Ok(status(alloc, house)?),
-        (Page::Products, _) => Ok(products(alloc, kept.products.as_slice())?),
-        (Page::Sheet, _) => Ok(sheet(alloc, house, last_segment(head.path))?),
-        (Page::Account, Asker::Bidder(bidder)) => Ok(account(alloc, house, bidder)?),
+        (Page::Status, _) => Ok(unchanged(status(alloc, house)?)),
+        (Page::Products, _) => Ok(unchanged(products(alloc, kept.products.as_slice())?)),
+        (Page::Sheet, _) => Ok(unchanged(sheet(alloc, house, last_segment(head.path))?)),
+        (Page::Account, Asker::Bidder(bidder)) => Ok(unchanged(account(alloc, house, bidder)?)),
         (Page::Bids, Asker::Bidder(bidder)) if head.is_put() => Ok(put_sheet(
             alloc, house, bidder, body,
         )?),
-        (Page::Bids, Asker::Bidder(bidder)) => Ok(bids(alloc, house, bidder)?),
-        (Page::Slip, Asker::Bidder(bidder)) => Ok(slip(
+        (Page::Bids, Asker::Bidder(bidder)) => Ok(unchanged(bids(alloc, house, bidder)?)),
+        (Page::Slip, Asker::Bidder(bidder)) => Ok(unchanged(slip(
             alloc,
             house,
             bidder,
             last_segment(head.path),
-        )?),
+        )?)),
         (Page::Close, Asker::Operator) => Ok(close_round(alloc, house, body)?),
-        (Page::Results, Asker::Operator) => Ok(results(alloc, house)?),
-        (_, Asker::Nobody) => Ok(refusal(alloc, Refusal::alone(Code::Token), None)?),
-        (_, _) => Ok(refusal(alloc, Refusal::alone(Code::Role), None)?),
+        (Page::Results, Asker::Operator) => Ok(unchanged(results(alloc, house)?)),
+        (_, Asker::Nobody) => Ok(unchanged(refusal(alloc, Refusal::alone(Code::Token), None)?)),
+        (_, _) => Ok(unchanged(refusal(alloc, Refusal::alone(Code::Role), None)?)),
     }
 }

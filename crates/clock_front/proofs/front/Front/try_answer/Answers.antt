@@ -1,7 +1,7 @@
 use Rattle.std.proofs.Common.{◌≡◌, ap, refl, sym, subst, ◌∙◌, rules}
-use Rattle.std.specs.Prelude.{IfErr, IfOk, None, OnOk}
+use Rattle.std.specs.Prelude.{IfErr, IfOk, None}
 use Rattle.clock_terms.specs.Limits.{IsSetup}
-use Rattle.clock_house.specs.House.{HouseFields, IsFollowedBy}
+use Rattle.clock_house.specs.House.{HouseFields}
 use Rattle.clock_views.specs.Refusals.{Shown}
 use Rattle.clock_views.specs.RefusalPage.{refusal_value}
 use Rattle.clock_http.specs.declared.code.Code.TheVariants.{CutShort}
@@ -9,67 +9,64 @@ use Rattle.clock_http.specs.Framing.{incomplete, refusal}
 use Rattle.clock_http.specs.Routes.{page_of}
 use Rattle.clock_http.specs.Shown.{shown_framing, shown_head}
 use Rattle.clock_front.specs.Askers.{asker}
-use Rattle.clock_front.specs.Fronts.{right_answer, text_command}
-use Rattle.clock_front.specs.Outcomes.{answer_of, outcome, command_of, with_page}
+use Rattle.clock_front.specs.Effects.{IsRightFor, IsRightResponse}
+use Rattle.clock_front.specs.Outcomes.{outcome, with_page}
 use Rattle.clock_front.specs.Requests.{ask_by_route, request_of}
 use Rattle.clock_front.specs.declared.front.replies.Unanswered.TheVariants.{Room}
+use Rattle.clock_front.specs.declared.front.response.Response.{Response}
 use Rattle.clock_front.specs.Rooms.{IsWantOf, WantsRoom, refusal_room}
-use Rattle.clock_front.proofs.ChangeLaws.{none_followed}
 use Rattle.clock_front.proofs.PrivateLaws.{cut_short_want, private_reply, if_private, if_private_want, want_as}
-use Rattle.clock_front.proofs.ReplyLaws.{replied, followed_by_reply}
+use Rattle.clock_front.proofs.ReplyLaws.{unchanged_right}
 use Rattle.clock_front.proofs.FrontLaws.{refused_fixed, away_told, away_command, of_text}
 use Rattle.clock_front.proofs.front.Front.try_answer.Goals as goal
 
 pub fixed_reply-requires : goal.fixed_reply-requires
 fixed_reply-requires g c = refused_fixed c.requires.0 c.in-Refused.code (sym (ap shown_framing (sym c.in-Refused.is) ∙ c.requires.1))
 
-pub returns-in_ok-refusal-in-NeedMore-clause-reply : goal.returns-in_ok-refusal-in-NeedMore-clause-reply
-returns-in_ok-refusal-in-NeedMore-clause-reply g c = λ text is.
+pub returns-in_ok-reply-in-NeedMore-clause-response : goal.returns-in_ok-reply-in-NeedMore-clause-response
+returns-in_ok-reply-in-NeedMore-clause-response g c = λ text is.
     let house = c.args.self.now in
-    c.in_ok-refusal-in-NeedMore.ensures
+    let who = asker house.setup (request_of text).token in
+    let framed = ap shown_framing (sym c.in-NeedMore.is) ∙ is in
+    unchanged_right who (request_of text).ask house c.unchanged.result
+    (ap (λ (response : Response). response.reply) c.unchanged.ensures ∙ c.in_ok-reply-in-NeedMore.ensures
     ∙ ap (λ (shown : Shown). with_page shown.code None (refusal_value shown)) c.alone.ensures
-    ∙ away_told house (asker house.setup (request_of text).token) text incomplete CutShort (ap shown_framing (sym c.in-NeedMore.is) ∙ is) refl
+    ∙ away_told house who text incomplete CutShort framed refl)
+    (ap (λ (response : Response). response.effect) c.unchanged.ensures)
+    (away_command house.setup who text incomplete CutShort framed refl)
 
-pub returns-in_ok-refusal-in-NeedMore-clause-followed : goal.returns-in_ok-refusal-in-NeedMore-clause-followed
-returns-in_ok-refusal-in-NeedMore-clause-followed g c = λ text is.
-    let house = c.args.self.now in
-    none_followed _ house
-    (away_command house.setup (asker house.setup (request_of text).token) text incomplete CutShort (ap shown_framing (sym c.in-NeedMore.is) ∙ is) refl)
-
-pub returns-in_ok-refusal-in-NeedMore-clause-private : goal.returns-in_ok-refusal-in-NeedMore-clause-private
-returns-in_ok-refusal-in-NeedMore-clause-private g c = λ text is.
+pub returns-in_ok-reply-in-NeedMore-clause-private : goal.returns-in_ok-reply-in-NeedMore-clause-private
+returns-in_ok-reply-in-NeedMore-clause-private g c = λ text is.
     let limits = subst (λ (h : HouseFields). IsSetup h.setup) c.self.view_is c.law_of_house.ensures.limits in
-    private_reply c.args.self.now text _ limits (returns-in_ok-refusal-in-NeedMore-clause-reply g c text is)
+    private_reply c.args.self.now text _ limits (returns-in_ok-reply-in-NeedMore-clause-response g c text is).reply
 
-pub returns-in_err-refusal-in-NeedMore-clause-wanted : goal.returns-in_err-refusal-in-NeedMore-clause-wanted
-returns-in_err-refusal-in-NeedMore-clause-wanted g c = λ text is.
+pub returns-in_err-reply-in-NeedMore-clause-wanted : goal.returns-in_err-reply-in-NeedMore-clause-wanted
+returns-in_err-reply-in-NeedMore-clause-wanted g c = λ text is.
     let house = c.args.self.now in
     want_as c.from_residual.result (λ why. why ≡ Room refusal_room) (IsWantOf text house)
     (λ why wants. cut_short_want house text why (ap shown_framing (sym c.in-NeedMore.is) ∙ is) wants) (search rules)
 
-pub returns-in_err-refusal-in-NeedMore-clause-wanted_privately : goal.returns-in_err-refusal-in-NeedMore-clause-wanted_privately
-returns-in_err-refusal-in-NeedMore-clause-wanted_privately g c = λ text is.
+pub returns-in_err-reply-in-NeedMore-clause-wanted_privately : goal.returns-in_err-reply-in-NeedMore-clause-wanted_privately
+returns-in_err-reply-in-NeedMore-clause-wanted_privately g c = λ text is.
     let limits = subst (λ (h : HouseFields). IsSetup h.setup) c.self.view_is c.law_of_house.ensures.limits in
-    if_private_want c.from_residual.result c.args.self.now text limits (returns-in_err-refusal-in-NeedMore-clause-wanted g c text is)
+    if_private_want c.from_residual.result c.args.self.now text limits (returns-in_err-reply-in-NeedMore-clause-wanted g c text is)
 
-pub returns-in-Refused-clause-reply : goal.returns-in-Refused-clause-reply
-returns-in-Refused-clause-reply g c = λ text is.
+pub returns-in-Refused-clause-response : goal.returns-in-Refused-clause-response
+returns-in-Refused-clause-response g c = λ text is.
     let house = c.args.self.now in
+    let who = asker house.setup (request_of text).token in
     let code = c.in-Refused.code in
-    c.fixed_reply.ensures
-    ∙ away_told house (asker house.setup (request_of text).token) text (refusal code) code (ap shown_framing (sym c.in-Refused.is) ∙ is) refl
-
-pub returns-in-Refused-clause-followed : goal.returns-in-Refused-clause-followed
-returns-in-Refused-clause-followed g c = λ text is.
-    let house = c.args.self.now in
-    let code = c.in-Refused.code in
-    none_followed _ house
-    (away_command house.setup (asker house.setup (request_of text).token) text (refusal code) code (ap shown_framing (sym c.in-Refused.is) ∙ is) refl)
+    let framed = ap shown_framing (sym c.in-Refused.is) ∙ is in
+    unchanged_right who (request_of text).ask house c.unchanged-in-Refused.result
+    (ap (λ (response : Response). response.reply) c.unchanged-in-Refused.ensures ∙ c.fixed_reply.ensures
+    ∙ away_told house who text (refusal code) code framed refl)
+    (ap (λ (response : Response). response.effect) c.unchanged-in-Refused.ensures)
+    (away_command house.setup who text (refusal code) code framed refl)
 
 pub returns-in-Refused-clause-private : goal.returns-in-Refused-clause-private
 returns-in-Refused-clause-private g c = λ text is.
     let limits = subst (λ (h : HouseFields). IsSetup h.setup) c.self.view_is c.law_of_house.ensures.limits in
-    private_reply c.args.self.now text c.fixed_reply.result limits (returns-in-Refused-clause-reply g c text is)
+    private_reply c.args.self.now text _ limits (returns-in-Refused-clause-response g c text is).reply
 
 pub answer_request-requires-clause-known : goal.answer_request-requires-clause-known
 answer_request-requires-clause-known g c = c.asker_of-asker.ensures.known c.self.inside.house.setup c.self.invariant.0
@@ -77,31 +74,20 @@ answer_request-requires-clause-known g c = c.asker_of-asker.ensures.known c.self
 pub returns-in-Whole-clause-still : goal.returns-in-Whole-clause-still
 returns-in-Whole-clause-still g c = rw (← c.self.view_is) c.answer_request.ensures.still
 
-pub returns-in-Whole-clause-reply : goal.returns-in-Whole-clause-reply
-returns-in-Whole-clause-reply g c = λ text is.
-    let house = c.self.inside.house in
-    let told = c.answer_request.result in
-    subst (λ (h : HouseFields). IfOk told (λ reply. reply ≡ right_answer h text)) c.self.view_is
-    (of_text house.setup text (λ who ask. IfOk told (λ reply. reply ≡ answer_of (outcome house who ask))) _ _
-    (shown_head c.in-Whole.head) c.in-Whole.body.now (c.asker_of-asker.ensures.shown house.setup c.self.invariant.0) refl
-    (ap shown_framing (sym c.in-Whole.is) ∙ is) (replied told house c.answer_request.new.house c.asker_of-asker.result
-    (ask_by_route (page_of c.in-Whole.head.path.now) (shown_head c.in-Whole.head) c.in-Whole.body.now) c.answer_request.ensures.done))
-
-pub returns-in-Whole-clause-followed : goal.returns-in-Whole-clause-followed
-returns-in-Whole-clause-followed g c = λ text is.
+pub returns-in-Whole-clause-response : goal.returns-in-Whole-clause-response
+returns-in-Whole-clause-response g c = λ text is.
     let house = c.self.inside.house in
     let told = c.answer_request.result in
     let new = c.answer_request.new.house in
-    subst (λ (h : HouseFields). OnOk told (IsFollowedBy (text_command h.setup text) h new)) c.self.view_is
-    (of_text house.setup text (λ who ask. OnOk told (IsFollowedBy (command_of house.setup who ask) house new)) _ _
+    subst (λ (h : HouseFields). IfOk told (IsRightResponse text h new)) c.self.view_is
+    (of_text house.setup text (λ who ask. IfOk told (IsRightFor who ask house new)) _ _
     (shown_head c.in-Whole.head) c.in-Whole.body.now (c.asker_of-asker.ensures.shown house.setup c.self.invariant.0) refl
-    (ap shown_framing (sym c.in-Whole.is) ∙ is) (followed_by_reply told house new c.asker_of-asker.result
-    (ask_by_route (page_of c.in-Whole.head.path.now) (shown_head c.in-Whole.head) c.in-Whole.body.now) c.answer_request.ensures.done))
+    (ap shown_framing (sym c.in-Whole.is) ∙ is) c.answer_request.ensures.done)
 
 pub returns-in-Whole-clause-private : goal.returns-in-Whole-clause-private
 returns-in-Whole-clause-private g c = λ text is.
     let limits = subst (λ (h : HouseFields). IsSetup h.setup) c.self.view_is c.law_of_house.ensures.limits in
-    if_private c.answer_request.result c.args.self.now text limits (returns-in-Whole-clause-reply g c text is)
+    if_private c.answer_request.result c.args.self.now c.answer_request.new.house text limits (returns-in-Whole-clause-response g c text is)
 
 pub returns-in-Whole-clause-wanted : goal.returns-in-Whole-clause-wanted
 returns-in-Whole-clause-wanted g c = λ text is.

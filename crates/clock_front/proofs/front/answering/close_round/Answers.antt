@@ -7,16 +7,16 @@ use Rattle.clock_house.specs.House.{closing_in}
 use Rattle.clock_views.specs.OperatorPages.{closed_value}
 use Rattle.clock_bodies.specs.CloseBodies.{close_body, in_version}
 use Rattle.clock_front.specs.Outcomes.{answer_of, close_outcome, done}
-use Rattle.clock_front.proofs.ChangeLaws.{closed_outcome, closing_followed}
+use Rattle.clock_front.proofs.ChangeLaws.{closed_outcome, closing_fits, closing_followed}
 use Rattle.clock_front.proofs.PageLaws.{written_page}
-use Rattle.clock_front.proofs.ReplyLaws.{close_reply, refused_close}
+use Rattle.clock_front.proofs.ReplyLaws.{closing_made, closing_refused, refused_close}
 use Rattle.clock_front.proofs.front.answering.close_round.Goals as goal
 
 pub returns-in-Err-clause-done : goal.returns-in-Err-clause-done
 returns-in-Err-clause-done g c =
     refused_close c.refused_body.result c.args.house.now (close_body c.args.body.now) c.in-Err.fault
     (λ known. subst (λ (setup : SetupFields). in_version setup.version (close_body c.args.body.now) ≡ Err c.in-Err.fault) c.setup.ensures
-    (c.in-Err.ensures.err known)) c.refused_body.ensures.known c.refused_body.ensures.reply
+    (c.in-Err.ensures.err known)) c.refused_body.ensures.known c.refused_body.ensures.response
 
 pub returns-in_ok-text-in-Ok-settled-clause-done : goal.returns-in_ok-text-in-Ok-settled-clause-done
 returns-in_ok-text-in-Ok-settled-clause-done g c =
@@ -24,8 +24,10 @@ returns-in_ok-text-in-Ok-settled-clause-done g c =
     let closing = c.in-Ok.closing in
     let made = c.in-Ok-settled.ensures in
     let asked = made.asked in
-    close_reply house c.commit.new.self (close_body c.args.body.now) closing c.written.result
+    closing_made house c.commit.new.self (close_body c.args.body.now) closing _ c.written.result
     (subst (λ (setup : SetupFields). in_version setup.version (close_body c.args.body.now) ≡ Ok closing) c.setup.ensures c.in-Ok.ensures.ok)
+    (closing_fits c.in-Ok-settled.settled house c.prepare-settled.new.self closing.round closing.increments closing.ties
+    asked.0 asked.1 (asked.2 ∙ c.as_slice.ensures) made.fits made.same)
     (written_page _ _ _ _ _ c.written.ensures c.in_ok-text-in-Ok-settled.ensures
     ∙ ap (λ (ended : Bool). answer_of (done (closed_value closing.round ended))) c.ended.ensures
     ∙ ap answer_of (closed_outcome c.in-Ok-settled.settled house c.prepare-settled.new.self closing.round closing.increments closing.ties
@@ -38,9 +40,9 @@ returns-in_ok-refusal-in-Err-settled-clause-done g c =
     let house = c.args.house.now in
     let closing = c.in-Ok.closing in
     let judged = c.in-Err-settled.ensures in
-    close_reply house c.prepare-settled.new.self (close_body c.args.body.now) closing _
+    let faulty : closing_in house closing.round closing.increments closing.ties ≡ Err c.in-Err-settled.why =
+    ap (closing_in house closing.round closing.increments) (sym c.as_slice.ensures) ∙ judged.answer (search rules) in
+    closing_refused house c.prepare-settled.new.self (close_body c.args.body.now) closing c.in-Err-settled.why c.unchanged.result
     (subst (λ (setup : SetupFields). in_version setup.version (close_body c.args.body.now) ≡ Ok closing) c.setup.ensures c.in-Ok.ensures.ok)
-    ((rw c.from.ensures at c.in_ok-refusal-in-Err-settled.ensures)
-    ∙ ap (λ (first : Result ClosedRound CloseFault). answer_of (close_outcome closing.round first)) (sym (judged.answer (search rules)))
-    ∙ ap (λ (ties : List Tie). answer_of (close_outcome closing.round (closing_in house closing.round closing.increments ties))) c.as_slice.ensures)
-    (rw (← c.as_slice.ensures) (judged.followed (search rules)))
+    faulty (rw faulty (search rules)) (search rules)
+    (rw (← c.as_slice.ensures) (judged.followed (search rules))) judged.stands

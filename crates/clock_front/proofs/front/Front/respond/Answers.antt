@@ -4,18 +4,18 @@ use Rattle.clock_http.specs.Replies.{Answer}
 use Rattle.clock_front.specs.Askers.{asker}
 use Rattle.clock_front.specs.Requests.{request_of}
 use Rattle.clock_front.proofs.FrontLaws.{refused_code, answered_cut_short}
-use Rattle.clock_front.proofs.front.Front.answer_framed.Goals as goal
+use Rattle.clock_front.proofs.front.Front.respond.Goals as goal
 
 pub returns-in-Ok-clause-refused : goal.returns-in-Ok-clause-refused
 returns-in-Ok-clause-refused g c = λ code is.
     let house = c.args.self.now in
     let text = c.requires.0 in
-    ap (λ (reply : Answer). reply.code) (c.in-Ok.ensures.reply text c.requires.1)
+    ap (λ (reply : Answer). reply.code) ((c.in-Ok.ensures.response text c.requires.1).reply)
     ∙ refused_code house (asker house.setup (request_of text).token) text code (sym c.requires.1 ∙ is)
 
 pub returns-in-Ok-clause-cut_short : goal.returns-in-Ok-clause-cut_short
 returns-in-Ok-clause-cut_short g c = λ is.
     let house = c.args.self.now in
     let text = c.requires.0 in
-    inl (c.in-Ok.ensures.reply text c.requires.1
+    inl ((c.in-Ok.ensures.response text c.requires.1).reply
     ∙ answered_cut_short house (asker house.setup (request_of text).token) text (ap is_incomplete (sym c.requires.1 ∙ is)))
