@@ -1,0 +1,84 @@
+"""The auction's server: the built program, or the same source run by `rt try`; and requests to it."""
+import http.client
+import json
+import os
+import pathlib
+import shutil
+import signal
+import subprocess
+import sys
+import time
+from typing import Any
+
+TOP = pathlib.Path(__file__).resolve().parents[2]
+CRATE = TOP / "crates" / "clock_auction"
+BUILT = CRATE / "out" / "clock_auction"
+CONNECTIONS = 1_000_000
+DAY = 86_400                # seconds
+PATIENCE = 600              # seconds until a server that is built first must answer
+
+
+def program_of(given: pathlib.Path | None) -> pathlib.Path | None:
+    """The program: the given one, the built one, or the one on the path. None if only the kit is there, which can run the source."""
+    found = shutil.which("clock_auction")
+    for path in [given] if given else [BUILT, *([pathlib.Path(found)] if found else [])]:
+        if os.access(path, os.X_OK):
+            return path.absolute()
+    if given:
+        sys.exit(f"{given} is not a program.")
+    if not shutil.which("rt"):
+        sys.exit(f"There is no server to practice with: {BUILT} is not built, `clock_auction` is not on the path, and neither is the kit's `rt`.")
+    return None
+
+
+class Server:
+    """One auction on a port of this machine, with its journal in a folder."""
+
+    def __init__(self, program: pathlib.Path | None, folder: pathlib.Path, port: int) -> None:
+        self.program, self.port, self.log = program, port, folder / "server.log"
+        words = ["serve", "--setup", str(folder / "setup.json"), "--port", str(port), "--connections", str(CONNECTIONS),
+                 "--journal", str(folder / "auction.journal")]
+        command = [str(program), *words] if program else ["rt", "try", "--seconds", str(DAY), "--", *words]
+        with open(self.log, "wb") as log:
+            # in a session of its own, so that Ctrl+C reaches only this script, and all that the kit starts can be stopped together
+            self.process = subprocess.Popen(command, cwd=CRATE, stdin=subprocess.DEVNULL, stdout=log, stderr=log, start_new_session=True)
+
+    def wait(self) -> None:
+        """Returns once the server answers. Ends the script if the server ends first."""
+        given_up = time.monotonic() + PATIENCE
+        while time.monotonic() < given_up:
+            try:
+                if self.send("GET", "/v1/status")[0] == 200:
+                    return
+            except OSError:
+                pass
+            if self.process.poll() is not None:
+                sys.exit(f"The server ended: {self.log.read_text(errors='replace')[-2000:].strip()}")
+            time.sleep(0.05)
+        sys.exit(f"The server did not answer within {PATIENCE} seconds. Its output is in {self.log}.")
+
+    def stop(self) -> None:
+        """Ends the server and all that it started. Its journal is whole at any moment."""
+        try:
+            os.killpg(self.process.pid, signal.SIGTERM)
+        except ProcessLookupError:
+            pass
+        self.process.wait()
+
+    def send(self, method: str, path: str, authorization: str | None = None, body: bytes | None = None) -> tuple[int, bytes]:
+        """Status and page of the reply to one request, on a connection of its own."""
+        link = http.client.HTTPConnection("127.0.0.1", self.port, timeout=300)
+        try:
+            link.request(method, path, body, {"authorization": authorization} if authorization else {})
+            reply = link.getresponse()
+            return reply.status, reply.read()
+        finally:
+            link.close()
+
+    def page(self, path: str, token: str | None = None, value: object = None, method: str = "PUT") -> dict[str, Any]:
+        """The page for a path, after this value was sent to it if there is one. A refusal ends the script."""
+        body = None if value is None else json.dumps(value, separators=(",", ":")).encode()
+        status, page = self.send("GET" if body is None else method, path, f"Bearer {token}" if token else None, body)
+        if status != 200:
+            sys.exit(f"The server refused {path}: {page.decode(errors='replace')}")
+        return json.loads(page)
