@@ -1,10 +1,11 @@
-// The server's routes. A token stays in the object that asks, in this tab's memory, and goes nowhere but into the request's header.
+// The server's routes. A token stays in the memory of this tab, and is sent only in the header of a request.
 
-// how long an answer is awaited: the closing of a very large auction may take some minutes
+// how long to wait for a reply: closing a round of a very large auction may take some minutes; an answer that is slow is reported before that
 const SECONDS = 20;
 const CLOSING_SECONDS = 300;
+const SLOW_SECONDS = 3;
 
-/** What the server refused, or that nothing answered (then `status` is 0, and nobody knows what was done). */
+/** A refusal of the server, or no answer: then `status` is 0, and the request may have taken effect or not. */
 export class Fault extends Error {
   constructor(page, status) {
     super(page.code);
@@ -17,16 +18,16 @@ export class Fault extends Error {
 const noAnswer = () => new Fault({ code: "no_answer" }, 0);
 const pause = (time) => new Promise((done) => setTimeout(done, time));
 
-/** Somebody who asks: a bidder, the operator, or anybody where there is no token. */
+/** Sends requests for a bidder or for the operator. */
 export class Asker {
   #token;
 
   constructor(token) {
-    if (/[^ -~]/.test(token)) throw new Fault({ code: "token" }, 401); // no header can have it, so it is not asked about
+    if (/[^ -~]/.test(token)) throw new Fault({ code: "token" }, 401); // no header may have such a letter
     this.#token = token;
   }
 
-  /** The page for a path, or a Fault. A proxy that says "too often" is asked again a little later, five times. */
+  /** The page for a path, or a Fault. If nginx replies "too often", the request is repeated up to five times. */
   async ask(path, method = "GET", body = undefined) {
     for (let again = 0; ; again++) {
       const reply = await this.#send(path, method, body);
@@ -36,7 +37,7 @@ export class Asker {
       }
       const page = await reply.json().catch(() => null);
       if (reply.ok && ["round", "products", "closed"].some((key) => page?.[key])) return page;
-      // the proxy that stands before the server answers and no server behind it, or somebody else
+      // nginx without the server, or neither of them
       if (reply.ok || !page?.code || (page.code === "proxy" && reply.status >= 500)) throw noAnswer();
       throw new Fault(page, reply.status);
     }
@@ -63,21 +64,24 @@ export class Asker {
   put(round, bids) { return this.ask("/v1/me/bids", "PUT", { bids, round }); }
   close(closing) { return this.ask("/v1/close", "POST", closing); }
   results() { return this.ask("/v1/results"); }
+  conductor() { return this.ask("/conductor.json"); }
 }
 
 /**
- * Asks the status every second, and every five seconds while it can't be had, for good. `heard` takes a status, and may ask more;
- * `missed` takes the fault where that failed.
+ * Asks for the status every second, for good, and every five seconds while there is no answer. `heard` takes a status, and may ask for more; `slow` is
+ * called if that takes three seconds, and `missed` takes the fault if it fails.
  */
-export async function watch(asker, heard, missed) {
+export async function watch(asker, heard, slow, missed) {
   for (;;) {
     let wait = 1000;
+    const late = setTimeout(slow, SLOW_SECONDS * 1000);
     try {
       await heard(await asker.status());
     } catch (fault) {
       wait = 5000;
       missed(fault);
     }
+    clearTimeout(late);
     await pause(wait);
   }
 }

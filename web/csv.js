@@ -1,4 +1,6 @@
-// Tables as CSV: bids down and up (`product,quantity,price`), and what else is saved.
+// Tables as CSV: bids to save and to read (`product,quantity,price`), and other tables to save.
+
+import { priceOf, quantityOf, WRONG_PRICE, WRONG_QUANTITY } from "./sheet.js";
 
 const field = (value) => (/[",\r\n]/.test(String(value)) ? `"${String(value).replaceAll('"', '""')}"` : String(value));
 
@@ -10,22 +12,32 @@ export function writtenBids(products, bids) {
   return written([["product", "quantity", "price"], ...bids.map((bid) => [products[bid.product].name, bid.quantity, bid.price])]);
 }
 
-/** The bids of a CSV text, of semicolons or tabs too, and its wrong lines in words. A product is its name, or its number from 0 where no name is one. */
+/** The fields of a line: parted by semicolons or tabs if it has any, else by commas, but for those within quotes or within a price at the end. */
+function fieldsOf(line) {
+  const parted = /[;\t]/.test(line) ? /(?:^|[;\t])("[^"]*"|[^;\t]*)/g : /(?:^|,)("[^"]*"|[^,]*)/g;
+  const fields = [...line.matchAll(parted)].map((match) => match[1].trim().replace(/^"(.*)"$/, "$1").trim());
+  const price = fields.slice(2).join(",");
+  return fields.length > 3 && /^\$?[1-9]\d{0,2}(,\d{3})+$/.test(price) ? [...fields.slice(0, 2), price] : fields;
+}
+
+/**
+ * The bids of a CSV text, and its wrong lines in words. A product is named, or numbered from 0 if no product's name is a number. A price may have `$` and
+ * commas; an empty one is null.
+ */
 export function readBids(products, text) {
   const numbers = new Map(products.map((product, at) => [product.name, at]));
   if (!products.some((product) => /^\d+$/.test(product.name))) products.forEach((_, at) => numbers.set(String(at), at)); // 001 comes back as 1
   const bids = [], wrong = [];
   text.replace(/^\ufeff/, "").split(/\r\n|\n|\r/).forEach((line, at) => {
     const say = (words) => wrong.push(`line ${at + 1}: ${words}`);
-    const parts = line.split(/[,;\t]/).map((part) => part.trim().replace(/^"(.*)"$/, "$1"));
-    if (parts.join("") === "" || (at === 0 && parts.join(",").toLowerCase() === "product,quantity,price")) return;
-    if (parts.length !== 3) return say("there are not three fields product,quantity,price");
-    const [name, quantity, price] = parts;
-    const product = numbers.get(name);
-    if (product === undefined) return say(`there is no product ${name.slice(0, 40)}`);
-    if (!/^\d{1,15}$/.test(quantity)) return say("the quantity is no whole number from 0 on");
-    if (!/^\d{1,15}$/.test(price)) return say("the price is no whole number of dollars");
-    bids.push({ product, quantity: Number(quantity), price: Number(price) });
+    const fields = fieldsOf(line);
+    if (fields.join("") === "" || (at === 0 && fields.join(",").toLowerCase() === "product,quantity,price")) return;
+    if (fields.length !== 3) return say("there are not three fields: product,quantity,price");
+    const product = numbers.get(fields[0]), quantity = quantityOf(fields[1]), price = fields[2] === "" ? null : priceOf(fields[2]);
+    if (product === undefined) return say(`no product is called ${fields[0].slice(0, 40)}`);
+    if (quantity === null) return say(WRONG_QUANTITY);
+    if (price === null && fields[2] !== "") return say(WRONG_PRICE);
+    bids.push({ product, quantity, price });
   });
   return { bids, wrong };
 }

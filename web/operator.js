@@ -1,49 +1,50 @@
-// The operator's page: increments, tie numbers, closing with a question first, the results of all bidders, the sheet of each round.
+// The operator's page: who has submitted bids, increments, tie-breaking numbers, closing after a question, all results, and each closed round.
 
 import { Asker, watch } from "./api.js";
+import { Conductor } from "./conductor.js";
 import { save, written } from "./csv.js";
 import {
-  at, cell, counted, demandOf, dollars, door, drawn, facts, lastClosed, make, number, offerRounds, question, rowHead, say, sum, tell, timeOfDay, unask,
+  at, cell, counted, demandCell, dollars, door, drawn, facts, lastClosed, listed, make, number, offerRounds, question, rowHead, say, sum, tell, timeOfDay, unask,
 } from "./page.js";
 import { activityOf, wordsOf } from "./rules.js";
 import { Rows } from "./table.js";
 
-const MOST_TIES = 16_384, LONG = 72; // letters that a row has room for
-const rounds = new Map();
-// `results` tell the round too; `underWay` is the round that is being closed
-let asker, page, results, underWay = 0, ties = [], increments = [], gone = false;
+const MOST_TIES = 16_384, LONG = 72; // letters that a row has space for
+const rounds = new Map(), conductor = new Conductor();
+// the results, which have the round too; `underWay` is the round that is being closed; when the server last answered
+let asker, page, results, underWay = 0, ties = [], increments = [], gone = false, answered = "";
 
 const incTable = new Rows(at("incframe"), at("incbody"), drawIncrement);
 const resTable = new Rows(at("resframe"), at("resbody"), drawBidder);
 const pastTable = new Rows(at("pastframe"), at("pastbody"), drawProduct);
 
-/** A whole number below n, each as likely, by the browser's random source. */
+/** A random whole number below n, from the browser's secure source. */
 function below(n) {
   const word = new Uint32Array(1), most = Math.floor(2 ** 32 / n) * n;
   do crypto.getRandomValues(word); while (word[0] >= most);
   return word[0] % n;
 }
 
-/** Tie numbers for the pairs of bidders and products in random order: all pairs, or as many as one closing may list, drawn from all. */
+/** Draws tie-breaking numbers for the pairs of bidder and product in random order: for all pairs, or for as many as one closing may list. */
 function drawTies() {
-  const products = page.products.length, pairs = results.bidders.length * products, listed = Math.min(pairs, MOST_TIES);
+  const products = page.products.length, pairs = results.bidders.length * products, count = Math.min(pairs, MOST_TIES);
   const places = Array.from({ length: pairs }, (_, pair) => pair);
-  for (let k = 0; k < listed; k++) {
+  for (let k = 0; k < count; k++) {
     const other = k + below(pairs - k);
     [places[k], places[other]] = [places[other], places[k]];
   }
-  ties = places.slice(0, listed).map((pair, k) => [Math.floor(pair / products), pair % products, k + 1]);
+  ties = places.slice(0, count).map((pair, k) => [Math.floor(pair / products), pair % products, k + 1]);
   const time = timeOfDay(), whole = `all ${number(pairs)} pairs of bidder and product`;
-  at("ties").textContent = listed === pairs ? `Drawn at random at ${time}, for ${whole}.`
-    : `Drawn at random at ${time}, for ${number(listed)} of ${whole}: a closing may list no more. The others have 0 and come before them.`;
+  at("ties").textContent = count === pairs ? `drawn at random at ${time}, for ${whole}.`
+    : `drawn at random at ${time}, for ${number(count)} of ${whole}. A closing may list no more. The others have 0 and come first.`;
 }
 
-/** Asks for the results and the last closed round, and draws tie numbers for the next closing. Of one page: a closing may come between two. */
+/** Asks for the results and the last closed round, and draws tie-breaking numbers for the next closing. */
 async function load() {
   page ??= await asker.products();
-  const now = await asker.results(), last = lastClosed(now), fell = now.round < results?.round;
+  const now = await asker.results(), last = lastClosed(now), fell = now.round < results?.round; // one reply: a closing may come between two
   const sold = last === 0 || (rounds.has(last) && !fell) ? rounds.get(last) : (await asker.round(last)).products;
-  if (fell) { underWay = 0; rounds.clear(); } // the server was started anew
+  if (fell) { underWay = 0; rounds.clear(); } // another server, or another auction
   if (last > 0) rounds.set(last, sold);
   results = now;
   drawTies();
@@ -56,16 +57,27 @@ function drawAll(last) {
   at("closing").hidden = results.ended;
   at("eachlabel").hidden = page.version === 1;
   at("ask").textContent = `Close round ${results.round} …`;
-  at("asof").textContent = last === 0 ? "No round is closed yet: nobody holds anything."
-    : results.ended ? "What each bidder won, and pays."
-    : `What each bidder holds since round ${last} was closed, at its posted prices. Sheets of the open round are not told here.`;
+  at("asof").textContent = last === 0 ? "No round is closed yet."
+    : results.ended ? "What each bidder won and pays."
+    : `Each bidder after round ${last}, at its posted prices. Bids of the open round are not shown.`;
   at("pastdesk").hidden = last === 0;
   if (increments.length !== page.products.length) increments = page.products.map(() => "");
+  drawState();
   drawFacts(last);
   incTable.set(page.products.map((_, p) => String(p)));
   resTable.set(results.bidders.map((_, b) => String(b)));
   offerRounds(last);
   showRound();
+}
+
+/** Shows who has submitted bids in this round, and what the conductor waits for. */
+function drawState() {
+  const names = results.bidders.map((bidder) => bidder.name), sheets = conductor.sheetsOf(results.round, names);
+  tell("waits", conductor.words());
+  at("waits").className = conductor.needsYou() ? "fault" : "";
+  at("submitted").hidden = at("missing").hidden = results.ended || !sheets;
+  facts("submitted", [["Bidders with submitted bids", `${number(sheets?.submitted.length)} of ${number(names.length)}`]]);
+  tell("missing", sheets?.missing.length ? `No bids from: ${listed(sheets.missing, 40)}.` : "All bidders have submitted bids.");
 }
 
 /** A product's posted price in the last closed round, or its opening price. */
@@ -74,17 +86,17 @@ const paid = (bidder) => bidder.demands.reduce((cost, blocks, p) => cost + BigIn
 
 function drawFacts(last) {
   const held = sum(results.bidders.map((bidder) => sum(bidder.demands))), supply = sum(page.products.map((product) => product.supply));
-  const tight = rounds.get(last)?.filter((sold) => sold.demand !== null).length ?? 0;
+  const above = rounds.get(last)?.filter((sold) => sold.demand !== null).length ?? 0;
   const active = results.bidders.filter((bidder) => bidder.eligibility > 0).length;
   facts("facts", [
     ["Bidders with eligibility", `${number(active)} of ${number(results.bidders.length)}`],
-    ["Products above supply", last ? `${number(tight)} of ${number(page.products.length)}` : "–"],
-    [results.ended ? "Blocks won" : "Blocks held", `${number(held)} of ${number(supply)}`],
+    ["Products with excess demand", last ? `${number(above)} of ${number(page.products.length)}` : "–"],
+    [results.ended ? "Blocks won" : "Processed demand, in blocks", `${number(held)}`, `supply ${number(supply)}`],
     [results.ended ? "Proceeds" : "At posted prices", dollars(results.bidders.reduce((cost, bidder) => cost + paid(bidder), 0n))],
   ]);
 }
 
-/** Shows the chosen round, which is asked for where it is not known yet. */
+/** Shows the chosen round, and loads it first if it is not known yet. */
 async function showRound() {
   const round = Number(at("which").value);
   if (!rounds.has(round)) pastTable.set([]);
@@ -103,25 +115,25 @@ function drawIncrement(key) {
     "data-key": key, "data-field": "increment", oninput: () => { increments[key] = input.value; },
   });
   input.value = increments[key];
-  return make("tr", {}, rowHead(product.name), cell("Posted", dollars(posted(key))), cell("Increment, percent", input));
+  return make("tr", {}, rowHead(product.name), cell("Posted price", dollars(posted(key))), cell("Increment, percent", input));
 }
 
 function drawBidder(key) {
   const bidder = results.bidders[key];
   const held = bidder.demands.flatMap((blocks, p) => (blocks ? [`${page.products[p].name} ${blocks}`] : []));
   const all = held.join(", ") || "none";
-  const told = all.length > LONG ? `${counted(sum(bidder.demands), "block")} of ${counted(held.length, "product")} (see the CSV)` : all;
+  const words = all.length > LONG ? `${counted(sum(bidder.demands), "block")} of ${counted(held.length, "product")} (download the results to see them)` : all;
   return make("tr", {}, rowHead(bidder.name), cell("Eligibility", number(bidder.eligibility)),
-    cell("Activity", number(activityOf(page.products, bidder.demands))), cell("At posted prices", dollars(paid(bidder))), cell("Blocks", told));
+    cell("Activity", number(activityOf(page.products, bidder.demands))), cell("At posted prices", dollars(paid(bidder))), cell("Processed demand", words));
 }
 
 function drawProduct(key) {
   const sold = rounds.get(Number(at("which").value))[key], product = page.products[key];
-  return make("tr", {}, rowHead(product.name), cell("Start", dollars(sold.start)), cell("Clock", dollars(sold.clock)),
-    cell("Posted", dollars(sold.posted)), cell("Demand", demandOf(sold, product)), cell("Next clock", dollars(sold.next)));
+  return make("tr", {}, rowHead(product.name), cell("Start-of-round price", dollars(sold.start)), cell("Clock price", dollars(sold.clock)),
+    cell("Posted price", dollars(sold.posted)), demandCell(sold, product), cell("Next clock price", dollars(sold.next)));
 }
 
-/** The closing as it is set on the page, or null where an increment can't be read. */
+/** The closing as the page has it, or null if an increment cannot be read. */
 function closing() {
   const one = at("increment").value.trim(), each = at("each").checked;
   const all = page.products.map((_, p) => (each && increments[p].trim()) || one);
@@ -130,31 +142,41 @@ function closing() {
   return page.version === 1 ? { ...base, increment: Number(one) } : { ...base, increments: all.map(Number) };
 }
 
-/** Asks first, and closes. What is closed is what the question names, though another round has come since. `heard` tells that it is closed. */
+/** The question before a closing, and the answer that closes: who has not submitted bids, and whether the conductor would close the round later. */
+function questionOf(asked) {
+  const percents = [asked.increments ?? asked.increment].flat(), low = Math.min(...percents), high = Math.max(...percents);
+  const names = results.bidders.map((bidder) => bidder.name), sheets = conductor.sheetsOf(asked.round, names), isEmpty = sheets?.submitted.length === 0;
+  const missing = !sheets ? "This page does not know who has submitted bids."
+    : isEmpty ? "NO bidder has submitted bids, so every bidder asks to give up all its blocks."
+    : sheets.missing.length ? `${number(sheets.submitted.length)} of ${number(names.length)} bidders have submitted bids. No bids from: ${listed(sheets.missing, 20)}.`
+    : "All bidders have submitted bids.";
+  return [`Close round ${asked.round} for all bidders? Clock prices rise by ${low === high ? low : `${low} to ${high}`} percent. ${missing}${conductor.early()} ` +
+    "Bids that have not arrived will not count. This cannot be undone.", isEmpty ? "Close it without any bids" : "Close the round"];
+}
+
+/** Asks first, and closes the round that the question names, even if another one is open by then. `heard` says when it is closed. */
 async function close() {
   const asked = closing();
   if (!asked) return say("⚠ Not closed: " + wordsOf("increment") + ".");
-  if (asked.round === underWay) return say(`Round ${underWay} is being closed already.`);
-  const percents = [asked.increments ?? asked.increment].flat(), low = Math.min(...percents), high = Math.max(...percents);
-  const prices = `Prices rise by ${low === high ? low : `${low} to ${high}`} percent.`;
-  if (!await question(`Close round ${asked.round} for all bidders? ${prices} What is not sent by now does not count, and this can't be taken back.`)) return;
+  if (asked.round === underWay) return say(`Round ${underWay} is already being closed.`);
+  if (!await question(...questionOf(asked))) return;
   underWay = asked.round;
-  say(`Round ${underWay} is being closed …`);
+  say(`Closing round ${underWay} …`);
   try {
     await asker.close(asked);
   } catch (fault) {
     underWay = 0;
-    if (asked.round === results.round && !results.ended) tellRefused(fault); // else `heard` has told what came of it
+    if (asked.round === results.round && !results.ended) tellRefused(fault); // else `heard` has said what happened
   }
 }
 
 function tellRefused(fault) {
   const product = fault.code === "price_limit" ? page.products[fault.place]?.name : undefined;
-  if (fault.status === 0) return say(`⚠ ${wordsOf(fault.code)}. Nobody knows whether the round was closed: look whether it has risen.`);
+  if (fault.status === 0) return say("⚠ No answer from the server. It is not known whether the round was closed: see whether its number has risen.");
   say(`⚠ Refused: ${wordsOf(fault.code)}${product ? ` (${product})` : ""}. Nothing was closed.`);
 }
 
-/** A line for each bidder and product that it holds. */
+/** Saves a line for each bidder and product with processed demand. */
 function saveResults() {
   const rows = results.bidders.flatMap((bidder) => bidder.demands.flatMap((blocks, p) =>
     (blocks ? [[bidder.name, page.products[p].name, blocks, posted(p)]] : [])));
@@ -168,23 +190,30 @@ async function heard(now) {
   if (risen) say(`✓ Round ${lastClosed(results)} is closed. ${results.ended ? "The auction has ended." : `Round ${results.round} is open.`}`);
   if (fell) say(`⚠ The round fell from ${then} to ${results.round}: another server answers, or one without its journal. Tell bidders to stop.`);
   gone = false;
-  at("link").textContent = "";
+  answered = timeOfDay();
+  tell("link", "");
+}
+
+function slow() {
+  tell("link", `No answer since ${answered}. ${underWay ? "The closing is under way." : "The server may be closing a round."}`);
 }
 
 function missed(fault) {
   gone = true;
-  tell("link", `⚠ ${fault.status ? wordsOf(fault.code) + "." : "Nothing answers."} It is asked again every five seconds.`);
+  tell("link", `⚠ ${fault.status ? wordsOf(fault.code) : "No answer from the server"}. Retrying every five seconds.`);
 }
 
 async function enter(token) {
   asker = new Asker(token);
   await load();
-  watch(asker, heard, missed);
+  answered = timeOfDay();
+  conductor.watch(asker, drawState);
+  watch(asker, heard, slow, missed);
 }
 
 door(enter, wordsOf);
 at("ask").addEventListener("click", close);
-at("draw").addEventListener("click", () => { drawTies(); say("Tie numbers are drawn anew."); });
+at("draw").addEventListener("click", () => { drawTies(); say("New tie-breaking numbers are drawn."); });
 at("each").addEventListener("change", () => { at("incframe").hidden = !at("each").checked; });
 at("increment").addEventListener("input", () => {
   for (const input of at("incbody").querySelectorAll("input")) input.placeholder = at("increment").value;

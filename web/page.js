@@ -1,4 +1,4 @@
-// What both pages draw with: elements whose text is never HTML, numbers in words, facts, cells, a question, and the door.
+// What all pages draw with: elements whose text is never HTML, numbers in words, facts, cells, a question, and the form that takes the token.
 
 export const at = (id) => document.getElementById(id);
 
@@ -15,88 +15,95 @@ export function make(tag, attributes = {}, ...children) {
 
 export const number = (n) => (n === null || n === undefined ? "–" : n.toLocaleString("en-US"));
 export const dollars = (n) => (n === null || n === undefined ? "–" : "$" + number(n));
-/** A count with its word, which is in the plural but for one. */
-export const counted = (n, word) => `${number(n)} ${word}${n === 1 ? "" : "s"}`;
+/** A count with its noun, in the plural unless the count is 1. */
+export const counted = (n, noun) => `${number(n)} ${noun}${n === 1 ? "" : "s"}`;
 export const sum = (numbers) => numbers.reduce((a, b) => a + b, 0);
+/** The first names of a list, and how many more there are. */
+export const listed = (names, most) => (names.length > most ? `${names.slice(0, most).join(", ")} and ${number(names.length - most)} more` : names.join(", "));
 
 export const timeOfDay = () => new Date().toLocaleTimeString("en-GB");
 
-/** The last closed round of an auction of that status, or 0. */
+/** The last closed round of an auction with this status, or 0. */
 export const lastClosed = (status) => (status.ended ? status.round : status.round - 1);
-/** What was asked for of a product in a closed round, which is told only where it is above the supply. */
-export const demandOf = (sold, product) =>
-  (sold.demand === null ? `≤ ${number(product.supply)}` : `${number(sold.demand)} of ${number(product.supply)}`);
+/** Excess demand for a product after a closed round. Demand is null if it is not above supply. */
+export const excessOf = (sold, product) => (sold.demand === null ? 0 : sold.demand - product.supply);
 
-/** A message to the person, which a screen reader says at once. */
+/** A message to the person, which a screen reader reads out at once. */
 export const say = (text) => { at("say").textContent = text; };
-/** Words that stand until others do: a screen reader says them again only where they have changed. */
+/** Sets a text. A screen reader reads it out only if it has changed. */
 export const tell = (id, words) => { if (at(id).textContent !== words) at(id).textContent = words; };
 
-/** A cell with its label, which stands above it where the table is drawn as cards. */
+/** A cell with its label, which is shown if rows are drawn as cards. */
 export const cell = (label, ...inside) => make("td", { "data-label": label }, ...inside);
-export const rowHead = (text) => make("th", { scope: "row" }, text);
+export const rowHead = (...inside) => make("th", { scope: "row" }, ...inside);
+export const note = (...inside) => make("small", {}, ...inside);
+/** The cell for aggregate demand, supply and excess demand after a closed round, or before the first one. */
+export const demandCell = (sold, product) => cell("Aggregate demand", !sold ? "–" : sold.demand === null ? "no excess" : number(sold.demand),
+  note(`supply ${number(product.supply)}${sold?.demand ? `, excess ${number(excessOf(sold, product))}` : ""}`));
 
-/** Fills a list with names and values; a third word, if there is one, says what the value was before. */
+/** Fills a list with names and values; a third text, if there is one, is a note on the value, and a fourth one its class. */
 export function facts(id, rows) {
-  at(id).replaceChildren(...rows.map(([name, value, before]) =>
-    make("div", {}, make("dt", {}, name), make("dd", {}, value, ...(before ? [make("small", {}, ` was ${before}`)] : [])))));
+  at(id).replaceChildren(...rows.map(([name, value, words, kind]) =>
+    make("div", { class: kind ?? null }, make("dt", {}, name), make("dd", {}, value, ...(words ? [note(" " + words)] : [])))));
 }
 
-/** Puts options into a select, and keeps what is selected where it is still there. */
+/** Puts options into a select. What is selected stays selected if it is still there. */
 export function options(select, pairs) {
-  const kept = select.value;
+  const chosen = select.value;
   select.replaceChildren(...pairs.map(([value, text]) => make("option", { value }, text)));
-  if (pairs.some(([value]) => String(value) === kept)) select.value = kept;
+  if (pairs.some(([value]) => String(value) === chosen)) select.value = chosen;
 }
 
-/** Offers the closed rounds, the last one first. Who reads an earlier one than that goes on reading it. */
+/** Offers the closed rounds, the last one first. An earlier round that a person has chosen stays chosen. */
 export function offerRounds(last) {
   const select = at("which"), stays = Number(select.value) < Number(select.options[0]?.value);
   options(select, Array.from({ length: last }, (_, n) => [last - n, last - n]));
   if (!stays) select.value = last || "";
 }
 
-/** Draws anew. Where that takes away what the cursor stands on, it goes to the round, and a person goes on from there. */
+/** Draws. If that removes, hides or disables the element with the focus, the focus moves to the round's number. */
 export function drawn(draw) {
-  const stood = document.activeElement;
+  const focused = document.activeElement;
   draw();
-  if (stood !== document.body && document.activeElement.matches("body, :disabled, [hidden], [hidden] *")) at("round").focus({ preventScroll: true });
+  const now = document.activeElement;
+  if (focused !== document.body && (now.matches("body, :disabled") || !now.checkVisibility())) at("round").focus({ preventScroll: true });
 }
 
-/** Asks a question with a yes and a no; true for yes. Escape, and `unask`, are no; nothing follows where another is asked within the same frame. */
-export function question(words) {
+/** Asks a question with the answers No and `yes`; true for yes. Escape and `unask` are No. */
+export function question(words, yes) {
   const dialog = at("question");
   at("asked").textContent = words;
+  at("yes").textContent = yes;
   dialog.returnValue = "no";
-  dialog.showModal();
+  dialog.showModal(); // the focus is on No, its first button
   return new Promise((done) => {
-    // a browser tells that a dialog closed with its next frame: by then another question may be open, which is not answered yet
+    // a browser sends `close` with its next frame; by then another question may be open, which has no answer yet
     dialog.onclose = () => { if (!dialog.open) done(dialog.returnValue === "yes"); };
   });
 }
 
-/** Takes a question back that is not answered yet. */
+/** Takes back a question that has no answer yet. */
 export const unask = () => at("question").close("no");
 
-/** The door: `enter` is called with each token that is typed, one after the other; where it fails the door stays, and its words are said. */
+/** Takes the token: `enter` is called with what is typed. If it fails, the form stays, and says why in the `words` of the fault. */
 export function door(enter, words) {
   at("door").addEventListener("submit", async (event) => {
     event.preventDefault();
     const token = at("token").value.trim();
     at("token").value = "";
-    say("The server is being asked …");
+    say("Loading …");
     at("door").inert = at("desk").inert = true;
-    at("desk").hidden = false; // rows are laid out by the height of what is seen
+    at("desk").hidden = false; // the number of rows that are drawn depends on the height that is seen
     try {
       await enter(token);
       at("door").hidden = true;
-      say("");
+      if (at("say").textContent === "Loading …") say("");
       at("round").focus();
     } catch (fault) {
       at("desk").hidden = true;
       say("⚠ " + words(fault.code ?? String(fault)));
     }
     at("door").inert = at("desk").inert = false;
-    at("token").focus(); // where the door still stands
+    at("token").focus(); // if the form is still there
   });
 }

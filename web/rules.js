@@ -1,10 +1,9 @@
-// The rules of a sheet, as docs/rules.md and docs/formats.md tell them: activity, its limit, and the first fault.
-// Nothing is decided here. The server judges; this says beforehand what it would say. Numbers of activity and cost are
-// BigInt, since 4,096 products of 1,000 blocks at 10^12 dollars pass what a Number keeps whole.
+// The rules for a bidder's bids, as docs/rules.md and docs/formats.md state them: activity, eligibility, and the first fault. The server decides;
+// this predicts what it will say. Costs are BigInt: 4,096 products of 1,000 blocks at 10^12 dollars exceed what a Number holds exactly.
 
 const MOST_BIDS = 8192;
 
-/** What each fault of a sheet, a closing or a request means, and what to do: in the words of docs/bidders.md and docs/operators.md. */
+/** What each fault of a sheet or a closing means, and what to do, in the words of docs/bidders.md and docs/operators.md. */
 export const WORDS = {
   too_many: "more than 8,192 bids: send fewer",
   unknown_product: "no product has that number: count products from 0",
@@ -19,20 +18,21 @@ export const WORDS = {
   price_limit: "the next clock price of the product would be above 10^12 dollars: use a smaller increment",
 };
 
-/** What the documents tell in words of requests, in words of these pages. */
+/** What the documents say of requests, in words for these pages. */
 const OF_REQUESTS = {
-  ended: "the auction is over: read the last round",
+  ended: "the auction is over: see the results of the last round",
   wrong_round: "another round is the current one: read the new prices first",
   no_round: "that round is not closed: choose a closed one",
-  token: "no token, or a token of nobody: type it again",
-  role: "this token is not for this page: it is not yours",
-  memory: "the server had no memory, and nothing was changed: send it again",
-  long_body: "the sheet is too long to be sent: send fewer bids",
-  too_often: "you asked too often: wait a little, and ask again",
-  no_answer: "nothing answers",
+  token: "no token, or an unknown token: enter it again",
+  role: "this token may not open this page: use the other page",
+  memory: "the server was out of memory, and nothing was changed: try again",
+  long_body: "there are too many bids to send: submit fewer",
+  window: "the round is not open for bids: see the timetable, and submit your bids when it opens",
+  too_often: "too many requests: wait a few seconds, and try again",
+  no_answer: "no answer from the server",
 };
 
-/** The words of a code, or the code where it has none here. */
+/** The words for a code, or the code itself if there are none. */
 export function wordsOf(code) {
   const words = [WORDS, OF_REQUESTS].find((known) => Object.hasOwn(known, code));
   return words ? words[code] : "refused: " + code;
@@ -40,29 +40,52 @@ export function wordsOf(code) {
 
 /** The activity of demands, one for each product. */
 export function activityOf(products, demands) {
-  return products.reduce((sum, product, at) => sum + BigInt(product.units) * BigInt(demands[at]), 0n);
+  return products.reduce((sum, product, at) => sum + product.units * demands[at], 0);
 }
 
-/** What a sheet asks to hold in the end: the last bid of each product, 0 without a bid. */
+/** The requested demands of bids: the last quantity of each product, 0 without a bid. */
 export function askedDemands(products, bids) {
   const asked = new Array(products.length).fill(0);
   for (const bid of bids) if (bid.product < products.length) asked[bid.product] = bid.quantity;
   return asked;
 }
 
-/** The most activity that a sheet of the round may ask for. */
+/** The most activity that bids of the round may request. */
 export function activityLimit(round, eligibility, limit = 100) {
-  return round === 1 ? BigInt(eligibility) : (BigInt(eligibility) * BigInt(limit)) / 100n;
+  return round === 1 ? eligibility : Math.floor((eligibility * limit) / 100);
 }
 
-/** The cost of a sheet at the prices that it asks: each product's last quantity at its last price. */
+/** The eligibility after a round of this processed activity: the least number of which the required percentage is at least the activity. */
+export function nextEligibility(activity, eligibility, requirement) {
+  return Math.min(eligibility, Math.ceil((activity * 100) / requirement));
+}
+
+/** The least processed activity that keeps this eligibility. */
+export function neededActivity(eligibility, requirement) {
+  return eligibility === 0 ? 0 : Math.floor(((eligibility - 1) * requirement) / 100) + 1;
+}
+
+/**
+ * A number that the processed activity of the bids cannot fall below, whatever other bidders do. If each bid to increase demand is applied, the
+ * least activity is the requested one, since others decide only which reductions are applied. A bid to increase that is not wholly applied leaves less
+ * unused eligibility than one block of its product needs.
+ */
+export function leastActivity(terms, bids) {
+  const asked = askedDemands(terms.products, bids), requested = activityOf(terms.products, asked);
+  if (terms.round === 1) return requested;
+  const reduced = activityOf(terms.products, asked.map((quantity, p) => Math.min(quantity, terms.held[p])));
+  const heaviest = terms.products.reduce((most, product, p) => (asked[p] > terms.held[p] ? Math.max(most, product.units) : most), 0);
+  return Math.min(requested, Math.max(reduced, terms.eligibility - heaviest + 1));
+}
+
+/** What bids commit to, if all are applied: each product's last quantity at its last price. */
 export function costOf(products, bids) {
   const last = new Map();
   for (const bid of bids) last.set(bid.product, BigInt(bid.quantity) * BigInt(bid.price));
   return [...last.values()].reduce((sum, cost) => sum + cost, 0n);
 }
 
-/** The first fault of one more bid, or null. `before` are the product's bids before it, none of them at fault. */
+/** The first fault of one more bid, or null. `before` are the product's earlier bids that have no fault. */
 function faultOfBid(terms, before, bid) {
   const product = terms.products[bid.product];
   if (!product) return "unknown_product";
@@ -77,7 +100,7 @@ function faultOfBid(terms, before, bid) {
   return goesOn ? null : "mixed_direction";
 }
 
-/** Every fault of the bids, as {code, place}, by rising place; a bid behind a fault of its product is judged as if the faulty one were not. */
+/** Every fault of the bids, as {code, place}, by rising place. A bid with a fault is left out when the later bids for its product are judged. */
 export function faultsOf(terms, bids) {
   if (bids.length > MOST_BIDS) return [{ code: "too_many" }];
   const faults = [], chains = new Map();

@@ -1,60 +1,95 @@
-// What is typed: for each product its steps, each a quantity and a price as text, until they are read as bids.
+// The form: for each product one or more price points, each a quantity and a price as typed. An empty price means the clock price.
 
-const whole = (text) => (/^\d{1,15}$/.test(text.trim()) ? Number(text) : null);
+/** A whole number as typed, with or without commas between thousands, or null. */
+const whole = (text) => (/^(\d{1,15}|[1-9]\d{0,2}(,\d{3}){1,4})$/.test(text) ? Number(text.replaceAll(",", "")) : null);
+/** A number of blocks as typed, or null. */
+export const quantityOf = (text) => whole(text.trim());
+/** Whole dollars as typed, with or without a `$`, or null. */
+export const priceOf = (text) => whole(text.trim().replace(/^\$\s*/, ""));
+export const WRONG_QUANTITY = "the quantity is not a whole number: enter a number of blocks, or 0";
+export const WRONG_PRICE = "the price is not a whole number of dollars: enter one, or leave it empty for the clock price";
+
+const EMPTY = { quantity: "", price: "" };
+const isEmpty = (step) => step.quantity.trim() === "" && step.price.trim() === "";
+const same = (some, others) => some.length === others.length
+  && some.every((bid, place) => bid.quantity === others[place].quantity && bid.price === others[place].price);
 
 export class Sheet {
   #steps = new Map();
 
-  /** The steps of a product as they are typed; at least one, which may be empty. */
+  /** The price points of a product as typed; at least one, which may be empty. */
   steps(product) {
-    return this.#steps.get(product) ?? [{ quantity: "", price: "" }];
+    return this.#steps.get(product) ?? [{ ...EMPTY }];
   }
 
-  /** Types into one field of a step. */
+  /** Enters a text into one field of a price point. */
   type(product, step, field, text) {
     const steps = this.steps(product);
     steps[step][field] = text;
     this.#steps.set(product, steps);
   }
 
-  /** One more empty step for a product. */
+  /** Adds an empty price point to a product. */
   addStep(product) {
-    this.#steps.set(product, [...this.steps(product), { quantity: "", price: "" }]);
+    this.#steps.set(product, [...this.steps(product), { ...EMPTY }]);
   }
 
   clear() { this.#steps.clear(); }
 
+  /** Whether anything is entered for a product. */
   isAsked(product) {
-    return this.steps(product).some((step) => step.quantity !== "" || step.price !== "");
+    return this.steps(product).some((step) => !isEmpty(step));
   }
 
-  /** Takes bids in place of all that was typed. */
+  /** Replaces everything by these bids. A price that is null is left empty. */
   take(bids) {
     this.clear();
-    for (const bid of bids) {
-      const step = { quantity: String(bid.quantity), price: String(bid.price) };
-      if (this.#steps.has(bid.product)) this.#steps.get(bid.product).push(step);
-      else this.#steps.set(bid.product, [step]);
+    for (const { product, quantity, price } of bids) {
+      const step = { quantity: String(quantity), price: price === null ? "" : String(price) };
+      this.#steps.set(product, [...(this.#steps.get(product) ?? []), step]);
     }
   }
 
-  /** Keeps all that is held, at the clock prices. */
-  keepAll(held, prices) {
-    this.take(held.flatMap((quantity, product) => (quantity ? [{ product, quantity, price: prices[product].clock }] : [])));
+  /** Replaces everything by bids to maintain these processed demands. */
+  maintain(held) {
+    this.take(held.flatMap((quantity, product) => (quantity ? [{ product, quantity, price: null }] : [])));
   }
 
-  /** The bids in the order of the products, each with its step, and the places that can't be read as bids. */
-  read() {
+  /**
+   * Prepares the form for the next round. A product whose row is what was submitted, `sent`, gets a bid to maintain its processed demand, or none if
+   * that is 0. In any other row the quantity stays, and the price is cleared. Returns how many rows were `maintained`, `emptied` and `left`.
+   */
+  carry(sent, held, prices) {
+    const counts = { maintained: 0, emptied: 0, left: 0 };
+    held.forEach((quantity, product) => {
+      const typed = this.#readProduct(product, prices), before = sent.filter((bid) => bid.product === product);
+      if (typed.wrong.length > 0 || !same(typed.bids, before)) {
+        const last = this.steps(product).findLast((step) => !isEmpty(step));
+        this.#steps.set(product, [{ quantity: last?.quantity ?? "", price: "" }]);
+        counts.left++;
+      } else if (quantity > 0) {
+        this.#steps.set(product, [{ quantity: String(quantity), price: "" }]);
+        counts.maintained++;
+      } else if (this.#steps.delete(product) && before.length > 0) counts.emptied++;
+    });
+    return counts;
+  }
+
+  /** The bids in the order of the products, each with its price point, and the price points that cannot be read as bids. */
+  read(prices) {
+    const products = [...this.#steps.keys()].sort((a, b) => a - b).map((product) => this.#readProduct(product, prices));
+    return { bids: products.flatMap(({ bids }) => bids), wrong: products.flatMap(({ wrong }) => wrong) };
+  }
+
+  #readProduct(product, prices) {
     const bids = [], wrong = [];
-    for (const product of [...this.#steps.keys()].sort((a, b) => a - b)) {
-      this.#steps.get(product).forEach((step, at) => {
-        if (step.quantity.trim() === "" && step.price.trim() === "") return;
-        const quantity = whole(step.quantity), price = whole(step.price);
-        if (quantity === null) wrong.push({ product, step: at, text: "the quantity is no whole number from 0 on" });
-        else if (price === null) wrong.push({ product, step: at, text: "the price is no whole number of dollars" });
-        else bids.push({ product, quantity, price, step: at });
-      });
-    }
+    this.steps(product).forEach((typed, step) => {
+      if (isEmpty(typed)) return;
+      const quantity = quantityOf(typed.quantity), price = typed.price.trim() === "" ? prices[product].clock : priceOf(typed.price);
+      if (quantity === null) wrong.push({ product, step, text: WRONG_QUANTITY });
+      else if (price === null) wrong.push({ product, step, text: WRONG_PRICE });
+      else bids.push({ product, quantity, price, step });
+    });
     return { bids, wrong };
   }
 }

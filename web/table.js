@@ -1,8 +1,8 @@
-// A table body that holds as many rows as are seen, and empty room for the others. Rows are all as high as `--row`.
+// A table body in which only the rows that are seen are laid out, with empty space for the others. All rows are as high as `--row`.
 
 import { make } from "./page.js";
 
-const BESIDE = 6; // rows that are laid out above and below what is seen
+const MARGIN = 6; // rows that are laid out above and below what is seen
 
 export class Rows {
   #keys = [];
@@ -21,7 +21,7 @@ export class Rows {
     return parseFloat(getComputedStyle(this.frame).getPropertyValue("--row")) || 44;
   }
 
-  /** Takes the rows by their keys, and draws those that are seen anew. Who types in one of them goes on typing there. */
+  /** Sets the rows by their keys, and draws those that are seen. A field that has the focus keeps it. */
   set(keys) {
     const typing = this.#typing(), scrolled = this.frame.scrollTop;
     this.#keys = keys;
@@ -35,7 +35,7 @@ export class Rows {
     typing?.();
   }
 
-  /** What brings the cursor back to where it is now, if that is a field of this table. */
+  /** What moves the cursor back to where it is now, if that is a field of this table. */
   #typing() {
     const { activeElement } = document;
     if (!this.body.contains(activeElement) || !activeElement.dataset.field) return null;
@@ -47,11 +47,11 @@ export class Rows {
     };
   }
 
-  /** Lays out the rows that are seen, and takes the others away. */
+  /** Lays out the rows that are seen, and removes the others. */
   lay() {
     const high = this.#high;
-    const first = Math.max(0, Math.floor(this.frame.scrollTop / high) - BESIDE);
-    const seen = Math.ceil(this.frame.clientHeight / high) + 2 * BESIDE;
+    const first = Math.max(0, Math.floor(this.frame.scrollTop / high) - MARGIN);
+    const seen = Math.ceil(this.frame.clientHeight / high) + 2 * MARGIN;
     const keys = this.#keys.slice(first, first + seen), wanted = new Set(keys);
     for (const [key, row] of this.shown) {
       if (wanted.has(key)) continue;
@@ -73,7 +73,7 @@ export class Rows {
     this.below.style.height = (this.#keys.length - first - keys.length) * high + "px";
   }
 
-  /** Brings a row into sight. */
+  /** Scrolls to a row. */
   show(key) {
     const high = this.#high, top = this.#keys.indexOf(key) * high;
     if (top < this.frame.scrollTop) this.frame.scrollTop = top;
@@ -81,18 +81,18 @@ export class Rows {
     this.lay();
   }
 
-  /** The field of a row that is laid out. */
+  /** A field of a row that is laid out. */
   field(key, field) {
     return this.body.querySelector(`[data-key="${key}"][data-field="${field}"]`);
   }
 
-  /** Puts the cursor into a field of a row, wherever the row is. */
+  /** Moves the cursor to a field of a row. */
   focus(key, field) {
     this.show(key);
     this.field(key, field)?.focus();
   }
 
-  /** The same field of the row so many below. */
+  /** Moves the cursor to the same field of another row, by this number of rows. */
   move(key, by, field) {
     const next = this.#keys[this.#keys.indexOf(key) + by];
     if (next === undefined) return;

@@ -1,4 +1,4 @@
-"""A browser window of its own, in which somebody has entered with a token, and does what a person does."""
+"""A browser window in which someone has entered with a token, and does what a person does."""
 import base64
 import shutil
 import sys
@@ -19,7 +19,7 @@ WORDS = ["--headless=new", "--no-sandbox", "--disable-gpu", "--disable-dev-shm-u
 class Window:
     """One window, in a browser of its own."""
 
-    def __init__(self, work, stand, page, token, wide=1280, high=900):
+    def __init__(self, work, wide=1280, high=900):
         options = webdriver.ChromeOptions()
         options.binary_location = shutil.which("chromium")
         for word in WORDS:
@@ -28,7 +28,6 @@ class Window:
         options.set_capability("goog:loggingPrefs", {"browser": "ALL"})
         self.driver = webdriver.Chrome(options=options, service=Service(shutil.which("chromedriver")))
         self.size(wide, high)
-        self.open(stand, page, token)
 
     def end(self):
         self.driver.quit()
@@ -49,6 +48,10 @@ class Window:
     def run(self, script, *words):
         return self.driver.execute_script(script, *words)
 
+    def settle(self):
+        """Waits until the page is drawn as it is now: a resize is noticed in one frame, and what follows is drawn in the next ones."""
+        self.driver.execute_async_script("const done = arguments[0]; let frames = 4; (function next() { frames-- ? requestAnimationFrame(next) : done(); })()")
+
     def at(self, name):
         return self.driver.find_element(By.ID, name)
 
@@ -60,7 +63,7 @@ class Window:
         self.at(name).click()
 
     def write(self, name, words):
-        """Writes in place of what stands in a field."""
+        """Replaces the text of a field."""
         self.at(name).clear()
         self.at(name).send_keys(words)
 
@@ -74,22 +77,31 @@ class Window:
         return self.field(name, product, step).get_attribute("value")
 
     def bid(self, product, quantity, price, step=0):
+        """Types a quantity and a price in place of what is in the fields."""
         for name, value in (("quantity", quantity), ("price", price)):
-            field = self.field(name, product, step)
-            field.clear()
-            field.send_keys(str(value))
+            self.field(name, product, step).send_keys(Keys.CONTROL + "a", Keys.NULL, Keys.DELETE, str(value))
 
     def wrong(self, product, step=0):
+        """What the page says of a row: its error, or else its effect."""
         return self.at(f"wrong{product}.{step}").text
 
+    def reds(self):
+        """How many rows are marked as wrong."""
+        return self.run("return document.querySelectorAll('#body tr.wrong').length")
+
+    def sums(self):
+        """What the bar has: names, values and notes."""
+        return self.run("return [...document.querySelectorAll('#sums > div')].map(d => [d.querySelector('dt'), d.querySelector('dd').firstChild, d.querySelector('small')]"
+                        ".filter(n => n).map(n => n.textContent.trim()))")
+
     def rows(self, body):
-        """The texts of the cells of each row that is laid out."""
+        """The texts of the cells of each row that is drawn."""
         return self.run("return [...document.querySelectorAll(`#${arguments[0]} tr:not(.room)`)].map(r => [...r.cells].map(c => c.textContent))", body)
 
     def send(self, words):
-        """Sends the sheet, and waits for what is said."""
+        """Submits the form, and waits for the message."""
         self.click("send")
-        wait_for(f"said of the sheet: {words}", lambda: words in self.text("say"))
+        wait_for(f"said of the bids: {words}", lambda: words in self.text("say"))
 
     def close_round(self):
         """Closes the round, and says yes to the question."""
@@ -98,7 +110,7 @@ class Window:
         self.at("yes").click()
 
     def tab_to(self, what, selector):
-        """Presses Tab until the cursor is there, and gives what it stands on."""
+        """Presses Tab until the cursor is there, and returns the element."""
         for _ in range(60):
             self.press(Keys.TAB)
             if self.run("return document.activeElement !== document.body && !document.activeElement.matches('.button *')"
@@ -115,6 +127,14 @@ class Window:
         """From here on the page hears of no status: what it sends next is of the round that it knows."""
         self.run("const asked = window.fetch; window.fetch = (path, options) => (path.endsWith('/status') ? new Promise(() => {}) : asked(path, options))")
         time.sleep(1.1)
+
+    def slow(self):
+        """From here on a request for the status waits until it is let go."""
+        self.run("""const asked = window.fetch, gone = new Promise(done => { window.let_go = done; });
+            window.fetch = async (path, options) => {
+                if (path.endsWith('/status')) await gone;
+                return asked(path, options);
+            }""")
 
     def held(self, answers):
         """From here on what the page sends is held back until it is let go: its answer, or else itself."""
@@ -154,7 +174,7 @@ class Window:
         self.run("document.activeElement.blur(); window.scrollTo(0, 0)")
         for _ in range(2):      # what is laid out depends on the window's height
             self.size(wide, max(900, self.run("return document.documentElement.scrollHeight")))
-            time.sleep(0.3)
+            self.settle()
         box = self.run("const box = document.querySelector(arguments[0]).getBoundingClientRect(); return [box.top, box.height]", part)
         clip = {"x": 0, "y": max(0, box[0] - 12), "width": wide, "height": min(box[1] + 24, 2000), "scale": 1}
         folder.mkdir(parents=True, exist_ok=True)
