@@ -8,11 +8,19 @@ SECONDS = 120
 
 
 def missing(*names):
-    """Those packages of which no program of their name is there, also after they were installed where that may be done."""
+    """The packages without a program of their name, after installing them if that may be done."""
     def not_there():
         return [name for name in names if not shutil.which(name, path=PATHS)]
 
-    if not_there() and os.environ.get("CI") and os.geteuid() == 0:
-        for words in (["update"], ["install", "-y", "--no-install-recommends", *not_there()]):
-            subprocess.run(["timeout", str(SECONDS), "apt-get", *words], stdout=subprocess.DEVNULL, stderr=subprocess.DEVNULL)
+    if absent := not_there():
+        installed(*absent)
     return not_there()
+
+
+def installed(*names):
+    """Installs packages if that may be done, and returns whether it was."""
+    if not os.environ.get("CI") or os.geteuid() != 0:
+        return False
+    quiet = {"stdout": subprocess.DEVNULL, "stderr": subprocess.DEVNULL}
+    words = (["update"], ["install", "-y", "--no-install-recommends", *names])
+    return all([subprocess.run(["timeout", str(SECONDS), "apt-get", *each], **quiet).returncode == 0 for each in words])

@@ -102,6 +102,7 @@ class Place:
             (self.folder / name).touch(0o600)
             (self.folder / name).write_bytes(text)
         shutil.copytree(TOP / "web", self.folder / "web")
+        shutil.copy(TOP / "schemas/openapi.json", self.folder)
         ports = {"8105": self.server_port, "8106": self.inside, "8443": self.outside}
         text = (TOP / "deploy/nginx.conf").read_text().replace("listen 8443", "listen 127.0.0.1:8443")   # a trial is for this machine alone
         text = re.sub(r"\n *listen \[::\][^\n]*", "", text)
