@@ -5,7 +5,6 @@ import os
 import pathlib
 import subprocess
 import sys
-import time
 from typing import Any, Iterator
 
 TOP = pathlib.Path(__file__).resolve().parent.parent

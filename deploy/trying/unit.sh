@@ -1,6 +1,7 @@
 #!/bin/bash
 # Inside the container of deploy/try_unit: what the unit does under systemd, from its start to its last failure. Prints a line for each
 # thing that is as it must be, and ends at the first that is not.
+# shellcheck disable=SC2317  # `expect` and `within` call functions by their names
 unit=clock-auction.service
 journal=/var/lib/private/clock_auction/auction.journal
 token=XXXXXXXXXXXXXXXX
@@ -17,7 +18,7 @@ keeps() { asked /v1/me/bids | grep -qF "$sheet"; }
 main_process() { systemctl show -p MainPID --value $unit; }
 another_than() { local now; now=$(main_process); [ "$now" != 0 ] && [ "$now" != "$1" ]; }
 limit_is() { grep -qE "^$1 +$2 " "/proc/$(main_process)/limits"; }
-told_in_log() { journalctl -b -u $unit --no-pager -o cat | grep -qF "$1"; }
+told_in_log() { journalctl -b -u "$unit" --no-pager -o cat | grep -qF "$1"; }
 cannot_write() { ! nsenter -t "$(main_process)" -m -- touch "$1" 2> /dev/null; }
 
 within "it answers after the start of the machine" answers

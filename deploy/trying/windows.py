@@ -6,7 +6,7 @@ import shutil
 import time
 
 from trying.client import ADDRESSES, Client, ensure, is_refusal
-from trying.limits import connected, reply
+from trying.limits import connected
 
 BIDDER, OTHER = "0NEBIDDERST0KEN1", "0THERBIDDERST0KEN"
 SHEET = b'{"bids":[],"round":1}'

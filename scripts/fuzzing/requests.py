@@ -3,7 +3,6 @@ import collections
 import pathlib
 import random as randoms
 import subprocess
-import tempfile
 
 from loopback import free_port, reply_to
 

@@ -1,7 +1,6 @@
 """How the pages look and read: at any width, in the dark, by keys, for a screen reader; what they keep to themselves; 3,233 products."""
 import json
 import re
-import time
 
 from selenium.webdriver.common.by import By
 from selenium.webdriver.common.keys import Keys

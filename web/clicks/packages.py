@@ -1,4 +1,5 @@
 """Debian's packages that the browser's trial needs: which are missing, and their installation where that may be done."""
+import importlib.util
 import os
 import pathlib
 import shutil
@@ -37,7 +38,5 @@ def prepare():
     if lacking := missing():
         print(f"web/try: Debian's {', '.join(lacking)} missing, and no page was tried")
         sys.exit(0)
-    try:
-        import selenium  # noqa: F401
-    except ImportError:
+    if not importlib.util.find_spec("selenium"):
         os.execv(DEBIAN, [DEBIAN, *sys.argv])
