@@ -26,6 +26,8 @@ SETUP = {
 }
 TOKENS = [bidder["token"] for bidder in SETUP["bidders"]]
 SHEET = {"bids": [{"price": 100, "product": 0, "quantity": 1}], "round": 1}
+# Closed rounds are for whoever has a token that nginx takes for a known one.
+CACHED = "/v1/rounds/{n}"
 # Statuses that are described and not tried here: no memory, a server that is too late, and the faults of a sheet, which
 # the server finds by itself.
 NOT_TRIED = {503, 504, 422}
@@ -128,6 +130,10 @@ class Port:
         self.ask("PUT", "/v1/me/bids", token=token, body=sheet)
         for (method, path), operation in self.operations.items():
             self.ask(method, path, token=token)
+            if operation["security"]:          # nginx takes it for the right one, and the server refuses it
+                status = self.ask(method, path, number=2, token=token.lower(), body=sheet if method == "PUT" else b"")
+                if status != (404 if path in CACHED else 401):
+                    raise Failed(f"{method} {path} with a token in lower case: {status}")
             if "304" in operation["responses"]:
                 self.ask(method, path, "if-none-match: *", token=token)
             if "{n}" in path:
@@ -141,7 +147,7 @@ class Port:
         for (method, path), operation in self.operations.items():
             client, token = Client(self.place.outside), next(self.tokens) if operation["security"] else None
             body = json.dumps(SHEET).encode() if method == "PUT" else b""
-            for _ in range(3 * limits[operation["x-limit"]]["more_at_once"]):
+            for _ in range(3 * limits[operation["x-limits"][0]]["more_at_once"]):
                 if self.ask(method, path, token=token, body=body, client=client) == 429:
                     break
             else:

@@ -68,15 +68,15 @@ def too_often(port, address, text, most):
         return refused
 
 
-def held_too_many(port, address, tokens, most):
-    """Holds so many requests at once, eight of each bidder: the last is one too many."""
+def held_too_many(port, address, token, most):
+    """Holds requests of a bidder at the same time: the last is one too many."""
     held = [connected(port, address) for _ in range(most)]
     try:
         for at, peer in enumerate(held):
-            peer.sendall(head("PUT", "/v1/me/bids", tokens[at // 8 % len(tokens)], "content-length: 9") + b"{")
+            peer.sendall(head("PUT", "/v1/me/bids", token, "content-length: 9") + b"{")
             if at == most - 2:
                 time.sleep(0.3)
-        expect(f"request {most} at once of an address and of {len(tokens)} bidders", reply(held[-1]), 429, "too_often")
+        expect(f"request {most} at the same time of a bidder", reply(held[-1]), 429, "too_often")
     finally:
         for peer in held:
             peer.close()
@@ -84,7 +84,7 @@ def held_too_many(port, address, tokens, most):
 
 def try_limits(port, tokens):
     """Returns how many requests were refused or answered otherwise than the bare server does. The tokens are of bidders whose auction has ended."""
-    one, other, third = tokens
+    one, other = tokens
     body = b'{"round":1,"bids":[]}'
     chunked = b"%x\r\n%s\r\n0\r\n\r\n" % (len(body), body)
     ended = asked(port, "127.9.0.1", head("PUT", "/v1/me/bids", one, f"content-length: {len(body)}") + body)
@@ -112,6 +112,5 @@ def try_limits(port, tokens):
     by_token = too_often(port, "127.9.0.3", head("GET", "/v1/me", other), 80)
     if not often or not by_token:
         raise Failed(f"of 80 requests at once {often} of nobody's and {by_token} of a bidder's were too often")
-    held_too_many(port, "127.9.0.4", [one], 9)
-    held_too_many(port, "127.9.0.5", [one, other, third], 17)
-    return 14 + often + by_token
+    held_too_many(port, "127.9.0.4", one, 9)
+    return 13 + often + by_token

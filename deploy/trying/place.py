@@ -50,14 +50,14 @@ def started(program, setup, port, journal=None):
 
 class Place:
     """Program and nginx in a folder of their own, on free ports of this machine, as docs/operators.md starts them. Without a program nginx
-    is there alone, and whoever wants to be its server listens at `server_port`."""
+    is there alone, and whoever wants to be its server listens at `server_port`. `more` are lines for nginx.conf."""
 
-    def __init__(self, program, setup_text):
+    def __init__(self, program, setup_text, more=""):
         self.folder = pathlib.Path(tempfile.mkdtemp(prefix="deploy-"))
         self.children = []
         self.server_port, self.outside, self.inside = free_port(), free_port(), free_port()
         try:
-            self.write(setup_text)
+            self.write(setup_text, more)
             self.program, self.kills = program, 0
             if program is not None:
                 self.begin()
@@ -87,12 +87,12 @@ class Place:
         self.children.append(child)
         return child
 
-    def write(self, setup_text):
+    def write(self, setup_text, more):
         """The folder's files: the set-up and its tokens for their owner alone, the pages, the certificate, nginx's configuration."""
         self.folder.chmod(0o755)              # nginx's workers are another user
-        (self.folder / "tmp").mkdir()
-        (self.folder / "tmp" / "access.log").touch(0o600)
-        (self.folder / "gate").mkdir(0o755)
+        for name in ("tmp", "log", "gate"):
+            (self.folder / name).mkdir(0o755)
+        (self.folder / "log" / "access.log").touch(0o600)
         (self.folder / "gate" / "open").touch()      # sheets are taken at any time
         setup = self.folder / "setup.json"
         setup.touch(0o600)
@@ -105,7 +105,7 @@ class Place:
         shutil.copy(TOP / "schemas/openapi.json", self.folder)
         ports = {"8105": self.server_port, "8106": self.inside, "8443": self.outside}
         text = (TOP / "deploy/nginx.conf").read_text().replace("listen 8443", "listen 127.0.0.1:8443")   # a trial is for this machine alone
-        text = re.sub(r"\n *listen \[::\][^\n]*", "", text)
+        text = re.sub(r"\n *listen \[::\][^\n]*|\nuser [^\n]*", "", text).replace("\nhttp {", "\nhttp {" + more)
         (self.folder / "nginx.conf").write_text(re.sub(r"\b(8105|8106|8443)\b", lambda port: str(ports[port[0]]), text))
         subprocess.run(["openssl", "req", "-x509", "-newkey", "rsa:2048", "-nodes", "-days", "30", "-subj", "/CN=localhost",
                         "-addext", "subjectAltName=DNS:localhost,IP:127.0.0.1", "-keyout", self.folder / "key.pem",

@@ -116,7 +116,7 @@ def served(stand, folder):
             places.append(outside)
         for place in places:
             status, head = stand.head(place)
-            expect(f"{name} is served with its rule", status == 200 and head["Content-Security-Policy"] == "default-src 'self'")
+            expect(f"{name} is served with its rule", status == 200 and head["Content-Security-Policy"].startswith("default-src 'self';"))
     lines = 0
     for name in files:
         text = (folder / name).read_text()

@@ -86,4 +86,4 @@ class Stand:
 
     def logs(self):
         """All that nginx wrote."""
-        return "".join(file.read_text() for file in (self.place.folder / "tmp").glob("*.log"))
+        return "".join(file.read_text() for file in (self.place.folder / "log").glob("*.log"))
