@@ -1,4 +1,4 @@
-"""What stands between the browser and the server: the bidder's and the public pages, the bidder's requests, and what is published."""
+"""What the browser asks: the pages for bidders and the public, a bidder's requests, and published files."""
 import http.client
 import http.server
 import json
@@ -8,11 +8,16 @@ import re
 from practicing.server import Server
 
 TOP = pathlib.Path(__file__).resolve().parents[2]
-KINDS = {".html": "text/html; charset=utf-8", ".css": "text/css; charset=utf-8", ".js": "text/javascript; charset=utf-8", ".json": "application/json"}
+KINDS = {
+    ".html": "text/html; charset=utf-8",
+    ".css": "text/css; charset=utf-8",
+    ".js": "text/javascript; charset=utf-8",
+    ".json": "application/json",
+}
 PAGES = re.compile(r"/(?!operator)[a-z_]+\.(html|css|js)")
 PUBLISHED = re.compile(r"/public/(timetable|announcements|winners|rounds/[1-9][0-9]*)\.json")
 REQUESTS = re.compile(r"/v1/(status|products|me|me/bids|(me/)?rounds/[1-9][0-9]*)")
-LONGEST = 1_048_576         # bytes of a body, as the server has it
+LONGEST = 1_048_576  # bytes of a body, as the server has it
 
 
 class Desk(http.server.ThreadingHTTPServer):
@@ -36,7 +41,7 @@ class Visit(http.server.BaseHTTPRequestHandler):
         path = self.path.partition("?")[0]
         path = "/index.html" if path == "/" else path
         if self.headers.get("host", "").rpartition(":")[0] not in ("127.0.0.1", "localhost"):
-            self.refuse(400, "bad_head")            # a page from elsewhere that asks here, by a name of its own for this machine
+            self.refuse(400, "bad_head")  # a page from elsewhere that asks here, by a name of its own for this machine
         elif REQUESTS.fullmatch(path):
             self.pass_on(path)
         elif self.command == "PUT":
@@ -69,13 +74,18 @@ class Visit(http.server.BaseHTTPRequestHandler):
         self.answer(status, KINDS[".json"], page)
 
     def refuse(self, status: int, code: str) -> None:
-        self.close_connection = True                # the body of this request may not be read
+        self.close_connection = True  # the body of this request may not be read
         self.answer(status, KINDS[".json"], json.dumps({"code": code, "status": status}).encode())
 
     def answer(self, status: int, kind: str, page: bytes) -> None:
         self.send_response(status)
-        for name, value in (("content-type", kind), ("content-length", str(len(page))), ("cache-control", "no-store"),
-                            ("content-security-policy", "default-src 'self'"), ("x-content-type-options", "nosniff")):
+        for name, value in (
+            ("content-type", kind),
+            ("content-length", str(len(page))),
+            ("cache-control", "no-store"),
+            ("content-security-policy", "default-src 'self'"),
+            ("x-content-type-options", "nosniff"),
+        ):
             self.send_header(name, value)
         self.end_headers()
         if self.command != "HEAD":

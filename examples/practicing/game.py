@@ -11,16 +11,40 @@ TOKEN = "PRACTICEPRACTICE"
 YOU = "You"
 RIVALS = ("Alder", "Birch", "Cedar", "Dogwood", "Elm", "Fir", "Ginkgo", "Hazel")
 PLACES = (
-    "Albany", "Boston", "Chicago", "Denver", "El-Paso", "Fargo", "Galveston", "Houston", "Indio", "Juneau", "Kansas-City", "Lubbock", "Memphis",
-    "Nashville", "Oakland", "Portland", "Quincy", "Raleigh", "Seattle", "Tampa", "Utica", "Ventura", "Wichita", "Xenia", "Yuma", "Zanesville",
+    "Albany",
+    "Boston",
+    "Chicago",
+    "Denver",
+    "El-Paso",
+    "Fargo",
+    "Galveston",
+    "Houston",
+    "Indio",
+    "Juneau",
+    "Kansas-City",
+    "Lubbock",
+    "Memphis",
+    "Nashville",
+    "Oakland",
+    "Portland",
+    "Quincy",
+    "Raleigh",
+    "Seattle",
+    "Tampa",
+    "Utica",
+    "Ventura",
+    "Wichita",
+    "Xenia",
+    "Yuma",
+    "Zanesville",
 )
-REQUIREMENT, LIMIT = 90, 120        # percent
-CROWD = 2.2                         # aggregate demand in round 1, over supply
+REQUIREMENT, LIMIT = 90, 120  # percent
+CROWD = 2.2  # aggregate demand in round 1, over supply
 # what a bidder's first block is worth above its opening price, as a part of that price; yours is never among the least
 PREMIUM, YOUR_PREMIUM = (0.4, 1.6), (0.8, 1.6)
 
 Setup = dict[str, Any]
-Values = list[list[int]]            # for each product, what the first block is worth, the second, and so on; never rising
+Values = list[list[int]]  # for each product, what the first block is worth, the second, and so on; never rising
 
 
 @dataclasses.dataclass
@@ -50,7 +74,9 @@ class Game:
 
     def gain(self, bidder: int, demands: list[int], posted: list[int]) -> int:
         """What the blocks that a bidder won are worth to it, less what it pays for them."""
-        return sum(sum(row[:blocks]) - blocks * price for row, blocks, price in zip(self.values[bidder], demands, posted))
+        return sum(
+            sum(row[:blocks]) - blocks * price for row, blocks, price in zip(self.values[bidder], demands, posted)
+        )
 
 
 def drawn_products(chance: random.Random, count: int, version: int) -> list[dict[str, Any]]:
@@ -60,19 +86,28 @@ def drawn_products(chance: random.Random, count: int, version: int) -> list[dict
     for name in names:
         units, supply = 5 * chance.randint(1, 6), chance.randint(3, 6)
         opening = units * chance.randint(7, 13) * 10
-        product = {"name": name, "units": units, "supply": supply, "cap": supply - chance.randint(1, 2), "opening": opening}
+        product = {
+            "name": name,
+            "units": units,
+            "supply": supply,
+            "cap": supply - chance.randint(1, 2),
+            "opening": opening,
+        }
         products.append({**product, "granule": 10} if version == 2 else product)
     return products
 
 
-def drawn_values(chance: random.Random, products: list[dict[str, Any]], bidders: int, premium: tuple[float, float]) -> Values:
-    """What each block of each product is worth to one of so many bidders. Each value is an opening price or more; blocks without one are not wanted."""
+def drawn_values(
+    chance: random.Random, products: list[dict[str, Any]], bidders: int, premium: tuple[float, float]
+) -> Values:
+    """What each block of each product is worth to one bidder: an opening price or more. It wants no others."""
     values = []
     for product in products:
         opening, average = product["opening"], CROWD * product["supply"] / bidders
         wanted = min(product["cap"], int(average) + (chance.random() < average % 1))
         most, unit = chance.uniform(*premium), 10 if opening >= 100 else 1
-        values.append([max(opening, int(opening * (1 + most * (1 - block / (wanted + 0.5)))) // unit * unit) for block in range(wanted)])
+        parts = (1 + most * (1 - block / (wanted + 0.5)) for block in range(wanted))
+        values.append([max(opening, int(opening * part) // unit * unit) for part in parts])
     return values
 
 
@@ -83,14 +118,18 @@ def activity_of(products: list[dict[str, Any]], values: Values) -> int:
 
 def within(eligibility: int, products: list[dict[str, Any]], values: Values) -> Values:
     """These values without the least valuable blocks, so that the rest is within an eligibility."""
-    kept, activity = [list(row) for row in values], activity_of(products, values)
-    order = sorted((row[block] / product["opening"], place) for place, (product, row) in enumerate(zip(products, values)) for block in range(len(row)))
+    left, activity = [list(row) for row in values], activity_of(products, values)
+    order = sorted(
+        (row[block] / product["opening"], place)
+        for place, (product, row) in enumerate(zip(products, values))
+        for block in range(len(row))
+    )
     for _, place in order:
         if activity <= eligibility:
             break
-        kept[place].pop()
+        left[place].pop()
         activity -= products[place]["units"]
-    return kept
+    return left
 
 
 def drawn(chance: random.Random, public: Setup, bidders: int) -> Game:
@@ -104,7 +143,10 @@ def drawn(chance: random.Random, public: Setup, bidders: int) -> Game:
 
 def with_tokens(setup: Setup, values: list[Values], you: int) -> Game:
     """The game whose set-up has the tokens of this practice, in place of any that it had."""
-    bidders = [{**bidder, "token": TOKEN if number == you else secrets.token_hex(16)} for number, bidder in enumerate(setup["bidders"])]
+    bidders = [
+        {**bidder, "token": TOKEN if number == you else secrets.token_hex(16)}
+        for number, bidder in enumerate(setup["bidders"])
+    ]
     return Game({**setup, "operator": secrets.token_hex(16), "bidders": bidders}, values, you)
 
 
@@ -124,9 +166,12 @@ def game_of(chance: random.Random, path: pathlib.Path, bidders: int, you: str | 
         if you is not None and you not in names:
             sys.exit(f"{path}: no bidder is called {you}. The bidders are {', '.join(names)}.")
         place = 0 if you is None else names.index(you)
-        values = [within(bidder["eligibility"], products,
-                         drawn_values(chance, products, len(names), YOUR_PREMIUM if number == place else PREMIUM))
-                  for number, bidder in enumerate(document["bidders"])]
+        premiums = [YOUR_PREMIUM if number == place else PREMIUM for number in range(len(names))]
+        values = [
+            within(bidder["eligibility"], products, drawn_values(chance, products, len(names), premium))
+            for bidder, premium in zip(document["bidders"], premiums)
+        ]
         return with_tokens(document, values, place)
     except (OSError, ValueError, KeyError, TypeError, IndexError) as error:
-        sys.exit(f"{path} is neither a set-up document nor a page of products: {type(error).__name__} {error}. See docs/formats.md.")
+        fault = f"{type(error).__name__} {error}"
+        sys.exit(f"{path} is neither a set-up document nor a page of products: {fault}. See docs/formats.md.")

@@ -1,4 +1,4 @@
-"""What a practice publishes for the pages, in the files and formats of a real auction: timetable, announcements, closed rounds, winners."""
+"""What a practice publishes for the pages, in the files and formats of a real auction."""
 import datetime
 import json
 import pathlib
@@ -44,14 +44,29 @@ class Board:
         self.timetable(number, False)
 
     def timetable(self, number: int, ended: bool) -> None:
-        put(self.public / "timetable.json", {"announcements": len(self.announced), "ended": ended, "paused": None, "round": number,
-                                             "windows": self.windows, **self.always})
+        put(
+            self.public / "timetable.json",
+            {
+                "announcements": len(self.announced),
+                "ended": ended,
+                "paused": None,
+                "round": number,
+                "windows": self.windows,
+                **self.always,
+            },
+        )
 
     def close_round(self, page: dict[str, Any], digest: str) -> None:
         """Publishes a closed round as the server shows it, with the digest of its closing."""
         put(self.public / "rounds" / f"{page['round']}.json", {**page, "digest": digest, "published": utc(time.time())})
 
     def winners(self, number: int, results: list[dict[str, Any]], posted: list[int]) -> None:
-        bidders = [{"name": bidder["name"], "demands": bidder["demands"], "pays": sum(map(int.__mul__, bidder["demands"], posted))}
-                   for bidder in results]
+        bidders = [
+            {
+                "name": bidder["name"],
+                "demands": bidder["demands"],
+                "pays": sum(map(int.__mul__, bidder["demands"], posted)),
+            }
+            for bidder in results
+        ]
         put(self.public / "winners.json", {"round": number, "bidders": bidders})

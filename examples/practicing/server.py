@@ -14,12 +14,12 @@ TOP = pathlib.Path(__file__).resolve().parents[2]
 CRATE = TOP / "crates" / "clock_auction"
 BUILT = CRATE / "out" / "clock_auction"
 CONNECTIONS = 1_000_000
-DAY = 86_400                # seconds
-PATIENCE = 600              # seconds until a server that is built first must answer
+DAY = 86_400  # seconds
+PATIENCE = 600  # seconds until a server that is built first must answer
 
 
 def program_of(given: pathlib.Path | None) -> pathlib.Path | None:
-    """The program: the given one, the built one, or the one on the path. None if only the kit is there, which can run the source."""
+    """The program: the given one, the built one, or the one on the path. None if there is only the kit."""
     found = shutil.which("clock_auction")
     for path in [given] if given else [BUILT, *([pathlib.Path(found)] if found else [])]:
         if os.access(path, os.X_OK):
@@ -27,7 +27,7 @@ def program_of(given: pathlib.Path | None) -> pathlib.Path | None:
     if given:
         sys.exit(f"{given} is not a program.")
     if not shutil.which("rt"):
-        sys.exit(f"There is no server to practice with: {BUILT} is not built, `clock_auction` is not on the path, and neither is the kit's `rt`.")
+        sys.exit("There is no server to practice with: no built program, no `clock_auction` on the path, and no `rt`.")
     return None
 
 
@@ -35,13 +35,15 @@ class Server:
     """One auction on a port of this machine, with its journal in a folder."""
 
     def __init__(self, program: pathlib.Path | None, folder: pathlib.Path, port: int) -> None:
-        self.program, self.port, self.log = program, port, folder / "server.log"
-        words = ["serve", "--setup", str(folder / "setup.json"), "--port", str(port), "--connections", str(CONNECTIONS),
-                 "--journal", str(folder / "auction.journal")]
+        self.program, self.folder, self.port, self.log = program, folder, port, folder / "server.log"
+        words = ["serve", "--setup", str(folder / "setup.json"), "--journal", str(folder / "auction.journal")]
+        words += ["--port", str(port), "--connections", str(CONNECTIONS)]
         command = [str(program), *words] if program else ["rt", "try", "--seconds", str(DAY), "--", *words]
         with open(self.log, "wb") as log:
-            # in a session of its own, so that Ctrl+C reaches only this script, and all that the kit starts can be stopped together
-            self.process = subprocess.Popen(command, cwd=CRATE, stdin=subprocess.DEVNULL, stdout=log, stderr=log, start_new_session=True)
+            # in a session of its own: Ctrl+C reaches only this script, and all that the kit starts is stopped together
+            self.process = subprocess.Popen(
+                command, cwd=CRATE, stdin=subprocess.DEVNULL, stdout=log, stderr=log, start_new_session=True
+            )
 
     def wait(self) -> None:
         """Returns once the server answers. Ends the script if the server ends first."""
@@ -65,7 +67,9 @@ class Server:
             pass
         self.process.wait()
 
-    def send(self, method: str, path: str, authorization: str | None = None, body: bytes | None = None) -> tuple[int, bytes]:
+    def send(
+        self, method: str, path: str, authorization: str | None = None, body: bytes | None = None
+    ) -> tuple[int, bytes]:
         """Status and page of the reply to one request, on a connection of its own."""
         link = http.client.HTTPConnection("127.0.0.1", self.port, timeout=300)
         try:

@@ -1,0 +1,1 @@
+"""The parts of `.ci/practice`, which does with examples/practice what a newcomer does."""

@@ -1,0 +1,76 @@
+"""A practice that runs, with what it prints and what its address gives."""
+import contextlib
+import http.client
+import pathlib
+import random
+import signal
+import socket
+import subprocess
+import sys
+
+TOKEN = "PRACTICEPRACTICE"
+SEEN: list[str] = []
+
+
+def expect(what: str, found: object, wanted: object = True) -> None:
+    """Counts what is as it must be, and ends the script at the first thing that is not."""
+    if found != wanted:
+        sys.exit(f".ci/practice: {what}:\n  found  {found!r}\n  wanted {wanted!r}")
+    SEEN.append(what)
+
+
+def free_ports() -> int:
+    """A port that is free, and whose next one is."""
+    while True:
+        port = random.SystemRandom().randrange(10_000, 32_000)
+        with contextlib.suppress(OSError):
+            with socket.create_server(("127.0.0.1", port)), socket.create_server(("127.0.0.1", port + 1)):
+                return port
+
+
+class Practice:
+    """One practice of a clone, in a folder of its own."""
+
+    def __init__(self, clone: pathlib.Path, folder: pathlib.Path, *words: str) -> None:
+        self.folder, self.port, self.said = folder, free_ports(), ""
+        command = [clone / "examples" / "practice", "--folder", folder, "--port", str(self.port), *words]
+        self.process = subprocess.Popen(
+            command, stdout=subprocess.PIPE, stderr=subprocess.STDOUT, text=True, start_new_session=True
+        )
+
+    def until(self, words: str) -> None:
+        """Reads what it prints until it has these words."""
+        while words not in self.said:
+            line = self.process.stdout.readline()
+            if not line:
+                sys.exit(f".ci/practice: the practice ended without {words!r}:\n{self.said}")
+            self.said += line
+
+    def rest(self) -> int:
+        """Reads what it prints until it ends; returns its status."""
+        self.said += self.process.stdout.read()
+        return self.process.wait()
+
+    def end(self) -> None:
+        """Presses Ctrl+C, and checks that nothing is left."""
+        self.process.send_signal(signal.SIGINT)
+        expect("Ctrl+C ends a practice", self.rest(), 0)
+        expect("and it says so", "The practice is over." in self.said)
+        for port in (self.port, self.port + 1):
+            with socket.socket() as asked:
+                expect("no one listens any more", asked.connect_ex(("127.0.0.1", port)) != 0)
+        left = subprocess.run(["ps", "-eo", "stat,args"], capture_output=True, text=True).stdout.splitlines()
+        mine = [line for line in left if str(self.folder) in line and not line.startswith("Z")]
+        expect("no process is left", mine, [])
+
+    def asked(self, path: str, method: str = "GET", **headers: str) -> tuple[int, bytes]:
+        """Status and page of one request to its address."""
+        link = http.client.HTTPConnection("127.0.0.1", self.port, timeout=20)
+        with contextlib.closing(link):
+            link.request(method, path, headers=headers)
+            reply = link.getresponse()
+            return reply.status, reply.read()
+
+    def address(self, page: str) -> str:
+        """Where a page is, for a browser window."""
+        return f"http://127.0.0.1:{self.port}/{page}"
