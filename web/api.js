@@ -1,6 +1,7 @@
 // The server's routes. A token stays in the memory of this tab, and is sent only in the header of a request.
 
-// how long to wait for a reply: closing a round of a very large auction may take some minutes; an answer that is slow is reported before that
+// how long to wait for a reply: closing a round of a very large auction may take some minutes; an answer that is slow is
+// reported before that
 const SECONDS = 20;
 const CLOSING_SECONDS = 300;
 const SLOW_SECONDS = 3;
@@ -36,7 +37,7 @@ export class Asker {
         continue;
       }
       const page = await reply.json().catch(() => null);
-      if (reply.ok && ["round", "products", "closed"].some((key) => page?.[key])) return page;
+      if (reply.ok && ["round", "products", "closed", "state"].some((key) => page?.[key])) return page;
       // nginx without the server, or neither of them
       if (reply.ok || !page?.code || (page.code === "proxy" && reply.status >= 500)) throw noAnswer();
       throw new Fault(page, reply.status);
@@ -48,7 +49,8 @@ export class Asker {
     try {
       return await fetch(path, {
         method, headers, cache: "no-store", credentials: "omit", referrerPolicy: "no-referrer",
-        body: body === undefined ? undefined : JSON.stringify(body), signal: AbortSignal.timeout((method === "POST" ? CLOSING_SECONDS : SECONDS) * 1000),
+        body: body === undefined ? undefined : JSON.stringify(body),
+        signal: AbortSignal.timeout((method === "POST" ? CLOSING_SECONDS : SECONDS) * 1000),
       });
     } catch {
       throw noAnswer();
@@ -68,20 +70,22 @@ export class Asker {
 }
 
 /**
- * Asks for the status every second, for good, and every five seconds while there is no answer. `heard` takes a status, and may ask for more; `slow` is
- * called if that takes three seconds, and `missed` takes the fault if it fails.
+ * Asks for the status every second, for good, and every five seconds while there is no answer. `heard` takes a status, and
+ * may ask for more; `missed` takes the fault if that fails. `slow` is called while the last status is older than three
+ * seconds, also after a sleep of the machine.
  */
 export async function watch(asker, heard, slow, missed) {
+  let answered = Date.now(), failed = false;
+  setInterval(() => { if (!failed && Date.now() - answered > SLOW_SECONDS * 1000) slow(); }, 250);
   for (;;) {
-    let wait = 1000;
-    const late = setTimeout(slow, SLOW_SECONDS * 1000);
     try {
       await heard(await asker.status());
+      answered = Date.now();
+      failed = false;
     } catch (fault) {
-      wait = 5000;
+      failed = true;
       missed(fault);
     }
-    clearTimeout(late);
-    await pause(wait);
+    await pause(failed ? 5000 : 1000);
   }
 }

@@ -17,11 +17,15 @@ const plain = (bids) => bids.map(({ price, product, quantity }) => ({ price, pro
 const tabs = new BroadcastChannel("sheets"); // tells the other tabs of this browser that bids were submitted, and nothing about them
 // who asks; the account; the terms by which bids are judged; the results before last; the submitted bids, or null
 let asker, me, terms, earlier, submitted = null, worth = null;
-// the server's refusal of the form as it is; whether something could not be loaded; whether bids are being sent; how many sheets were accepted;
-// when the server last answered, and whether it is not answering; whether a message about the form is on the page
-let refused = null, gone = false, sending = false, accepted = 0, answered = "", silent = false, complains = false;
+// the server's refusal of the form as it is; whether something could not be loaded; whether bids are being sent; how many
+// sheets were accepted; when the server last answered, and whether it is not answering; the last message about an error
+let refused = null, gone = false, sending = false, accepted = 0, answered = "", silent = false, complaint = "";
 
-const times = new Times({ heard: learnWorth, changed: () => me && judge(), isMissing: () => me && !me.ended && me.eligibility > 0 && !submitted });
+const times = new Times({
+  heard: learnWorth,
+  changed: () => me && judge(),
+  isMissing: () => me && !me.ended && me.eligibility > 0 && !submitted,
+});
 
 /** Asks for the account and the submitted bids, and for the new prices if a round was closed. */
 async function load() {
@@ -73,11 +77,16 @@ function takeSubmitted(bids, words) {
 function tellChange(before, sent, prices) {
   unask();
   clearLines();
-  if (me.round < before.round) return say(`⚠ The round fell from ${before.round} to ${me.round}: another server answers. Ask the operator before you bid.`);
+  if (me.round < before.round) {
+    return say(`⚠ The round fell from ${before.round} to ${me.round}: another server answers. Ask the operator before you bid.`);
+  }
   const moved = terms.products.filter((_, p) => before.demands[p] !== me.demands[p]).length;
-  const closed = me.ended ? `The auction has ended after round ${me.round}.` : `Round ${before.round} is closed. Round ${me.round} has new prices.`;
-  const fell = before.eligibility === me.eligibility ? "" : ` Your eligibility fell from ${number(before.eligibility)} to ${number(me.eligibility)}.`;
-  const demand = moved ? `Your processed demand changed in ${moved} of ${counted(terms.products.length, "product")}.` : "Your processed demand did not change.";
+  const closed = me.ended ? `The auction has ended after round ${me.round}.`
+    : `Round ${before.round} is closed. Round ${me.round} has new prices.`;
+  const fell = before.eligibility === me.eligibility ? ""
+    : ` Your eligibility fell from ${number(before.eligibility)} to ${number(me.eligibility)}.`;
+  const demand = moved ? `Your processed demand changed in ${moved} of ${counted(terms.products.length, "product")}.`
+    : "Your processed demand did not change.";
   say(`${closed} ${demand}${fell}${me.ended ? "" : carriedWords(sheet.carry(sent, me.demands, prices))}`);
 }
 
@@ -105,13 +114,13 @@ function drawAll() {
 function view() {
   const by = new Map();
   for (const bid of submitted ?? []) by.set(bid.product, [...(by.get(bid.product) ?? []), bid]);
-  at("frame").classList.toggle("long", terms.prices.some(({ clock }) => clock >= LONG));
   return { me, terms, earlier, sold: past.products(lastClosed(me)), submitted: by, bids: submitted, worth };
 }
 
 /** Draws the table and judges the form. */
 function draw() {
   table.view = view();
+  at("frame").classList.toggle("long", terms.prices.some(({ clock }) => clock >= LONG));
   judge();
   table.lay();
 }
@@ -133,10 +142,7 @@ function judge() {
   tell("todo", words);
   at("todo").className = isDone ? "done" : words.startsWith("●") ? "" : "quiet";
   at("back").hidden = !isBack;
-  if (complains && !whole && faults.size === 0) {
-    complains = false;
-    say("");
-  }
+  if (!whole && faults.size === 0 && complaint && at("say").textContent === complaint) say("");
   return { bids, wrong, standing };
 }
 
@@ -148,8 +154,8 @@ function typed() {
 
 /** Says what is wrong with the form, until that is corrected. */
 function complain(words) {
-  say("⚠ " + words);
-  complains = true;
+  complaint = "⚠ " + words;
+  say(complaint);
 }
 
 /** Submits the form. Sheets are sent one after the other, so that the last one counts. The server decides. */
@@ -158,8 +164,9 @@ async function submit() {
   const { bids, wrong, standing } = judge(), sent = plain(bids), round = me.round, missing = missingWords(table.view, standing);
   if (wrong.length) return complain("Not submitted: a row cannot be read as a bid.");
   if (sending) return say("⚠ Not submitted: your last submission has no answer yet.");
-  if (missing && !await question(`${missing} A missing bid asks for 0 blocks at the start-of-round price. Submit these bids?`, "Submit")) return;
-  if (!missing && !sent.length && !await question("The form is empty. Submit no bids?", "Submit")) return;
+  const empty = sent.length ? "" : `The form is empty${me.round === 1 ? ": you would be out of the auction" : ""}. Submit it?`;
+  const doubt = missing ? `${missing} A missing bid asks for 0 blocks at the start-of-round price. Submit these bids?` : empty;
+  if (doubt && !await question(doubt, "Submit")) return;
   sending = true;
   refused = null;
   say("Sending your bids …");
@@ -169,7 +176,8 @@ async function submit() {
     if (late) past.saw(round, sent);
     else takeSubmitted(sent, "accepted at");
     clearLines();
-    const since = JSON.stringify(plain(sheet.read(terms.prices).bids)) === JSON.stringify(sent) ? "" : " Your changes since then are not submitted.";
+    const same = JSON.stringify(plain(sheet.read(terms.prices).bids)) === JSON.stringify(sent);
+    const since = same ? "" : " Your changes since then are not submitted.";
     say(`✓ Accepted: ${counted(done.bids, "bid")} for round ${done.round}${late ? ", which is closed by now" : ""}.${since}`);
     draw();
   } catch (fault) {
@@ -185,14 +193,16 @@ function tellRefused(fault, round, bids) {
   if (fault.status === 0) {
     past.saw(round, null);
     gone = true; // so that the submitted bids are loaded again
-    return say("⚠ No answer from the server. It is not known whether your bids were accepted: reload the submitted bids, or submit again.");
+    return say("⚠ No answer from the server. It is not known whether your bids were accepted: " +
+      "reload the submitted bids, or submit again.");
   }
   const bid = bids[fault.place], product = bid ? ` (${terms.products[bid.product].name})` : "";
   const stays = submitted && (fault.status !== 409 || fault.code === "window") ? " Your submitted bids stay in force." : "";
   refused = me.round === round && JSON.stringify(sheet.read(terms.prices).bids) === JSON.stringify(bids) ? fault : null;
   judge();
-  say(`⚠ Refused: ${wordsOf(fault.code)}${product}.${stays}`);
-  complains = refused !== null;
+  const words = `Refused: ${wordsOf(fault.code)}${product}.${stays}`;
+  if (refused) complain(words);
+  else say("⚠ " + words);
   if (bid && refused) table.show(keyOf(bid.product, bid.step));
 }
 
@@ -253,8 +263,9 @@ async function heard(status) {
   judge();
 }
 
-/** Nothing says for three seconds that the page is up to date: that may be a closing. */
+/** The last status is older than three seconds: that may be a closing. */
 function slow() {
+  if (silent) return;
   silent = true;
   judge();
   tell("link", `No answer since ${answered}. The round may be closing.`);
@@ -263,7 +274,8 @@ function slow() {
 function missed(fault) {
   gone = silent = true;
   judge();
-  tell("link", `⚠ ${fault.status ? wordsOf(fault.code) : "No answer from the server"}. Retrying every five seconds. Your entries stay in the form.`);
+  const words = fault.status ? wordsOf(fault.code) : "No answer from the server";
+  tell("link", `⚠ ${words}. Retrying every five seconds. Your entries stay in the form.`);
 }
 
 async function enter(token) {
@@ -278,9 +290,14 @@ door(enter, wordsOf);
 at("send").addEventListener("click", submit);
 at("again").addEventListener("click", reload);
 at("tofault").addEventListener("click", () => table.toFault());
-at("keep").addEventListener("click", () => fill(() => sheet.maintain(me.demands), "The form has bids to maintain your demand at the clock prices."));
+at("keep").addEventListener("click", () => {
+  fill(() => sheet.maintain(me.demands), "The form has bids to maintain your demand at the clock prices.");
+});
 at("clear").addEventListener("click", () => fill(() => sheet.clear(), "The form is empty."));
-at("back").addEventListener("click", () => { fill(() => sheet.take(submitted), "The form has your submitted bids."); at("again").focus(); });
+at("back").addEventListener("click", () => {
+  fill(() => sheet.take(submitted), "The form has your submitted bids.");
+  at("again").focus();
+});
 at("down").addEventListener("click", download);
 at("up").addEventListener("change", upload);
 document.addEventListener("keydown", (event) => {
@@ -288,4 +305,6 @@ document.addEventListener("keydown", (event) => {
   event.preventDefault();
   submit();
 });
-for (const [from, event] of [[tabs, "message"], [document, "visibilitychange"]]) from.addEventListener(event, () => { gone = true; }); // bids may be submitted elsewhere
+for (const [from, event] of [[tabs, "message"], [document, "visibilitychange"]]) {
+  from.addEventListener(event, () => { gone = true; }); // bids may have been submitted elsewhere
+}

@@ -1,4 +1,5 @@
-// The table of bids: for each price point of a product its prices, its demand, the bid as typed, what that bid asks for, and the submitted bid.
+// The table of bids: for each price point of a product its prices, its demand, the bid as typed, what that bid asks for, and
+// the submitted bid.
 
 import { at, cell, counted, demandCell, dollars, make, note, number, rowHead } from "./page.js";
 import { quantityOf } from "./sheet.js";
@@ -11,6 +12,20 @@ const byProduct = (key, other) => {
   return a[0] - b[0] || a[1] - b[1];
 };
 const WORTH = 5; // values that a row has space for
+const MARKET = ["Aggregate demand", "Start-of-round price", "Clock price", "Processed demand"];
+
+/** What the blocks of a product are worth to the player of a practice. */
+function worthNotes(values) {
+  if (!values) return [];
+  const shown = values.slice(0, WORTH).map(number).join(", "), more = values.length > WORTH ? " …" : "";
+  return [make("small", { class: "worth" }, shown ? `worth $${shown}${more}` : "worth nothing to you")];
+}
+
+/** How much the posted price rose in the last round. */
+function riseNote({ start, posted }) {
+  const rise = posted - start, percent = Number(((100 * rise) / start).toFixed(1));
+  return note(rise ? `+${dollars(rise)} (${percent}%)` : "no change");
+}
 
 export class BidTable {
   #rows = new Rows(at("frame"), at("body"), (key) => this.#row(key));
@@ -102,12 +117,13 @@ export class BidTable {
 
   #row(key) {
     const [p, step] = partsOf(key), { me, terms } = this.view, product = terms.products[p], held = me.demands[p];
-    const words = `Add a price point for ${product.name}`;
+    const words = `Add a price point for ${product.name}`, onclick = () => this.#addStep(p);
+    const button = { type: "button", disabled: me.ended, "aria-label": words, title: words, onclick };
+    const more = step === 0 ? [make("button", button, "+")] : [];
     const row = make("tr", { class: step > 0 ? "more" : held ? "held" : "" },
-      ...(step === 0 ? this.#market(p) : [rowHead(`↳ price point ${step + 1}`), ...["Aggregate demand", "Start-of-round price", "Clock price", "Processed demand"].map((label) => cell(label))]),
+      ...(step === 0 ? this.#market(p) : [rowHead(`↳ price point ${step + 1}`), ...MARKET.map((label) => cell(label))]),
       cell("Bid quantity", this.#field(p, step, "quantity", "Bid quantity", "–")),
-      cell("Bid price", make("span", { class: "pricing" }, this.#field(p, step, "price", "Bid price", "clock price"), ...(step > 0 ? []
-        : [make("button", { type: "button", disabled: me.ended, "aria-label": words, title: words, onclick: () => this.#addStep(p) }, "+")]))),
+      cell("Bid price", make("span", { class: "pricing" }, this.#field(p, step, "price", "Bid price", "clock price"), ...more)),
       cell("Effect", make("span", { id: "wrong" + key, class: "effect" }), note(this.#submittedWords(p, step))));
     this.#tellRow(key, row);
     return row;
@@ -116,13 +132,10 @@ export class BidTable {
   /** The cells of a product that do not depend on the price point. */
   #market(p) {
     const { me, terms, sold, worth } = this.view, product = terms.products[p], price = terms.prices[p], before = this.#before(p);
-    const rise = sold ? sold[p].posted - sold[p].start : 0;
-    const values = worth?.[p], shown = values?.slice(0, WORTH).map(number).join(", ");
     return [
-      rowHead(product.name, note(`${counted(product.units, "unit")}, cap ${number(product.cap)}`),
-        ...(values ? [make("small", { class: "worth" }, shown ? `worth $${shown}${values.length > WORTH ? " …" : ""}` : "worth nothing to you")] : [])),
+      rowHead(product.name, note(`${counted(product.units, "unit")}, cap ${number(product.cap)}`), ...worthNotes(worth?.[p])),
       demandCell(sold?.[p], product),
-      cell("Start-of-round price", dollars(price.start), ...(sold ? [note(rise ? `+${dollars(rise)} (${Number((100 * rise / sold[p].start).toFixed(1))}%)` : "no change")] : [])),
+      cell("Start-of-round price", dollars(price.start), ...(sold ? [riseNote(sold[p])] : [])),
       cell("Clock price", dollars(price.clock)),
       cell("Processed demand", number(me.demands[p]), ...(before === null ? [] : [note(`was ${number(before)}`)])),
     ];
@@ -141,11 +154,15 @@ export class BidTable {
     const { me, terms, sold } = this.view, held = me.demands[p];
     const unlikely = sold && sold[p].demand === null ? " No excess demand: applied only if others increase." : "";
     if (me.ended || (me.round === 1 && !held)) return ["", ""];
-    if (!this.sheet.isAsked(p)) return held ? ["missing", `● Missing bid: asks for 0 at ${dollars(terms.prices[p].start)}.${unlikely}`] : ["", ""];
-    const steps = this.sheet.steps(p).map((typed) => quantityOf(typed.quantity)), quantity = steps[step] ?? null, before = step === 0 ? held : steps[step - 1];
+    if (!this.sheet.isAsked(p)) {
+      return held ? ["missing", `● Missing bid: asks for 0 at ${dollars(terms.prices[p].start)}.${unlikely}`] : ["", ""];
+    }
+    const steps = this.sheet.steps(p).map((typed) => quantityOf(typed.quantity));
+    const quantity = steps[step] ?? null, before = step === 0 ? held : steps[step - 1];
     if (quantity === null || before === null) return ["", ""]; // also in a row that is about to be removed
     if (quantity === before) return ["", quantity ? "Maintain demand" : ""];
-    return quantity < before ? ["", `Reduce ${number(before)} to ${number(quantity)}.${unlikely}`] : ["", `Increase ${number(before)} to ${number(quantity)}`];
+    const change = `${number(before)} to ${number(quantity)}`;
+    return ["", quantity < before ? `Reduce ${change}.${unlikely}` : `Increase ${change}`];
   }
 
   #tellRow(key, row) {

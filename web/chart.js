@@ -1,4 +1,5 @@
-// A chart of one product by round, as SVG: its posted price as a line, and a number of blocks as bars. The table next to it has the same numbers.
+// A chart of one product by round, as SVG: its posted price as a line, and a number of blocks as bars. The table next to it
+// has the same numbers.
 
 const SVG = "http://www.w3.org/2000/svg";
 const HIGH = 260, TOP = 30, MIDDLE = 140, FOOT = 30, RIGHT = 16, LETTER = 7;
@@ -13,7 +14,7 @@ function shape(tag, attributes, text) {
 const words = (x, y, anchor, text, kind = "") => shape("text", { x, y, "text-anchor": anchor, class: kind }, text);
 const priced = (price) => price.toLocaleString("en-US");
 
-/** The bars with their numbers, and the rounds below them. If there is no space for each round's number, every second or third one is written. */
+/** The bars with their numbers, and the rounds below them, of which only some are written if there is little space. */
 function bars(points, x, step) {
   const most = Math.max(1, ...points.map((point) => point.blocks)), high = HIGH - FOOT - MIDDLE - 40;
   const every = Math.ceil(24 / step), wide = Math.min(44, step * 0.62);
@@ -44,6 +45,7 @@ export function chart(name, points, wide, what) {
   svg.append(shape("line", { class: "axis", x1: left, x2: wide - RIGHT, y1: HIGH - FOOT, y2: HIGH - FOOT }));
   svg.append(words(0, HIGH - 10, "start", "Round"));
   svg.append(shape("polyline", { class: "price", points: points.map((point, place) => `${x(place)},${y(point.posted)}`).join(" ") }));
-  svg.append(...points.map((point, place) => shape("circle", { class: "price", cx: x(place), cy: y(point.posted), r: Math.min(4, step / 4) })));
+  const r = Math.min(4, step / 4);
+  svg.append(...points.map((point, place) => shape("circle", { class: "price", cx: x(place), cy: y(point.posted), r })));
   return svg;
 }

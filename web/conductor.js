@@ -31,13 +31,19 @@ export class Conductor {
 
   /** What the conductor waits for. */
   words() {
-    if (!this.#report) return "No conductor is running: close each round here, or with deploy/close, which first lists who has submitted bids.";
-    if (this.#isStale()) return `⚠ The conductor has not reported since ${new Date(this.#report.time).toLocaleTimeString("en-GB")}. It may have stopped, or a long closing is under way.`;
+    if (!this.#report) {
+      return "No conductor is running: close each round here, or with deploy/close, which first lists who has submitted bids.";
+    }
+    const since = new Date(this.#report.time).toLocaleTimeString("en-GB");
+    if (this.#isStale()) return `⚠ The conductor has not reported since ${since}. It may have stopped, or a long closing is under way.`;
     return `${this.needsYou() ? "⚠ " : ""}Conductor: ${this.#report.waits_for}`;
   }
 
   /** A sentence for the question before a closing, if the conductor would close the round by itself. */
-  early() { return this.#report && !this.#isStale() && !HELD.includes(this.#report.state) ? ` The conductor would close it by itself: ${this.#report.waits_for}` : ""; }
+  early() {
+    const isActive = this.#report && !this.#isStale() && !HELD.includes(this.#report.state);
+    return isActive ? ` The conductor would close it by itself: ${this.#report.waits_for}` : "";
+  }
 
   /** The names of the bidders that have submitted bids in the round, and of those that have not; null if that is not known. */
   sheetsOf(round, names) {

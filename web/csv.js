@@ -12,7 +12,7 @@ export function writtenBids(products, bids) {
   return written([["product", "quantity", "price"], ...bids.map((bid) => [products[bid.product].name, bid.quantity, bid.price])]);
 }
 
-/** The fields of a line: parted by semicolons or tabs if it has any, else by commas, but for those within quotes or within a price at the end. */
+/** The fields of a line, parted by semicolons or tabs if it has any, else by commas that are not in quotes or in a price. */
 function fieldsOf(line) {
   const parted = /[;\t]/.test(line) ? /(?:^|[;\t])("[^"]*"|[^;\t]*)/g : /(?:^|,)("[^"]*"|[^,]*)/g;
   const fields = [...line.matchAll(parted)].map((match) => match[1].trim().replace(/^"(.*)"$/, "$1").trim());
@@ -21,12 +21,13 @@ function fieldsOf(line) {
 }
 
 /**
- * The bids of a CSV text, and its wrong lines in words. A product is named, or numbered from 0 if no product's name is a number. A price may have `$` and
- * commas; an empty one is null.
+ * The bids of a CSV text, and its wrong lines in words. A product is named, or numbered from 0 if no product's name is a
+ * number. A price may have `$` and commas; an empty one is null.
  */
 export function readBids(products, text) {
   const numbers = new Map(products.map((product, at) => [product.name, at]));
-  if (!products.some((product) => /^\d+$/.test(product.name))) products.forEach((_, at) => numbers.set(String(at), at)); // 001 comes back as 1
+  const areNumbers = products.some((product) => /^\d+$/.test(product.name)); // a spreadsheet makes 1 of 001
+  if (!areNumbers) products.forEach((_, at) => numbers.set(String(at), at));
   const bids = [], wrong = [];
   text.replace(/^\ufeff/, "").split(/\r\n|\n|\r/).forEach((line, at) => {
     const say = (words) => wrong.push(`line ${at + 1}: ${words}`);

@@ -1,13 +1,16 @@
-// The operator's page: who has submitted bids, increments, tie-breaking numbers, closing after a question, all results, and each closed round.
+// The operator's page: who has submitted bids, increments, tie-breaking numbers, closing after a question, all results, and
+// each closed round.
 
 import { Asker, watch } from "./api.js";
 import { Conductor } from "./conductor.js";
 import { save, written } from "./csv.js";
 import {
-  at, cell, counted, demandCell, dollars, door, drawn, facts, lastClosed, listed, make, number, offerRounds, question, rowHead, say, sum, tell, timeOfDay, unask,
+  at, cell, counted, demandCell, dollars, door, drawn, facts, lastClosed, listed, make, number, offerRounds, question, rowHead,
+  say, sum, tell, timeOfDay, unask,
 } from "./page.js";
 import { activityOf, wordsOf } from "./rules.js";
 import { Rows } from "./table.js";
+import { Times } from "./times.js";
 
 const MOST_TIES = 16_384, LONG = 72; // letters that a row has space for
 const rounds = new Map(), conductor = new Conductor();
@@ -25,7 +28,7 @@ function below(n) {
   return word[0] % n;
 }
 
-/** Draws tie-breaking numbers for the pairs of bidder and product in random order: for all pairs, or for as many as one closing may list. */
+/** Draws tie-breaking numbers at random: for all pairs of bidder and product, or for as many as one closing may list. */
 function drawTies() {
   const products = page.products.length, pairs = results.bidders.length * products, count = Math.min(pairs, MOST_TIES);
   const places = Array.from({ length: pairs }, (_, pair) => pair);
@@ -122,9 +125,10 @@ function drawBidder(key) {
   const bidder = results.bidders[key];
   const held = bidder.demands.flatMap((blocks, p) => (blocks ? [`${page.products[p].name} ${blocks}`] : []));
   const all = held.join(", ") || "none";
-  const words = all.length > LONG ? `${counted(sum(bidder.demands), "block")} of ${counted(held.length, "product")} (download the results to see them)` : all;
+  const short = `${counted(sum(bidder.demands), "block")} of ${counted(held.length, "product")} (download the results to see them)`;
   return make("tr", {}, rowHead(bidder.name), cell("Eligibility", number(bidder.eligibility)),
-    cell("Activity", number(activityOf(page.products, bidder.demands))), cell("At posted prices", dollars(paid(bidder))), cell("Processed demand", words));
+    cell("Activity", number(activityOf(page.products, bidder.demands))), cell("At posted prices", dollars(paid(bidder))),
+    cell("Processed demand", all.length > LONG ? short : all));
 }
 
 function drawProduct(key) {
@@ -142,16 +146,24 @@ function closing() {
   return page.version === 1 ? { ...base, increment: Number(one) } : { ...base, increments: all.map(Number) };
 }
 
-/** The question before a closing, and the answer that closes: who has not submitted bids, and whether the conductor would close the round later. */
+/** Who has submitted bids, for the question before a closing. */
+function sheetWords(sheets, round) {
+  if (!sheets) return "This page does not know who has submitted bids.";
+  const { submitted, missing } = sheets;
+  const then = round === 1 ? "the auction ends without a sale" : "every bidder asks to give up all its blocks";
+  if (submitted.length === 0) return `NO bidder has submitted bids, so ${then}.`;
+  if (missing.length === 0) return "All bidders have submitted bids.";
+  const all = submitted.length + missing.length;
+  return `${number(submitted.length)} of ${number(all)} bidders have submitted bids. No bids from: ${listed(missing, 20)}.`;
+}
+
+/** The question before a closing, and the answer that closes. */
 function questionOf(asked) {
   const percents = [asked.increments ?? asked.increment].flat(), low = Math.min(...percents), high = Math.max(...percents);
-  const names = results.bidders.map((bidder) => bidder.name), sheets = conductor.sheetsOf(asked.round, names), isEmpty = sheets?.submitted.length === 0;
-  const missing = !sheets ? "This page does not know who has submitted bids."
-    : isEmpty ? "NO bidder has submitted bids, so every bidder asks to give up all its blocks."
-    : sheets.missing.length ? `${number(sheets.submitted.length)} of ${number(names.length)} bidders have submitted bids. No bids from: ${listed(sheets.missing, 20)}.`
-    : "All bidders have submitted bids.";
-  return [`Close round ${asked.round} for all bidders? Clock prices rise by ${low === high ? low : `${low} to ${high}`} percent. ${missing}${conductor.early()} ` +
-    "Bids that have not arrived will not count. This cannot be undone.", isEmpty ? "Close it without any bids" : "Close the round"];
+  const sheets = conductor.sheetsOf(asked.round, results.bidders.map((bidder) => bidder.name));
+  const words = `Close round ${asked.round} for all bidders? Clock prices rise by ${low === high ? low : `${low} to ${high}`} percent. ` +
+    `${sheetWords(sheets, asked.round)}${conductor.early()} Bids that have not arrived will not count. This cannot be undone.`;
+  return [words, sheets?.submitted.length === 0 ? "Close it without any bids" : "Close the round"];
 }
 
 /** Asks first, and closes the round that the question names, even if another one is open by then. `heard` says when it is closed. */
@@ -172,7 +184,9 @@ async function close() {
 
 function tellRefused(fault) {
   const product = fault.code === "price_limit" ? page.products[fault.place]?.name : undefined;
-  if (fault.status === 0) return say("⚠ No answer from the server. It is not known whether the round was closed: see whether its number has risen.");
+  if (fault.status === 0) {
+    return say("⚠ No answer from the server. It is not known whether the round was closed: see whether its number has risen.");
+  }
   say(`⚠ Refused: ${wordsOf(fault.code)}${product ? ` (${product})` : ""}. Nothing was closed.`);
 }
 
@@ -187,8 +201,11 @@ async function heard(now) {
   const then = results.round, fell = now.round < then, risen = now.round > then || (now.ended && !results.ended);
   if (risen) unask();
   if (gone || risen || fell) await load();
-  if (risen) say(`✓ Round ${lastClosed(results)} is closed. ${results.ended ? "The auction has ended." : `Round ${results.round} is open.`}`);
-  if (fell) say(`⚠ The round fell from ${then} to ${results.round}: another server answers, or one without its journal. Tell bidders to stop.`);
+  const next = results.ended ? "The auction has ended." : `Round ${results.round} is open.`;
+  if (risen) say(`✓ Round ${lastClosed(results)} is closed. ${next}`);
+  if (fell) {
+    say(`⚠ The round fell from ${then} to ${results.round}: another server answers, or one without its journal. Tell bidders to stop.`);
+  }
   gone = false;
   answered = timeOfDay();
   tell("link", "");
@@ -212,6 +229,7 @@ async function enter(token) {
 }
 
 door(enter, wordsOf);
+new Times({});
 at("ask").addEventListener("click", close);
 at("draw").addEventListener("click", () => { drawTies(); say("New tie-breaking numbers are drawn."); });
 at("each").addEventListener("change", () => { at("incframe").hidden = !at("each").checked; });

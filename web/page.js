@@ -1,4 +1,5 @@
-// What all pages draw with: elements whose text is never HTML, numbers in words, facts, cells, a question, and the form that takes the token.
+// What all pages draw with: elements whose text is never HTML, numbers in words, facts, cells, a question, and the form that
+// takes the token.
 
 export const at = (id) => document.getElementById(id);
 
@@ -19,7 +20,8 @@ export const dollars = (n) => (n === null || n === undefined ? "–" : "$" + num
 export const counted = (n, noun) => `${number(n)} ${noun}${n === 1 ? "" : "s"}`;
 export const sum = (numbers) => numbers.reduce((a, b) => a + b, 0);
 /** The first names of a list, and how many more there are. */
-export const listed = (names, most) => (names.length > most ? `${names.slice(0, most).join(", ")} and ${number(names.length - most)} more` : names.join(", "));
+export const listed = (names, most) => (names.length <= most ? names.join(", ")
+  : `${names.slice(0, most).join(", ")} and ${number(names.length - most)} more`);
 
 export const timeOfDay = () => new Date().toLocaleTimeString("en-GB");
 
@@ -38,8 +40,12 @@ export const cell = (label, ...inside) => make("td", { "data-label": label }, ..
 export const rowHead = (...inside) => make("th", { scope: "row" }, ...inside);
 export const note = (...inside) => make("small", {}, ...inside);
 /** The cell for aggregate demand, supply and excess demand after a closed round, or before the first one. */
-export const demandCell = (sold, product) => cell("Aggregate demand", !sold ? "–" : sold.demand === null ? "no excess" : number(sold.demand),
-  note(`supply ${number(product.supply)}${sold?.demand ? `, excess ${number(excessOf(sold, product))}` : ""}`));
+export function demandCell(sold, product) {
+  const supply = `supply ${number(product.supply)}`;
+  if (!sold) return cell("Aggregate demand", "–", note(supply));
+  if (sold.demand === null) return cell("Aggregate demand", "no excess", note(supply));
+  return cell("Aggregate demand", number(sold.demand), note(`${supply}, excess ${number(excessOf(sold, product))}`));
+}
 
 /** Fills a list with names and values; a third text, if there is one, is a note on the value, and a fourth one its class. */
 export function facts(id, rows) {

@@ -106,14 +106,16 @@ export class Past {
       .map((round) => ({ round, posted: this.#rounds.get(round)[p].posted, blocks: this.#results.get(round).demands[p] }));
     if (!points.length || at("pastdesk").hidden) return;
     const words = `${name}: posted price (line) and your processed demand (bars)`;
-    at("chart").replaceChildren(make("figcaption", {}, words), chart(name, points, Math.max(280, at("chart").clientWidth), "your processed demand"));
+    const drawing = chart(name, points, Math.max(280, at("chart").clientWidth), "your processed demand");
+    at("chart").replaceChildren(make("figcaption", {}, words), drawing);
   }
 
   #row(key) {
     const p = Number(key), round = Number(at("which").value), product = this.#products[p], sold = this.#rounds.get(round)[p];
     const bids = this.#bids.get(round)?.bids.filter((bid) => bid.product === p), blocks = this.#results.get(round).demands[p];
     return make("tr", { class: blocks ? "held" : "" }, rowHead(product.name),
-      cell("Start-of-round price", dollars(sold.start)), cell("Clock price", dollars(sold.clock)), cell("Posted price", dollars(sold.posted)),
+      cell("Start-of-round price", dollars(sold.start)), cell("Clock price", dollars(sold.clock)),
+      cell("Posted price", dollars(sold.posted)),
       demandCell(sold, product), cell("Your bids", bidWords(bids)), cell("Processed demand", number(blocks)));
   }
 }

@@ -81,8 +81,9 @@ function drawFacts() {
 function drawRound() {
   past.set(products.map((_, p) => String(p)));
   const { digest, published } = rounds[Number(at("which").value) - 1];
-  tell("digest", digest ? `Digest after this round: ${digest}. It identifies the set-up and everything accepted up to the closing of this round.` +
-    (published ? ` Published at ${new Date(published).toLocaleString("en-GB", { dateStyle: "medium", timeStyle: "medium" })}.` : "") : "");
+  const time = published && new Date(published).toLocaleString("en-GB", { dateStyle: "medium", timeStyle: "medium" });
+  tell("digest", `Digest after this round: ${digest}. It identifies the set-up and everything accepted up to the closing of this round.` +
+    (time ? ` Published at ${time}.` : ""));
   drawChart();
 }
 
@@ -96,8 +97,9 @@ function drawChart() {
 
 function drawProduct(key) {
   const round = rounds[Number(at("which").value) - 1], sold = round.products[key], product = products[key], over = excess(round, key);
+  const demand = sold.demand === null ? `≤ ${number(product.supply)}` : number(sold.demand);
   return make("tr", {}, rowHead(product.name), cell("Supply", number(product.supply)), cell("Start-of-round price", dollars(sold.start)),
-    cell("Clock price", dollars(sold.clock)), cell("Posted price", dollars(sold.posted)), cell("Aggregate demand", sold.demand === null ? `≤ ${number(product.supply)}` : number(sold.demand)),
+    cell("Clock price", dollars(sold.clock)), cell("Posted price", dollars(sold.posted)), cell("Aggregate demand", demand),
     cell("Excess demand", over ? number(over) : "none"));
 }
 

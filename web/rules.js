@@ -1,5 +1,6 @@
-// The rules for a bidder's bids, as docs/rules.md and docs/formats.md state them: activity, eligibility, and the first fault. The server decides;
-// this predicts what it will say. Costs are BigInt: 4,096 products of 1,000 blocks at 10^12 dollars exceed what a Number holds exactly.
+// The rules for a bidder's bids, as docs/rules.md and docs/formats.md state them: activity, eligibility, and the first fault.
+// The server decides; this predicts what it will say. Costs are BigInt: 4,096 products of 1,000 blocks at 10^12 dollars
+// exceed what a Number holds exactly.
 
 const MOST_BIDS = 8192;
 
@@ -10,7 +11,8 @@ export const WORDS = {
   price_range: "the price is not between the start-of-round price and the clock price: use a price of this round",
   over_cap: "the quantity is above the product's cap: ask for less",
   price_order: "an earlier bid for the product has this price or a higher one: list each product's bids at rising prices",
-  mixed_direction: "the quantity does not continue in the direction of the earlier bids for the product: use only falling or only rising quantities",
+  mixed_direction: "the quantity does not continue in the direction of the earlier bids for the product: " +
+    "use only falling or only rising quantities",
   keep_price: "the quantity is your processed demand, and the price is not the clock price: to maintain demand, bid at the clock price",
   over_activity: "the sheet requests more activity than the limit allows: request fewer blocks of some product",
   increment: "an increment is not 1 to 50, or there is not one for each product: send such increments",
@@ -66,9 +68,9 @@ export function neededActivity(eligibility, requirement) {
 }
 
 /**
- * A number that the processed activity of the bids cannot fall below, whatever other bidders do. If each bid to increase demand is applied, the
- * least activity is the requested one, since others decide only which reductions are applied. A bid to increase that is not wholly applied leaves less
- * unused eligibility than one block of its product needs.
+ * A number that the processed activity of the bids cannot fall below, whatever other bidders do. If each bid to increase
+ * demand is applied, the least activity is the requested one, since others decide only which reductions are applied. A bid to
+ * increase that is not wholly applied leaves less unused eligibility than one block of its product needs.
  */
 export function leastActivity(terms, bids) {
   const asked = askedDemands(terms.products, bids), requested = activityOf(terms.products, asked);
@@ -100,7 +102,7 @@ function faultOfBid(terms, before, bid) {
   return goesOn ? null : "mixed_direction";
 }
 
-/** Every fault of the bids, as {code, place}, by rising place. A bid with a fault is left out when the later bids for its product are judged. */
+/** Every fault of the bids, as {code, place}, by rising place. Later bids for a product are judged without those with a fault. */
 export function faultsOf(terms, bids) {
   if (bids.length > MOST_BIDS) return [{ code: "too_many" }];
   const faults = [], chains = new Map();

@@ -56,8 +56,9 @@ export class Sheet {
   }
 
   /**
-   * Prepares the form for the next round. A product whose row is what was submitted, `sent`, gets a bid to maintain its processed demand, or none if
-   * that is 0. In any other row the quantity stays, and the price is cleared. Returns how many rows were `maintained`, `emptied` and `left`.
+   * Prepares the form for the next round. A product whose row is what was submitted, `sent`, gets a bid to maintain its
+   * processed demand, or none if that is 0. In any other row the quantity stays, and the price is cleared. Returns how many
+   * rows were `maintained`, `emptied` and `left`.
    */
   carry(sent, held, prices) {
     const counts = { maintained: 0, emptied: 0, left: 0 };

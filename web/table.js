@@ -75,9 +75,9 @@ export class Rows {
 
   /** Scrolls to a row. */
   show(key) {
-    const high = this.#high, top = this.#keys.indexOf(key) * high;
+    const high = this.#high, top = this.#keys.indexOf(key) * high, least = top + 2 * high - this.frame.clientHeight;
     if (top < this.frame.scrollTop) this.frame.scrollTop = top;
-    else if (top + 2 * high > this.frame.scrollTop + this.frame.clientHeight) this.frame.scrollTop = top + 2 * high - this.frame.clientHeight;
+    else if (least > this.frame.scrollTop) this.frame.scrollTop = least;
     this.lay();
   }
 

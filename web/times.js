@@ -31,8 +31,11 @@ const clockWords = (seconds) => (seconds < 3600 ? `${Math.floor(seconds / 60)}:$
   : `${Math.floor(seconds / 3600)}:${two(Math.floor(seconds / 60) % 60)}:${two(seconds % 60)}`);
 const spoken = (seconds) => (seconds < 60 ? counted(seconds, "second") : counted(Math.round(seconds / 60), "minute"));
 const sameDay = (a, b) => new Date(a).toDateString() === new Date(b).toDateString();
+/** A time, with its day if that is not the day of another time. */
 const timeWords = (time, now) => new Date(time).toLocaleString("en-GB", {
-  hour: "2-digit", minute: "2-digit", ...(new Date(time).getSeconds() ? { second: "2-digit" } : {}), ...(sameDay(time, now) ? {} : { weekday: "short", day: "numeric", month: "short" }) });
+  hour: "2-digit", minute: "2-digit", ...(new Date(time).getSeconds() ? { second: "2-digit" } : {}),
+  ...(sameDay(time, now) ? {} : { weekday: "short", day: "numeric", month: "short" }),
+});
 
 /** The state of the current round, by the timetable: its phase, that in words, and the time that is counted down to, if there is one. */
 function stateOf(table, now) {
@@ -47,7 +50,10 @@ function stateOf(table, now) {
   return { phase: "shut", words: "Closed for bids. The results follow." };
 }
 
-/** Asks for the timetable and shows it. `heard` takes each timetable; `changed` is called if the round's phase changes; `isMissing` is whether this bidder has yet to submit bids. */
+/**
+ * Asks for the timetable and shows it. `heard` takes each timetable; `changed` is called if the round's phase changes;
+ * `isMissing` is whether this bidder has yet to submit bids.
+ */
 export class Times {
   #clock = new Clock();
   #table = null;
@@ -112,10 +118,10 @@ export class Times {
     const drawn = JSON.stringify([windows, round, ended, new Date(now).toDateString()]);
     if (at("windows").dataset.drawn === drawn) return; // so that a reader's place in the list stays
     at("windows").dataset.drawn = drawn;
-    const shown = windows.filter((each) => each.round >= round - 1).slice(0, SHOWN), more = windows.length - windows.indexOf(shown[shown.length - 1]) - 1;
-    at("windows").replaceChildren(...shown.map((each) => {
+    const coming = windows.filter((each) => each.round >= round - 1), more = coming.length - SHOWN;
+    at("windows").replaceChildren(...coming.slice(0, SHOWN).map((each) => {
       const state = each.round < round || ended ? ", closed" : "";
-      const times = [each.opens, each.closes].map((time) => (time ? timeWords(time, now) : "…")).join(" to ");
+      const times = `${timeWords(each.opens, now)} to ${each.closes ? timeWords(each.closes, each.opens) : "…"}`;
       return make("li", each.round === round ? { "aria-current": "step" } : {}, `Round ${each.round}: ${times}${state}`);
     }), ...(more > 0 ? [make("li", {}, `and ${counted(more, "more round")}`)] : []));
   }

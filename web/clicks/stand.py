@@ -30,7 +30,7 @@ def wait_for(what, look, seconds=15):
             if look():
                 return SEEN.append(what)
         except Exception:
-            pass    # not there yet, or drawn anew meanwhile
+            pass  # not there yet, or drawn anew meanwhile
         time.sleep(0.04)
     sys.exit(f"web/try: not within {seconds} s: {what}")
 
@@ -43,7 +43,11 @@ class Stand:
 
     def address(self, page):
         place = self.place
-        return f"http://127.0.0.1:{place.inside}/{page}" if page.startswith("operator") else f"https://localhost:{place.outside}/{page}"
+        return (
+            f"http://127.0.0.1:{place.inside}/{page}"
+            if page.startswith("operator")
+            else f"https://localhost:{place.outside}/{page}"
+        )
 
     def start(self):
         self.place.begin()
@@ -63,14 +67,18 @@ class Stand:
     def inside(self, path, body=None):
         """Status and page of a request of the operator's."""
         data = None if body is None else json.dumps(body).encode()
-        asked = urllib.request.Request(f"http://127.0.0.1:{self.place.inside}/{path}", data, {"authorization": "Bearer OPERATOROPERATOR"})
+        asked = urllib.request.Request(
+            f"http://127.0.0.1:{self.place.inside}/{path}", data, {"authorization": "Bearer OPERATOROPERATOR"}
+        )
         with urllib.request.urlopen(asked, timeout=20) as reply:
             return reply.status, json.loads(reply.read())
 
     def put(self, token, sheet):
         """A sheet that comes by another way than the page."""
         head = {"authorization": "Bearer " + token}
-        asked = urllib.request.Request(f"http://127.0.0.1:{self.place.server_port}/v1/me/bids", json.dumps(sheet).encode(), head, method="PUT")
+        asked = urllib.request.Request(
+            f"http://127.0.0.1:{self.place.server_port}/v1/me/bids", json.dumps(sheet).encode(), head, method="PUT"
+        )
         with urllib.request.urlopen(asked, timeout=20) as reply:
             expect("a sheet is accepted that another program sends", reply.status == 200)
 
@@ -86,4 +94,4 @@ class Stand:
 
     def logs(self):
         """All that nginx wrote."""
-        return "".join(file.read_text() for file in (self.place.folder / "log").glob("*.log"))
+        return "".join(file.read_text() for file in self.place.folder.rglob("*.log"))
