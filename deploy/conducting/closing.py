@@ -1,4 +1,6 @@
-"""One round's closing: its body is fixed on disk before it is sent, so the same one is sent again, and its pages are stored."""
+"""One round's closing: its body is fixed on disk before it is sent, so the same one is sent again, and its pages are
+stored.
+"""
 import dataclasses
 import enum
 import json
@@ -103,8 +105,8 @@ def body_of(setup: Setup, number: int, increments: Increments, ties: list[list[i
 def pairs_of(auction: Auction, number: int) -> list[tuple[int, int]]:
     """The pairs of bidder and product that get a tie-breaking number, by number.
 
-    All of them, or if these are more than a closing may list, those that hold a block or have a bid in force. None in round 1, in which
-    nothing is processed in order.
+    All of them, or if these are more than a closing may list, those that hold a block or have a bid in force. None in
+    round 1, in which nothing is processed in order.
     """
     if number == 1:
         return []
@@ -121,8 +123,10 @@ def random_ties(pairs: list[tuple[int, int]]) -> list[list[int]]:
     """A random number for each pair, none twice."""
     if len(pairs) > MOST_TIES:
         raise NotClosed(
-            f"{len(pairs)} pairs of bidder and product can matter, and a closing has at most {MOST_TIES} tie-breaking numbers. With --no-ties it "
-            "has none: at the same price point the lower bidder then comes first, so draw the order of the bidders in the set-up by lot "
+            f"{len(pairs)} pairs of bidder and product can matter, and a closing has at most {MOST_TIES} tie-breaking "
+            "numbers. With --no-ties it "
+            "has none: at the same price point the lower bidder then comes first, so draw the order of the bidders in "
+            "the set-up by lot "
             "before the auction."
         )
     numbers = list(range(1, len(pairs) + 1))
@@ -140,7 +144,10 @@ def fixed_increments(auction: Auction, number: int) -> Increments | None:
 
 
 def fix(auction: Auction, number: int, increments: Increments, ties: Ties) -> Origin:
-    """Brings the body of this round's closing to the disk. One that is there may have been sent, and may still arrive: it stays."""
+    """Brings the body of this round's closing to the disk.
+
+    One that is there may have been sent, and may still arrive: it stays.
+    """
     if auction.body_file(number).exists():
         return Origin.BEFORE
     listed = random_ties(pairs_of(auction, number)) if ties is Ties.RANDOM else []
@@ -149,7 +156,10 @@ def fix(auction: Auction, number: int, increments: Increments, ties: Ties) -> Or
 
 
 def send(auction: Auction, number: int, origin: Origin) -> Answer:
-    """Sends the closing that is fixed on disk. If the server refuses it for good, it is removed, so that the next one may be another."""
+    """Sends the closing that is fixed on disk.
+
+    If the server refuses it for good, it is removed, so that the next one may be another.
+    """
     page = auction.operator.ask("/v1/close", auction.body_file(number).read_bytes())
     if "closed" in page:
         return Answer(Outcome.CLOSED, page)
@@ -162,7 +172,8 @@ def send(auction: Auction, number: int, origin: Origin) -> Answer:
 
 
 def keep(auction: Auction) -> int:
-    """Stores what the server forgets: the results of the last closed round, and each closing and sheet up to it that is not stored yet.
+    """Stores what the server forgets: the results of the last closed round, and each closing and sheet up to it that is
+    not stored yet.
 
     Returns that round. A round that was closed in another way is stored with the closing that the journal has.
     """
@@ -171,7 +182,10 @@ def keep(auction: Auction) -> int:
     auction.journal.read_on()
     bodies = [auction.journal.body(entry) for entry in auction.journal.closings]
     if len(bodies) < last:
-        raise NotClosed(f"nothing is stored: {auction.journal.path} has no closing of round {last}. Is it the server's own, and no copy?")
+        raise NotClosed(
+            f"nothing is stored: {auction.journal.path} has no closing of round {last}. Is it the server's own, and no "
+            "copy?"
+        )
     for number, body in enumerate(bodies[:last], 1):
         if number == last or not auction.sheet_file(number).exists():
             disk.store(auction.body_file(number), body)
@@ -182,9 +196,16 @@ def keep(auction: Auction) -> int:
     return last
 
 
+def stored_results(auction: Auction, number: int) -> Page:
+    """The round results that are stored of a closed round."""
+    return json.loads(auction.sheet_file(number).read_bytes())
+
+
 def check_folder(auction: Auction, last: int) -> None:
     """Refuses a folder with more closings than the auction: it is another auction's, or the server lost its journal."""
     stored = auction.folder / "closings.jsonl"
     if stored.exists() and len(stored.read_bytes().splitlines()) > last:
-        raise NotClosed(f"{stored} has more closings than the auction. Give each auction a folder of its own. "
-                        "If this folder is right, the server has lost its journal: stop the auction.")
+        raise NotClosed(
+            f"{stored} has more closings than the auction. Give each auction a folder of its own. "
+            "If this folder is right, the server has lost its journal: stop the auction."
+        )

@@ -62,3 +62,14 @@ def locked(path: Path) -> Iterator[None]:
     with open(os.open(path, os.O_WRONLY | os.O_CREAT, PRIVATE), "w", encoding="utf-8") as file:
         fcntl.flock(file, fcntl.LOCK_EX)
         yield
+
+
+def touch(path: Path) -> None:
+    """Makes an empty file, which need not survive a power loss."""
+    os.close(os.open(path, os.O_WRONLY | os.O_CREAT, PUBLIC))
+
+
+def unlink(path: Path) -> None:
+    """Removes a file if it is there, which need not survive a power loss."""
+    with contextlib.suppress(FileNotFoundError):
+        os.unlink(path)

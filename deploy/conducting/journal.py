@@ -56,12 +56,15 @@ class Journal:
             if file.read(HEAD) != KIND + self.digest:
                 raise JournalFault(f"{self.path} is no journal of this set-up")
             return
-        file.seek(self.last.place - 32)                                     # the digest is just before the text
+        file.seek(self.last.place - 32)  # the digest is just before the text
         if file.read(32) != self.digest or os.fstat(file.fileno()).st_size < self.end:
             raise JournalFault(f"{self.path} is another journal than before, or has lost its end")
 
     def added(self, file: BinaryIO) -> Iterator[tuple[Entry, bytes]]:
-        """The whole texts after what was read. The last record may still be in the writing, and is then left for later."""
+        """The whole texts after what was read.
+
+        The last record may still be in the writing, and is then left for later.
+        """
         size = os.fstat(file.fileno()).st_size
         file.seek(self.end)
         while self.end + FRONT <= size:

@@ -8,11 +8,11 @@ from typing import Any
 # What a page of the server has: keys and values as docs/formats.md lists them.
 Page = dict[str, Any]
 
-CLOSING_SECONDS = 300      # as long as nginx waits for a closing
+CLOSING_SECONDS = 300  # as long as nginx waits for a closing
 
 
 class NoReply(Exception):
-    """Nobody answered, only nginx, or somebody who is not the server: what was asked may have been done all the same."""
+    """Nobody answered, or only nginx, or a stranger: what was asked may have been done all the same."""
 
 
 class Refused(Exception):

@@ -19,7 +19,10 @@ class Client:
         """Status, head in small letters, and page."""
         token_line = (f"authorization: Bearer {token}",) if token else ()
         length = (f"content-length: {len(body)}",) if body else ()
-        self.send("\r\n".join((f"{method} {path} HTTP/1.1", "host: localhost", *token_line, *length, *lines, "", "")).encode() + body)
+        self.send(
+            "\r\n".join((f"{method} {path} HTTP/1.1", "host: localhost", *token_line, *length, *lines, "", "")).encode()
+            + body
+        )
         return self.reply(method)
 
     def send(self, text):

@@ -9,7 +9,7 @@ sheet='{"bids":[{"price":100,"product":0,"quantity":2}],"round":1}'
 
 seen() { echo "seen: $1"; }
 finish() { systemctl poweroff --no-block; exit 0; }
-fail() { echo "FAILED: $1"; journalctl -b -u $unit --no-pager -o cat | tail -n 12; finish; }
+fail() { echo "FAILED: $1"; journalctl -b -u $unit -u clock-auction-conductor --no-pager -o cat | tail -n 20; finish; }
 expect() { local what=$1; shift; if "$@"; then seen "$what"; else fail "$what"; fi; }
 within() { local what=$1; shift; for _ in $(seq 150); do if "$@" > /dev/null 2>&1; then seen "$what"; return; fi; sleep 0.2; done; fail "$what, not within 30 s"; }
 asked() { curl -sS -m 5 -H "authorization: Bearer $token" "${@:2}" "http://127.0.0.1:8105$1"; }
@@ -71,6 +71,37 @@ sleep 1
 systemctl start $unit
 within "where another has the journal it waits its turn" keeps
 expect "and the file was left until then" told_in_log "journal_busy"
+conductor=clock-auction-conductor.service
+folder=/srv/auction
+cp /etc/clock_auction/setup.json $folder/
+echo OPERATOROPERATOR > $folder/operator.token
+echo secret > $folder/key.pem
+echo '{"url":"http://127.0.0.1:8105","setup":"setup.json","token":"operator.token","journal":"'"$journal"'","drain":2,"between":0,"notice":0}' > "$folder/conductor.json"
+tell() { /usr/local/lib/clock_auction/deploy/conductor "$folder" "$@"; }
+reports() { tell status | grep -qF "$1"; }
+conducting_process() { systemctl show -p MainPID --value $conductor; }
+other_conductor() { local now; now=$(conducting_process); [ "$now" != 0 ] && [ "$now" != "$1" ]; }
+cannot_see() { ! nsenter -t "$(conducting_process)" -m -- grep -q secret "$1"; }
+systemctl start $conductor
+within "the conductor reports" reports "Round 1 has no window"
+process=$(conducting_process)
+expect "it has one capability" grep -qE '^CapEff:\s0*4$' "/proc/$process/status"
+expect "its calls are filtered" grep -qE '^Seccomp:\s2$' "/proc/$process/status"
+expect "it cannot see nginx's key" cannot_see $folder/key.pem
+expect "it cannot write the set-up" bash -c "! nsenter -t $process -m -- touch $folder/setup.json 2> /dev/null"
+expect "its report is for nginx's workers only" test "$(stat -c %a:%G $folder/operator/conductor.json)" = 640:nogroup
+first=$(( $(date +%s) / 10 * 10 + 10 ))
+at() { date -u -d "@$1" +%T; }
+echo '{"days":[{"date":"'"$(date -u -d "@$first" +%F)"'","windows":["'"$(at $first)-$(at $((first + 10)))"'"]}]}' > "$folder/timetable.json"
+expect "it takes a timetable" tell plan $folder/timetable.json
+within "it opens the window" test -e $folder/gate/$((first / 10))
+expect "it sees the sheet" reports "1 of 2 bidders have a sheet in force"
+kill -KILL "$process"
+within "after SIGKILL it is started again" other_conductor "$process"
+within "it closes the round, and the auction has ended" reports "The auction ended after round 1."
+expect "it publishes the digest of the journal" grep -qF "$(tail -c +1 $folder/public/rounds/1.json | grep -oE '[0-9a-f]{64}')" <(/usr/local/bin/clock_auction audit --setup $folder/setup.json --journal $journal)
+expect "everyone may read what is public" test "$(stat -c %a $folder/public $folder/public/rounds $folder/public/rounds/1.json | paste -sd ' ')" = "755 755 644"
+systemctl stop $conductor
 systemctl stop $unit
 
 printf x | dd of=$journal bs=1 seek=20 conv=notrunc status=none

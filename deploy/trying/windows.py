@@ -1,4 +1,6 @@
-"""What nginx does for an auction by timetable, without the server: windows, published files, and the conductor's report."""
+"""What nginx does for an auction by timetable, without the server: windows, published files, and the conductor's
+report.
+"""
 import concurrent.futures
 import http.client
 import json
@@ -22,15 +24,34 @@ def ten(after=0):
     return str(int(time.time()) // 10 + after)
 
 
+def let_through(place, names):
+    """While gate/ has these names, a sheet passes. One whose head has come by then passes after they are gone."""
+    gate, client, late = place.folder / "gate", Client(place.outside), Client(place.outside)
+    for name in names:
+        (gate / name).touch()
+    head = f"PUT /v1/me/bids HTTP/1.1\r\nhost: x\r\nauthorization: Bearer {BIDDER}\r\ncontent-length: {len(SHEET)}"
+    late.send(f"{head}\r\n\r\n".encode() + SHEET[:5])
+    ensure(f"a sheet with {names}", put(client)[0] == 200)
+    time.sleep(0.2)
+    for name in names:
+        (gate / name).unlink()
+    ensure("a sheet after the window", is_refusal(put(client), 409, "window"))
+    late.send(SHEET[5:])
+    ensure("a sheet whose head came in the window", late.reply()[0] == 200)
+
+
 def try_windows(place, server):
-    """A sheet is taken while gate/ has the file of these ten seconds, or `open`, and not without. A request that began in time passes."""
+    """A sheet is taken while gate/ has the file of these ten seconds, or `open`, and not without."""
     gate, client, before = place.folder / "gate", Client(place.outside), server.count("PUT /v1/me/bids")
     shutil.rmtree(gate)
-    rows = [("no folder gate", ()), ("an empty gate", ()), ("times before and after", (ten(-1), ten(3), ten(-100000), "0"))]
-    for what, names in rows:
-        if what != "no folder gate":
+    for what, names in (
+        ("no gate", None),
+        ("an empty gate", ()),
+        ("other times", (ten(-1), ten(3), ten(-100000), "0")),
+    ):
+        if names is not None:
             gate.mkdir(exist_ok=True)
-        for name in names:
+        for name in names or ():
             (gate / name).touch()
         ensure(f"a sheet with {what}", is_refusal(answer := put(client), 409, "window"), answer)
         ensure(f"the sheet in force with {what}", client.ask("GET", "/v1/me/bids", BIDDER)[0] == 200)
@@ -38,26 +59,16 @@ def try_windows(place, server):
     ensure("without a token", is_refusal(client.ask("PUT", "/v1/me/bids", body=SHEET), 401, "token"))
     ensure("the page that refuses", is_refusal(client.ask("PUT", "/window", BIDDER, body=SHEET), 404, "no_page"))
     ensure("a sheet out of the window reached the server", server.count("PUT /v1/me/bids") == before)
-    for names in ((ten(), ten(1)), ("open",)):
-        for file in gate.iterdir():
-            file.unlink()
-        for name in names:
-            (gate / name).touch()
-        late = Client(place.outside)
-        late.send(f"PUT /v1/me/bids HTTP/1.1\r\nhost: x\r\nauthorization: Bearer {BIDDER}\r\ncontent-length: {len(SHEET)}\r\n\r\n".encode() + SHEET[:5])
-        ensure(f"a sheet with {names}", put(client)[0] == 200)
-        time.sleep(0.2)
-        for name in names:
-            (gate / name).unlink()
-        ensure("a sheet after the window", is_refusal(put(client), 409, "window"))
-        late.send(SHEET[5:])
-        ensure("a sheet whose head came in the window", late.reply()[0] == 200)
+    let_through(place, (ten(), ten(1)))
+    let_through(place, ("open",))
     ensure("four sheets reached the server", server.count("PUT /v1/me/bids") == before + 4)
     refused = [put(client, OTHER)[0] for _ in range(80)]
     ensure("sheets out of the window count against the rate", set(refused) == {409, 429}, refused)
     (gate / "open").touch()
-    print("windows: a sheet passes while gate/ has its ten seconds or `open`, else 409 window; a body that came after the window passes if its "
-          "head came in it; the sheet in force is shown at any time")
+    print(
+        "windows: a sheet passes while gate/ has its ten seconds or `open`, else 409 window; a body that came later "
+        "passes if its head came in time; the sheet in force is shown at any time"
+    )
 
 
 def publish(place):
@@ -100,19 +111,36 @@ def try_published(place, server):
         tag = head.partition("\netag: ")[2].split("\r")[0]
         ensure(f"{name} again", client.ask("GET", f"/public/{name}.json", None, f"if-none-match: {tag}")[0] == 304)
         ensure(f"HEAD of {name}", client.ask("HEAD", f"/public/{name}.json")[0] == 200)
-    for path in ("/public/plan.json", "/public/rounds/01.json", "/public/rounds/x.json", "/public/rounds/", "/public/", "/public/rounds/1.json.new",
-                 "/public/../setup.json", "/public/%2e%2e/setup.json", "/plan.json", "/kept/results-1.json", "/gate/open", "/public/timetable.json%0a"):
+    for path in (
+        "/public/plan.json",
+        "/public/rounds/01.json",
+        "/public/rounds/x.json",
+        "/public/rounds/",
+        "/public/",
+        "/public/rounds/1.json.new",
+        "/public/../setup.json",
+        "/public/%2e%2e/setup.json",
+        "/plan.json",
+        "/kept/results-1.json",
+        "/gate/open",
+        "/public/timetable.json%0a",
+    ):
         ensure(path, is_refusal(answer := client.ask("GET", path), 404, "no_page"), answer)
     for method in ("PUT", "POST", "DELETE"):
-        ensure(method, is_refusal(Client(place.outside).ask(method, "/public/timetable.json", body=b"x"), 405, "method"))
+        ensure(
+            method, is_refusal(Client(place.outside).ask(method, "/public/timetable.json", body=b"x"), 405, "method")
+        )
     begun = time.monotonic()
     with concurrent.futures.ThreadPoolExecutor(20) as pool:
         files = sum(pool.map(asks_often, [place.outside] * READERS))
     took = time.monotonic() - begun
     ensure("each reader got the file", files == READERS * ASKING_ONCE, files)
     ensure("a published file cost the server a connection", len(server.seen) == before, server.seen[before:])
-    print(f"published: five kinds of files and no other, without a token; {files} requests of {READERS} readers in {took:.1f} s, of which none "
-          "reached the server")
+    print(
+        f"published: five kinds of files and no other, without a token; {files} requests of {READERS} readers in "
+        f"{took:.1f} s, of which none "
+        "reached the server"
+    )
 
 
 def asked_inside(place, path, token=None):
@@ -129,11 +157,21 @@ def try_report(place, server, operator):
     before, report = len(server.seen), "/conductor.json"
     for token in (None, BIDDER):
         ensure(f"the report with {token}", asked_inside(place, report, token) == {"code": "token", "status": 401})
-    ensure("the report before there is one", asked_inside(place, report, operator) == {"code": "no_page", "status": 404})
+    ensure(
+        "the report before there is one", asked_inside(place, report, operator) == {"code": "no_page", "status": 404}
+    )
     (place.folder / "operator").mkdir()
     (place.folder / "operator" / "conductor.json").write_text('{"state":"open"}')
     ensure("the report", asked_inside(place, report, operator) == {"state": "open"})
-    ensure("the report at the bidders' port", is_refusal(Client(place.outside).ask("GET", report, operator), 404, "no_page"))
-    ensure("the timetable at the operator's port", asked_inside(place, "/public/timetable.json") == {"file": "timetable"})
+    ensure(
+        "the report at the bidders' port",
+        is_refusal(Client(place.outside).ask("GET", report, operator), 404, "no_page"),
+    )
+    ensure(
+        "the timetable at the operator's port", asked_inside(place, "/public/timetable.json") == {"file": "timetable"}
+    )
     ensure("a report cost the server a connection", len(server.seen) == before)
-    print("report: the conductor's report is for the operator's token at the operator's port only, and never reaches the server")
+    print(
+        "report: the conductor's report is for the operator's token at the operator's port only, and never reaches the "
+        "server"
+    )

@@ -1,0 +1,114 @@
+"""The conductor's settings and folders: FOLDER/conductor.json, which the operator writes, and what the conductor makes
+next to it.
+"""
+import dataclasses
+import grp
+import json
+import os
+import stat
+from pathlib import Path
+from typing import Self
+
+from . import disk
+
+
+class SettingsFault(Exception):
+    """What is wrong in conductor.json."""
+
+
+@dataclasses.dataclass(frozen=True)
+class Settings:
+    """The operator's settings. Paths count from the folder; times are in seconds."""
+
+    url: str  # the operator's port of nginx, so that the conductor notices if nginx is gone
+    setup: Path
+    token: Path  # a file with the operator's token
+    journal: Path  # the server's own
+    drain: int = 5  # from a window's end to the closing, for requests that began in time
+    between: int = 300  # at the least from results to the next opening
+    notice: int = 900  # a window that begins within this time is not brought forward or shortened
+    ties: str = "random"  # tie-breaking numbers: "random", or "none" if a closing cannot list all pairs that matter
+    readers: str = "nogroup"  # the group of nginx's workers, which read the report to the operator's page
+
+    @classmethod
+    def read(cls, folder: Path) -> Self:
+        path = folder / "conductor.json"
+        try:
+            value = json.loads(path.read_text(encoding="utf-8"))
+            strange = value.keys() - {field.name for field in dataclasses.fields(cls)}
+            if strange:
+                raise ValueError(f"unknown key {', '.join(sorted(strange))}")
+            files = {name: folder / value.pop(name) for name in ("setup", "token", "journal")}
+            settings = cls(**files, **value)
+        except (OSError, ValueError, AttributeError, KeyError, TypeError) as error:
+            raise SettingsFault(f"{path}: {error!r}") from error
+        times = {"drain": settings.drain, "between": settings.between, "notice": settings.notice}
+        for name, seconds in times.items():
+            if type(seconds) is not int or seconds < 0:
+                raise SettingsFault(f"{path}: {name} must be whole seconds, 0 or more")
+        if settings.ties not in ("random", "none"):
+            raise SettingsFault(f'{path}: ties must be "random" or "none"')
+        return settings
+
+
+@dataclasses.dataclass(frozen=True)
+class Folders:
+    """The folders that the conductor writes, in nginx's folder."""
+
+    top: Path
+
+    @property
+    def gate(self) -> Path:
+        """For nginx: when sheets are taken."""
+        return self.top / "gate"
+
+    @property
+    def public(self) -> Path:
+        """For everyone: timetable, announcements, closed rounds, winners."""
+        return self.top / "public"
+
+    @property
+    def rounds(self) -> Path:
+        return self.public / "rounds"
+
+    @property
+    def operator(self) -> Path:
+        """For the operator's page, through nginx: the conductor's report."""
+        return self.top / "operator"
+
+    @property
+    def kept(self) -> Path:
+        """For the operator: closings and pages, as deploy/close stores them."""
+        return self.top / "kept"
+
+    @property
+    def state(self) -> Path:
+        """For the conductor: its plan, its locks, and its last look at the clock."""
+        return self.top / "state"
+
+    def make(self, readers: str) -> None:
+        """Makes what is missing, with modes that do not depend on the umask, and brings what an earlier process wrote
+        to the disk.
+        """
+        for folder, mode in (
+            (self.gate, 0o755),
+            (self.public, 0o755),
+            (self.rounds, 0o755),
+            (self.operator, 0o750),
+            (self.kept, 0o700),
+            (self.state, 0o700),
+        ):
+            disk.make_folder(folder, mode)
+            disk.sync_folder(folder)
+        if os.geteuid() == 0:  # else nginx's workers are this user
+            self.give_report_to(readers)
+
+    def give_report_to(self, readers: str) -> None:
+        """Gives the folder of the report, and the files made in it, to this group."""
+        try:
+            group = grp.getgrnam(readers).gr_gid
+        except KeyError as error:
+            raise SettingsFault(f"conductor.json: no group is called {readers!r}") from error
+        if self.operator.stat().st_gid != group or not self.operator.stat().st_mode & stat.S_ISGID:
+            os.chown(self.operator, -1, group)
+            self.operator.chmod(0o2750)

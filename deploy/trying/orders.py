@@ -1,0 +1,151 @@
+"""What the operator says to a running auction, by the fake clock."""
+import json
+import pathlib
+from collections.abc import Iterator
+
+from conducting import commands
+from conducting.report import State
+from trying.stage import BEGIN, WINDOWS, ensure, is_refused, nothing_goes_wrong, stage_of
+
+
+def try_pause(program: pathlib.Path) -> str:
+    """Pause and resume, before, in, and after a window."""
+    with stage_of(program) as stage:
+        stage.play(State.OPEN)
+        commands.pause(stage.office(), "A fire alarm.")
+        ensure("the gate is shut at once", not stage.is_open())
+        ensure("paused twice", "paused already" in is_refused(commands.pause, stage.office(), "Again."))
+        ensure("extended while it is paused", "resume it first" in is_refused(commands.extend, stage.office(), 5))
+        shown = json.loads((stage.folder / "public/timetable.json").read_text())["paused"]
+        ensure("everyone sees it before the next look", shown == "A fire alarm.", shown)
+        stage.wait(1200)
+        ensure("it stays so", stage.is_in(State.PAUSED) and not stage.closed_at())
+        commands.resume(stage.office(), 15)
+        windows = [stage.window(number) for number in (1, 2, 3)]
+        ensure("300 seconds were left", windows[0] == (1260 + 900, 1260 + 1200), windows)
+        gaps = [after[0] - before[1] for before, after in zip(windows, windows[1:])]
+        ensure("the later windows are after it", gaps == [30, 30], windows)
+        nothing_goes_wrong(stage)
+        continues = "The auction continues. Round 1 is open from 12:36 UTC on November 28 to 12:41 UTC on November 28."
+        for words in ("The auction is paused. A fire alarm.", continues):
+            ensure(f"announced: {words}", stage.announced(words) == 1, stage.announcements())
+    with stage_of(program) as stage:
+        for state in (State.BEFORE, State.DRAINING):
+            stage.play(state)
+            commands.pause(stage.office(), "A look at the log.")
+            stage.wait(40)
+            commands.resume(stage.office(), 0)
+            ensure(f"a pause while it is {state.value}", stage.window(1) == WINDOWS[0], stage.window(1))
+        nothing_goes_wrong(stage)
+    return "pause: the gate is shut at once, resume gives the time that was left, and later windows move"
+
+
+def try_extend(program: pathlib.Path) -> str:
+    """Extend, announce, and publish the winners."""
+    with stage_of(program) as stage:
+        stage.play(State.OPEN)
+        commands.extend(stage.office(), 2)
+        ensure("longer by two minutes", stage.window(1) == (60, 480) and stage.window(2)[0] == 510, stage.window(1))
+        minutes = (0, -1, 1e9, float("nan"))
+        ensure("wrong minutes", all(is_refused(commands.extend, stage.office(), wrong) for wrong in minutes))
+        commands.announce(stage.office(), "The help desk is at extension 105.")
+        ensure("winners before the end", "has not ended" in is_refused(commands.winners, stage.office()))
+        nothing_goes_wrong(stage)
+        for _ in range(2):
+            commands.winners(stage.office())
+        stage.check()
+        won = json.loads((stage.folder / "public/winners.json").read_text())
+        bidders = [{"demands": [1], "name": name, "pays": 121} for name in "XY"]
+        ensure("winners", won == {"bidders": bidders, "round": 3}, won)
+        ensure("extended after the end", "the auction ended" in is_refused(commands.extend, stage.office(), 5))
+        fault = is_refused(commands.close_next, stage.office(), 3, True)
+        ensure("a word after the end", "does not wait for a word" in fault, fault)
+        for words in ("Round 1 is open until 12:08", "extension 105", "What each bidder has won"):
+            ensure(f"announced: {words}", stage.announced(words) == 1, stage.announcements())
+    return "extend: the window and later ones move, wrong minutes are refused, and winners are published once"
+
+
+def try_pause_without_server(program: pathlib.Path) -> str:
+    """A pause that is killed at any step, while the server is gone, has not paused or has shut the gate."""
+    was_killed, kills = True, 0
+    while was_killed:
+        with stage_of(program, [(60, 90)]) as stage:
+            stage.play(State.OPEN)
+            stage.kill_server()
+            was_killed = stage.obey(commands.pause, "A fire alarm.", kill_at=kills + 1)
+            kills += was_killed
+            stage.look()
+            is_paused = stage.office().plan_file.read().paused is not None
+            ensure(f"killed before step {kills}", not (is_paused and stage.is_open()), stage.states)
+    return f"pause without a server: killed before each of {kills} steps, it shuts the gate if it has paused"
+
+
+def try_pause_in_a_look(program: pathlib.Path) -> str:
+    """A conductor that is looking opens the gate again after `pause` has shut it first."""
+    with stage_of(program) as stage:
+        stage.play(State.OPEN)
+        office = stage.office()
+        shut, looks = office.gate.shut, []
+
+        def shut_and_look() -> None:
+            shut()
+            if not looks:
+                looks.append(stage.look())
+
+        office.gate.shut = shut_and_look
+        commands.pause(office, "A fire alarm.")
+        ensure("the conductor looked", looks == [State.OPEN])
+        ensure("the gate is shut all the same", not stage.is_open())
+    return "pause in a look: the gate is shut even if the conductor opens it once more"
+
+
+def try_killed_commands(program: pathlib.Path) -> str:
+    """A command that is killed has changed nothing and announces nothing, or has changed all and is announced once."""
+    kills = 0
+    rows = [
+        ("The auction is paused.", commands.pause, ("A fire alarm.",), lambda plan: plan.paused is not None),
+        ("longer than announced before", commands.extend, (1,), lambda plan: plan.windows[1].closes == BEGIN + 150),
+        (
+            "The timetable has 1 window",
+            commands.plan,
+            ("timetable.json",),
+            lambda plan: plan.windows[2].opens == BEGIN + 600,
+        ),
+        ("Extension 105.", commands.announce, ("Extension 105.",), None),
+    ]
+    for words, command, more, is_changed in rows:
+        was_killed, step = True, 0
+        while was_killed:
+            step += 1
+            with stage_of(program, [(60, 90), (120, 150)]) as stage:
+                stage.play(State.OPEN)
+                (stage.folder / "timetable.json").write_text(
+                    '{"days":[{"date":"2026-11-28","windows":["12:10-12:11"]}]}'
+                )
+                was_killed = stage.obey(
+                    command, *(stage.folder / word if word == "timetable.json" else word for word in more), kill_at=step
+                )
+                kills += was_killed
+                stage.look()
+                plan, announced = stage.office().plan_file.read(), sum(
+                    words in one["text"] for one in stage.announcements()
+                )
+                wanted = is_changed(plan) if is_changed else min(announced, 1)
+                ensure(f"{command.__name__} killed before step {step}", announced == wanted, announced)
+                ensure("the gate is shut if it is paused", not (plan.paused and stage.is_open()))
+                table = json.loads((stage.folder / "public/timetable.json").read_text())
+                ensure(
+                    "everyone sees it",
+                    (table["announcements"], bool(table["paused"])) == (len(stage.announcements()), bool(plan.paused)),
+                    table,
+                )
+        ensure(f"{command.__name__} that is not killed", announced == 1)
+    return (
+        f"killed commands: {kills} times before one of its steps, a command changed all and was announced once, or "
+        "changed nothing"
+    )
+
+
+def try_orders(program: pathlib.Path) -> Iterator[str]:
+    for part in (try_pause, try_extend, try_pause_in_a_look, try_pause_without_server, try_killed_commands):
+        yield part(program)

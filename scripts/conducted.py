@@ -1,0 +1,59 @@
+"""What the conductor writes in a short auction with a pause, and timetables, for the schemas to be compared with."""
+import pathlib
+import sys
+from collections.abc import Iterator
+from typing import Any
+
+TOP = pathlib.Path(__file__).resolve().parent.parent
+sys.path[:0] = [str(TOP / "deploy"), str(TOP / "scripts")]
+
+from conducting import commands
+from conducting.report import State
+from trying import timetables as rows
+from trying.stage import Stage
+
+CONDUCTOR, PUBLIC = "conductor.schema.json", "public.schema.json"
+FILES = [
+    ("conductor.json", CONDUCTOR, "settings"),
+    ("operator/conductor.json", CONDUCTOR, "report"),
+    ("public/timetable.json", PUBLIC, "timetable"),
+    ("public/announcements.json", PUBLIC, "announcements"),
+    ("public/winners.json", PUBLIC, "winners"),
+]
+
+
+def texts(program: pathlib.Path) -> set[tuple[str, str, str]]:
+    """Of each text of a file: its schema, its name there, and its bytes."""
+    stage, found = Stage(program, [(30, 60), (120, 150), (210, 240)]), set()
+
+    def note() -> None:
+        found.update(
+            (home, name, (stage.folder / file).read_text())
+            for file, home, name in FILES
+            if (stage.folder / file).exists()
+        )
+
+    try:
+        for until in (State.BEFORE, State.OPEN, State.DRAINING, State.CLOSED):
+            stage.play(until)
+            note()
+        commands.pause(stage.office(), "A fire alarm.")
+        stage.look()
+        note()
+        commands.resume(stage.office(), 0)
+        stage.play()
+        commands.winners(stage.office())
+        note()
+        found.update(
+            (PUBLIC, "published_round", file.read_text()) for file in (stage.folder / "public/rounds").iterdir()
+        )
+        return found
+    finally:
+        stage.stop()
+
+
+def timetables() -> Iterator[tuple[str, Any, bool]]:
+    """Timetables that the conductor takes or refuses, with words for each, and whether the schema allows it."""
+    yield "taken", rows.WHOLE, True
+    for words, value in rows.REFUSED:
+        yield f"refused: {words}", value, bool(rows.BEYOND_SCHEMA.search(words))
