@@ -4,9 +4,9 @@ import random
 from collections.abc import Iterator
 
 from loopback import reply_to
+from trial import ensure, expect
 
-from .servers import Server
-from .trial import Trial, ensure, expect
+from .trial import Trial
 
 SETUP_TEXT = json.dumps({
     "version": 1,
@@ -82,10 +82,11 @@ def pages_of(port: int) -> list[bytes]:
 
 def same_auction(trial: Trial, texts: list[bytes], pages: list[bytes]) -> None:
     """Compares pages with those of a server without a journal that was sent these texts."""
-    server = Server(trial)
+    server = trial.server()
     try:
         for text in texts:
-            ensure(accepted(reply_to(server.port, text)), f"a text of the journal is refused: {text!r}")
+            reply = reply_to(server.port, text)
+            ensure(f"a text of the journal is accepted: {text!r}", accepted(reply), reply)
         expect("the pages of the same texts without a crash", pages, pages_of(server.port))
     finally:
         server.kill()

@@ -5,10 +5,10 @@ from dataclasses import dataclass
 
 from journal import FRONT, HEAD, texts_of
 from loopback import reply_to
+from trial import expect, in_parallel
 
 from .auctions import DRAW, page
-from .servers import Server
-from .trial import Trial, expect, in_parallel, last_line, run_of
+from .trial import Trial, last_line, run_of
 
 KIND_LENGTH = 24
 MARK_LENGTH = 8
@@ -54,7 +54,7 @@ def play_damage(trial: Trial, texts: list[bytes]) -> Ten:
 def journal_of_ten(trial: Trial, texts: list[bytes]) -> Ten:
     """Has a server log these texts."""
     journal = trial.folder / "ten.journal"
-    server = Server(trial, journal)
+    server = trial.server(journal)
     for text in texts:
         reply_to(server.port, text)
     server.kill()
@@ -90,7 +90,7 @@ def play_tails(trial: Trial, ten: Ten) -> None:
         ("noise", DRAW.randbytes(512), f"fault: journal_damaged {end}\n"),
     ):
         file.write_bytes(ten.content + tail)
-        server = Server(trial, file, connections=1)
+        server = trial.server(file, connections=1)
         if fault is None:
             expect(f"the start with {name} after the journal", server.lines[0], f"journal 10 {ten.digests[10]}")
             page(server.port, "/v1/status")

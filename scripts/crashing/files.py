@@ -5,10 +5,11 @@ import resource
 import signal
 
 from journal import whole_texts_of
+from servers import Server
+from trial import expect
 
 from .auctions import Load
-from .servers import Server
-from .trial import Trial, expect
+from .trial import Trial
 
 FULL = 4096
 
@@ -21,7 +22,7 @@ def play_refused_files(trial: Trial, journal: pathlib.Path) -> None:
     away.mkdir()
     text = trial.folder / "text.journal"
     text.write_bytes(b"no journal, and long enough to be one: 56 bytes and more stand here")
-    first = Server(trial, journal)
+    first = trial.server(journal)
     before = journal.read_bytes()
     for name, file, fault in (
         ("a second server", journal, "journal_busy"),
@@ -30,12 +31,12 @@ def play_refused_files(trial: Trial, journal: pathlib.Path) -> None:
         ("/dev/full", pathlib.Path("/dev/full"), "journal"),
         ("another text", text, "journal_unknown"),
     ):
-        expect(name, Server(trial, file).ended(), (1, f"fault: {fault}\n"))
+        expect(name, trial.server(file).ended(), (1, f"fault: {fault}\n"))
     first.kill()
-    silent = Server(trial, journal, before=lambda: os.close(1))
+    silent = trial.server(journal, before=lambda: os.close(1))
     expect("standard output that was closed before", silent.ended(), (1, "fault: output\n"))
     expect("the journal after that", journal.read_bytes(), before)
-    expect("one byte more in the set-up", Server(trial, journal, setup=other).ended(), (1, "fault: journal_setup\n"))
+    expect("one byte more in the set-up", Server(trial.program, other, journal).ended(), (1, "fault: journal_setup\n"))
     expect("the journal after that", journal.read_bytes(), before)
     print("a second server, a folder, no folder, /dev/full, other bytes, a closed standard output, and another set-up: "
           "each start is refused")
@@ -50,12 +51,12 @@ def limited() -> None:
 def play_full_disk(trial: Trial) -> None:
     """Fills the disk of a server under load, and starts another on its journal."""
     file = trial.folder / "full.journal"
-    server, load = Server(trial, file, before=limited), Load()
+    server, load = trial.server(file, before=limited), Load()
     load.send_to(server.port)
     expect("a full disk", server.ended(), (1, "fault: journal\n"))
     found = [text for text, _digest in whole_texts_of(trial.setup.read_bytes(), file.read_bytes())]
     expect("what is logged on a full disk", found, load.replied)
-    again = Server(trial, file)
+    again = trial.server(file)
     expect("a start after it", again.lines[0].split()[:2], ["journal", str(len(found))])
     again.kill()
     print(f"on a full disk {len(found)} texts were logged and replied to, and the server ended")

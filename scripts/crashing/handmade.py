@@ -1,9 +1,9 @@
 """Journals that no server wrote: their last record is whole, and its text is none that the auction accepts there."""
 from journal import FRONT, HEAD, journal_of
+from trial import ensure, expect
 
 from .auctions import BIDDERS, closing, sheet, text_of
-from .servers import Server
-from .trial import Run, Trial, ensure, expect, run_of
+from .trial import Run, Trial, run_of
 
 REFUSED_TEXTS = (
     ("a sheet for a later round", sheet(BIDDERS[1], 7, 100, 1)),
@@ -22,11 +22,11 @@ def play_handmade(trial: Trial) -> None:
     for name, text in REFUSED_TEXTS:
         journal = journal_of(document, [first, text])
         file.write_bytes(journal)
-        expect(f"serve with {name}", Server(trial, file).ended(), (1, fault))
+        expect(f"serve with {name}", trial.server(file).ended(), (1, fault))
         expect(f"audit with {name}", run_of(trial, "audit", file), Run(1, "", fault))
         listed = run_of(trial, "journal", file)
         expect(f"the status of journal with {name}", listed.status, 0)
-        ensure(text.decode() in listed.output, f"journal does not show {name}")
+        ensure(f"journal shows {name}", text.decode() in listed.output, listed.output)
         expect(f"the file with {name}", file.read_bytes(), journal)
     names = ", ".join(name for name, _text in REFUSED_TEXTS)
     print(f"journals made by hand that end with {names}: serve and audit refuse each there, and journal shows it")

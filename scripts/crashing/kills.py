@@ -5,10 +5,10 @@ import signal
 import threading
 
 from journal import FRONT, HEAD, texts_of
+from trial import ensure, expect
 
 from .auctions import DRAW, Load, pages_of, same_auction
-from .servers import Server
-from .trial import Run, Trial, ensure, expect, run_of
+from .trial import Run, Trial, run_of
 
 Texts = list[tuple[bytes, str]]
 
@@ -18,13 +18,11 @@ def play_kills(trial: Trial, kills: int) -> list[bytes]:
     journal, load = trial.folder / "kills.journal", Load()
     closed: dict[int, str] = {}
     cuts = 0
-    for kill in range(kills):
-        lines, fault = killed(trial, journal, load, kill)
+    for _kill in range(kills):
+        lines, fault = killed(trial, journal, load)
         cuts += fault.startswith("cut ")
         closed.update((int(line.split()[1]), line.split()[2]) for line in lines if line.startswith("closed "))
-    last = Server(trial, journal)
-    if not last.is_ready():
-        ensure(False, f"after {kills} kills the server did not start: {last.ended()}")
+    last = trial.server(journal).ready()
     pages, first_line = pages_of(last.port), last.lines[0]
     last.kill()
     found: Texts = texts_of(trial.setup.read_bytes(), journal.read_bytes())
@@ -42,11 +40,9 @@ def play_kills(trial: Trial, kills: int) -> list[bytes]:
     return texts
 
 
-def killed(trial: Trial, journal: pathlib.Path, load: Load, kill: int) -> tuple[list[str], str]:
+def killed(trial: Trial, journal: pathlib.Path, load: Load) -> tuple[list[str], str]:
     """Starts a server, loads it and kills it, and returns the lines that it printed after `ready`, and its errors."""
-    server = Server(trial, journal)
-    if not server.is_ready():
-        ensure(False, f"after {kill} kills the server did not start: {server.ended()}")
+    server = trial.server(journal).ready()
     timer = threading.Timer(DRAW.uniform(0, 0.12), server.child.send_signal, [signal.SIGKILL])
     timer.start()
     load.send_to(server.port)
@@ -57,13 +53,12 @@ def killed(trial: Trial, journal: pathlib.Path, load: Load, kill: int) -> tuple[
 def compare_texts(load: Load, texts: list[bytes], kills: int) -> None:
     """Compares the texts of the journal with those that were sent and replied to."""
     rest = iter(texts)
-    in_order = all(text in rest for text in load.replied)
-    ensure(in_order, "a text that was replied to is not in the journal, or not in order")
-    few_more = len(texts) <= len(load.replied) + kills
-    ensure(few_more, "more texts without a reply are in the journal than there were kills")
-    ensure(all(text in load.sent for text in texts), "a text is in the journal that was not sent")
-    few = f"of {load.answers} requests only {len(texts)} were logged: the auction has ended too early"
-    ensure(2 * len(texts) >= load.answers, few)
+    lost = next((text for text in load.replied if text not in rest), None)
+    expect("a text that was replied to, and is not in the journal in order", lost, None)
+    unreplied = len(texts) - len(load.replied)
+    ensure(f"at most {kills} texts without a reply are in the journal", unreplied <= kills, unreplied)
+    expect("texts of the journal that were not sent", [text for text in texts if text not in load.sent], [])
+    ensure(f"half of {load.answers} requests were logged", 2 * len(texts) >= load.answers, len(texts))
 
 
 def compare_commands(trial: Trial, journal: pathlib.Path, found: Texts, closings: list[str]) -> None:

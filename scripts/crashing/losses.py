@@ -3,6 +3,7 @@ import pathlib
 from collections import Counter
 
 from journal import journal_of
+from trial import ensure, expect
 
 from .altered import altered
 from .auctions import BIDDERS, sheet
@@ -12,7 +13,7 @@ from .record import Outcome, Recorded, planned, run
 from .shims import Shims
 from .starts import play_states, show
 from .states import KINDS, states_of
-from .trial import Trial, ensure, expect
+from .trial import Trial
 
 
 def play_losses(trial: Trial, shims: Shims) -> None:
@@ -50,6 +51,6 @@ def refuse_altered(generations: list[Recorded], document: bytes) -> None:
     """Sees that a run with one wrong call is refused."""
     wrong: Counter[str] = Counter()
     for name, changed in altered(generations):
-        ensure(fault_in(changed, document) is not None, f"a wrong record is not refused: {name}")
+        ensure(f"a wrong record is refused: {name}", fault_in(changed, document))
         wrong[name] += 1
     print(f"{wrong.total()} records with one wrong call, of {len(wrong)} kinds, are each refused: {'; '.join(wrong)}")

@@ -5,11 +5,11 @@ from enum import Enum
 
 from journal import FRONT, HEAD
 from loopback import reply_to
+from trial import expect
 
 from .auctions import BIDDERS, OPERATOR, closing, next_price, sheet, text_of
-from .servers import Server
 from .shims import Shims
-from .trial import Trial, expect
+from .trial import Trial
 
 PAGE = 4096
 STATUS = b"GET /v1/status HTTP/1.1\r\n\r\n"
@@ -164,7 +164,7 @@ def run(trial: Trial, shims: Shims, journal: pathlib.Path, generation: Generatio
         call, size = generation.refused
         refusal = shims.refuse(journal, call, size=size)
     environment = shims.record(journal, lines, refusal)
-    server = Server(trial, journal, connections=len(generation.requests), environment=environment)
+    server = trial.server(journal, connections=len(generation.requests), environment=environment)
     sent = 0
     for request in generation.requests:
         reply = reply_to(server.port, request.text)

@@ -5,12 +5,13 @@ from functools import partial
 
 from journal import HEAD, whole_texts_of
 from loopback import reply_to
+from servers import Server
+from trial import ensure, expect
 
 from .auctions import BIDDERS, accepted, closing, sheet
 from .damage import Ten
-from .servers import Server
 from .shims import Shims
-from .trial import Trial, ensure, expect
+from .trial import Trial
 
 CALLS = ("open", "statx", "flock", "read", "write", "fdatasync", "ftruncate", "fsync")
 # Calls that a server must make on a new journal, and that a start must make on a whole one and on one with a torn tail.
@@ -29,7 +30,7 @@ def refuse_each(name: str, needed: tuple[str, ...], is_refused: Callable[[str, i
         while is_refused(call, count + 1):
             count += 1
         counts[call] = count
-        ensure(count > 0 or call not in needed, f"{name}: {call} is never called")
+        ensure(f"{name}: {call} is called", count > 0 or call not in needed)
     shown = ", ".join(f"{count} of {call}" for call, count in counts.items() if count)
     print(f"{name}, with each call refused in turn: {shown}; each is a fault, and the file has all that was replied to")
 
@@ -45,7 +46,7 @@ def is_refused(trial: Trial, shims: Shims, texts: list[bytes], call: str, at: in
     """Refuses a call of this number. Returns False if the server makes fewer of them."""
     file = trial.folder / f"{call}.journal"
     file.unlink(missing_ok=True)
-    server = Server(trial, file, connections=len(texts), environment=shims.refuse(file, call, at))
+    server = trial.server(file, connections=len(texts), environment=shims.refuse(file, call, at))
     replied = replied_by(server, texts) if server.is_ready() else []
     status, fault = server.ended()
     if status == 0:
@@ -55,8 +56,9 @@ def is_refused(trial: Trial, shims: Shims, texts: list[bytes], call: str, at: in
     logged = file.read_bytes() if file.exists() else b""
     found = [text for text, _digest in whole_texts_of(trial.setup.read_bytes(), logged)] if len(logged) >= HEAD else []
     expect(f"the first texts in the file with {call} {at} refused", found[: len(replied)], replied)
-    ensure(len(found) <= len(replied) + 1, f"with {call} {at} refused {len(found)} texts are in the file")
-    again = Server(trial, file)
+    most = len(replied) + 1
+    ensure(f"at most {most} texts are in the file with {call} {at} refused", len(found) <= most, len(found))
+    again = trial.server(file)
     expect(f"the start after {call} {at} was refused", again.lines[0].split()[:2], ["journal", str(len(found))])
     again.kill()
     return True
@@ -86,7 +88,7 @@ def is_start_refused(trial: Trial, shims: Shims, ten: Ten, tail: bytes, call: st
     """Refuses a call of a start of this number. Returns False if it makes fewer of them."""
     file = trial.folder / "old.journal"
     file.write_bytes(ten.content + tail)
-    server = Server(trial, file, connections=1, environment=shims.refuse(file, call, at))
+    server = trial.server(file, connections=1, environment=shims.refuse(file, call, at))
     what = f"a start with {call} {at} refused"
     if server.is_ready():
         server.kill()
@@ -105,7 +107,7 @@ def is_start_refused(trial: Trial, shims: Shims, ten: Ten, tail: bytes, call: st
 
 def start_again(trial: Trial, file: pathlib.Path, ten: Ten, what: str) -> None:
     """Starts on the file once more, and no call is refused."""
-    again = Server(trial, file)
+    again = trial.server(file)
     expect(f"the start after {what}", again.lines[0], f"journal 10 {ten.digests[10]}")
     again.kill()
     expect(f"the file after the start after {what}", file.read_bytes(), ten.content)

@@ -3,14 +3,14 @@ from collections import Counter
 from collections.abc import Iterable
 
 from journal import HEAD
+from trial import WORKERS, ensure, expect, in_parallel
 
 from .moments import Texts
 from .order import fault_of_start
 from .record import calls_in
-from .servers import Server
 from .shims import Shims
 from .states import KINDS, State
-from .trial import WORKERS, Run, Trial, ensure, expect, in_parallel, last_line, run_of
+from .trial import Run, Trial, last_line, run_of
 
 # One state of this many is started by `serve` too: of those that must be resumed, and of the others.
 SAMPLE_OF_RESUMED, SAMPLE = 100, 8
@@ -40,17 +40,17 @@ def resumed(state: State, found: Run, texts: Texts, audits: list[Run]) -> bool:
     synced, written = len(state.moment.synced), len(state.moment.written)
     where = f"{state.kind.name}, {len(state.file)} bytes, {synced} synced, {written} written"
     whole = texts.whole_in(state.file)
-    ensure(whole >= state.least, f"{where}: {state.least} texts must be there, and {whole} are")
-    ensure(whole <= state.moment.most, f"{where}: {whole} texts are there, and {state.moment.most} were written")
+    ensure(f"{where}: at least {state.least} texts are there", whole >= state.least, whole)
+    ensure(f"{where}: at most {state.moment.most} texts are there", whole <= state.moment.most, whole)
     if found.status == 0:
         expect(f"{where}: the auction of {whole} texts", found, audits[whole])
         return True
-    ensure(not state.kind.must_resume(), f"{where}: the start was refused by {found.errors}")
+    ensure(f"{where}: the start may be refused", not state.kind.must_resume(), found.errors)
     is_headed = state.file[:HEAD] == texts.journal[:HEAD]
-    ensure(is_headed or not state.has_head, f"{where}: the head is not there")
+    ensure(f"{where}: the head is there", is_headed or not state.has_head)
     faults = (f"journal_damaged {texts.ends[whole]}",) if is_headed else ("journal_unknown", "journal_setup")
     refusals = [Run(1, "", f"fault: {fault}\n") for fault in faults]
-    ensure(found in refusals, f"{where}: the start was refused by {found}, and not by {faults}")
+    ensure(f"{where}: the start is refused by {' or '.join(faults)}", found in refusals, found)
     return False
 
 
@@ -68,7 +68,7 @@ def audits_of(trial: Trial, texts: Texts) -> list[Run]:
 def serve_once(trial: Trial, shims: Shims, worker: int, state: State, found: Run, texts: Texts) -> None:
     """Starts a server on a state, and compares what it says and does to the file with what `audit` has said."""
     file, record = trial.file_of(worker), trial.folder / f"record{worker}"
-    server = Server(trial, file, connections=1, environment=shims.record(file, record))
+    server = trial.server(file, connections=1, environment=shims.record(file, record))
     if found.status != 0:
         expect("what serve says of a file that audit refuses", server.ended(), (1, found.errors))
         expect("the file after serve has refused it", file.read_bytes(), state.file)

@@ -1,18 +1,10 @@
-"""What is tried, and how a difference ends the script."""
-import os
+"""The program that is tried, its servers, and how its commands ended."""
 import pathlib
 import subprocess
-import sys
-import threading
-from collections.abc import Callable, Iterable
-from concurrent.futures import ThreadPoolExecutor
+from collections.abc import Callable, Mapping
 from dataclasses import dataclass
-from typing import TypeVar
 
-# The longest that a program may take to be ready or to end, in seconds.
-PATIENCE = 20
-WORKERS = os.cpu_count() or 1
-Item = TypeVar("Item")
+from servers import PATIENCE, Server
 
 
 @dataclass(frozen=True)
@@ -27,6 +19,18 @@ class Trial:
         """The journal that only this worker uses."""
         return self.folder / f"worker{worker}.journal"
 
+    def server(
+        self,
+        journal: pathlib.Path | None = None,
+        connections: int | None = None,
+        environment: Mapping[str, str] | None = None,
+        before: Callable[[], None] | None = None,
+    ) -> Server:
+        """A server of the set-up, with or without a journal."""
+        return Server(
+            self.program, self.setup, journal, connections=connections, environment=environment, before=before
+        )
+
 
 @dataclass(frozen=True)
 class Run:
@@ -35,17 +39,6 @@ class Run:
     status: int
     output: str
     errors: str
-
-
-def ensure(fact: bool, otherwise: str) -> None:
-    """Ends the script with these words unless the fact holds."""
-    if not fact:
-        sys.exit(otherwise)
-
-
-def expect(what: str, found: object, wanted: object) -> None:
-    """Ends the script unless what was found is what was wanted."""
-    ensure(found == wanted, f"{what}:\n  found  {found!r}\n  wanted {wanted!r}")
 
 
 def run_of(trial: Trial, command: str, journal: pathlib.Path) -> Run:
@@ -58,28 +51,3 @@ def run_of(trial: Trial, command: str, journal: pathlib.Path) -> Run:
 def last_line(run: Run) -> str:
     """The last line of its output, or else its fault."""
     return run.output.splitlines()[-1] if run.output else run.errors.strip()
-
-
-def in_parallel(work: Callable[[int, Item], None], items: Iterable[Item]) -> None:
-    """Does the work on each item, as soon as a worker is free. The work is given the number of its worker too.
-
-    After the first failure no further item is begun, and the failure is raised here.
-    """
-    rest, lock = iter(items), threading.Lock()
-    has_failed = threading.Event()
-
-    def next_item() -> Item | None:
-        with lock:
-            return None if has_failed.is_set() else next(rest, None)
-
-    def work_off(worker: int) -> None:
-        try:
-            while (item := next_item()) is not None:
-                work(worker, item)
-        except BaseException:
-            has_failed.set()
-            raise
-
-    with ThreadPoolExecutor(WORKERS) as pool:
-        for done in [pool.submit(work_off, worker) for worker in range(WORKERS)]:
-            done.result()

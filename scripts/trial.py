@@ -1,0 +1,92 @@
+"""What every trial needs: facts that must hold, waiting for one, a bound on its time, and work side by side."""
+import os
+import pathlib
+import signal
+import sys
+import threading
+import time
+from collections.abc import Callable, Iterable
+from concurrent.futures import ThreadPoolExecutor
+from typing import TypeVar
+
+TOP = pathlib.Path(__file__).resolve().parent.parent
+WORKERS = os.cpu_count() or 1
+MOST_SHOWN = 1_500
+Item = TypeVar("Item")
+
+# The facts that held, in order.
+SEEN: list[str] = []
+
+
+class Failed(SystemExit):
+    """A fact does not hold. Unless it is caught, it ends the script with status 1, and says which script and which fact."""
+
+    def __init__(self, what: str) -> None:
+        script = pathlib.Path(sys.argv[0]).resolve()
+        name = script.relative_to(TOP) if script.is_relative_to(TOP) else script
+        super().__init__(f"{name}: {what}")
+
+
+def shown(value: object) -> str:
+    """A value for a message, cut to a length that can be read."""
+    text = value if isinstance(value, str) else repr(value)
+    return text if len(text) <= MOST_SHOWN else f"{text[:MOST_SHOWN]} and {len(text) - MOST_SHOWN} characters more"
+
+
+def ensure(what: str, holds: object, found: object = None) -> None:
+    """Notes a fact that holds, and fails if it does not. A message has what was found."""
+    if not holds:
+        raise Failed(what if found is None else f"{what}: {shown(found)}")
+    SEEN.append(what)
+
+
+def expect(what: str, found: object, wanted: object) -> None:
+    """Notes that what was found is what was wanted, and fails if it is not."""
+    if found != wanted:
+        raise Failed(f"{what}:\n  found  {shown(repr(found))}\n  wanted {shown(repr(wanted))}")
+    SEEN.append(what)
+
+
+def wait_for(what: str, condition: Callable[[], object], seconds: float) -> None:
+    """Waits until a condition holds, and fails if it does not within these seconds."""
+    end = time.monotonic() + seconds
+    while not condition():
+        if time.monotonic() > end:
+            raise Failed(f"waited {seconds} s in vain: {what}")
+        time.sleep(0.02)
+    SEEN.append(what)
+
+
+def bound(seconds: int) -> None:
+    """Lets the script fail if it is not done within these seconds."""
+
+    def out_of_time(*_: object) -> None:
+        raise Failed(f"not done within {seconds} s")
+
+    signal.signal(signal.SIGALRM, out_of_time)
+    signal.alarm(seconds)
+
+
+def in_parallel(work: Callable[[int, Item], None], items: Iterable[Item]) -> None:
+    """Does the work on each item, as soon as a worker is free. The work is given the number of its worker too.
+
+    After the first failure no further item is begun, and the failure is raised here.
+    """
+    rest, lock = iter(items), threading.Lock()
+    has_failed = threading.Event()
+
+    def next_item() -> Item | None:
+        with lock:
+            return None if has_failed.is_set() else next(rest, None)
+
+    def work_off(worker: int) -> None:
+        try:
+            while (item := next_item()) is not None:
+                work(worker, item)
+        except BaseException:
+            has_failed.set()
+            raise
+
+    with ThreadPoolExecutor(WORKERS) as pool:
+        for done in [pool.submit(work_off, worker) for worker in range(WORKERS)]:
+            done.result()
