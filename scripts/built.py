@@ -3,7 +3,8 @@ import os
 import pathlib
 import sys
 
-BUILT = pathlib.Path(__file__).resolve().parent.parent / "crates" / "clock_auction" / "out" / "clock_auction"
+TOP = pathlib.Path(__file__).resolve().parent.parent
+BUILT = TOP / "crates" / "clock_auction" / "out" / "clock_auction"
 
 
 def program():

@@ -3,7 +3,7 @@ import json
 import random
 from collections.abc import Iterator
 
-from loopback import reply_to
+from loopback import answer_to, compact, reply_to, text_of
 from trial import ensure, expect
 
 from .trial import Trial
@@ -20,24 +20,14 @@ DRAW = random.Random(105)
 LAST_ROUND = 2000
 
 
-def compact(value: object) -> bytes:
-    return json.dumps(value, separators=(",", ":")).encode()
-
-
-def text_of(method: str, path: str, token: str, body: bytes = b"") -> bytes:
-    """A request with this token and body."""
-    head = f"{method} {path} HTTP/1.1\r\nauthorization: Bearer {token}\r\ncontent-length: {len(body)}\r\n\r\n"
-    return head.encode() + body
-
-
 def sheet(token: str, number: int, price: int, quantity: int, spaces: int = 0) -> bytes:
     """A sheet of one bid, at the clock price of a round, with spaces after its body."""
     bids = [{"price": price, "product": 0, "quantity": quantity}]
-    return text_of("PUT", "/v1/me/bids", token, compact({"bids": bids, "round": number}) + b" " * spaces)
+    return text_of("PUT /v1/me/bids", token, compact({"bids": bids, "round": number}) + b" " * spaces)
 
 
 def closing(number: int) -> bytes:
-    return text_of("POST", "/v1/close", OPERATOR, compact({"increment": 1, "round": number, "ties": []}))
+    return text_of("POST /v1/close", OPERATOR, compact({"increment": 1, "round": number, "ties": []}))
 
 
 def next_price(price: int) -> int:
@@ -56,7 +46,7 @@ def requests() -> Iterator[bytes]:
         for token in [*BIDDERS, *DRAW.choices(BIDDERS, k=DRAW.randint(10, 30))]:
             yield sheet(token, number, price, DRAW.choice((1, 2)))
             if DRAW.random() < 0.3:
-                yield text_of("GET", "/v1/me/bids", token)
+                yield text_of("GET /v1/me/bids", token)
             if DRAW.random() < 0.1:
                 yield sheet(token, number + 1, price, DRAW.choice((1, 2)))
         if number < LAST_ROUND:
@@ -65,7 +55,7 @@ def requests() -> Iterator[bytes]:
 
 
 def page(port: int, path: str, token: str = OPERATOR) -> bytes:
-    return reply_to(port, text_of("GET", path, token))
+    return reply_to(port, text_of(f"GET {path}", token))
 
 
 def accepted(reply: bytes) -> bool:
@@ -74,7 +64,7 @@ def accepted(reply: bytes) -> bool:
 
 def pages_of(port: int) -> list[bytes]:
     """All pages of an auction, as each of its participants gets them."""
-    rounds = json.loads(page(port, "/v1/status").partition(b"\r\n\r\n")[2])["round"]
+    rounds = json.loads(answer_to(port, text_of("GET /v1/status"))[1])["round"]
     paths = ["/v1/status", "/v1/products", "/v1/results"] + [f"/v1/rounds/{number}" for number in range(1, rounds + 1)]
     own = ["/v1/me", "/v1/me/bids"] + [f"/v1/me/rounds/{number}" for number in range(1, rounds + 1)]
     return [page(port, path) for path in paths] + [page(port, path, token) for path in own for token in BIDDERS]

@@ -1,8 +1,9 @@
 """Journals that no server wrote: their last record is whole, and its text is none that the auction accepts there."""
 from journal import FRONT, HEAD, journal_of
+from loopback import text_of
 from trial import ensure, expect
 
-from .auctions import BIDDERS, closing, sheet, text_of
+from .auctions import BIDDERS, closing, sheet
 from .trial import Run, Trial, run_of
 
 REFUSED_TEXTS = (
@@ -10,7 +11,7 @@ REFUSED_TEXTS = (
     ("a sheet of an unknown token", sheet("N" * 16, 1, 100, 1)),
     ("a sheet above the cap", sheet(BIDDERS[1], 1, 100, 3)),
     ("a closing of a later round", closing(7)),
-    ("a request without a page", text_of("GET", "/none", BIDDERS[1])),
+    ("a request without a page", text_of("GET /none", BIDDERS[1])),
     ("half a request", b"PUT /v1/me/bids HTTP/1.1\r\n"),
 )
 

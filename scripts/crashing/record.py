@@ -4,15 +4,15 @@ from dataclasses import dataclass
 from enum import Enum
 
 from journal import FRONT, HEAD
-from loopback import reply_to
+from loopback import reply_to, text_of
 from trial import expect
 
-from .auctions import BIDDERS, OPERATOR, closing, next_price, sheet, text_of
+from .auctions import BIDDERS, OPERATOR, closing, next_price, sheet
 from .shims import Shims
 from .trial import Trial
 
 PAGE = 4096
-STATUS = b"GET /v1/status HTTP/1.1\r\n\r\n"
+STATUS = text_of("GET /v1/status")
 
 
 class Outcome(Enum):
@@ -132,7 +132,7 @@ def planned() -> list[Generation]:
     plan.logs(sheet(z, 2, price, 1))
     plan.refuses(closing(1))
     plan.ends_by_sync(sheet(y, 2, price, 2))
-    plan.shows(text_of("GET", "/v1/me/bids", y))
+    plan.shows(text_of("GET /v1/me/bids", y))
     plan.logs(sheet(z, 2, price, 2))
     plan.logs(closing(2))
     plan.refuses(closing(2))
@@ -144,15 +144,15 @@ def planned() -> list[Generation]:
 def plan_first(plan: Plan, x: str, y: str, z: str) -> None:
     """The first generation: round 1, and a sheet of round 2 of which half can be written."""
     plan.shows(STATUS)
-    plan.refuses(b"GET /none HTTP/1.1\r\n\r\n", closing(2))
+    plan.refuses(text_of("GET /none"), closing(2))
     plan.logs(sheet(x, 1, 100, 1))
-    plan.shows(text_of("GET", "/v1/me/bids", x))
-    plan.refuses(sheet(x, 2, 100, 1), sheet("N" * 16, 1, 100, 1), text_of("PUT", "/v1/me/bids", y, b"{"))
+    plan.shows(text_of("GET /v1/me/bids", x))
+    plan.refuses(sheet(x, 2, 100, 1), sheet("N" * 16, 1, 100, 1), text_of("PUT /v1/me/bids", y, b"{"))
     plan.logs_up_to(3 * PAGE - 700, y, 1, 100)
     plan.logs(sheet(z, 1, 100, 1))
     plan.logs(closing(1))
     plan.refuses(closing(1), sheet(x, 1, 100, 1))
-    plan.shows(text_of("GET", "/v1/results", OPERATOR))
+    plan.shows(text_of("GET /v1/results", OPERATOR))
     plan.ends_by_write(padded(x, 2, next_price(100), 1000))
 
 
