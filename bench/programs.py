@@ -27,7 +27,9 @@ def build(name, work):
 
 def setup_document(products, bidders):
     """A set-up document of so many products and bidders."""
-    made = subprocess.run([TOP / "bench" / "setup_document", str(products), str(bidders)], capture_output=True, check=True)
+    made = subprocess.run(
+        [TOP / "bench" / "setup_document", str(products), str(bidders)], capture_output=True, check=True
+    )
     return made.stdout.decode()
 
 
@@ -39,12 +41,16 @@ def sent(line, token, value):
 
 def put(bidder, number, bids):
     """A bidder's sheet, of its quantities and prices."""
-    bids = [{"price": price, "product": product, "quantity": quantity} for product, (quantity, price) in enumerate(bids)]
+    bids = [
+        {"price": price, "product": product, "quantity": quantity} for product, (quantity, price) in enumerate(bids)
+    ]
     return sent("PUT /v1/me/bids", f"{bidder:020d}", {"bids": bids, "round": number})
 
 
 def figures(program, parts):
-    """Runs the program on the parts of its input, and gives a name, a count, nanoseconds and other replies for each group."""
+    """Runs the program on the parts of its input, and gives a name, a count, nanoseconds and other replies for each
+    group.
+    """
     done = subprocess.run([program], input="\1".join(parts).encode(), stdout=subprocess.PIPE, check=True)
     for line in done.stdout.decode().splitlines():
         name, count, nanoseconds, others = line.split("\t")

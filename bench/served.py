@@ -16,11 +16,16 @@ OPERATOR = "OPERATOROPERATOR"
 
 def text_of(method, path, token, page):
     body = json.dumps(page, separators=(",", ":")).encode()
-    return f"{method} {path} HTTP/1.1\r\nauthorization: Bearer {token}\r\ncontent-length: {len(body)}\r\n\r\n".encode() + body
+    return (
+        f"{method} {path} HTTP/1.1\r\nauthorization: Bearer {token}\r\ncontent-length: {len(body)}\r\n\r\n".encode()
+        + body
+    )
 
 
 class Served:
-    """A server for so many connections. `spent` is what it took of the processor, once it has ended; at the end of `with` it is ended."""
+    """A server for so many connections. `spent` is what it took of the processor, once it has ended; at the end of
+    `with` it is ended.
+    """
 
     def __init__(self, program, setup, connections, journal=None):
         self.port, begun = free_port(), time.monotonic()

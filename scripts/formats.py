@@ -33,7 +33,7 @@ def json_in(text: bytes) -> Any:
         raise ValueError("nested too deep") from None
     if nesting(value) > 127:
         raise ValueError("nested too deep")
-    json.dumps(value, ensure_ascii=False).encode()          # a lone surrogate has no UTF-8
+    json.dumps(value, ensure_ascii=False).encode()  # a lone surrogate has no UTF-8
     return value
 
 
@@ -67,6 +67,7 @@ def shaped(shape: type[Shape], value: Any, **given: Any) -> Shape:
 
 
 # ---- The set-up document
+
 
 class Product(NamedTuple):
     name: str
@@ -139,6 +140,7 @@ def ranges(setup: Setup) -> Iterator[tuple[str, bool]]:
 
 
 # ---- Requests
+
 
 class Request(NamedTuple):
     """The parts of a request that matter."""

@@ -7,9 +7,11 @@ FRONT = 40
 
 
 def whole_texts_of(setup, bytes):
-    """The texts of a journal that a server may be adding to, one by one: of the last record only a part may be there."""
+    """The texts of a journal to which a server may be adding: of the last record only a part may be there."""
     place = HEAD
-    while place + FRONT <= len(bytes) and (end := place + FRONT + int.from_bytes(bytes[place : place + 4], "big")) <= len(bytes):
+    while place + FRONT <= len(bytes) and (
+        end := place + FRONT + int.from_bytes(bytes[place : place + 4], "big")
+    ) <= len(bytes):
         place = end
     return each_text_of(setup, bytes, place)
 
@@ -20,7 +22,7 @@ def head_of(setup):
 
 
 def record_of(digest, text):
-    """The record of a text after a text, or a set-up document, of this digest. Its own digest is the 32 bytes from byte 8 on."""
+    """The record of a text after one of this digest, or after the set-up. Its own digest begins at byte 8."""
     length = len(text).to_bytes(4, "big")
     return length + length + hashlib.sha256(digest + text).digest() + text
 
@@ -54,7 +56,7 @@ def body_in(text):
 
 
 def texts_of(setup, bytes):
-    """The texts of a whole journal of this set-up document, each with its digest. A record that is not right is an AssertionError."""
+    """The texts of a whole journal of this set-up, each with its digest. A wrong record is an AssertionError."""
     return list(each_text_of(setup, bytes, len(bytes)))
 
 

@@ -9,6 +9,7 @@ SECONDS = 120
 
 def missing(*names):
     """The packages without a program of their name, after installing them if that may be done."""
+
     def not_there():
         return [name for name in names if not shutil.which(name, path=PATHS)]
 

@@ -1,12 +1,14 @@
-"""Auctions played over a server, request by request, in which each page of each route comes, and each refusal but want of memory."""
+"""Auctions played over a server, in which each page of each route comes, and each refusal but out of memory."""
 import json
 import pathlib
-import subprocess
 
-from fuzzing.requests import Server, request
-from loopback import reply_to
+from fuzzing.requests import TOKENS, request
+from loopback import answer_to, compact, text_of
+from servers import Server
+from trial import expect
 
-# The routes as docs/formats.md names them: whose token they want ("" none, X a bidder's, O the operator's), and the methods.
+# The routes as docs/formats.md names them: whose token they want ("" none, X a bidder's, O the operator's), and the
+# methods.
 ROUTES = {
     "/v1/status": ("", ["GET"]),
     "/v1/products": ("", ["GET"]),
@@ -18,7 +20,6 @@ ROUTES = {
     "/v1/results": ("O", ["GET"]),
     "/{other}": ("", ["GET"]),
 }
-TOKENS = {"": "", "X": f"authorization: Bearer {'X' * 16}\r\n", "O": "authorization: Bearer OPERATOROPERATOR\r\n"}
 
 
 def path_of(route, number=1):
@@ -28,11 +29,11 @@ def path_of(route, number=1):
 def sheet(*bids, number=1):
     """A body of these bids, each a product, a quantity and a price."""
     rows = [{"price": price, "product": product, "quantity": quantity} for product, quantity, price in bids]
-    return json.dumps({"bids": rows, "round": number}, separators=(",", ":")).encode()
+    return compact({"bids": rows, "round": number})
 
 
 def closing(ties=(), increment=10, number=1):
-    return json.dumps({"increment": increment, "round": number, "ties": list(ties)}, separators=(",", ":")).encode()
+    return compact({"increment": increment, "round": number, "ties": list(ties)})
 
 
 def put(letter, body):
@@ -50,10 +51,18 @@ def get(route, letter=None, number=1):
 def refused_by_the_head(method, route):
     """For one method of a route, each refusal that the head alone can have."""
     owner, _ = ROUTES[route]
-    line, token = f"{method} {path_of(route)} HTTP/1.1\r\n", TOKENS[owner]
-    for rest in ("x: y\r\n" * 70 + "\r\n", "x\r\n\r\n", "transfer-encoding: chunked\r\n\r\n", "content-length: x\r\n\r\n", "content-length: 1048577\r\n\r\n", "content-length: 9\r\n\r\n1"):
-        yield method, route, (line + token + rest).encode()
-    yield method, route, (f"DELETE {path_of(route)} HTTP/1.1\r\n{token}\r\n").encode()
+    line, token = f"{method} {path_of(route)}", TOKENS.get(owner, owner * 16)
+    head = text_of(line, token).removesuffix(b"\r\n")
+    for rest in (
+        b"x: y\r\n" * 70,
+        b"x\r\n",
+        b"transfer-encoding: chunked\r\n",
+        b"content-length: x\r\n",
+        b"content-length: 1048577\r\n",
+    ):
+        yield method, route, head + rest + b"\r\n"
+    yield method, route, head + b"content-length: 9\r\n\r\n1"
+    yield method, route, text_of(f"DELETE {path_of(route)}", token)
     if owner:
         yield method, route, request(f"{method} {path_of(route)}")
         yield method, route, request(f"{method} {path_of(route)}", "O" if owner == "X" else "X")
@@ -61,9 +70,25 @@ def refused_by_the_head(method, route):
 
 def refused_bodies():
     """In round 1: bodies that are refused."""
-    for body in (b"{", b"{}", sheet(number=2), sheet(*[(0, 1, 100)] * 8193), sheet((1, 1, 100)), sheet((0, 1, 101)), sheet((0, 3, 100))):
+    for body in (
+        b"{",
+        b"{}",
+        sheet(number=2),
+        sheet(*[(0, 1, 100)] * 8193),
+        sheet((1, 1, 100)),
+        sheet((0, 1, 101)),
+        sheet((0, 3, 100)),
+    ):
         yield put("X", body)
-    for body in (b"{", b"{}", closing(number=2), closing(increment=51), closing([[0, 0, 1]] * 16_385), closing([[9, 0, 1]]), closing([[0, 0, 1]] * 2)):
+    for body in (
+        b"{",
+        b"{}",
+        closing(number=2),
+        closing(increment=51),
+        closing([[0, 0, 1]] * 16_385),
+        closing([[9, 0, 1]]),
+        closing([[0, 0, 1]] * 2),
+    ):
         yield close(body)
 
 
@@ -114,7 +139,10 @@ def changed_setups(top, folder):
     """The set-ups' files, each with its auction."""
     text = (top / "examples" / "one_product.json").read_text()
     yield top / "examples" / "one_product.json", list(one_product())
-    for name, change, auction in (("eligibility", ("bidders", "eligibility", 1), little_eligibility()), ("price", ("products", "opening", 10**12), highest_price())):
+    for name, change, auction in (
+        ("eligibility", ("bidders", "eligibility", 1), little_eligibility()),
+        ("price", ("products", "opening", 10**12), highest_price()),
+    ):
         setup = json.loads(text)
         part, key, value = change
         setup[part][0][key] = value
@@ -125,16 +153,10 @@ def changed_setups(top, folder):
 
 
 def replies(program, top, folder):
-    """For each request of the auctions: its method, its route, its bytes, the reply's status and the text of its page."""
+    """For each request of the auctions: its method, its route, its bytes, the reply's status and its page."""
     for file, auction in changed_setups(top, folder):
-        server = Server(program, str(file), len(auction))
-        try:
+        with Server(program, file, connections=len(auction)) as server:
             for method, route, text in auction:
-                head, _, page = reply_to(server.port, text).partition(b"\r\n\r\n")
-                yield method, route, text, int(head.split(b" ")[1]), page.decode()
-            server.process.wait(10)
-        except subprocess.TimeoutExpired:
-            raise SystemExit(f"{file}: the server did not end after its {len(auction)} connections")
-        finally:
-            if server.process.poll() is None:
-                server.process.kill()
+                status, page = answer_to(server.port, text)
+                yield method, route, text, status, page.decode()
+            expect(f"the end of a server of {file.name}", server.ended(), (0, ""))

@@ -32,6 +32,7 @@ def up(numerator: int, denominator: int) -> int:
 
 # ---- Prices
 
+
 class Price(NamedTuple):
     """The prices of a product in a round."""
 
@@ -59,6 +60,7 @@ def chains_of(bids: list[Bid]) -> Chains:
 
 # ---- Activity. Demands are one bidder's, by product.
 
+
 def activity(products: list[Product], demands: list[int]) -> int:
     return sum(product.units * demand for product, demand in zip(products, demands))
 
@@ -77,6 +79,7 @@ def activity_limit(setup: Setup, number: int, eligibility: int) -> int:
 
 
 # ---- What is refused
+
 
 def check_sheet(products: list[Product], prices: list[Price], demands: list[int], limit: int, bids: list[Bid]) -> None:
     """Refuses a sheet for its first fault. The demands are the bidder's processed demands."""
@@ -112,6 +115,7 @@ def check_ties(setup: Setup, ties: list[list[int]]) -> None:
 
 
 # ---- Bid processing, from round 2
+
 
 class Request(NamedTuple):
     """A wish to change a bidder's demand for a product. The first five fields are the order of processing."""
@@ -149,7 +153,7 @@ class Board:
         self.demands = [list(row) for row in demands]
         self.excess = [sum(row[p] for row in demands) - product.supply for p, product in enumerate(products)]
         self.unused = [most - activity(products, row) for most, row in zip(eligibilities, demands)]
-        self.highest: dict[int, int] = {}          # by product, the highest price of a reduction that was applied
+        self.highest: dict[int, int] = {}  # by product, the highest price of a reduction that was applied
 
     def room(self, request: Request, left: int) -> int:
         """How many blocks can be applied now, of those that are left of a request."""
@@ -179,7 +183,7 @@ def process(board: Board, requests: list[Request]) -> None:
     reductions: dict[int, list[int]] = defaultdict(list)
     increases: dict[int, list[int]] = defaultdict(list)
     for admitted in range(len(ordered)):
-        searched = [admitted]                      # a heap of places in the order
+        searched = [admitted]  # a heap of places in the order
         while searched:
             first = heapq.heappop(searched)
             request = ordered[first]
@@ -195,6 +199,7 @@ def process(board: Board, requests: list[Request]) -> None:
 
 
 # ---- After a round
+
 
 class Line(NamedTuple):
     """The results of a round for a product. There is no next clock price if the auction has ended."""
@@ -230,6 +235,7 @@ def next_eligibility(eligibility: int, active: int, requirement: int) -> int:
 
 
 # ---- Rounds
+
 
 class Auction:
     """The rounds of an auction. It takes each accepted sheet and closing in order, and refuses any other."""
@@ -296,6 +302,7 @@ class Auction:
 
 # ---- The requests of a journal
 
+
 def take(auction: Auction, bidders: dict[str, int], text: bytes) -> None:
     """Takes a request as a bidder's sheet or as the operator's closing. The bidders are listed by token."""
     method, path, token, body = request_in(text)
@@ -339,6 +346,7 @@ def recounted(document: bytes, journal: bytes) -> Recount:
 
 
 # ---- The report
+
 
 def report(counted: Recount) -> Iterator[str]:
     """The lines of all closed rounds. If the auction has ended, what each bidder has won and pays."""

@@ -2,6 +2,9 @@
 import json
 import pathlib
 
+from loopback import text_of
+
+TOKENS = {"": "", "O": "OPERATOROPERATOR"}
 EXAMPLES = pathlib.Path(__file__).resolve().parent.parent / "examples"
 ONE = (EXAMPLES / "one_product.json").read_text()
 TWO = (EXAMPLES / "two_products.json").read_text()
@@ -9,11 +12,21 @@ GRANULES = (EXAMPLES / "granules_and_increments.json").read_text()
 OPENING = (EXAMPLES / "opening.json").read_text()
 HIGHEST = 1_000_000_000_000
 ONE_AT_HIGHEST = ONE.replace('"opening": 100', f'"opening": {HIGHEST}')
-REPLAY = json.dumps({
-    "setup": json.loads(ONE),
-    "scripts": [{"kind": "sincere", "limits": [[120, 115]]}, {"kind": "sincere", "limits": [[130]]}],
-    "closings": [{"increment": 10, "ties": []}] * 3,
-})
+REPLAY = json.dumps(
+    {
+        "setup": json.loads(ONE),
+        "scripts": [{"kind": "sincere", "limits": [[120, 115]]}, {"kind": "sincere", "limits": [[130]]}],
+        "closings": [{"increment": 10, "ties": []}] * 3,
+    }
+)
+
+
+# What the program prints, and a server replies, if it is out of memory.
+OUT_OF_MEMORY = (1, b"", b"fault: memory\n")
+REPLY_OUT_OF_MEMORY = (
+    b"HTTP/1.1 503 Service Unavailable\r\nconnection: close\r\ncontent-length: 30\r\n"
+    b'content-type: application/json\r\n\r\n{"code":"memory","status":503}'
+)
 
 
 def compact(value):
@@ -22,7 +35,8 @@ def compact(value):
 
 def sheet(number, *bids):
     """The body of a sheet, of products, quantities and prices."""
-    return compact({"bids": [{"product": product, "quantity": quantity, "price": price} for product, quantity, price in bids], "round": number})
+    rows = [{"product": product, "quantity": quantity, "price": price} for product, quantity, price in bids]
+    return compact({"bids": rows, "round": number})
 
 
 def closing(number, ties=(), **increments):
@@ -32,9 +46,7 @@ def closing(number, ties=(), **increments):
 
 def request(line, letter="", body=None):
     """A request with the token of a bidder's letter or of the operator, and a body."""
-    token = {"": "", "O": "authorization: Bearer OPERATOROPERATOR\r\n"}.get(letter, f"authorization: Bearer {letter * 16}\r\n")
-    length = "" if body is None else f"content-length: {len(body)}\r\n"
-    return f"{line} HTTP/1.1\r\n{token}{length}\r\n{body or ''}"
+    return text_of(line, TOKENS.get(letter, letter * 16), None if body is None else body.encode()).decode()
 
 
 def put(letter, number, *bids):

@@ -19,7 +19,7 @@ SEEN: list[str] = []
 
 
 class Failed(SystemExit):
-    """A fact does not hold. Unless it is caught, it ends the script with status 1, and says which script and which fact."""
+    """A fact does not hold. Unless it is caught, the script ends with status 1 and says which one."""
 
     def __init__(self, what: str) -> None:
         script = pathlib.Path(sys.argv[0]).resolve()

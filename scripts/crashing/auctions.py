@@ -8,13 +8,15 @@ from trial import ensure, expect
 
 from .trial import Trial
 
-SETUP_TEXT = json.dumps({
-    "version": 1,
-    "requirement": 50,
-    "operator": "OPERATOROPERATOR",
-    "products": [{"name": "A", "units": 1, "supply": 2, "cap": 2, "opening": 100}],
-    "bidders": [{"name": letter, "token": letter * 16, "eligibility": 2} for letter in "XYZ"],
-}).encode()
+SETUP_TEXT = json.dumps(
+    {
+        "version": 1,
+        "requirement": 50,
+        "operator": "OPERATOROPERATOR",
+        "products": [{"name": "A", "units": 1, "supply": 2, "cap": 2, "opening": 100}],
+        "bidders": [{"name": letter, "token": letter * 16, "eligibility": 2} for letter in "XYZ"],
+    }
+).encode()
 OPERATOR, BIDDERS = "OPERATOROPERATOR", [letter * 16 for letter in "XYZ"]
 DRAW = random.Random(105)
 LAST_ROUND = 2000

@@ -46,8 +46,10 @@ def play_damage(trial: Trial, texts: list[bytes]) -> Ten:
 
     in_parallel(cut, range(size + 1))
     in_parallel(change, range(size))
-    print(f"a journal of ten texts: cut at each of {size + 1} places, changed at each of {size}; "
-          f"it was read as its first texts or refused")
+    print(
+        f"a journal of ten texts: cut at each of {size + 1} places, changed at each of {size}; "
+        f"it was read as its first texts or refused"
+    )
     return ten
 
 

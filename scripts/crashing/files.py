@@ -38,8 +38,10 @@ def play_refused_files(trial: Trial, journal: pathlib.Path) -> None:
     expect("the journal after that", journal.read_bytes(), before)
     expect("one byte more in the set-up", Server(trial.program, other, journal).ended(), (1, "fault: journal_setup\n"))
     expect("the journal after that", journal.read_bytes(), before)
-    print("a second server, a folder, no folder, /dev/full, other bytes, a closed standard output, and another set-up: "
-          "each start is refused")
+    print(
+        "a second server, a folder, no folder, /dev/full, other bytes, a closed standard output, and another set-up: "
+        "each start is refused"
+    )
 
 
 def limited() -> None:

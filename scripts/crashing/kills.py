@@ -34,9 +34,11 @@ def play_kills(trial: Trial, kills: int) -> list[bytes]:
         expect(f"the digest of closing {number}", digest, closings[number - 1])
     same_auction(trial, texts, pages)
     compare_commands(trial, journal, found, closings)
-    print(f"{kills} kills: {load.answers} requests answered, {len(texts)} texts logged, "
-          f"{len(texts) - len(load.replied)} of them without a reply, {len(closings)} rounds closed, "
-          f"{cuts} torn tails cut off; the pages are those of the same texts without a crash")
+    print(
+        f"{kills} kills: {load.answers} requests answered, {len(texts)} texts logged, "
+        f"{len(texts) - len(load.replied)} of them without a reply, {len(closings)} rounds closed, "
+        f"{cuts} torn tails cut off; the pages are those of the same texts without a crash"
+    )
     return texts
 
 

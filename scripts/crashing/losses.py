@@ -41,9 +41,11 @@ def recorded(trial: Trial, shims: Shims, journal: pathlib.Path) -> list[Recorded
     outcomes = [request.outcome for generation in generations for request in generation.requests]
     calls = [call.name for generation in generations for call in generation.calls]
     logged, syncs = outcomes.count(Outcome.LOGGED), sum(name in SYNCS for name in calls)
-    print(f"{len(generations)} servers in turn on one journal: {len(calls)} calls for {len(outcomes)} requests, "
-          f"{syncs} of them syncs of the journal; each of {logged} accepted texts is synced once, before its reply "
-          f"begins, the head and the folder before ready, and nothing for other requests")
+    print(
+        f"{len(generations)} servers in turn on one journal: {len(calls)} calls for {len(outcomes)} requests, "
+        f"{syncs} of them syncs of the journal; each of {logged} accepted texts is synced once, before its reply "
+        f"begins, the head and the folder before ready, and nothing for other requests"
+    )
     return generations
 
 

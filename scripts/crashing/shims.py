@@ -21,9 +21,7 @@ class Shims:
         from_size = {"REFUSE_SIZE": str(size)} if size else {}
         return os.environ | wanted | from_size | {"LD_PRELOAD": str(self.refusing)}
 
-    def record(
-        self, file: pathlib.Path, record: pathlib.Path, refusal: dict[str, str] | None = None
-    ) -> dict[str, str]:
+    def record(self, file: pathlib.Path, record: pathlib.Path, refusal: dict[str, str] | None = None) -> dict[str, str]:
         """An environment in which the calls on a file are recorded in another one, if a refusal lets them through."""
         before = refusal or dict(os.environ)
         preloaded = f"{refusal['LD_PRELOAD']}:{self.recording}" if refusal else str(self.recording)

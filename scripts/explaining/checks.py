@@ -93,7 +93,14 @@ def setup_shape(checks, value, second, path, rank):
     checks.has_keys({"version": 0, **value}, keys, rank, "setup_shape", path)
     for key in ["requirement"] + ["limit"] * second:
         checks.number(value, key, rank, "setup_shape", path)
-    product = {"name": str, "units": int, "supply": int, "cap": int, "opening": int, **({"granule": int} if second else {})}
+    product = {
+        "name": str,
+        "units": int,
+        "supply": int,
+        "cap": int,
+        "opening": int,
+        **({"granule": int} if second else {}),
+    }
     for key, wanted in (("products", product), ("bidders", {"name": str, "token": str, "eligibility": int})):
         if key not in value or not checks.is_kind(value[key], list, rank, "setup_shape", (*path, key)):
             continue
@@ -127,7 +134,9 @@ def setup_ranges(checks, value, second, path, rank):
             checks.note(rank, f"setup_range {key}", (*path, key), f"expected 1 to {most:,} {key}, found {len(items)}")
         for number, item in enumerate(items or ()):
             if type(item) is dict:
-                (product_ranges if key == "products" else bidder_ranges)(checks, item, number, second, (*path, key, number), rank, ranged)
+                (product_ranges if key == "products" else bidder_ranges)(
+                    checks, item, number, second, (*path, key, number), rank, ranged
+                )
 
 
 def product_ranges(checks, item, number, second, here, rank, ranged):
@@ -152,7 +161,11 @@ def setup_twice(checks, value, path, rank):
     """Checks that no two products, no two bidders, and no two tokens are equal."""
     operator = of(value, "operator", str)
     tokens = {} if operator is None else {operator: "operator"}
-    for key, name, seen, code in (("products", "name", {}, "name"), ("bidders", "name", {}, "name"), ("bidders", "token", tokens, "token")):
+    for key, name, seen, code in (
+        ("products", "name", {}, "name"),
+        ("bidders", "name", {}, "name"),
+        ("bidders", "token", tokens, "token"),
+    ):
         for number, item in enumerate(of(value, key, list) or ()):
             text = of(item, name, str)
             if text in seen:
@@ -202,7 +215,7 @@ def ties(checks, values, code, path):
 
 
 def closing(checks, value, version, code, path, keys=()):
-    """Checks a closing's shape, for a version, or for either if it is None. The other version's form has a later rank."""
+    """Checks a closing's shape, for a version, or for either if it is None. The other's form has a later rank."""
     has_one, has_many = (type(value) is dict and key in value for key in ("increment", "increments"))
     if has_one and has_many:
         checks.note(1, code, path, 'expected either "increment" or "increments", found both', "increments")
@@ -226,7 +239,9 @@ def opening(checks, value):
         return
     rows = of(value, "demands", list)
     if "demands" in value and checks.is_kind(value["demands"], list, 1, "shape", ("demands",)):
-        rows = [row if numbers(checks, row, 1, "shape", ("demands", number)) else None for number, row in enumerate(rows)]
+        rows = [
+            row if numbers(checks, row, 1, "shape", ("demands", number)) else None for number, row in enumerate(rows)
+        ]
     increment = checks.number(value, "increment", 1, "shape", ())
     checks.range(increment, 1, 50, 30, "increment", ("increment",), " percent")
     if "setup" in value:
@@ -335,7 +350,10 @@ def closing_body(checks, value):
     if type(value) is not dict:
         return
     body_round(checks, value)
-    for path, number in [(("increment",), of(value, "increment", int)), *((("increments", i), n) for i, n in enumerate(of(value, "increments", list) or ()))]:
+    for path, number in [
+        (("increment",), of(value, "increment", int)),
+        *((("increments", i), n) for i, n in enumerate(of(value, "increments", list) or ())),
+    ]:
         checks.range(number if type(number) is int else None, 1, 50, 31, "422 increment", path, " percent")
     listed, seen = of(value, "ties", list) or (), {}
     if len(listed) > 16_384:

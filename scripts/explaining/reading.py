@@ -13,7 +13,7 @@ NUMBERS = re.compile(rf"{TEXT}|-?[0-9][0-9.eE+-]*|NaN|-?Infinity", re.S)
 ESCAPES = re.compile(r"\\(?:u([0-9a-fA-F]{4})|.)", re.S)
 MOST = 2**64 - 1
 WORDS = {
-    "Expecting property name enclosed in double quotes": 'expected a key in double quotes',
+    "Expecting property name enclosed in double quotes": "expected a key in double quotes",
     "Illegal trailing comma before end of object": "a comma too many",
     "Illegal trailing comma before end of array": "a comma too many",
     "Expecting ':' delimiter": "expected a colon",
@@ -67,7 +67,9 @@ class Reader:
             raise NotJson(0, "a byte order mark: save the file as UTF-8 without one")
         # the reader's own whole numbers are much faster, and right where none is long or has a minus
         plain = not re.search(r"-[0-9]|[0-9]{19}", self.text)
-        decoder = json.JSONDecoder(object_pairs_hook=self.object_of, parse_int=None if plain else whole, parse_float=Odd, parse_constant=never)
+        decoder = json.JSONDecoder(
+            object_pairs_hook=self.object_of, parse_int=None if plain else whole, parse_float=Odd, parse_constant=never
+        )
         value = None
         try:
             value = decoder.decode(self.text)
@@ -82,11 +84,11 @@ class Reader:
         return value
 
     def words_of(self, error):
-        here = self.text[error.pos:error.pos + 1]
+        here = self.text[error.pos : error.pos + 1]
         words = WORDS.get(error.msg, "not allowed here")
         if not here:
             return "the text ends here, before the document does"
-        before = self.text[:error.pos].rstrip()[-1:]
+        before = self.text[: error.pos].rstrip()[-1:]
         if here in "]}" and before == ",":
             return "a comma too many"
         return "JSON has no comments" if here in "/#" else words
@@ -121,8 +123,15 @@ class Reader:
         for found in ESCAPES.finditer(self.text):
             code = int(found[1], 16) if found[1] else 0
             follows = half is not None and half + 6 == found.start()
-            if half is not None and not (follows and 0xDC00 <= code < 0xE000) or half is None and 0xDC00 <= code < 0xE000:
-                raise NotJson(found.start() if half is None else half, "an escape of half a letter (\\ud800 to \\udfff by itself)")
+            if (
+                half is not None
+                and not (follows and 0xDC00 <= code < 0xE000)
+                or half is None
+                and 0xDC00 <= code < 0xE000
+            ):
+                raise NotJson(
+                    found.start() if half is None else half, "an escape of half a letter (\\ud800 to \\udfff by itself)"
+                )
             half = found.start() if 0xD800 <= code < 0xDC00 else None
         if half is not None:
             raise NotJson(half, "an escape of half a letter (\\ud800 to \\udfff by itself)")
@@ -131,7 +140,7 @@ class Reader:
         return SPACE.match(self.text, at).end()
 
     def table(self, at):
-        """For the object or list at a place: where its parts begin, where its keys are, and the keys that occur twice."""
+        """Of the object or list at a place: where its parts begin, where its keys are, and which keys occur twice."""
         if at in self.tables:
             return self.tables[at]
         parts, keys, twice = {}, {}, []

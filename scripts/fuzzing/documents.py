@@ -14,7 +14,8 @@ NAME = r"[A-Za-z0-9_-]{1,32}"
 CODE = "|".join(code for codes in CODES.values() for code in codes)
 
 SETUP_FAULT = (
-    r"setup_not_json|setup_shape|setup_version|setup_duplicate_name|setup_duplicate_token|setup_range (?:requirement|limit|operator|products|bidders"
+    r"setup_not_json|setup_shape|setup_version|setup_duplicate_name|setup_duplicate_token"
+    r"|setup_range (?:requirement|limit|operator|products|bidders"
     r"|(?:name|units|supply|cap|opening|granule|bidder_name|token|eligibility) \d+)"
 )
 OPENING_FAULT = rf"not_json|shape|{SETUP_FAULT}|demand \d+ \d+|activity \d+|increment|price_limit \d+"
@@ -25,9 +26,19 @@ ROUND = rf"round \d+\n(?:{NAME} \d+ \d+ \d+ (?:\d+|-) (?:\d+|-)\n)+"
 
 # The words of the program, its documents, what it prints of a good one, and the faults that there are.
 KINDS = [
-    (["prices"], ["one_product", "granules_and_increments", "price_edges", "activity_limit"], rf"(?:{NAME} \d+ (?:\d+|-)\n)+", SETUP_FAULT),
+    (
+        ["prices"],
+        ["one_product", "granules_and_increments", "price_edges", "activity_limit"],
+        rf"(?:{NAME} \d+ (?:\d+|-)\n)+",
+        SETUP_FAULT,
+    ),
     (["opening"], ["opening"], ROUND, OPENING_FAULT),
-    (["replay"], ["rehearsal", "rehearsal_version_2", "tutorial"], rf"(?:{ROUND})+(?:won {NAME}(?: \d+)+\n)+", REPLAY_FAULT),
+    (
+        ["replay"],
+        ["rehearsal", "rehearsal_version_2", "tutorial"],
+        rf"(?:{ROUND})+(?:won {NAME}(?: \d+)+\n)+",
+        REPLAY_FAULT,
+    ),
 ]
 
 

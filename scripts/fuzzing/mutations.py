@@ -3,15 +3,22 @@ import copy
 import json
 
 NUMBERS = [
-    "0", "1", "2", "3", "7", "49", "50", "51", "95", "99", "100", "101", "110", "111", "140", "141", "512", "513", "1000", "1001", "4096",
-    "1000000", "1000001", "999999999999", "1000000000000", "1000000000001", "9223372036854775807", "18446744073709551615",
-    "18446744073709551616", "-1", "-0", "1.0", "1e2", "1e400", "0.5", "00", "01", "1" * 40, "0x10", "NaN",
+    *"0 1 2 3 7 49 50 51 95 99 100 101 110 111 140 141 512 513 1000 1001 4096 1000000 1000001".split(),
+    *"999999999999 1000000000000 1000000000001 9223372036854775807 18446744073709551615 18446744073709551616".split(),
+    *"-1 -0 1.0 1e2 1e400 0.5 00 01 0x10 NaN".split(),
+    "1" * 40,
 ]
 WORDS = [
-    b"\0", b"\xff", b"\xef\xbb\xbf", b"\r\n", b"\n", b"\r", b"\r\n\r\n", b"\n\n", b" ", b"\t", b":", b"{", b"}", b"[", b"]", b",", b'"', b"\\u0000",
-    b"\\ud800", b"\\u0041", b"null", b"true", b"-", b"e9", b".", b"/", b"%2f", b"//", b"..", b"?", b"#", b"HTTP/1.1", b"HTTP/1.0", b"Bearer ",
-    b"content-length: 5\r\n", b"transfer-encoding: chunked\r\n", b"authorization: Bearer XXXXXXXXXXXXXXXX\r\n", b"host: a\r\n", b"a" * 300,
+    *b"\0|\xff|\xef\xbb\xbf|\r\n|\n|\r|\r\n\r\n|\n\n| |\t".split(b"|"),
+    *b': { } [ ] , " \\u0000 \\ud800 \\u0041 null true - e9 . / %2f // .. ? # HTTP/1.1 HTTP/1.0'.split(),
+    b"Bearer ",
+    b"content-length: 5\r\n",
+    b"transfer-encoding: chunked\r\n",
+    b"authorization: Bearer XXXXXXXXXXXXXXXX\r\n",
+    b"host: a\r\n",
+    b"a" * 300,
 ]
+KEYS = ["x", "version", "granule", "limit", "ties", "increments", "increment", "sheets", "limits"]
 
 
 def changed_bytes(random, text):
@@ -94,7 +101,7 @@ def changed_value(random, value):
     if way == 0:
         del at[last]
     elif way == 1 and isinstance(at, dict):
-        at[random.choice(["x", "version", "granule", "limit", "ties", "increments", "increment", "sheets", "limits"])] = at[last]
+        at[random.choice(KEYS)] = at[last]
     elif way == 2 and isinstance(at, list):
         at.insert(random.randrange(len(at) + 1), copy.deepcopy(at[last]))
     else:

@@ -3,8 +3,17 @@ import json
 import re
 
 REASONS = {
-    200: "OK", 400: "Bad Request", 401: "Unauthorized", 403: "Forbidden", 404: "Not Found", 405: "Method Not Allowed", 409: "Conflict",
-    413: "Payload Too Large", 422: "Unprocessable Entity", 431: "Request Header Fields Too Large", 501: "Not Implemented",
+    200: "OK",
+    400: "Bad Request",
+    401: "Unauthorized",
+    403: "Forbidden",
+    404: "Not Found",
+    405: "Method Not Allowed",
+    409: "Conflict",
+    413: "Payload Too Large",
+    422: "Unprocessable Entity",
+    431: "Request Header Fields Too Large",
+    501: "Not Implemented",
 }
 
 # Which codes there are with a status, and what stands beside the code in their pages.
@@ -17,8 +26,14 @@ CODES = {
     409: {"ended": "", "wrong_round": "round"},
     413: {"long_body": ""},
     422: {
-        "shape": "", "too_many": "", "over_activity": "", "increment": "", "too_many_ties": "",
-        **dict.fromkeys(["unknown_product", "price_range", "over_cap", "price_order", "mixed_direction", "keep_price"], "place"),
+        "shape": "",
+        "too_many": "",
+        "over_activity": "",
+        "increment": "",
+        "too_many_ties": "",
+        **dict.fromkeys(
+            ["unknown_product", "price_range", "over_cap", "price_order", "mixed_direction", "keep_price"], "place"
+        ),
         **dict.fromkeys(["tie_range", "tie_repeated", "price_limit"], "place"),
     },
     431: {"long_head": ""},
@@ -50,7 +65,11 @@ HEAD = re.compile(
 def code_of(page, status):
     """The code of a refusal's page, where it is one of the table."""
     for code, beside in CODES.get(status, {}).items():
-        if page.get("code") == code and set(page) == {"code", "status", *([beside] if beside else [])} and page["status"] == status:
+        if (
+            page.get("code") == code
+            and set(page) == {"code", "status", *([beside] if beside else [])}
+            and page["status"] == status
+        ):
             return code
     return None
 
@@ -61,7 +80,7 @@ def answer_of(reply):
     if not head:
         return None
     status, reason, allowed, length, asks = int(head[1]), head[2].decode(), head[3], int(head[4]), head[5]
-    text = reply[head.end():]
+    text = reply[head.end() :]
     try:
         page = json.loads(text)
     except ValueError:

@@ -2,42 +2,47 @@
 import collections
 import pathlib
 import random as randoms
-import subprocess
 
-from loopback import free_port, reply_to
+from loopback import reply_to, text_of
+from servers import Server
+from trial import shown
 
 from .mutations import NUMBERS, changed_bytes, changed_value, much_changed_bytes, written
 from .replies import answer_of
 
-SECONDS = 60
 BIDDERS = "XYZ"
 SETUPS = ["one_product", "two_products", "granules_and_increments", "activity_limit"]
-PATHS = ["/v1/status", "/v1/products", "/v1/rounds/1", "/v1/me", "/v1/me/bids", "/v1/me/rounds/1", "/v1/results", "/v1/close", "/v1/rounds/01"]
+METHODS = ["GET", "GET", "GET", "PUT", "HEAD"]
+PATHS = ["status", "products", "rounds/1", "me", "me/bids", "me/rounds/1", "results", "close", "rounds/01"]
 LINES = [
-    b"host: 127.0.0.1", b"accept: */*", b"content-length: 0", b"content-length: 59", b"content-length: +5", b"content-length: 1048577", b"content-length:",
-    b"content-length: 18446744073709551617", b"transfer-encoding: chunked", b"transfer-encoding: identity", b"authorization: Bearer ", b"authorization: Basic eA==",
-    b"Authorization:Bearer XXXXXXXXXXXXXXXX", b"authorization: bearer OPERATOROPERATOR", b"x: " + b"y" * 9000, b" folded", b"a\0b: c", b"expect: 100-continue",
-    b"connection: keep-alive", b": x", b"x", b"x :y", b"\xff: \xff",
+    *[b"host: 127.0.0.1", b"accept: */*", b"expect: 100-continue", b"connection: keep-alive"],
+    *[b"content-length:" + value for value in (b" 0", b" 59", b" +5", b" 1048577", b"", b" 18446744073709551617")],
+    *[b"transfer-encoding: chunked", b"transfer-encoding: identity"],
+    *[b"authorization: Bearer ", b"authorization: Basic eA==", b"Authorization:Bearer XXXXXXXXXXXXXXXX"],
+    b"authorization: bearer OPERATOROPERATOR",
+    *[b"x: " + b"y" * 9000, b" folded", b"a\0b: c", b": x", b"x", b"x :y", b"\xff: \xff"],
 ]
+TOKENS = {"": "", "O": "OPERATOROPERATOR"}
 
 
 def request(line, letter="", body=b""):
     """A request with the token of a bidder's letter or of the operator, and a body."""
-    token = {"": "", "O": "authorization: Bearer OPERATOROPERATOR\r\n"}.get(letter, f"authorization: Bearer {letter * 16}\r\n")
-    return f"{line} HTTP/1.1\r\n{token}content-length: {len(body)}\r\n\r\n".encode() + body
+    return text_of(line, TOKENS.get(letter, letter * 16), body)
 
 
 def good_sheet(random, number):
     prices = [100, 110, 100 + random.randrange(26), random.randrange(90, 160)]
-    return {
-        "bids": [{"price": random.choice(prices), "product": product, "quantity": random.randrange(4)} for product in range(random.randrange(3))],
-        "round": number,
-    }
+    count = random.randrange(3)
+    bids = [
+        {"price": random.choice(prices), "product": product, "quantity": random.randrange(4)} for product in range(count)
+    ]
+    return {"bids": bids, "round": number}
 
 
 def good_closing(random, number):
     ties = [[random.randrange(3), random.randrange(2), random.randrange(9)] for _ in range(random.randrange(3))]
-    increments = random.choice([{"increment": random.randrange(1, 51)}, {"increments": [random.randrange(1, 51)] * random.choice([1, 2])}])
+    one, each = random.randrange(1, 51), [random.randrange(1, 51)] * random.choice([1, 2])
+    increments = random.choice([{"increment": one}, {"increments": each}])
     return {**increments, "round": number, "ties": ties}
 
 
@@ -49,7 +54,8 @@ def good_request(random):
     elif way < 0.69:
         value, line, letter = good_closing(random, number), "POST /v1/close", "O"
     else:
-        return request(f"{random.choice(['GET', 'GET', 'GET', 'PUT', 'HEAD'])} {random.choice(PATHS)}", random.choice(["", "O", *BIDDERS]))
+        line = f"{random.choice(METHODS)} /v1/{random.choice(PATHS)}"
+        return request(line, random.choice(["", "O", *BIDDERS]))
     # a closing that is good ends rounds, and soon the auction: most are changed
     for _ in range(random.choice([0, 0, 0, 1, 2]) if line.startswith("PUT") else random.choice([0, 1, 1, 2, 2])):
         value = changed_value(random, value)
@@ -97,23 +103,9 @@ def mutated(random):
         return with_long_part(random, text)
     head, found, body = text.partition(b"\r\n\r\n")
     if way < 0.97 and found:
-        return head.replace(b"content-length: %d" % len(body), b"content-length: " + random.choice(NUMBERS).encode()) + found + body
+        length = b"content-length: "
+        return head.replace(length + b"%d" % len(body), length + random.choice(NUMBERS).encode()) + found + body
     return changed_bytes(random, changed_bytes(random, text) + text)
-
-
-class Server:
-    """A server of the built program."""
-
-    def __init__(self, program, setup, connections):
-        self.port = free_port()
-        words = [program, "serve", "--setup", setup, "--port", str(self.port), "--connections", str(connections)]
-        self.process = subprocess.Popen(words, stdin=subprocess.DEVNULL, stdout=subprocess.PIPE, stderr=subprocess.PIPE)
-        self.ready = self.process.stdout.readline()
-
-    def end(self):
-        """How the server ended, once its connections are used."""
-        output, error = self.process.communicate(timeout=SECONDS)
-        return self.process.returncode, self.ready + output, error
 
 
 def last_requests():
@@ -137,16 +129,12 @@ def has_changed(answer):
     return answer in ("200 accepted", "200 closed")
 
 
-def shown(text):
-    return f"{text[:1500]!r}{' and more' if len(text) > 1500 else ''}"
-
-
 def play(program, top, seed, count):
-    """Sends so many mutated requests to one server, and judges each reply, what the good requests then give, and the server's end."""
+    """Sends mutated requests to one server, and judges each reply, what good requests then give, and its end."""
     random, counted, faults, changes = randoms.Random(seed), collections.Counter(), [], []
     last = list(last_requests())
     setup = str(pathlib.Path(top) / "examples" / f"{random.choice(SETUPS)}.json")
-    server = Server(program, setup, count + len(last))
+    server = Server(program, setup, connections=count + len(last))
     for _ in range(count):
         text = mutated(random)
         cut = random.randrange(len(text) + 1) if random.random() < 0.2 else None
@@ -157,14 +145,15 @@ def play(program, top, seed, count):
             faults.append(f"{seed}: {shown(text)}\n  is answered {shown(reply)}")
         if answer is not None and has_changed(answer):
             changes.append(text)
-    second = Server(program, setup, len(changes) + len(last))
+    second = Server(program, setup, connections=len(changes) + len(last))
     for text in changes:
         reply_to(second.port, text)
     for text in last:
         found, wanted = reply_to(server.port, text), reply_to(second.port, text)
         if found != wanted or answer_of(found) is None:
-            faults.append(f"{seed}: afterwards {shown(text)}\n  is answered {shown(found)}\n  in place of {shown(wanted)}")
+            texts = f"afterwards {shown(text)}\n  is answered {shown(found)}\n  in place of {shown(wanted)}"
+            faults.append(f"{seed}: {texts}")
     for one in (server, second):
-        if one.end() != (0, b"ready %d\n" % one.port, b""):
+        if one.ended() != (0, ""):
             faults.append(f"{seed}: a server ended otherwise than with status 0")
     return counted, faults

@@ -48,7 +48,9 @@ def reply(client: socket.socket) -> tuple[int, bytes]:
 
 def listening_at(port: int) -> list[str]:
     """The addresses at which the system says that a port is open, as it writes them in hexadecimal."""
-    lines = [line for table in ("tcp", "tcp6") for line in pathlib.Path("/proc/net", table).read_text().splitlines()[1:]]
+    lines = [
+        line for table in ("tcp", "tcp6") for line in pathlib.Path("/proc/net", table).read_text().splitlines()[1:]
+    ]
     addresses = [row[1].split(":") for row in map(str.split, lines) if row[3] == "0A"]
     return [address for address, number in addresses if int(number, 16) == port]
 
@@ -119,9 +121,7 @@ def play_faults(folder: pathlib.Path) -> None:
 
 
 def play_accept_fault() -> None:
-    """A connection that can't be taken, because no more files may be open, ends the server. Those before it are
-    served.
-    """
+    """A server that may open no further file serves the connections that it has, and ends."""
     server = Server(built.program(), SETUP, connections=2)
     client = connected(server.port)
     time.sleep(0.2)

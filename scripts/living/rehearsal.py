@@ -25,7 +25,9 @@ class Rehearsal:
         self.rounds = [line for line in report if not line.startswith("won ")]
         self.won = [line for line in report if line.startswith("won ")]
 
-    def bidders(self, played: Played, folder: pathlib.Path, url: str, every: float, **environment: str) -> dict[str, Bidder]:
+    def bidders(
+        self, played: Played, folder: pathlib.Path, url: str, every: float, **environment: str
+    ) -> dict[str, Bidder]:
         """examples/bidder.py for each sincere script, by the bidder's name."""
         bidders = {}
         names = [product["name"] for product in self.setup["products"]]
@@ -68,7 +70,10 @@ class Rehearsal:
             expect(f"{name}'s status and error", (status, errors), (0, ""))
             expect(f"{name}'s rounds", output.count("\nslip ") + output.startswith("slip "), number)
             expect(f"what {name} won", output.splitlines()[-1:], [line for line in self.won if line.split()[1] == name])
-        print(f"{len(bidders)} bidders of examples/bidder.py play {number} rounds {how}, as the rehearsal's report has them")
+        print(
+            f"{len(bidders)} bidders of examples/bidder.py play {number} rounds {how}, "
+            "as the rehearsal's report has them"
+        )
 
 
 def play_straight(rehearsal: Rehearsal, folder: pathlib.Path) -> None:

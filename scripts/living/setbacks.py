@@ -121,8 +121,10 @@ def play_stubborn_bidder(limits: pathlib.Path) -> None:
         play_faulty_limits(played, server.port, limits)
         play_spoiled_replies(played, server.port, limits)
         play_held_block(played, server.port, limits)
-    print("a bidder of examples/bidder.py asks again after spoiled replies, follows no redirection, asks no proxy in clear, "
-          "bids by no faulty limits")
+    print(
+        "a bidder of examples/bidder.py asks again after spoiled replies, follows no redirection, asks no proxy in "
+        "clear, bids by no faulty limits"
+    )
 
 
 def play_lost_sheet(limits: pathlib.Path) -> None:

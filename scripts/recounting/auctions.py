@@ -7,7 +7,7 @@ from typing import Any
 from recount import Auction, Price, activity_limit, take
 from formats import Bid, Product, Refused, setup_in
 
-HIGH = 5 * 10**11           # above half of the highest price, so a few rounds reach it
+HIGH = 5 * 10**11  # above half of the highest price, so a few rounds reach it
 
 OPERATOR = "OPERATOROPERATOR"
 
@@ -19,22 +19,35 @@ def random_setup(chance: Random) -> dict[str, Any]:
     for number in range(chance.randint(1, 6)):
         supply = chance.choice([1, 1, 2, 2, 3, 4, 9])
         opening = chance.choice([1, 3, 7, 10, 20] if low else [1, 100, 999, 10**6, HIGH])
-        product = {"name": f"P-{number}", "units": chance.choice([1, 1, 2, 3, 7, 10]), "supply": supply,
-                   "cap": chance.randint(1, supply), "opening": opening}
+        product = {
+            "name": f"P-{number}",
+            "units": chance.choice([1, 1, 2, 3, 7, 10]),
+            "supply": supply,
+            "cap": chance.randint(1, supply),
+            "opening": opening,
+        }
         granule = {"granule": chance.choice([1, 5, 50, 1000])} if version == 2 else {}
         products.append({**product, **granule})
     whole = sum(product["cap"] * product["units"] for product in products)
     eligibilities = [whole, whole, whole // 2, whole // 3, chance.randint(0, whole)]
-    bidders = [{"name": f"B_{number}", "token": f"{number:016d}", "eligibility": chance.choice(eligibilities)}
-               for number in range(chance.randint(2, 12))]
+    bidders = [
+        {"name": f"B_{number}", "token": f"{number:016d}", "eligibility": chance.choice(eligibilities)}
+        for number in range(chance.randint(2, 12))
+    ]
     limit = {"limit": chance.choice([100, 120, 140])} if version == 2 else {}
-    return {"version": version, **limit, "requirement": chance.choice([100, 95, 80, 50, 63]), "operator": OPERATOR,
-            "products": products, "bidders": bidders}
+    return {
+        "version": version,
+        **limit,
+        "requirement": chance.choice([100, 95, 80, 50, 63]),
+        "operator": OPERATOR,
+        "products": products,
+        "bidders": bidders,
+    }
 
 
 def chain_of(chance: Random, product: Product, price: Price, demand: int, most: int) -> list[tuple[int, int]]:
     """Quantities and prices for one product. Most keep the demand, or move to another one in up to three steps."""
-    if price.start == price.clock:                                          # round 1
+    if price.start == price.clock:  # round 1
         return [(chance.randint((most + 1) // 2, most), price.clock)]
     kind = chance.random()
     if kind < 0.03:
@@ -46,7 +59,7 @@ def chain_of(chance: Random, product: Product, price: Price, demand: int, most: 
     steps = sorted(chance.sample(between, min(len(between), chance.randint(1, 3))), reverse=target < demand)
     middle = price.start + (price.clock - price.start) // 2
     prices = sorted({chance.choice([price.start, middle, price.clock, chance.randint(*price)]) for _ in steps})
-    return list(zip(steps[len(steps) - len(prices):], prices))
+    return list(zip(steps[len(steps) - len(prices) :], prices))
 
 
 def random_sheet(chance: Random, auction: Auction, bidder: int) -> list[Bid]:
@@ -106,6 +119,7 @@ def sheet_text(chance: Random, auction: Auction, bidder: int, number: int, bids:
 def closing_text(chance: Random, auction: Auction, number: int) -> bytes:
     def increment() -> int:
         return chance.choice([1, 2, 5, 10, 20, 50, 50 if chance.random() < 0.9 else 51])
+
     increments: dict[str, Any] = {"increments": [increment() for _ in auction.prices]}
     if auction.setup.version == 1:
         increments = {"increment": increment()}
