@@ -1,11 +1,13 @@
 """What the scripts that time a program of this folder share: the program is built over a copy of the crates."""
-import json
 import pathlib
 import shutil
 import subprocess
 import sys
 
 TOP = pathlib.Path(__file__).resolve().parent.parent
+sys.path.insert(0, str(TOP / "scripts"))
+
+from loopback import compact, text_of
 
 
 def build(name, work):
@@ -35,8 +37,7 @@ def setup_document(products, bidders):
 
 def sent(line, token, value):
     """A request with a body."""
-    body = json.dumps(value, separators=(",", ":"))
-    return f"{line} HTTP/1.1\r\nauthorization: Bearer {token}\r\ncontent-length: {len(body)}\r\n\r\n{body}"
+    return text_of(line, token, compact(value)).decode()
 
 
 def put(bidder, number, bids):
@@ -48,9 +49,7 @@ def put(bidder, number, bids):
 
 
 def figures(program, parts):
-    """Runs the program on the parts of its input, and gives a name, a count, nanoseconds and other replies for each
-    group.
-    """
+    """Runs the program on its input: for each group a name, a count, nanoseconds, and how many replies were others."""
     done = subprocess.run([program], input="\1".join(parts).encode(), stdout=subprocess.PIPE, check=True)
     for line in done.stdout.decode().splitlines():
         name, count, nanoseconds, others = line.split("\t")

@@ -4,20 +4,13 @@ import random
 from collections.abc import Iterator
 
 from loopback import answer_to, compact, reply_to, text_of
+from setups import OPERATOR, bidder, product, setup
 from trial import ensure, expect
 
 from .trial import Trial
 
-SETUP_TEXT = json.dumps(
-    {
-        "version": 1,
-        "requirement": 50,
-        "operator": "OPERATOROPERATOR",
-        "products": [{"name": "A", "units": 1, "supply": 2, "cap": 2, "opening": 100}],
-        "bidders": [{"name": letter, "token": letter * 16, "eligibility": 2} for letter in "XYZ"],
-    }
-).encode()
-OPERATOR, BIDDERS = "OPERATOROPERATOR", [letter * 16 for letter in "XYZ"]
+BIDDERS = [letter * 16 for letter in "XYZ"]
+SETUP_TEXT = compact(setup([product("A", 2)], [bidder(token[0], token, 2) for token in BIDDERS]))
 DRAW = random.Random(105)
 LAST_ROUND = 2000
 

@@ -32,10 +32,8 @@ def request(line, letter="", body=b""):
 
 def good_sheet(random, number):
     prices = [100, 110, 100 + random.randrange(26), random.randrange(90, 160)]
-    count = random.randrange(3)
-    bids = [
-        {"price": random.choice(prices), "product": product, "quantity": random.randrange(4)} for product in range(count)
-    ]
+    rows = [(random.choice(prices), product, random.randrange(4)) for product in range(random.randrange(3))]
+    bids = [{"price": price, "product": product, "quantity": quantity} for price, product, quantity in rows]
     return {"bids": bids, "round": number}
 
 
