@@ -14,7 +14,7 @@ def typed_lines(text: str) -> collections.abc.Iterator[tuple[str, str]]:
 
 
 def comparable(text: str) -> str:
-    """A text without digests, places in a journal, and times of log lines: they depend on ports, curl, and the moment."""
+    """A text without digests, places in a journal, and times of logs, which depend on ports, curl, and the moment."""
     text = re.sub(r"(?m)^\d{4}-\S+Z (?=[a-z]+: )", "TIME ", text)
     text = re.sub(r"\b[0-9a-f]{64}\b|\b[0-9a-f]{12}\.\.", "DIGEST", text)
     return re.sub(r"(?<=journal_damaged )\d+", "PLACE", text)
