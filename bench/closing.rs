@@ -1,22 +1,91 @@
-//! Times two closings of a house that rescans: each bidder asks for many blocks of each product, and then for fewer.
-//! Uses: clock_house clock_processor clock_order clock_bids clock_money clock_setup clock_device anyhow
+//! Settles two rounds in which requests wait for each other, and prints how often the event queue tests for room.
+//! Uses: clock_queue clock_processor clock_setup clock_terms clock_money clock_device anyhow
 #![tactic(auto)]
 
-use clock_bids::Bid;
-use clock_house::House;
-use clock_processor::Plain;
-use clock_setup::{Increments, read_setup};
+use clock_money::Point;
+use clock_processor::{Board, Processor};
+use clock_queue::Woken;
+use clock_setup::read_setup;
+use clock_terms::{Amounts, Change, Changes, Grid, Kind, Setup};
 use std::alloc::Global;
 use std::io::Read;
 use std::time::Instant;
 
-/// One bid for each product.
-fn sheet(alloc: Global, products: u64, quantity: u64, price: u64) -> anyhow::Result<Vec<Bid>> {
-    let mut bids = Vec::new(alloc);
-    for product in 0..products {
-        bids.push(Bid { product, quantity, price: price + product % 3 * (price - 100) / 3 })?;
+/// A request at a price between start and clock price.
+fn change(bidder: usize, product: usize, kind: Kind, amount: u64) -> Change {
+    Change {
+        bidder: bidder as u32,
+        product: product as u32,
+        place: 0,
+        kind,
+        amount,
+        price: 105,
+        point: Point::of(100, 105, 110).unwrap(),
     }
-    Ok(bids)
+}
+
+/// Whether a bidder gives a product up.
+fn gives_up(bidder: usize, product: usize) -> bool {
+    (bidder + product) % 2 == 1
+}
+
+/// Each bidder holds the same number of blocks of each product, and bidder 1 one more of product 0. So only one block may
+/// be given up, which pays for one block of another product, of which another bidder may then give one up, and so on.
+fn passed_on(alloc: Global, setup: &Setup) -> anyhow::Result<(Grid, Changes)> {
+    let (bidders, products) = (setup.bidders.as_slice().len(), setup.products.as_slice().len());
+    let held = setup.products.as_slice()[0].supply / bidders as u64;
+    let mut grid = Grid::zero(alloc, setup)?;
+    let mut changes = Changes::new(alloc);
+    for bidder in 0..bidders {
+        for product in 0..products {
+            let extra = (bidder == 1 && product == 0) as u64;
+            grid.set(bidder, product, held + extra);
+            if !gives_up(bidder, product) {
+                changes.push(change(bidder, product, Kind::Increase, held))?;
+            }
+        }
+    }
+    for product in (0..products).rev() {
+        for bidder in 0..bidders {
+            if gives_up(bidder, product) {
+                changes.push(change(bidder, product, Kind::Reduction, grid.get(bidder, product)))?;
+            }
+        }
+    }
+    Ok((grid, changes))
+}
+
+/// Each bidder holds 1 to 4 blocks of each product, gives all of every second product up, and wants two more of the
+/// others. The requests are in no order of bidders or products.
+fn scattered(alloc: Global, setup: &Setup) -> anyhow::Result<(Grid, Changes)> {
+    let (bidders, products) = (setup.bidders.as_slice().len(), setup.products.as_slice().len());
+    let mut grid = Grid::zero(alloc, setup)?;
+    let mut changes = Changes::new(alloc);
+    for step in 0..bidders * products {
+        let cell = step * 7919 % (bidders * products);
+        let (bidder, product) = (cell % bidders, cell / bidders);
+        let held = 1 + (bidder * 31 + product * 17) as u64 % 4;
+        grid.set(bidder, product, held);
+        if gives_up(bidder, product) {
+            changes.push(change(bidder, product, Kind::Reduction, held))?;
+        } else {
+            changes.push(change(bidder, product, Kind::Increase, 2))?;
+        }
+    }
+    Ok((grid, changes))
+}
+
+/// What each bidder's demands take: nobody has eligibility left.
+fn taken(alloc: Global, setup: &Setup, grid: &Grid) -> anyhow::Result<Amounts> {
+    let mut amounts = Amounts::new(alloc);
+    for bidder in 0..setup.bidders.as_slice().len() {
+        let mut units = 0;
+        for (number, product) in setup.products.as_slice().iter().enumerate() {
+            units += product.units * grid.get(bidder, number);
+        }
+        amounts.push(units)?;
+    }
+    Ok(amounts)
 }
 
 fn main(rt: HostRuntime) -> anyhow::Result<()> {
@@ -24,19 +93,15 @@ fn main(rt: HostRuntime) -> anyhow::Result<()> {
     let mut text = Vec::new(alloc);
     rt.stdin().read_to_end(&mut text)?;
     let setup = read_setup(alloc, text.as_slice())?;
-    let products = setup.products.as_slice().len() as u64;
-    let bidders = setup.bidders.as_slice().len() as u32;
-    let mut house = House::new(alloc, setup, Plain)?;
-    for (round, quantity, price) in [(1, 50, 100), (2, 20, 106)] {
-        let bids = sheet(alloc, products, quantity, price)?;
+    for name in ["passed on", "scattered"] {
+        let (grid, changes) = if name == "passed on" { passed_on(alloc, &setup)? } else { scattered(alloc, &setup)? };
+        let eligibility = taken(alloc, &setup, &grid)?;
+        let board = Board::new(alloc, &setup, &eligibility, &grid)?;
         let begin = Instant::now(&rt)?;
-        for bidder in 0..bidders {
-            house.put_sheet(bidder, round, bids.as_slice())?;
-        }
-        println!(rt; "round {round}: {bidders} sheets of {products} bids in {} ms", begin.elapsed(&rt)?.as_millis())?;
-        let begin = Instant::now(&rt)?;
-        house.close(round, &Increments::Single(10), &[])?;
-        println!(rt; "round {round}: closed in {} ms", begin.elapsed(&rt)?.as_millis())?;
+        let settled = Woken.settle(alloc, board, &changes)?;
+        let spent = begin.elapsed(&rt)?.as_millis();
+        let requests = changes.as_slice().len();
+        println!(rt; "{name}: {requests} requests, {} applications, {} tests, {spent} ms", settled.applied(), settled.tests())?;
     }
     Ok(())
 }

@@ -1,19 +1,23 @@
 -- What an auction is recounted as from its set-up document and its journal. The newest text stands first.
 --     chain_of first texts      the digest of the newest text
 --     closed_after setup texts      the rounds that texts have closed
+--     with_digest effect digests chain      one digest more if a round was closed
 --     closing_digests first setup texts      the digests of the texts that closed a round, in digits, the oldest first
 --     IsRecounted first texts house chain count digests      the auction stands for the texts, counted, with the
 --         digests of its closings
 --     IsUnrecounted setup first bytes told      a fault is told of a file that has it
 --     audited setup first texts      what an audit prints of the rounds
 --     IsAuditOf setup first bytes ..      that is printed of all texts of a file, which are counted
-use Rattle.std.specs.Prelude.{◌≡◌, ◌++◌, ℕ, Bool, true, false, List, [], ◌∷◌, drop, length, nat_lt}
+use Rattle.std.specs.Prelude.{◌≡◌, ◌++◌, ℕ, List, [], ◌∷◌, drop, length}
 use Rattle.hex.specs.Hex.{encode_lower}
 use Rattle.clock_terms.specs.Limits.{SetupFields}
 use Rattle.clock_closing.specs.declared.closed_round.ClosedRound.{ClosedRound}
 use Rattle.clock_house.specs.History.{history}
 use Rattle.clock_house.specs.House.{HouseFields}
+use Rattle.clock_front.specs.Effects.{effect}
 use Rattle.clock_front.specs.Fronts.{StandsForTexts, commands_of}
+use Rattle.clock_front.specs.declared.front.response.Effect.{Effect}
+use Rattle.clock_front.specs.declared.front.response.Effect.TheVariants.{Nothing, Sheet, Closing}
 use Rattle.clock_commands.specs.FaultLines.{of_journal}
 use Rattle.clock_commands.specs.declared.fault.Fault.{Fault}
 use Rattle.clock_journal.specs.Format.{head_length, link}
@@ -32,19 +36,16 @@ chain_of first (text ∷ past) = link (chain_of first past) text
 abbrev pub closed_after : SetupFields → List (List ℕ) → List ClosedRound
 closed_after setup texts = (history setup (commands_of setup texts)).closed
 
--- a text closed a round if there are more behind it than before
-abbrev pub closes : SetupFields → List ℕ → List (List ℕ) → Bool
-closes setup text past = nat_lt (length (closed_after setup past)) (length (closed_after setup (text ∷ past)))
-
--- one digest more where a round was closed
-abbrev pub with_digest_if : Bool → List (List ℕ) → List ℕ → List (List ℕ)
-with_digest_if true digests chain = digests ++ encode_lower chain ∷ []
-with_digest_if false digests chain = digests
+-- one digest more if a round was closed
+abbrev pub with_digest : Effect → List (List ℕ) → List ℕ → List (List ℕ)
+with_digest Nothing digests chain = digests
+with_digest Sheet digests chain = digests
+with_digest (Closing round) digests chain = digests ++ encode_lower chain ∷ []
 
 abbrev pub closing_digests : List ℕ → SetupFields → List (List ℕ) → List (List ℕ)
 closing_digests first setup [] = []
 closing_digests first setup (text ∷ past) =
-    with_digest_if (closes setup text past) (closing_digests first setup past) (chain_of first (text ∷ past))
+    with_digest (effect setup past text) (closing_digests first setup past) (chain_of first (text ∷ past))
 
 -- the auction stands for the texts, so many are they, and the digests are those of the texts
 pub record IsRecounted (first : List ℕ) (texts : List (List ℕ)) (house : HouseFields) (chain : List ℕ) (count : ℕ) (digests : List (List ℕ)) : Type 0 where

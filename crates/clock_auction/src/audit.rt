@@ -1,17 +1,17 @@
 //! `audit`: an auction that is recounted from its set-up document and its journal alone.
-ghost use Rattle.std.specs.Prelude.{◌≡◌, [], List, ℕ, IfOk, IfErr};
+ghost use Rattle.std.specs.Prelude.{◌≡◌, [], List, ℕ, IfOk, IfErr, OnOk};
 ghost use Rattle.clock_terms.specs.Limits.{SetupFields};
 ghost use Rattle.clock_front.specs.Fronts.{StandsForTexts};
 ghost use Rattle.clock_keeping.specs.Keeping.{IsRefused};
-ghost use Rattle.clock_auction.specs.Audits.{IsAuditOf, IsRecounted, IsUnrecounted, audited};
+ghost use Rattle.clock_auction.specs.Audits.{IsAuditOf, IsRecounted, IsUnrecounted, audited, with_digest};
 
 use crate::files::{digits_of, file_bytes, journal_bytes, tell_journal};
 use crate::serve::front_in;
 use clock_commands::Fault;
 use clock_device::{NoMemory, Sink, Text, write_all};
-use clock_front::Front;
+use clock_front::{Effect, Front};
 use clock_journal::{Link, Machine, Untaken, digest_of, link_of, recover};
-use clock_keeping::Auction;
+use clock_keeping::take_text;
 use clock_queue::Woken;
 use clock_reports::{Digits, audit_text, report_so_far};
 use clock_words::Files as Named;
@@ -39,10 +39,11 @@ where
     tell_journal(rt, texts, chain)
 }
 
-/// An auction that takes the texts of a journal, and remembers the digest of each closing.
+/// An auction that takes the texts of a journal, counts them, and remembers the digest of each closing.
 #[derive(Drop)]
 struct Recount {
-    auction: Auction<Woken>,
+    front: Front<Woken>,
+    texts: u64,
     first: Link,
     chain: Link,
     digests: Vec<Digits>,
@@ -51,23 +52,31 @@ struct Recount {
 impl Machine for Recount {
     ghost Rules = { SetupFields × List ℕ };
 
-    ghost rules = { λ recount. (recount.auction.front.setup, recount.first) };
+    ghost rules = { λ recount. (recount.front.setup, recount.first) };
 
-    ghost stands_for = { λ recount texts. IsRecounted recount.first texts recount.auction.front recount.chain
-        recount.auction.texts recount.digests.items };
+    ghost stands_for = { λ recount texts. IsRecounted recount.first texts recount.front recount.chain recount.texts
+        recount.digests.items };
 
     ghost refuses = { λ rules texts text. IsRefused rules.0 texts text };
 
     fn take(&mut self, text: &[u8]) -> Result<(), Untaken> {
-        let before = self.auction.front.house().closed_rounds();
-        self.auction.take(text)?;
+        let effect = take_text(&mut self.front, text)?;
+        self.texts = self.texts.saturating_add(1);
         self.chain = link_of(&self.chain, text);
-        if before < self.auction.front.house().closed_rounds() {
-            self.digests
-                .push(digits_of(&self.chain))
-                .or(Err(Untaken::NoMemory))?;
+        remember(&mut self.digests, effect, &self.chain).or(Err(Untaken::NoMemory))
+    }
+}
+
+/// Remembers the digest of a text that closed a round.
+fn remember(digests: &mut Vec<Digits>, effect: Effect, chain: &Link) -> Result<(), NoMemory>
+    ensures { OnOk result (digests.new.items ≡ with_digest effect digests.old.items chain.now) }
+{
+    match effect {
+        Effect::Closing(_) => {
+            digests.push(digits_of(chain)).or(Err(NoMemory))?;
+            Ok(())
         }
-        Ok(())
+        Effect::Nothing | Effect::Sheet => Ok(()),
     }
 }
 
@@ -85,7 +94,8 @@ pub fn audit_of(
     ensures err { IfErr result (IsUnrecounted front.setup first bytes.items) }
 {
     let mut recount = Recount {
-        auction: Auction { front, texts: 0 },
+        front,
+        texts: 0,
         first,
         chain: first,
         digests: Vec::new(alloc),
@@ -93,7 +103,7 @@ pub fn audit_of(
     recover(&mut recount, &first, bytes.as_slice())?;
     drop(bytes);
     let made = rounds_of(alloc, &recount);
-    let (texts, chain) = (recount.auction.texts, recount.chain);
+    let (texts, chain) = (recount.texts, recount.chain);
     // let go by a call: at the end of the scope it would be proved part by part
     drop(recount);
     let text = made?;
@@ -102,13 +112,13 @@ pub fn audit_of(
 
 /// What is printed of the rounds.
 fn rounds_of(alloc: Global, recount: &Recount) -> Result<Text, NoMemory>
-    requires { (texts : List (List ℕ)) × IsRecounted recount.now.first texts recount.now.auction.front recount.now.chain
-        recount.now.auction.texts recount.now.digests.items }
-    ensures { (texts : List (List ℕ)) → IsRecounted recount.now.first texts recount.now.auction.front recount.now.chain
-        recount.now.auction.texts recount.now.digests.items
-        → IfOk result (λ text. text ≡ audited recount.now.auction.front.setup recount.now.first texts) }
+    requires { (texts : List (List ℕ)) × IsRecounted recount.now.first texts recount.now.front recount.now.chain
+        recount.now.texts recount.now.digests.items }
+    ensures { (texts : List (List ℕ)) → IsRecounted recount.now.first texts recount.now.front recount.now.chain
+        recount.now.texts recount.now.digests.items
+        → IfOk result (λ text. text ≡ audited recount.now.front.setup recount.now.first texts) }
 {
-    let house = recount.auction.front.house();
+    let house = recount.front.house();
     if house.closed_rounds() == 0 {
         return Ok(Text::new(alloc));
     }

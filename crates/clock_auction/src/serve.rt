@@ -10,7 +10,7 @@ ghost use Rattle.clock_auction.specs.Starts.{of_start};
 use crate::files::{Hex, file_bytes, locked_bytes, tell_journal};
 use clock_commands::{Fault, setup_in};
 use clock_device::{Failed, Text};
-use clock_front::{Front, Progress, Reply};
+use clock_front::{Front, Progress, Response};
 use clock_journal::{Durable, FileDisk, Journal, Link, Recovered, digest_of};
 use clock_keeping::{Auction, GoOnFault, go_on};
 use clock_processor::Processor;
@@ -83,8 +83,9 @@ where
     let bytes = locked_bytes(rt.alloc(), &file)?;
     let bytes = bytes.as_slice();
     let tell = |recovered: Recovered| tell_cut(rt, recovered.end, bytes.len());
-    match go_on(auction, FileDisk::new(file), digest, bytes, tell) {
-        Ok(journal) => {
+    let mut journal = Journal::new(FileDisk::new(file), digest);
+    match go_on(auction, &mut journal, bytes, tell) {
+        Ok(()) => {
             sync_folder(rt, path)?;
             tell_journal(rt, auction.texts, *journal.chain())?;
             Ok(journal)
@@ -164,7 +165,7 @@ impl<R: Print, D: Durable> Keeper for Telling<'_, R, D> {
         front: &mut Front<P>,
         text: &[u8],
         progress: Progress,
-    ) -> Result<Reply, Failed> {
+    ) -> Result<Response, Failed> {
         self.journal.answer(front, text, progress)
     }
 

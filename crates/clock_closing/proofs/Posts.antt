@@ -24,7 +24,7 @@ use Rattle.clock_closing.specs.ToldFaults.{told_of_post}
 use Rattle.clock_closing.specs.OpenRound.{OpenRound, OpenRoundFields}
 use Rattle.clock_closing.specs.Closing.{ClosedRound, RoundResult, round_result, closed_round, closing, slips_after}
 use Rattle.clock_closing.specs.Results.{demands_of}
-use Rattle.clock_closing.specs.inside.Results.{AreConsistent}
+use Rattle.clock_closing.specs.Results.{AreConsistent}
 use Rattle.clock_closing.specs.inside.Postings.{AreResults, IsRoundOf, Posts, posted}
 use Rattle.clock_closing.proofs.Closings.{checks}
 

@@ -1,5 +1,5 @@
 -- What the steps of a closing ask for, of a round as its type keeps it.
-use Rattle.std.proofs.Common.{◌≡◌, ℕ, ◌<◌, List, true, refl, ap, subst, ◌∙◌, arith, length, All}
+use Rattle.std.proofs.Common.{◌≡◌, ℕ, ◌<◌, List, true, false, refl, ap, subst, ◌∙◌, arith, length, All}
 use Rattle.std.specs.Prelude.{None}
 use Rattle.std.proofs.lemmas.List.{length-map}
 use Rattle.clock_terms.specs.declared.increments.Increments.{Increments}
@@ -13,8 +13,8 @@ use Rattle.clock_order.specs.declared.ties.Tie.{Tie}
 use Rattle.clock_order.specs.Ties.{tie_fault}
 use Rattle.clock_processor.specs.Board.{IsWithinEligibility}
 use Rattle.clock_closing.specs.Holdings.{Holding}
-use Rattle.clock_closing.specs.OpenRound.{OpenRoundFields, holding_at, bids_at}
-use Rattle.clock_closing.specs.inside.OpenRound.{IsOpenRound, eligibilities_of}
+use Rattle.clock_closing.specs.OpenRound.{IsOpenRound, OpenRoundFields, holding_at, bids_at}
+use Rattle.clock_closing.specs.inside.OpenRound.{eligibilities_of}
 use Rattle.clock_closing.specs.Closing.{closing}
 use Rattle.clock_closing.specs.inside.Postings.{posted_now}
 use Rattle.clock_closing.proofs.Posts.{closes-fair}
@@ -46,20 +46,22 @@ module _ (round : OpenRoundFields) (is : IsOpenRound round) where
       (within.bidders ∙ length-map round.before.holdings (λ (held : Holding). held.eligibility) ∙ is.holdings, λ k d lt. (within.rows k d lt).each)
 
   -- with good increments and tie numbers the closing comes to what is posted
-  pub closes-good : (increments : Increments) (ties : List Tie) → are_increments (length round.setup.products) increments ≡ true →
+  pub closes-good : (increments : Increments) (ties : List Tie) → round.before.standing.ended ≡ false →
+      are_increments (length round.setup.products) increments ≡ true →
       tie_fault (length round.setup.bidders) (length round.setup.products) ties ≡ None →
       closing (public_setup round.setup) round.before round.before.standing.round increments ties
       ≡ posted_now round increments ties
-  closes-good increments ties within fair =
-      closes-fair (public_setup round.setup) round.before round.before.standing.round increments ties is.going refl within
+  closes-good increments ties going within fair =
+      closes-fair (public_setup round.setup) round.before round.before.standing.round increments ties going refl within
       (ap (λ (n : ℕ). tie_fault n (length round.setup.products) ties) is.holdings ∙ fair)
 
   -- also where they are tested by what is read of the set-up
-  pub closes-tested : (setup : SetupFields) (listed : List Product) (increments : Increments) (ties : List Tie) → setup ≡ round.setup →
+  pub closes-tested : (setup : SetupFields) (listed : List Product) (increments : Increments) (ties : List Tie) →
+      round.before.standing.ended ≡ false → setup ≡ round.setup →
       listed ≡ setup.products → are_increments (length listed) increments ≡ true → tie_fault (length setup.bidders) (length setup.products) ties ≡ None →
       closing (public_setup round.setup) round.before round.before.standing.round increments ties
       ≡ posted_now round increments ties
-  closes-tested setup listed increments ties same read within fair =
-      closes-good increments ties
+  closes-tested setup listed increments ties going same read within fair =
+      closes-good increments ties going
       (subst (λ (list : List Product). are_increments (length list) increments ≡ true) (read ∙ ap (λ (one : SetupFields). one.products) same) within)
       (subst (λ (one : SetupFields). tie_fault (length one.bidders) (length one.products) ties ≡ None) same fair)

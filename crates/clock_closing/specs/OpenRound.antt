@@ -5,12 +5,14 @@
 --     HasSoundPrices products now      the prices of a round that goes on
 --     IsOpen setup now      an open round is in order
 --     OpenRoundFields, open_at setup round ..      what contracts see of an open round
+--     IsOpenRound round      what the type of an open round keeps
 use Rattle.std.specs.Prelude.{◌≡◌, ℕ, ◌+◌, ◌<◌, ◌≤◌, List, [], false, Option, None, unwrap_or, length, sum_by, slice_index_or, All}
 use Rattle.std.specs.List.{range_with_len}
 use Rattle.clock_money.specs.Price.{highest_price}
 use Rattle.clock_terms.specs.declared.setup.Product.{Product}
 use Rattle.clock_terms.specs.declared.prices.PricePair.{PricePair}
-use Rattle.clock_terms.specs.Limits.{SetupFields, PublicSetup, IsProduct, IsRow, most_products, most_bidders, most_eligibility}
+use Rattle.clock_terms.specs.Limits.{SetupFields, PublicSetup, public_setup, IsProduct, IsRow, most_products, most_bidders, most_eligibility}
+use Rattle.clock_terms.specs.Prices.{opening_prices}
 use Rattle.clock_terms.specs.Eligibility.{activity}
 use Rattle.clock_bids.specs.declared.sheet.Bid.{Bid}
 use Rattle.clock_bids.specs.Sheet.{IsGoodSheet}
@@ -73,3 +75,10 @@ open_at setup round prices eligibilities demands sheets = record {
   setup = setup;
   before = record { standing = record { ended = false; round = round; prices = prices }; holdings = holdings_of eligibilities demands; sheets = sheets };
 }
+
+-- a holding and a sheet or none for each bidder, a round in order, and in round 1 the opening prices
+pub record IsOpenRound (round : OpenRoundFields) : Type 0 where
+  pub holdings : length round.before.holdings ≡ length round.setup.bidders
+  pub sheets : length round.before.sheets ≡ length round.setup.bidders
+  pub sound : IsOpen (public_setup round.setup) round.before
+  pub opening : round.before.standing.round ≡ 1 → round.before.standing.prices ≡ opening_prices round.setup.products

@@ -1,4 +1,3 @@
 -- What only proofs and private functions use: no clause of a public call cites it.
 pub mod Postings
 pub mod OpenRound
-pub mod Results

@@ -1,5 +1,5 @@
 ghost use Rattle.std.specs.Prelude.{◌≡◌};
-ghost use Rattle.clock_closing.specs.{Prepared.{PreparedClosing}, inside.Results.{AreConsistent}};
+ghost use Rattle.clock_closing.specs.{Prepared.{PreparedClosing}, Results.{AreConsistent}};
 
 use clock_device::Items;
 use clock_order::Ties;

@@ -3,8 +3,8 @@ ghost use Rattle.clock_terms.specs.{Eligibility.{activity}, Increments.{AreIncre
 ghost use Rattle.clock_bids.specs.Holding.{holding_of};
 ghost use Rattle.clock_order.specs.declared.ties.TieFault.TheVariants as tie_faults;
 ghost use Rattle.clock_processor.specs.Board.{IsWithinEligibility};
-ghost use Rattle.clock_closing.specs.{OpenRound.{OpenRoundFields, holding_at, open_at}, Prepared.{Answers}, Results.{demands_of}};
-ghost use Rattle.clock_closing.specs.inside.OpenRound.{IsOpenRound, eligibilities_of, grid_of};
+ghost use Rattle.clock_closing.specs.{OpenRound.{IsOpenRound, OpenRoundFields, holding_at, open_at}, Prepared.{Answers}, Results.{demands_of}};
+ghost use Rattle.clock_closing.specs.inside.OpenRound.{eligibilities_of, grid_of};
 ghost use Rattle.clock_closing.specs.inside.Postings.{AreRequests, ComesTo, IsRoundOf, posted_now};
 ghost use Rattle.clock_closing.specs.Closing as rules;
 

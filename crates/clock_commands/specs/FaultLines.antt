@@ -1,5 +1,6 @@
 -- The one line that a run shows of its fault. (Own format.)
 --     fault_line fault     `fault: WORDS` and a line feed
+--     of_setup fault, of_opening fault, of_script fault      the fault of a document
 --     of_journal fault      the fault of a journal that is not taken over
 --     of_serving fault      the fault of a loop that has not served all connections
 use Rattle.std.specs.Prelude.{ℕ, List, ◌++◌, codes, decimal}
@@ -74,6 +75,19 @@ simulation_words (in_simulation.Refused bidder round code) =
 simulation_words (in_simulation.Closing round code) = codes "closing " ++ decimal round ++ (codes " " ++ text_of code)
 simulation_words in_simulation.ClosingsSpent = codes "closings_spent"
 simulation_words in_simulation.NoMemory = codes "memory"
+
+-- a document's fault, or want of memory while it was read
+abbrev pub of_setup : SetupFault → Fault
+of_setup in_setup.NoMemory = fault.Memory
+of_setup other = fault.Setup other
+
+abbrev pub of_opening : OpeningFault → Fault
+of_opening in_opening.NoMemory = fault.Memory
+of_opening other = fault.Opening other
+
+abbrev pub of_script : ScriptFault → Fault
+of_script in_script.NoMemory = fault.Memory
+of_script other = fault.Script other
 
 -- the fault of a journal that is not taken over
 abbrev pub of_journal : JournalFault → Fault

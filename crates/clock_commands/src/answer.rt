@@ -8,8 +8,8 @@ use crate::fault::Fault;
 use clock_device::{NoMemory, Text};
 use clock_money::clock_price;
 use clock_posting::{PostFault, post_first, sheet_lines};
-use clock_setup::{Increments, Opening, OpeningFault, Setup, SetupFault, read_opening, read_setup};
-use clock_sim::{Replay, ScriptFault, SimFault, read_replay, replay_text};
+use clock_setup::{Increments, Opening, Setup, read_opening, read_setup};
+use clock_sim::{Replay, SimFault, read_replay, replay_text};
 use clock_terms::Product;
 use clock_words::Job;
 use std::alloc::Global;
@@ -32,11 +32,7 @@ pub fn setup_in(alloc: Global, document: &[u8]) -> Result<Setup, Fault>
     ensures ok { IfOk result (λ setup. document_setup document.now ≡ Ok setup) }
     ensures err { IfErr result (IsRefusal Fault.Memory (read_in (document_setup document.now))) }
 {
-    match read_setup(alloc, document) {
-        Ok(setup) => Ok(setup),
-        Err(SetupFault::NoMemory) => Err(Fault::Memory),
-        Err(fault) => Err(Fault::Setup(fault)),
-    }
+    Ok(read_setup(alloc, document)?)
 }
 
 /// The price lines of some products, with clock prices at this increment in percent.
@@ -105,15 +101,10 @@ fn opening_answer(alloc: Global, document: &[u8]) -> Result<Text, Fault>
     ensures ok { IfOk result (λ text. answer_to Job.Opening document.now ≡ Ok text) }
     ensures err { IfErr result (IsRefusal Fault.Memory (answer_to Job.Opening document.now)) }
 {
-    match read_opening(alloc, document) {
-        Ok(opening) => {
-            let lines = first_lines(alloc, &opening);
-            drop(opening);
-            lines
-        }
-        Err(OpeningFault::NoMemory) => Err(Fault::Memory),
-        Err(fault) => Err(Fault::Opening(fault)),
-    }
+    let opening = read_opening(alloc, document)?;
+    let lines = first_lines(alloc, &opening);
+    drop(opening);
+    lines
 }
 
 /// The report of the replay that a document means, which is let go before the auction is played.
@@ -123,13 +114,9 @@ fn replay_answer(alloc: Global, document: Text) -> Result<Text, Fault>
 {
     let read = read_replay(alloc, document.as_slice());
     drop(document);
-    match read {
-        Ok(replay) => match replay_text(alloc, replay) {
-            Ok(text) => Ok(text),
-            Err(SimFault::NoMemory) => Err(Fault::Memory),
-            Err(fault) => Err(Fault::Simulation(fault)),
-        },
-        Err(ScriptFault::NoMemory) => Err(Fault::Memory),
-        Err(fault) => Err(Fault::Script(fault)),
+    match replay_text(alloc, read?) {
+        Ok(text) => Ok(text),
+        Err(SimFault::NoMemory) => Err(Fault::Memory),
+        Err(fault) => Err(Fault::Simulation(fault)),
     }
 }

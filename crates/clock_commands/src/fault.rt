@@ -1,6 +1,8 @@
 ghost use Rattle.std.specs.Prelude.{◌≡◌, ◌++◌, ◌||◌, codes, is_err};
 ghost use Rattle.clock_device.specs.Streams.{WritesText};
-ghost use Rattle.clock_commands.specs.FaultLines.{of_journal, of_serving, fault_line, fault_words, opening_words, place_words, script_words, setup_words};
+ghost use Rattle.clock_commands.specs.FaultLines.{of_journal, of_opening, of_script, of_serving, of_setup};
+ghost use Rattle.clock_commands.specs.FaultLines.{fault_line, fault_words, opening_words, place_words};
+ghost use Rattle.clock_commands.specs.FaultLines.{script_words, setup_words};
 ghost use Rattle.clock_commands.specs.declared.fault.Fault.TheVariants.{Memory};
 ghost use Rattle.clock_commands.specs.inside.Lines.{behind, code_behind, text_of_words};
 
@@ -53,6 +55,39 @@ impl From<NoMemory> for Fault {
 
     fn from(_refused: NoMemory) -> Fault {
         Fault::Memory
+    }
+}
+
+impl From<SetupFault> for Fault {
+    ghost from_gives = { λ fault given. given ≡ of_setup fault };
+
+    fn from(fault: SetupFault) -> Fault {
+        match fault {
+            SetupFault::NoMemory => Fault::Memory,
+            _ => Fault::Setup(fault),
+        }
+    }
+}
+
+impl From<OpeningFault> for Fault {
+    ghost from_gives = { λ fault given. given ≡ of_opening fault };
+
+    fn from(fault: OpeningFault) -> Fault {
+        match fault {
+            OpeningFault::NoMemory => Fault::Memory,
+            _ => Fault::Opening(fault),
+        }
+    }
+}
+
+impl From<ScriptFault> for Fault {
+    ghost from_gives = { λ fault given. given ≡ of_script fault };
+
+    fn from(fault: ScriptFault) -> Fault {
+        match fault {
+            ScriptFault::NoMemory => Fault::Memory,
+            _ => Fault::Script(fault),
+        }
     }
 }
 

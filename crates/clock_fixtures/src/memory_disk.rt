@@ -1,4 +1,4 @@
-ghost use Rattle.std.specs.Prelude.{◌≡◌, [], Some, false};
+ghost use Rattle.std.specs.Prelude.{◌≡◌, [], None, Some, false};
 
 use clock_device::Failed;
 use clock_journal::Durable;
@@ -48,6 +48,8 @@ impl Durable for MemoryDisk {
     ghost has_failed = { λ disk. disk.has_failed };
 
     ghost uncut = { λ disk. 0 };
+
+    ghost moments = { λ disk. None };
 
     fn append(&mut self, bytes: &[u8]) -> Result<(), Failed> {
         let free = self.room.saturating_sub(self.bytes.len());

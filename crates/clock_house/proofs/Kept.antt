@@ -9,8 +9,7 @@ use Rattle.clock_terms.specs.Limits.{IsSetup, public_setup}
 use Rattle.clock_bids.specs.declared.sheet.Bid.{Bid}
 use Rattle.clock_house.specs.Command.{Command}
 use Rattle.clock_terms.specs.Prices.{opening_prices}
-use Rattle.clock_closing.specs.OpenRound.{OpenRound}
-use Rattle.clock_closing.specs.inside.OpenRound.{IsOpenRound}
+use Rattle.clock_closing.specs.OpenRound.{OpenRound, IsOpenRound}
 use Rattle.clock_house.specs.History.{ClosedRound, round_at, history, standing, holding, for_each_bidder}
 use Rattle.clock_house.specs.inside.OpenRounds.{open_round, open_round_in}
 use Rattle.clock_house.specs.inside.Kept.{IsKept}
@@ -86,7 +85,6 @@ module _ (house : HouseFields) (limits : IsSetup house.setup) (commands : List C
   -- where the auction goes on, the house has an open round
   pub stands_open_round : (standing_in house).ended ≡ false → IsOpenRound (record { setup = house.setup; before = open_round_in house })
   stands_open_round going = record {
-    going = going;
     holdings = length-map-range_with_len (holding_in house) 0 (length house.setup.bidders);
     sheets = stands_sheets house commands stands;
     sound = stands_going going;

@@ -149,13 +149,11 @@ leaves_front digest bytes texts read least recovered left count leaves headed en
           some_front;
     }
 
-far_enough : (end count size : ℕ) → end ≤ size → (end ≤ count) ⊎ (size ≤ count) → end ≤ count
-far_enough end count size within (inl far) = far
-far_enough end count size within (inr all) = omega (arith, within, all)
-
 pub cut_leaves : CutLeaves
 cut_leaves digest bytes texts read least recovered left long leaves (inl headed) may =
-    leaves_front digest bytes texts read least recovered left may.0 leaves headed (far_enough recovered.end may.0 (length bytes) headed.within may.1) may.2
+    let enough = may.1 in
+    let size = length-take-le recovered.end bytes headed.within in
+    leaves_front digest bytes texts read least recovered left may.0 leaves headed (omega (arith, enough, size)) may.2
 cut_leaves digest bytes texts read least recovered left long leaves (inr begun) may =
     let size = ap length leaves.headed in
     let before = length-head digest long in

@@ -7,3 +7,6 @@ pub mod Chains
 pub mod Whole
 pub mod Cuts
 pub mod Placed
+pub mod Tails
+pub mod Passing
+pub mod Starting

@@ -1,11 +1,11 @@
 -- What is taken over from a file, and what of one that a stop of the machine has left.
-use Rattle.std.proofs.Common.{◌≡◌, ◌≤◌, ◌<◌, ◌+◌, ◌++◌, ℕ, Bool, true, false, List, length, get_or, take, drop, bytes_eq, nat_lt, refl, sym, ap, ◌∙◌, subst, arith, length-append}
+use Rattle.std.proofs.Common.{◌≡◌, ◌≤◌, ◌<◌, ◌+◌, ◌++◌, ℕ, Bool, true, false, List, length, get_or, take, drop, bytes_eq, refl, sym, ap, ◌∙◌, subst, arith, length-append, inl, inr}
 use Rattle.std.proofs.lemmas.List.{length-take, append_assoc, take-append-drop, take_at, drop_at, get_or-drop, take-take}
 use Rattle.clock_journal.specs.Format.{head_length, head, kind, records, last_link}
-use Rattle.clock_journal.specs.Reading.{Reads, Ends, onto, next, damaged}
-use Rattle.clock_journal.specs.Headings.{Heading, headed, of_another, unknown, heading}
+use Rattle.clock_journal.specs.Reading.{Ends, onto, next, damaged}
+use Rattle.clock_journal.specs.Headings.{Heading, begun, headed, of_another, unknown, heading}
 use Rattle.clock_journal.specs.Kept.{file_of}
-use Rattle.clock_journal.specs.Crash.{ReadsSome, LeavesTexts}
+use Rattle.clock_journal.specs.Crash.{IsPartOfHead, LeavesJournal, LeavesTexts, ReadsSome}
 use Rattle.clock_journal.specs.inside.Replays.{IsReplayed}
 use Rattle.clock_journal.specs.Recovering.{HasTaken, IsFoundAt, IsHeaded}
 use Rattle.clock_journal.specs.declared.recovery.Recovered.{Recovered}
@@ -60,28 +60,6 @@ pub told_of_left : (digest left : List ℕ) (texts : List (List ℕ)) (least : �
     → told ≡ heading digest left → told ≡ headed (drop head_length left)
 told_of_left digest left texts least told size leaves is = is ∙ heading_of_left digest left texts least size leaves
 
--- and all is taken that was on the disk
-pub has_taken : (old new : List (List ℕ) → Type 0) (digest left : List ℕ) (texts : List (List ℕ)) (least size : ℕ) (recovered : Recovered) → length digest ≡ 32
-    → LeavesTexts digest left texts least → IsReplayed old new digest (drop head_length left) size recovered → HasTaken old new texts least
-has_taken old new digest left texts least size recovered long leaves done =
-    let some = subst (λ (n : ℕ). ReadsSome digest (drop n left) texts least) (length-head digest long) leaves.reads in
-    let same = reads_once digest (drop head_length left) (take some.count texts) done.texts some.rest done.rest some.reads (ends_stop _ _ some.ends) done.reads (ends_stop _ _ done.ends) in
-    record {
-      count = some.count;
-      enough = some.enough;
-      most = some.most;
-      stands = λ past was. subst (λ (all : List (List ℕ)). new (onto all past)) same.0 (done.stands past was);
-    }
-
--- and nothing is damaged
-pub is_undamaged : (digest left : List ℕ) (texts : List (List ℕ)) (least size place : ℕ) → length digest ≡ 32
-    → LeavesTexts digest left texts least → IsFoundAt digest (drop head_length left) size place damaged → ⊥
-is_undamaged digest left texts least size place long leaves found =
-    let some = subst (λ (n : ℕ). ReadsSome digest (drop n left) texts least) (length-head digest long) leaves.reads in
-    let same = reads_once digest (drop head_length left) (take some.count texts) found.texts some.rest found.rest some.reads (ends_stop _ _ some.ends) found.reads (damage_stops _ _ found.found_is) in
-    ends_undamaged _ _ some.ends (subst (λ (rest : List ℕ). next (last_link digest (take some.count texts)) rest ≡ damaged) same.1
-    (subst (λ (all : List (List ℕ)). next (last_link digest all) found.rest ≡ damaged) same.0 found.found_is))
-
 -- up to the place where its last record ends the file is the journal of its texts
 pub headed_at : (old new : List (List ℕ) → Type 0) (digest bytes : List ℕ) (recovered : Recovered) → ((place : ℕ) → get_or bytes place 0 < 256)
     → head_length ≤ length bytes → take head_length bytes ≡ head digest
@@ -101,3 +79,69 @@ headed_at old new digest bytes recovered small long same done =
       chain_is = done.chain_is;
       ends = subst (λ (b : List ℕ). Ends (last_link digest done.texts) b) (sym (ap (drop recovered.end) all ∙ drop_at (file_of digest done.texts) done.rest recovered.end at)) done.ends;
     }
+
+-- and all is taken that was on the disk
+pub has_taken : (old new : List (List ℕ) → Type 0) (digest left : List ℕ) (texts : List (List ℕ)) (least : ℕ) (recovered : Recovered)
+    → ((place : ℕ) → get_or left place 0 < 256) → length digest ≡ 32 → head_length ≤ length left
+    → LeavesTexts digest left texts least → IsReplayed old new digest (drop head_length left) (length left) recovered
+    → HasTaken old new digest left texts least recovered
+has_taken old new digest left texts least recovered small size long leaves done =
+    let some = subst (λ (n : ℕ). ReadsSome digest (drop n left) texts least) (length-head digest size) leaves.reads in
+    let same = reads_once digest (drop head_length left) (take some.count texts) done.texts some.rest done.rest some.reads (ends_stop _ _ some.ends) done.reads (ends_stop _ _ done.ends) in
+    let front : take head_length left ≡ head digest = ap (λ (n : ℕ). take n left) (sym (length-head digest size)) ∙ leaves.headed in
+    record {
+      count = some.count;
+      enough = some.enough;
+      most = some.most;
+      placed = inl (subst (λ (all : List (List ℕ)). IsHeaded digest left all recovered) same.0
+          (headed_at old new digest left recovered small long front done));
+      stands = λ past was. subst (λ (all : List (List ℕ)). new (onto all past)) same.0 (done.stands past was);
+    }
+
+-- a file that is less than a head is begun anew
+pub has_taken_none : (same : List (List ℕ) → Type 0) (digest left : List ℕ) (texts : List (List ℕ)) (least : ℕ)
+    → length digest ≡ 32 → LeavesJournal digest left texts least → length left < head_length
+    → HasTaken same same digest left texts least (record { chain = digest; end = 0 })
+has_taken_none same digest left texts least size (inl leaves) short =
+    let e = ap length leaves.headed in
+    let before = length-head digest size in
+    let part = length-take (length (head digest)) left in
+    absurd (omega (arith, e, before, part, short))
+has_taken_none same digest left texts least size (inr part) short = record {
+  count = 0;
+  enough = omega (arith, part.0);
+  most = omega arith;
+  placed = inr (record { none = refl; short = short; front = part.1.front; chain_is = refl; end_is = refl });
+  stands = λ past was. was;
+}
+
+-- it is told as begun
+begun_is : (digest left : List ℕ) → IsPartOfHead digest left → heading digest left ≡ begun
+unfolding heading
+begun_is digest left part =
+    rw (lt_true (length left) head_length part.short, bytes_eq_same left (take (length left) (head digest)) part.front) refl
+
+pub none_unknown : (digest left : List ℕ) (texts : List (List ℕ)) (least : ℕ) → length digest ≡ 32
+    → LeavesJournal digest left texts least → length left < head_length → heading digest left ≡ unknown → ⊥
+none_unknown digest left texts least size (inl leaves) short is =
+    let e = ap length leaves.headed in
+    let before = length-head digest size in
+    let part = length-take (length (head digest)) left in
+    omega (arith, e, before, part, short)
+none_unknown digest left texts least size (inr part) short is =
+    let both : begun ≡ unknown = sym (begun_is digest left part.1) ∙ is in cc
+
+-- a longer one has its head
+pub texts_left : (digest left : List ℕ) (texts : List (List ℕ)) (least : ℕ) → LeavesJournal digest left texts least
+    → head_length ≤ length left → LeavesTexts digest left texts least
+texts_left digest left texts least (inl leaves) long = leaves
+texts_left digest left texts least (inr part) long = let short = part.1.short in absurd (omega (arith, short, long))
+
+-- and nothing is damaged
+pub is_undamaged : (digest left : List ℕ) (texts : List (List ℕ)) (least size place : ℕ) → length digest ≡ 32
+    → LeavesTexts digest left texts least → IsFoundAt digest (drop head_length left) size place damaged → ⊥
+is_undamaged digest left texts least size place long leaves found =
+    let some = subst (λ (n : ℕ). ReadsSome digest (drop n left) texts least) (length-head digest long) leaves.reads in
+    let same = reads_once digest (drop head_length left) (take some.count texts) found.texts some.rest found.rest some.reads (ends_stop _ _ some.ends) found.reads (damage_stops _ _ found.found_is) in
+    ends_undamaged _ _ some.ends (subst (λ (rest : List ℕ). next (last_link digest (take some.count texts)) rest ≡ damaged) same.1
+    (subst (λ (all : List (List ℕ)). next (last_link digest all) found.rest ≡ damaged) same.0 found.found_is))

@@ -4,6 +4,7 @@
 --         is at its end
 --     JournalState, HasTexts digest texts journal      the same of a journal
 use Rattle.std.specs.Prelude.{◌≡◌, ◌++◌, ℕ, Bool, List, Option, Some}
+use Rattle.clock_journal.specs.Disks.{Moment}
 use Rattle.clock_journal.specs.Format.{head, records, last_link, AllFit}
 
 -- the bytes of the journal of the texts, the oldest first, for the set-up document of this digest
@@ -17,13 +18,15 @@ pub record Keeps (digest : List ℕ) (texts : List (List ℕ)) (written synced :
   pub chain_is : chain ≡ last_link digest texts
   pub fit : AllFit texts
 
--- what contracts see of a journal: the last number stays while its file is only added to
+-- what contracts see of a journal: one number stays while its file is only added to, and the moments are those that its
+-- disk has passed, the last one first
 pub record JournalState : Type 0 where
   pub written : Option (List ℕ)
   pub synced : Option (List ℕ)
   pub has_failed : Bool
   pub chain : List ℕ
   pub uncut : ℕ
+  pub moments : Option (List Moment)
 
 -- it has these texts, and all of them are on its disk
 abbrev pub HasTexts : List ℕ → List (List ℕ) → JournalState → Type 0

@@ -7,7 +7,7 @@ use Rattle.std.specs.Prelude.{◌≡◌, ◌<◌, get_or, ◌≤◌, ◌++◌, �
 use Rattle.clock_journal.specs.Format.{records, last_link, AllFit}
 use Rattle.clock_journal.specs.Reading.{Reads, Stops}
 use Rattle.clock_journal.specs.Kept.{file_of}
-use Rattle.clock_journal.specs.Disks.{MayBeLeftOfCut}
+use Rattle.clock_journal.specs.Disks.{MayBeLeft}
 use Rattle.clock_journal.specs.Recovering.{IsPlaced}
 use Rattle.clock_journal.specs.declared.recovery.Recovered.{Recovered}
 use Rattle.clock_journal.specs.Crash.{LeavesTexts, BeginsWith}
@@ -30,5 +30,5 @@ ReadsBack = (chain bytes : List ℕ) (texts : List (List ℕ)) (rest : List ℕ)
 -- what a stop left is cut off where its last record ends, all of it on the disk: a stop in that leaves as many texts
 abbrev pub CutLeaves : Type 0
 CutLeaves = (digest bytes : List ℕ) (texts read : List (List ℕ)) (least : ℕ) (recovered : Recovered) (left : List ℕ) → length digest ≡ 32
-    → LeavesTexts digest bytes texts least → IsPlaced digest bytes read recovered → MayBeLeftOfCut (Some bytes) (Some bytes) recovered.end left
+    → LeavesTexts digest bytes texts least → IsPlaced digest bytes read recovered → MayBeLeft (Some (take recovered.end bytes)) (Some bytes) left
     → LeavesTexts digest left texts least

@@ -1,6 +1,10 @@
 -- How an auction is taken up from a journal.
---     HasTaken old new texts least      the machine stands for the first of the texts, so many at least
+--     HasTaken old new digest bytes texts least recovered      the machine stands for the first of the texts, so many at
+--         least, and the file has these
+--     HasTakenFirst old new digest texts recovered      it stands for these texts and further ones, and the place is
+--         not before the end of these
 --     IsUntaken fault      the fault is none of the file
+--     IsBehind count fault      what is damaged does not stand in the first bytes, so many
 --     IsPlaced digest bytes texts recovered      the file has these texts up to the place that is told, and the digest
 --         is their last
 --     IsRecovered old new digest bytes recovered      the machine has taken all texts of the file
@@ -9,7 +13,7 @@
 --     IsRefusedAt refuses old first bytes size place      whatever the machine stood for, the text at this place is
 --         none for it
 --     IsRefusedRightly refuses old first bytes size fault      a text that is told as refused is refused
-use Rattle.std.specs.Prelude.{◌≡◌, ◌⊎◌, ◌<◌, ◌≤◌, ◌+◌, ℕ, List, [], length, take, drop}
+use Rattle.std.specs.Prelude.{◌≡◌, ◌⊎◌, ◌<◌, ◌≤◌, ◌+◌, ◌++◌, ℕ, List, [], length, take, drop}
 use Rattle.clock_journal.specs.Format.{head, head_length, last_link, AllFit}
 use Rattle.clock_journal.specs.Kept.{file_of}
 use Rattle.clock_journal.specs.Headings.{heading, headed, of_another, unknown}
@@ -18,12 +22,12 @@ use Rattle.clock_journal.specs.declared.recovery.Recovered.{Recovered}
 use Rattle.clock_journal.specs.declared.recovery.JournalFault.{JournalFault}
 use Rattle.clock_journal.specs.declared.recovery.JournalFault.TheVariants as fault
 
--- whatever the machine stood for, it stands for that and for the first of the texts, so many at least
-pub record HasTaken (old new : List (List ℕ) → Type 0) (texts : List (List ℕ)) (least : ℕ) : Type 0 where
-  pub count : ℕ
-  pub enough : least ≤ count
-  pub most : count ≤ length texts
-  pub stands : (past : List (List ℕ)) → old past → new (onto (take count texts) past)
+-- whatever the machine stood for, it stands for that, for these texts, and for further ones; and all records of these
+-- texts are before the place
+pub record HasTakenFirst (old new : List (List ℕ) → Type 0) (digest : List ℕ) (texts : List (List ℕ)) (recovered : Recovered) : Type 0 where
+  pub further : List (List ℕ)
+  pub stands : (past : List (List ℕ)) → old past → new (onto (texts ++ further) past)
+  pub behind : length (file_of digest texts) ≤ recovered.end
 
 -- the file is right: it is only that a text in it is refused, or that there is no memory
 abbrev pub IsUntaken : JournalFault → Type 0
@@ -32,6 +36,14 @@ IsUntaken fault.Setup = ⊥
 IsUntaken (fault.Damaged place) = ⊥
 IsUntaken (fault.Refused place) = Unit {0}
 IsUntaken fault.NoMemory = Unit {0}
+
+-- the file has its head, and what is damaged stands behind so many bytes. A text may be refused wherever it stands
+abbrev pub IsBehind : ℕ → JournalFault → Type 0
+IsBehind count fault.Unknown = ⊥
+IsBehind count fault.Setup = ⊥
+IsBehind count (fault.Damaged place) = count ≤ place
+IsBehind count (fault.Refused place) = Unit {0}
+IsBehind count fault.NoMemory = Unit {0}
 
 -- up to the place the file is the journal of the texts, and what stands behind it is nothing or torn
 pub record IsHeaded (digest bytes : List ℕ) (texts : List (List ℕ)) (recovered : Recovered) : Type 0 where
@@ -51,6 +63,16 @@ pub record IsBegun (digest bytes : List ℕ) (texts : List (List ℕ)) (recovere
 
 abbrev pub IsPlaced : List ℕ → List ℕ → List (List ℕ) → Recovered → Type 0
 IsPlaced digest bytes texts recovered = IsHeaded digest bytes texts recovered ⊎ IsBegun digest bytes texts recovered
+
+-- whatever the machine stood for, it stands for that and for the first of the texts, so many at least; and up to the
+-- place that is told the file has these
+pub record HasTaken (old new : List (List ℕ) → Type 0) (digest bytes : List ℕ) (texts : List (List ℕ)) (least : ℕ)
+    (recovered : Recovered) : Type 0 where
+  pub count : ℕ
+  pub enough : least ≤ count
+  pub most : count ≤ length texts
+  pub placed : IsPlaced digest bytes (take count texts) recovered
+  pub stands : (past : List (List ℕ)) → old past → new (onto (take count texts) past)
 
 -- whatever the machine stood for, it stands for that and for the texts of the file
 pub record IsRecovered (old new : List (List ℕ) → Type 0) (digest bytes : List ℕ) (recovered : Recovered) : Type 0 where

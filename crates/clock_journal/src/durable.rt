@@ -1,6 +1,6 @@
 ghost use Rattle.std.specs.Prelude.{◌≡◌, ◌||◌, Bool, List, Option, ℕ, OnOk, OnErr, is_err, None, false};
 ghost use Rattle.clock_device.specs.Streams.{WritesText};
-ghost use Rattle.clock_journal.specs.Disks.{CutsTo};
+ghost use Rattle.clock_journal.specs.Disks.{CutsTo, Moment, Passes, up_to};
 
 use clock_device::Failed;
 use std::fs::OpenFile;
@@ -10,7 +10,8 @@ use std::io::Write;
 ///
 /// Contracts see the bytes that stand in it and those that are synced, where it tells them, whether a call has failed,
 /// and a number that stays while it is only added to. A stop of the machine leaves all that is synced, and of what was
-/// added since some front.
+/// added since some front. They also see each moment that its calls went through, where it tells these, the last one
+/// first: all that a stop could have left.
 pub trait Durable {
     ghost written: { Self → Option (List ℕ) };
 
@@ -21,10 +22,13 @@ pub trait Durable {
     /// Of what it becomes when the file is cut off nothing is said.
     ghost uncut: { Self → ℕ };
 
+    ghost moments: { Self → Option (List Moment) };
+
     /// Adds bytes at the end, or a front of them where it fails.
     fn append(&mut self, bytes: &[u8]) -> Result<(), Failed>
         ensures written { WritesText (written self.old) (written self.new) bytes.now result }
         ensures synced { synced self.new ≡ synced self.old }
+        ensures moments { Passes (moments self.old) (moments self.new) (synced self.old) (written self.new) }
         ensures uncut { uncut self.new ≡ uncut self.old }
         ensures failed { has_failed self.new ≡ (has_failed self.old || is_err result) };
 
@@ -33,6 +37,7 @@ pub trait Durable {
         ensures written { written self.new ≡ written self.old }
         ensures ok { OnOk result (synced self.new ≡ written self.old) }
         ensures err { OnErr result (synced self.new ≡ synced self.old) }
+        ensures moments { Passes (moments self.old) (moments self.new) (synced self.old) (written self.old) }
         ensures uncut { uncut self.new ≡ uncut self.old }
         ensures failed { has_failed self.new ≡ (has_failed self.old || is_err result) };
 
@@ -42,6 +47,8 @@ pub trait Durable {
         requires { synced self.old ≡ written self.old }
         ensures written { CutsTo (written self.old) (written self.new) place result }
         ensures synced { OnOk result (synced self.new ≡ written self.new) }
+        ensures moments { Passes (moments self.old) (moments self.new) (up_to place (synced self.old))
+            (written self.old) }
         ensures failed { has_failed self.new ≡ (has_failed self.old || is_err result) };
 }
 
@@ -72,6 +79,8 @@ impl<F: Write + OpenFile> Durable for FileDisk<F> {
     ghost has_failed = { λ disk. disk.has_failed };
 
     ghost uncut = { λ disk. 0 };
+
+    ghost moments = { λ disk. None };
 
     fn append(&mut self, bytes: &[u8]) -> Result<(), Failed> {
         let done = self.file.write_all(bytes).or(Err(Failed));

@@ -1,5 +1,6 @@
-ghost use Rattle.std.specs.Prelude.{◌≡◌, ◌++◌, [], ◌∷◌, List, ℕ, OnOk, OnErr, IfOk, Some, false, is_err, length};
-ghost use Rattle.clock_journal.specs.{Disks.{MayBeLeft}, Format.{Fits, link}, Crash.{LeavesTexts}, Kept.{HasTexts, JournalState}};
+ghost use Rattle.std.specs.Prelude.{◌≡◌, ◌++◌, [], ◌∷◌, List, ℕ, OnOk, OnErr, Some, false, is_err, length};
+ghost use Rattle.clock_journal.specs.{Disks.{LeaveOnly, MayBeLeft}, Format.{Fits, link}, Kept.{HasTexts, JournalState}};
+ghost use Rattle.clock_journal.specs.Crash.{BeginsWithTexts, LeavesJournal, LeavesTexts, StaysSo};
 ghost use Rattle.clock_journal.specs.{Chain.{ChainBinds, JournalsBind}, Laws.{CutLeaves, EveryFront, ReadsBack, WhateverFollows}};
 ghost use Rattle.clock_journal.specs.Recovering.{IsPlaced};
 
@@ -9,10 +10,10 @@ use crate::recovery::Recovered;
 use clock_device::Failed;
 use std::marker::Model;
 
-/// A journal whose records so far are on the disk.
+/// A journal on a disk. It is begun there or taken over from it before its first text.
 ///
 /// Contracts see what stands on its disk and what of that is synced, where the disk tells it, whether a call of it has
-/// failed, whether its file was only added to, and the digest of the last text.
+/// failed, whether its file was only added to, each moment that the disk went through, and the digest of the last text.
 #[derive(Drop)]
 pub struct Journal<D: Durable> {
     disk: D,
@@ -27,45 +28,68 @@ impl<D: Durable> Model for Journal<D> {
       synced = D.synced j.disk;
       has_failed = D.has_failed j.disk;
       uncut = D.uncut j.disk;
+      moments = D.moments j.disk;
       chain = j.chain;
     } };
 }
 
 impl<D: Durable> Journal<D> {
-    /// Begins a journal on an empty disk, for the set-up document of a digest: its head is on the disk.
-    pub fn begin(mut disk: D, digest: Link) -> Result<Journal<D>, Failed>
-    where
-        D: Drop,
-        requires unfailed { D.has_failed disk ≡ false }
-        ensures kept { D.written disk ≡ Some [] → IfOk result (λ journal. HasTexts digest [] journal) }
-        ensures uncut { IfOk result (λ journal. journal.uncut ≡ D.uncut disk) }
-        ensures unfailed { IfOk result (λ journal. journal.has_failed ≡ false) }
+    /// The journal of the set-up document of a digest on a disk, before any call.
+    pub fn new(disk: D, digest: Link) -> Journal<D>
+        ensures written { result.written ≡ D.written disk }
+        ensures synced { result.synced ≡ D.synced disk }
+        ensures moments { result.moments ≡ D.moments disk }
+        ensures uncut { result.uncut ≡ D.uncut disk }
+        ensures failed { result.has_failed ≡ D.has_failed disk }
+        ensures chain { result.chain ≡ digest }
     {
-        disk.append(&head_of(&digest))?;
-        disk.sync()?;
         let chain = digest;
-        Ok(Journal { disk, chain })
+        Journal { disk, chain }
     }
 
-    /// Goes on with the journal of a file that was taken over, for the set-up document of a digest. All that stands in
-    /// the file is put on the disk, and what is torn is then cut off.
-    pub fn resume(mut disk: D, digest: Link, recovered: Recovered) -> Result<Journal<D>, Failed>
-    where
-        D: Drop,
-        requires unfailed { D.has_failed disk ≡ false }
+    /// Begins it on an empty disk: at `Ok` its head is on the disk. A stop at any moment leaves a front of the head.
+    pub fn begin(&mut self) -> Result<(), Failed>
+        requires unfailed { self.old.has_failed ≡ false }
+        ensures kept { self.old.written ≡ Some [] → OnOk result (HasTexts self.old.chain [] self.new) }
+        ensures moments { self.old.written ≡ Some [] → LeaveOnly self.old.moments self.new.moments
+            (λ left. LeavesJournal self.old.chain left [] 0) }
+        ensures uncut { self.new.uncut ≡ self.old.uncut }
+        ensures failed { self.new.has_failed ≡ is_err result }
+    {
+        let head = head_of(&self.chain);
+        self.disk.append(&head)?;
+        self.disk.sync()
+    }
+
+    /// Goes on with the journal of a file that was taken over. All that stands in the file is put on the disk, and what
+    /// is torn is then cut off.
+    ///
+    /// `crash`, `any_tail`: if a stop before this leaves the texts that were told, so does a stop at any moment of it, at
+    /// `Err` too.
+    pub fn resume(&mut self, recovered: Recovered) -> Result<(), Failed>
+        requires unfailed { self.old.has_failed ≡ false }
         ensures kept { (bytes : List ℕ) (texts : List (List ℕ))
-            → D.written disk ≡ Some bytes → IsPlaced digest bytes texts recovered
-            → IfOk result (λ journal. HasTexts digest texts journal) }
-        ensures unfailed { IfOk result (λ journal. journal.has_failed ≡ false) }
+            → self.old.written ≡ Some bytes → IsPlaced self.old.chain bytes texts recovered
+            → OnOk result (HasTexts self.old.chain texts self.new) }
+        ensures crash { (bytes synced : List ℕ) (read texts : List (List ℕ)) (least : ℕ)
+            → self.old.written ≡ Some bytes → self.old.synced ≡ Some synced
+            → IsPlaced self.old.chain bytes read recovered
+            → StaysSo self.old self.new (λ left. LeavesJournal self.old.chain left texts least) }
+        ensures any_tail { (bytes synced : List ℕ) (read texts : List (List ℕ))
+            → self.old.written ≡ Some bytes → self.old.synced ≡ Some synced
+            → IsPlaced self.old.chain bytes read recovered
+            → StaysSo self.old self.new (λ left. BeginsWithTexts self.old.chain left texts) }
+        ensures failed { self.new.has_failed ≡ is_err result }
     {
         // a stop while it is cut off leaves what stood up to that place, if that was on the disk
-        disk.sync()?;
-        disk.cut(recovered.end)?;
+        self.disk.sync()?;
+        self.disk.cut(recovered.end)?;
         if recovered.end == 0 {
-            return Journal::begin(disk, digest);
+            return self.begin();
         }
         let chain = recovered.chain;
-        Ok(Journal { disk, chain })
+        self.chain = chain;
+        Ok(())
     }
 
     /// Adds a text. At `Ok` it is on the disk: no stop of the machine takes it. At `Err` it may be there or not, all
@@ -81,6 +105,9 @@ impl<D: Durable> Journal<D> {
         ensures any_moment { (digest : List ℕ) (texts : List (List ℕ)) → HasTexts digest texts self.old
             → (left : List ℕ) → MayBeLeft self.old.synced self.new.written left
             → LeavesTexts digest left (texts ++ text.now ∷ []) (length texts) }
+        ensures moments { (digest : List ℕ) (texts : List (List ℕ)) → HasTexts digest texts self.old
+            → LeaveOnly self.old.moments self.new.moments
+            (λ left. LeavesTexts digest left (texts ++ text.now ∷ []) (length texts)) }
         ensures on_disk { OnErr result (self.new.synced ≡ self.old.synced) }
         ensures uncut { self.new.uncut ≡ self.old.uncut }
         ensures link { OnOk result (self.new.chain ≡ link self.old.chain text.now) }
@@ -114,9 +141,9 @@ impl<D: Durable> Journal<D> {
 /// Laws of all journals. It does nothing when it runs: a caller is handed them.
 ///
 /// `as_many`, `any`: the digest of a journal's last text stands for the set-up and all texts before it: two journals that
-/// end with the same digest are the same, or two messages with one SHA-256 digest stand in them. Where one may have more
-/// texts than the other there is a third way out, that a set-up document begins with 32 bytes which are a digest of the
-/// other.
+/// end with the same digest are the same, or of the messages that were hashed for them two differ and have one digest.
+/// If one may have more texts than the other there is a third way out: a set-up document begins with 32 bytes which are
+/// a digest of the other journal.
 pub fn law_of_journals()
     ensures as_many { ChainBinds }
     ensures any { JournalsBind }

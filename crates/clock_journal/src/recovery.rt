@@ -1,8 +1,9 @@
 //! How a journal is taken over from a file: its texts go to a machine, one after the other.
 
 ghost use Rattle.std.specs.Prelude.{◌≡◌, ◌∷◌, List, ℕ, Err, MatchResult, OnOk, drop, length};
-ghost use Rattle.clock_journal.specs.{Crash.{LeavesTexts}, Format.{head_length}};
-ghost use Rattle.clock_journal.specs.Recovering.{HasTaken, IsRecovered, IsRefusal, IsRefusedRightly, IsUntaken};
+ghost use Rattle.clock_journal.specs.{Crash.{BeginsWithTexts, LeavesJournal}, Format.{head_length}, Kept.{file_of}};
+ghost use Rattle.clock_journal.specs.Recovering.{HasTaken, HasTakenFirst, IsBehind, IsRecovered, IsRefusal};
+ghost use Rattle.clock_journal.specs.Recovering.{IsRefusedRightly, IsUntaken};
 
 use crate::format::{
     BEFORE_TEXT, HEAD_LENGTH, KIND, KIND_LENGTH, Link, Next, head_of, next_record,
@@ -61,6 +62,9 @@ pub enum JournalFault {
 }
 
 /// Takes all texts of a file, in order, and tells where the last of them ends. It changes nothing in the file.
+///
+/// If the file begins with the journal of some texts, whatever follows, these are taken first, and nothing is told as
+/// damaged at a place before their end.
 pub fn recover<M: Machine>(
     machine: &mut M,
     digest: &Link,
@@ -69,9 +73,14 @@ pub fn recover<M: Machine>(
     ensures read { MatchResult result
         (IsRecovered (M.stands_for machine.old) (M.stands_for machine.new) digest.now bytes.now)
         (IsRefusal digest.now bytes.now) }
-    ensures crash { (texts : List (List ℕ)) (least : ℕ) → LeavesTexts digest.now bytes.now texts least
+    ensures crash { (texts : List (List ℕ)) (least : ℕ) → LeavesJournal digest.now bytes.now texts least
         → MatchResult result
-        (λ _. HasTaken (M.stands_for machine.old) (M.stands_for machine.new) texts least) IsUntaken }
+        (HasTaken (M.stands_for machine.old) (M.stands_for machine.new) digest.now bytes.now texts least)
+        IsUntaken }
+    ensures any_tail { (texts : List (List ℕ)) → BeginsWithTexts digest.now bytes.now texts
+        → MatchResult result
+        (HasTakenFirst (M.stands_for machine.old) (M.stands_for machine.new) digest.now texts)
+        (IsBehind (length (file_of digest.now texts))) }
     ensures refused { MatchResult result (λ _. Unit {0})
         (IsRefusedRightly (M.refuses (M.rules machine.old)) (M.stands_for machine.old) digest.now
         (drop head_length bytes.now) (length bytes.now)) }

@@ -1,5 +1,5 @@
-mod Still
-mod Unread
+pub mod EffectLaws
+mod TakenTexts
 mod Untouched
 mod KeptLaws
 pub mod TakenUp

@@ -3,11 +3,12 @@ use Rattle.std.proofs.Common.{◌≡◌, ◌+◌, List, [], ◌∷◌, ℕ, Resu
 use Rattle.clock_house.specs.House.{HouseFields}
 use Rattle.clock_front.specs.Fronts.{StandsForTexts}
 use Rattle.clock_journal.specs.Reading.{onto}
-use Rattle.clock_journal.specs.Recovering.{HasTaken, IsRecovered, IsRefusal, IsRefusedRightly, IsUntaken}
+use Rattle.clock_journal.specs.Recovering.{HasTaken, HasTakenFirst, IsBehind, IsRecovered, IsRefusal, IsRefusedRightly, IsUntaken}
 use Rattle.clock_journal.specs.declared.recovery.JournalFault.{JournalFault}
 use Rattle.clock_journal.specs.declared.recovery.Recovered.{Recovered}
 use Rattle.clock_journal.specs.declared.recovery.JournalFault.TheVariants.{Unknown, Setup, Damaged, Refused, NoMemory}
 use Rattle.clock_keeping.specs.Keeping.{HasTakenUp, IsTakenUp, counted}
+use Rattle.clock_keeping.specs.Starts.{HasTakenUpFirst}
 
 -- the texts in the other order are as many
 pub length-onto : (texts past : List (List ℕ)) → length (onto texts past) ≡ length texts + length past
@@ -20,11 +21,25 @@ IsAt house count texts = StandsForTexts texts house × (count ≡ counted texts)
 
 module _ (old : List (List ℕ) → Type 0) (begun : old []) where
   -- of what a stop has left
-  pub has_taken_up : (new : HouseFields) (count : ℕ) (texts : List (List ℕ)) (least : ℕ) (result : Result Recovered JournalFault)
-      → MatchResult result (λ _. HasTaken old (IsAt new count) texts least) IsUntaken → MatchResult result (λ _. HasTakenUp texts least new) IsUntaken
-  has_taken_up new count texts least (Ok recovered) taken =
-      record { count = taken.count; enough = taken.enough; most = taken.most; stands = (taken.stands [] begun).0 }
-  has_taken_up new count texts least (Err fault) taken = taken
+  pub has_taken_up : (new : HouseFields) (count : ℕ) (digest bytes : List ℕ) (texts : List (List ℕ)) (least : ℕ) (result : Result Recovered JournalFault)
+      → MatchResult result (HasTaken old (IsAt new count) digest bytes texts least) IsUntaken
+      → MatchResult result (HasTakenUp digest bytes texts least new) IsUntaken
+  has_taken_up new count digest bytes texts least (Ok recovered) taken = record {
+    count = taken.count;
+    enough = taken.enough;
+    most = taken.most;
+    placed = taken.placed;
+    stands = (taken.stands [] begun).0;
+  }
+  has_taken_up new count digest bytes texts least (Err fault) taken = taken
+
+  -- of a file that begins with some texts
+  pub has_taken_up_first : (new : HouseFields) (count : ℕ) (digest : List ℕ) (texts : List (List ℕ)) (size : ℕ) (result : Result Recovered JournalFault)
+      → MatchResult result (HasTakenFirst old (IsAt new count) digest texts) (IsBehind size)
+      → MatchResult result (HasTakenUpFirst digest texts new) (IsBehind size)
+  has_taken_up_first new count digest texts size (Ok recovered) taken =
+      record { further = taken.further; stands = (taken.stands [] begun).0; behind = taken.behind }
+  has_taken_up_first new count digest texts size (Err fault) behind = behind
 
   -- of any file
   pub is_taken_up : (new : HouseFields) (count : ℕ) (digest bytes : List ℕ) (result : Result Recovered JournalFault)

@@ -1,18 +1,28 @@
 -- How a server goes on with a journal.
+--     HasTakenUpFirst digest texts house recovered      the auction stands for these texts and further ones behind them
 --     IsGoingOn digest bytes journal house count      the journal has the texts of a file, and the auction stands for
 --         these, counted
 --     IsNotGoingOn setup digest bytes house count told      the file has this fault, or a call of the disk has failed
 --         behind its texts
-use Rattle.std.specs.Prelude.{◌≡◌, ℕ, List, [], drop, length}
+--     HasResumed digest texts least journal house      journal and auction have the first of the texts, so many at least
+--     IsOwn told      the fault is none of a journal's own file
+--     IsUntouched old new told      a file that is refused is as it was
+use Rattle.std.specs.Prelude.{◌≡◌, ◌≤◌, ◌++◌, ℕ, List, [], drop, length, take}
 use Rattle.clock_terms.specs.Limits.{SetupFields}
 use Rattle.clock_house.specs.House.{HouseFields}
 use Rattle.clock_journal.specs.Format.{head_length}
-use Rattle.clock_journal.specs.Kept.{JournalState}
-use Rattle.clock_journal.specs.Recovering.{IsPlaced, IsRefusal, IsRefusedRightly}
+use Rattle.clock_journal.specs.Kept.{JournalState, file_of}
+use Rattle.clock_journal.specs.Recovering.{IsPlaced, IsRefusal, IsRefusedRightly, IsUntaken}
 use Rattle.clock_journal.specs.declared.recovery.Recovered.{Recovered}
-use Rattle.clock_keeping.specs.Keeping.{IsInStep, IsRefused, IsTakenUp, counted}
+use Rattle.clock_keeping.specs.Keeping.{IsInStep, IsRefused, IsTakenUp, StandsForKept, counted}
 use Rattle.clock_keeping.specs.declared.taking.GoOnFault.{GoOnFault}
 use Rattle.clock_keeping.specs.declared.taking.GoOnFault.TheVariants.{Refused, Failed}
+
+-- the auction stands for these texts and for further ones behind them; all records of these are before the place
+pub record HasTakenUpFirst (digest : List ℕ) (texts : List (List ℕ)) (house : HouseFields) (recovered : Recovered) : Type 0 where
+  pub further : List (List ℕ)
+  pub stands : StandsForKept (texts ++ further) house
+  pub behind : length (file_of digest texts) ≤ recovered.end
 
 -- the file is the journal of so many texts, but for a torn tail; all are on the disk, and the auction stands for them
 pub record IsGoingOn (digest bytes : List ℕ) (journal : JournalState) (house : HouseFields) (count : ℕ) : Type 0 where
@@ -29,3 +39,20 @@ IsNotGoingOn setup digest bytes house count (Refused fault) =
     IsRefusal digest bytes fault
     × IsRefusedRightly (IsRefused setup) (λ past. past ≡ []) digest (drop head_length bytes) (length bytes) fault
 IsNotGoingOn setup digest bytes house count Failed = (recovered : Recovered) × IsTakenUp digest bytes recovered house count
+
+-- of a file that is refused no call was made: nothing that contracts see of it, or of its moments, has changed
+abbrev pub IsUntouched : JournalState → JournalState → GoOnFault → Type 0
+IsUntouched old new (Refused fault) = new ≡ old
+IsUntouched old new Failed = Unit {0}
+
+-- the journal has the first of these texts, so many of them at least, all on its disk; and the auction stands for them
+pub record HasResumed (digest : List ℕ) (texts : List (List ℕ)) (least : ℕ) (journal : JournalState) (house : HouseFields) : Type 0 where
+  pub count : ℕ
+  pub enough : least ≤ count
+  pub most : count ≤ length texts
+  pub in_step : IsInStep digest (take count texts) journal house
+
+-- a text is not accepted, there is no memory, or a call of the disk has failed: the file itself is right
+abbrev pub IsOwn : GoOnFault → Type 0
+IsOwn (Refused fault) = IsUntaken fault
+IsOwn Failed = Unit {0}

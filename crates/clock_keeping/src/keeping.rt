@@ -1,12 +1,13 @@
 ghost use Rattle.std.specs.Prelude.{◌≡◌, ◌<◌, ◌⊎◌, [], ◌∷◌, List, Option, ℕ, IfOk, None, OnOk, OnErr, length, true, false};
 ghost use Rattle.clock_http.specs.Shown.{Knows};
-ghost use Rattle.clock_front.specs.{Fronts.{AnswersText, IsStruckOut}, Private.{IsPrivateReply}};
+ghost use Rattle.clock_front.specs.{Effects.{RespondsTo}, Fronts.{AnswersText, IsStruckOut, StandsForTexts}};
+ghost use Rattle.clock_front.specs.Private.{IsPrivateReply};
 ghost use Rattle.clock_journal.specs.{Format.{most_text}, Kept.{JournalState}};
-ghost use Rattle.clock_keeping.specs.Keeping.{GetsChangeNothing, GrowsBy, IsInStep, IsKept, LeavesOneMore, is_get as is_get_of, no_journal};
+ghost use Rattle.clock_keeping.specs.Keeping.{GrowsBy, IsAccepted, IsInStep, IsKept, LeavesOneMore};
+ghost use Rattle.clock_keeping.specs.Keeping.{is_change as is_change_of, no_journal};
 
 use clock_device::Failed;
-use clock_front::{Framing, Front, Progress, Reply};
-use clock_http::Code;
+use clock_front::{Effect, Front, Progress, Response};
 use clock_journal::{Durable, Journal, MOST_TEXT};
 use clock_processor::Processor;
 
@@ -18,25 +19,30 @@ pub trait Keeper {
 
     ghost told: { Self → Option (List ℕ) };
 
-    /// The reply to a text of which this is known, after which the input has ended. Where the text was accepted as a
-    /// sheet or a closing it is in the journal, on the disk, before the reply is given out.
+    /// The response to a text of which this is known, after which the input has ended. If the text changed the auction,
+    /// it is in the journal, on the disk, before the reply is given out.
     ///
-    /// At `Err` the text could not be kept, since a call of the disk has failed or it is longer than any that a journal
-    /// takes: nothing is to be replied, and neither the front nor this is to be used any more. All that was on the disk
-    /// is.
+    /// At `Err` an accepted text could not be kept, since a call of the disk has failed or it is longer than any that a
+    /// journal takes: nothing is to be replied, and neither the front nor this is to be used any more. All that was on
+    /// the disk is.
     fn answer<P: Processor>(
         &mut self,
         front: &mut Front<P>,
         text: &[u8],
         progress: Progress,
-    ) -> Result<Reply, Failed>
+    ) -> Result<Response, Failed>
         requires known { Knows text.now progress }
         requires unfailed { (journal self.old).has_failed ≡ false }
-        ensures answered { IfOk result (λ reply. AnswersText text.now reply front.old front.new) }
-        ensures private { IfOk result (λ reply. IsStruckOut text.now reply ⊎ IsPrivateReply text.now front.old reply) }
+        ensures response { IfOk result (λ response. RespondsTo text.now response front.old front.new) }
+        ensures answered { IfOk result (λ response. AnswersText text.now response.reply front.old front.new) }
+        ensures private { IfOk result (λ response.
+            IsStruckOut text.now response.reply ⊎ IsPrivateReply text.now front.old response.reply) }
         ensures setup { front.new.setup ≡ front.old.setup }
         ensures kept { (digest : List ℕ) (past : List (List ℕ)) → IsInStep digest past (journal self.old) front.old
-            → IfOk result (λ reply. IsKept digest past text.now reply (journal self.new) front.old front.new) }
+            → IfOk result (λ response.
+            IsKept digest past text.now response.reply (journal self.new) front.old front.new) }
+        ensures accepted { (texts : List (List ℕ)) → StandsForTexts texts front.old
+            → OnErr result (IsAccepted front.old.setup texts text.now) }
         ensures moments { LeavesOneMore text.now (journal self.old) (journal self.new) }
         ensures on_disk { OnErr result ((journal self.new).synced ≡ (journal self.old).synced) }
         ensures ok { OnOk result ((journal self.new).has_failed ≡ false) }
@@ -59,16 +65,16 @@ impl<D: Durable> Keeper for Journal<D> {
         front: &mut Front<P>,
         text: &[u8],
         progress: Progress,
-    ) -> Result<Reply, Failed> {
-        let reply = front.answer_framed(progress.framing(text));
-        if reply.code() != Code::Done || is_get(text, progress) {
-            return Ok(reply);
+    ) -> Result<Response, Failed> {
+        let response = front.respond(progress.framing(text));
+        if !is_change(response.effect) {
+            return Ok(response);
         }
         if text.len() > MOST_TEXT {
             return Err(Failed);
         }
         self.append(text)?;
-        Ok(reply)
+        Ok(response)
     }
 
     fn round_closed(&mut self, _round: u64) {}
@@ -88,25 +94,19 @@ impl Keeper for Unkept {
         front: &mut Front<P>,
         text: &[u8],
         progress: Progress,
-    ) -> Result<Reply, Failed> {
-        Ok(front.answer_framed(progress.framing(text)))
+    ) -> Result<Response, Failed> {
+        Ok(front.respond(progress.framing(text)))
     }
 
     fn round_closed(&mut self, _round: u64) {}
 }
 
-/// Whether a text of which this is known asks by GET.
-fn is_get(text: &[u8], progress: Progress) -> bool
-    requires { Knows text.now progress }
-    ensures { result ≡ is_get_of text.now }
+/// Whether a request changed the auction.
+fn is_change(effect: Effect) -> bool
+    ensures { result ≡ is_change_of effect }
 {
-    match progress.framing(text) {
-        Framing::Whole { head, body: _body } => head.method == b"GET".as_slice(),
-        _ => false,
+    match effect {
+        Effect::Nothing => false,
+        Effect::Sheet | Effect::Closing(_) => true,
     }
 }
-
-/// A law, which does nothing when it runs: a request by GET changes nothing, so it is not kept.
-pub fn law_gets_change_nothing()
-    ensures { GetsChangeNothing }
-{}

@@ -7,5 +7,5 @@
 mod keeping;
 mod taking;
 
-pub use keeping::{Keeper, Unkept, law_gets_change_nothing};
-pub use taking::{Auction, GoOnFault, go_on, take_up};
+pub use keeping::{Keeper, Unkept};
+pub use taking::{Auction, GoOnFault, go_on, take_text, take_up};

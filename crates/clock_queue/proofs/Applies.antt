@@ -15,8 +15,8 @@ use Rattle.clock_processor.specs.Settling.{no_change, with_application}
 use Rattle.clock_processor.proofs.Supply.{same_or_not}
 use Rattle.clock_processor.proofs.Apply.{may_apply, sum_after, under_way_applied}
 use Rattle.clock_queue.specs.declared.queue.Queue.{Queue}
-use Rattle.clock_queue.specs.inside.Lines.{cost_by, product_line, bidder_line, HasLines}
-use Rattle.clock_queue.specs.inside.Queue.{IsKept, IsInLine, IsBehind, IsTracking, IsAppliedWhole, HasWoken, CostsMore}
+use Rattle.clock_queue.specs.inside.Lines.{cost_by, line_by, product_line, bidder_line, HasLines}
+use Rattle.clock_queue.specs.inside.Queue.{IsKept, IsInLine, IsBehind, IsTracking, IsAppliedWhole, HasWoken, HasWokenProduct, CostsMore}
 use Rattle.clock_queue.specs.inside.Queue.{line_at, line_in, cost_at, room_in, progress, work}
 use Rattle.clock_queue.specs.Bound.{most_woken}
 use Rattle.clock_queue.proofs.Members.{Contains-cons_cases}
@@ -174,9 +174,57 @@ module _ (changes : List Change) (old : Queue) (first : ℕ) (is : IsKept change
   lines_of : HasLines (length old.lines) change
   lines_of = is.lines first no_change lt
 
-  module _ (mid : Queue) (product_woken : HasWoken (product_line change.product) 0 after mid) where
+  -- a reduction of which something is left leaves nobody who waits for its product any room
+  nobody_after : change.kind ≡ Reduction → 0 < get_or old.left first 0 - amount → (place : ℕ) →
+      line_at changes place ≡ product_line change.product → room_in changes after place ≡ 0
+  nobody_after reduces more place own =
+      let other : Change = get_or changes place no_change in
+      let alone : line_at changes first ≡ product_line change.product =
+      ap (λ kind. line_by kind change.bidder change.product) reduces in
+      omega (
+        arith,
+        room_of_after (omega (arith, more)),
+        room_together old.board.products old.board.eligibilities after.board.grid other.kind change.kind other.bidder other.product change.bidder
+            change.product change.product own alone,
+      )
+
+  module _ (mid : Queue) (product_woken : HasWokenProduct change (get_or old.left first 0 - amount) after mid) where
+    kept_by : HasWokenProduct change (get_or old.left first 0 - amount) after mid → IsKept changes mid
+    kept_by (inl woken) = kept_woken changes (product_line change.product) 0 after mid kept_after lines_of.product woken
+    kept_by (inr passed) = subst (IsKept changes) (sym passed.same) kept_after
+
     pub kept_mid : IsKept changes mid
-    kept_mid = kept_woken changes (product_line change.product) 0 after mid kept_after lines_of.product product_woken
+    kept_mid = kept_by product_woken
+
+    -- all but the lines and those that are ready is as it was
+    same_by : HasWokenProduct change (get_or old.left first 0 - amount) after mid → mid ≡ record after { ready = mid.ready; lines = mid.lines }
+    same_by (inl woken) = woken.same
+    same_by (inr passed) = subst (λ (queue : Queue). queue ≡ record after { ready = queue.ready; lines = queue.lines }) (sym passed.same) refl
+
+    mid_as : mid ≡ record after { ready = mid.ready; lines = mid.lines }
+    mid_as = same_by product_woken
+
+    ready_by : (place : ℕ) → Contains old.ready place → HasWokenProduct change (get_or old.left first 0 - amount) after mid → Contains mid.ready place
+    ready_by place here (inl woken) = still_ready changes (product_line change.product) 0 after mid kept_after lines_of.product woken place here
+    ready_by place here (inr passed) = subst (λ (queue : Queue). Contains queue.ready place) (sym passed.same) here
+
+    one_more_by : HasWokenProduct change (get_or old.left first 0 - amount) after mid →
+        IsOneMore changes (product_line change.product) after mid ⊎ (length mid.ready ≡ length old.ready)
+    one_more_by (inl woken) = one_more_ready changes (product_line change.product) 0 after mid kept_after lines_of.product woken
+    one_more_by (inr passed) = inr (ap (λ (queue : Queue). length queue.ready) passed.same)
+
+    -- who waits for the product and has room, stands behind one that is ready
+    covered_by : (place : ℕ) → place < old.admitted → line_at changes place ≡ product_line change.product → 0 < room_in changes after place →
+        HasWokenProduct change (get_or old.left first 0 - amount) after mid → IsCovered changes (product_line change.product) 0 mid place
+    covered_by place within own room (inl woken) =
+        let one : Change = get_or changes place no_change in
+        covered changes (product_line change.product) 0 after mid kept_after lines_of.product woken place within own (omega (arith, room))
+        (omega (
+          arith,
+          free old.board.products old.board.eligibilities after.board.grid one.kind one.bidder one.product change.product
+              (units_of old.board.products one.product) own,
+        ))
+    covered_by place within own room (inr passed) = absurd (omega (arith, room, nobody_after passed.reduces passed.more place own))
 
     bidder_in : bidder_line change.bidder < length mid.lines
     bidder_in =
@@ -185,12 +233,8 @@ module _ (changes : List Change) (old : Queue) (first : ℕ) (is : IsKept change
 
     module _ (new : Queue) (limit : ℕ) (bidder_woken : HasWoken (bidder_line change.bidder) limit mid new)
         (limit_is : limit ≡ min (unused_units after.board.products after.board.eligibilities after.board.grid change.bidder) most_units) where
-      -- all but the lines and those that are ready is as it was
-      mid_as : mid ≡ record after { ready = mid.ready; lines = mid.lines }
-      mid_as = product_woken.same
-
       new_as : new ≡ record after { ready = new.ready; lines = new.lines }
-      new_as = bidder_woken.same ∙ ap (λ (queue : Queue). record queue { ready = new.ready; lines = new.lines }) product_woken.same
+      new_as = bidder_woken.same ∙ ap (λ (queue : Queue). record queue { ready = new.ready; lines = new.lines }) mid_as
 
       kept_new : IsKept changes new
       kept_new = kept_woken changes (bidder_line change.bidder) limit mid new kept_mid bidder_in bidder_woken
@@ -198,7 +242,7 @@ module _ (changes : List Change) (old : Queue) (first : ℕ) (is : IsKept change
       ready_still : (place : ℕ) → Contains old.ready place → Contains new.ready place
       ready_still place here =
           still_ready changes (bidder_line change.bidder) limit mid new kept_mid bidder_in bidder_woken place
-          (still_ready changes (product_line change.product) 0 after mid kept_after lines_of.product product_woken place here)
+          (ready_by place here product_woken)
 
       left_of_mid : (place : ℕ) → get_or mid.left place 0 ≡ get_or after.left place 0
       left_of_mid place = ap (λ (queue : Queue). get_or queue.left place 0) mid_as
@@ -223,13 +267,7 @@ module _ (changes : List Change) (old : Queue) (first : ℕ) (is : IsKept change
           IsBehind changes after new.ready place
       behind_product place within own room =
           let one : Change = get_or changes place no_change in
-          let found : IsCovered changes (product_line change.product) 0 mid place =
-          covered changes (product_line change.product) 0 after mid kept_after lines_of.product product_woken place within own (omega (arith, room))
-          (omega (
-            arith,
-            free old.board.products old.board.eligibilities after.board.grid one.kind one.bidder one.product change.product
-                (units_of old.board.products one.product) own,
-          )) in
+          let found : IsCovered changes (product_line change.product) 0 mid place = covered_by place within own room product_woken in
           let other : Change = get_or changes found.at no_change in
           record {
             at = found.at;
@@ -333,7 +371,7 @@ module _ (changes : List Change) (old : Queue) (first : ℕ) (is : IsKept change
       few_by (inr same) (inr same') = omega (arith, same, same')
 
       few_woken : length new.ready ≤ length old.ready + most_woken changes
-      few_woken = few_by (one_more_ready changes (product_line change.product) 0 after mid kept_after lines_of.product product_woken)
+      few_woken = few_by (one_more_by product_woken)
           (one_more_ready changes (bidder_line change.bidder) limit mid new kept_mid bidder_in bidder_woken)
 
       -- the application pays for their tests, and takes a block of those that are left

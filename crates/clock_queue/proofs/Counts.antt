@@ -1,5 +1,5 @@
 -- No more requests are woken than there are of one product or of one bidder.
-use Rattle.std.proofs.Common.{◌≡◌, ℕ, zero, suc, ◌+◌, ◌*◌, ◌<◌, ◌≤◌, List, [], ◌∷◌, Bool, true, cond}
+use Rattle.std.proofs.Common.{◌≡◌, ℕ, zero, suc, ◌*◌, ◌<◌, ◌≤◌, List, [], ◌∷◌, Bool, true, cond}
 use Rattle.std.proofs.Common.{refl, ap, arith, get_or, length, eq-eqb, inl, inr, ◌⊎◌}
 use Rattle.std.specs.Prelude.{max, count_by, ◌==◌}
 use Rattle.std.specs.List.{fold}
@@ -8,10 +8,9 @@ use Rattle.std.proofs.lemmas.List.Sums.{sum_by-cons}
 use Rattle.clock_terms.specs.declared.change.Change.{Change}
 use Rattle.clock_terms.specs.declared.change.Kind.{Kind}
 use Rattle.clock_terms.specs.declared.change.Kind.TheVariants.{Increase, Reduction}
-use Rattle.clock_processor.specs.Settlement.{SettledFields}
 use Rattle.clock_processor.specs.Settling.{no_change}
 use Rattle.clock_queue.specs.inside.Lines.{line_of, line_by, product_line, bidder_line}
-use Rattle.clock_queue.specs.Bound.{most_of_one, most_woken, count_of_product, count_of_bidder, IsWithinTests}
+use Rattle.clock_queue.specs.Bound.{most_of_one, most_woken, count_of_product, count_of_bidder, BoundsEachLine}
 
 -- a running greatest is no less than its start, and than each value
 fold_start : {X : Type 0} (f : X → ℕ) (a : ℕ) (xs : List X) → a ≤ fold (λ most x. max most (f x)) a xs
@@ -119,16 +118,10 @@ two_of_one changes i x y lt x_in y_in of_x of_y =
           (product_of at_x.kind at_x.bidder at_x.product one.product of_x)
     ]
 
--- so a settling within the bound makes no more tests for an application than there are requests of one product or of one
--- bidder
-pub law_most_of_one : (changes : List Change) (end : SettledFields) → IsWithinTests changes end →
-    end.tests ≤ length changes + end.applied * most_of_one changes
-law_most_of_one changes end within =
-    let fewer : end.applied * most_woken changes ≤ end.applied * most_of_one changes = mul-le-mul_left end.applied (omega arith) in
-    omega (arith, within, fewer)
-
--- nor more than two
-pub law_two : (changes : List Change) (end : SettledFields) → IsWithinTests changes end → end.tests ≤ length changes + end.applied * 2
-law_two changes end within =
-    let fewer : end.applied * most_woken changes ≤ end.applied * 2 = mul-le-mul_left end.applied (omega arith) in
-    omega (arith, within, fewer)
+-- a settling within the bound makes no more tests for an application than there are requests of one product or of one
+-- bidder, nor more than two
+pub each_line : BoundsEachLine
+each_line changes end within =
+    let few : end.applied * most_woken changes ≤ end.applied * most_of_one changes = mul-le-mul_left end.applied (omega arith) in
+    let two : end.applied * most_woken changes ≤ end.applied * 2 = mul-le-mul_left end.applied (omega arith) in
+    (omega (arith, within, few), omega (arith, within, two))

@@ -2,6 +2,7 @@ pub mod Counts
 pub mod Rooms
 pub mod Members
 pub mod Marks
+pub mod Index
 pub mod Wakes
 pub mod Applies
 pub mod Admits

@@ -2,6 +2,7 @@
 --     most_of_one changes      the greatest number of requests of one product or of one bidder
 --     most_woken changes      that number, or 2 where it is more
 --     IsWithinTests changes end      no more tests than one for each request, and at most two for each application
+--     BoundsEachLine      the bound is below the one by requests of one product or bidder, and below two an application
 use Rattle.std.specs.Prelude.{ℕ, ◌+◌, ◌*◌, ◌≤◌, ◌==◌, List, length, max, min, count_by}
 use Rattle.std.specs.List.{fold}
 use Rattle.clock_terms.specs.declared.change.Change.{Change}
@@ -28,3 +29,9 @@ most_woken changes = min 2 (most_of_one changes)
 -- one bidder
 abbrev pub IsWithinTests : List Change → SettledFields → Type 0
 IsWithinTests changes end = end.tests ≤ length changes + end.applied * most_woken changes
+
+-- a settling within the bound makes no more tests for an application than there are requests of one product or of one
+-- bidder, nor more than two
+abbrev pub BoundsEachLine : Type 0
+BoundsEachLine = (changes : List Change) (end : SettledFields) → IsWithinTests changes end →
+    (end.tests ≤ length changes + end.applied * most_of_one changes) × (end.tests ≤ length changes + end.applied * 2)

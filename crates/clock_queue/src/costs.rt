@@ -4,6 +4,7 @@ ghost use Rattle.std.specs.Prelude.{◌≡◌, ◌<◌, ◌≤◌, ◌+◌, ◌*
 ghost use Rattle.clock_queue.specs.inside.Costs.{AreAbove, AreFrom, HasBounds, IsFirstWithin, spent};
 
 use clock_device::NoMemory;
+use smallvec::SmallVec;
 use std::alloc::Global;
 use std::marker::Model;
 
@@ -17,11 +18,11 @@ const SPENT: u64 = u64::MAX;
 ///
 /// They stand in blocks of 64, and for each block there is a bound which none of its costs is below: a block whose bound
 /// is above a limit is passed over as a whole. Blocks at the front of which nothing is to be found any more are passed
-/// over together.
+/// over together. Up to four costs and the bound of the first block ask for no memory.
 #[derive(Drop)]
 pub(crate) struct Costs {
-    costs: Vec<u64>,
-    bounds: Vec<u64>,
+    costs: SmallVec<u64, 4>,
+    bounds: SmallVec<u64, 1>,
     passed: usize,
 }
 
@@ -39,8 +40,8 @@ impl Costs {
         ensures { result ≡ [] }
     {
         Costs {
-            costs: Vec::new(alloc),
-            bounds: Vec::new(alloc),
+            costs: SmallVec::new(alloc),
+            bounds: SmallVec::new(alloc),
             passed: 0,
         }
     }

@@ -6,4 +6,4 @@ mod costs;
 mod lines;
 mod queue;
 
-pub use queue::Woken;
+pub use queue::{Woken, law_of_tests};

@@ -10,16 +10,17 @@ ghost use Rattle.clock_queue.specs.inside.Ready as ready;
 use crate::costs::Costs;
 use clock_device::{Items, NoMemory};
 use clock_terms::{Change, Kind};
+use smallvec::SmallVec;
 use std::alloc::Global;
 use std::cmp::Reverse;
 use std::collections::BinaryHeap;
 use std::marker::Model;
 
 /// The requests that wait for one thing, in the order in which they were admitted: their places, and what a block of
-/// each costs. Those of which nothing is left are passed over.
+/// each costs. Those of which nothing is left are passed over. Up to four requests ask for no memory.
 #[derive(Drop)]
 pub(crate) struct Line {
-    places: Vec<usize>,
+    places: SmallVec<usize, 4>,
     costs: Costs,
 }
 
@@ -37,7 +38,7 @@ impl Line {
         ensures { result ≡ lines.empty_line }
     {
         Line {
-            places: Vec::new(alloc),
+            places: SmallVec::new(alloc),
             costs: Costs::new(alloc),
         }
     }
@@ -70,29 +71,36 @@ impl Line {
     }
 }
 
+/// What stands for a line in which nobody ever waited.
+const NOWHERE: usize = usize::MAX;
+
 /// The lines in which requests wait: for each product one of its reductions, for each bidder one of its increases.
 /// Contracts see the list of the lines.
+///
+/// In most of them nobody waits, so a line is made when its first request is added. `index` has its position in `lists`.
 #[derive(Drop)]
 pub(crate) struct WaitingLines {
+    index: Vec<usize>,
     lists: Vec<Line>,
 }
 
 impl Model for WaitingLines {
     ghost Value = { List lines.LineFields };
 
-    ghost view = { λ a. a.lists.items };
+    ghost view = { λ a. lines.lines_of a.index.items a.lists.items };
+
+    ghost invariant = { λ a. lines.IsIndex a.index.items (length a.lists.items) };
 }
 
 impl WaitingLines {
-    /// So many lines, in which nobody waits.
+    /// A number of lines, in which nobody waits.
     pub(crate) fn new(alloc: Global, count: usize) -> Result<WaitingLines, NoMemory>
         ensures { IfOk result (λ new. new ≡ replicate count lines.empty_line) }
     {
-        let mut lists = Vec::with_capacity(alloc, count)?;
-        for _line in 0..count {
-            lists.push(Line::new(alloc))?;
-        }
-        Ok(WaitingLines { lists })
+        Ok(WaitingLines {
+            index: vec![in alloc; NOWHERE; count]?,
+            lists: Vec::new(alloc),
+        })
     }
 
     /// Adds a request at the end of a line.
@@ -100,7 +108,17 @@ impl WaitingLines {
         requires { line < length self.old }
         ensures { OnOk result (self.new ≡ slice_set self.old line (lines.with_waiting (slice_index_or self.old line lines.empty_line) place cost)) }
     {
-        self.lists[line].add(place, cost)
+        let at = self.index[line];
+        if at < self.lists.len() {
+            self.lists[at].add(place, cost)?;
+            return Ok(());
+        }
+        let mut first = Line::new(*self.lists.allocator());
+        first.add(place, cost)?;
+        self.lists.push(first)?;
+        let last = self.lists.len() - 1;
+        self.index[line] = last;
+        Ok(())
     }
 
     /// The first request in a line of which something is left, and of which a block costs no more than the limit.
@@ -113,7 +131,11 @@ impl WaitingLines {
         ensures found { IfSome result (lines.IsFirstWaiting left.now (slice_index_or self.new line lines.empty_line) limit) }
         ensures none { IfNone result (All (λ cost. limit < cost) (slice_index_or self.new line lines.empty_line).costs) }
     {
-        self.lists[line].first_waiting(left, limit)
+        let at = self.index[line];
+        if at < self.lists.len() {
+            return self.lists[at].first_waiting(left, limit);
+        }
+        None
     }
 }
 

@@ -1,9 +1,9 @@
 ghost use Rattle.std.specs.Prelude.{◌≡◌, ◌+◌, ◌<◌, ◌≤◌, [], ◌∷◌, length, IfOk, OnOk, All};
 ghost use Rattle.clock_processor.specs.{Board.{IsBoard}, Requests.{CanSettle}, Settlement.{IsSettlement, IsProperEnd}};
-ghost use Rattle.clock_queue.specs.Bound.{IsWithinTests};
+ghost use Rattle.clock_queue.specs.Bound.{BoundsEachLine, IsWithinTests};
 ghost use Rattle.clock_queue.specs.inside.Costs.{spent};
 ghost use Rattle.clock_queue.specs.inside.Lines as lines;
-ghost use Rattle.clock_queue.specs.inside.Queue.{GoesOn, HasWoken, IsAppliedWhole, IsKept, IsTested, IsTracking, StaysWithinTests, after_test, line_in, room_in};
+ghost use Rattle.clock_queue.specs.inside.Queue.{GoesOn, HasWoken, HasWokenProduct, IsAppliedWhole, IsKept, IsTested, IsTracking, StaysWithinTests, after_test, line_in, room_in};
 
 use crate::lines::{Ready, WaitingLines, bidder_line, line_of, lines_for, product_line};
 use clock_device::NoMemory;
@@ -43,6 +43,12 @@ impl Processor for Woken {
         Ok(queue.board.end(queue.left))
     }
 }
+
+/// A settling within the bound tests at most as often for an application as there are requests of one product or of one
+/// bidder, and at most twice. It does nothing when it runs: a caller is handed the law.
+pub fn law_of_tests()
+    ensures { BoundsEachLine }
+{}
 
 /// A settling on its way.
 #[derive(Drop)]
@@ -119,9 +125,22 @@ impl<'a> Queue<'a> {
         let left = self.left.as_slice()[place];
         let unused = self.board.apply(change, room);
         self.left.set(place, left - room);
-        self.wake(product_line(change.product), 0)?;
+        self.wake_product(change, left - room)?;
         self.wake(bidder_line(change.bidder), unused.min(MOST_UNITS))?;
         Ok(())
+    }
+
+    /// Makes ready the first that waits for the product of a request that was applied. A reduction of which something is
+    /// left has used up what its product exceeds its supply by, so nobody who waits for that has room.
+    fn wake_product(&mut self, change: &Change, rest: u64) -> Result<(), NoMemory>
+        requires line { lines.product_line change.now.product < length self.old.lines }
+        requires places { All (λ place. place < length self.old.left) (line_in self.old (lines.product_line change.now.product)).places }
+        ensures { OnOk result (HasWokenProduct change.now rest self.old self.new) }
+    {
+        if change.kind == Kind::Reduction && rest > 0 {
+            return Ok(());
+        }
+        self.wake(product_line(change.product), 0)
     }
 
     /// Makes ready the first request in a line of which something is left and a block costs no more than the limit.

@@ -2,5 +2,6 @@ pub mod EndedRowLaws
 pub mod KeptLimitLaws
 pub mod CheckLaws
 pub mod DocumentLaws
+mod FirstVersionLaws
 mod ReplayDataLaws
 mod Examples

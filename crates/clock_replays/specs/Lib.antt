@@ -4,4 +4,5 @@ pub mod Replays
 pub mod ReplayShape
 pub mod ReplayChecks
 pub mod ReplayDocument
+pub mod FirstVersion
 pub mod inside

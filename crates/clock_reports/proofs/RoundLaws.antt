@@ -83,13 +83,13 @@ lined setup (last ∷ rounds) all =
     ap (map sheet) (reverse-append (last ∷ []) rounds) ∙ map-append sheet (reverse rounds) (last ∷ []) in
     subst (All P) (sym split) (All-push P (map sheet (reverse rounds)) last.sheet (lined setup rounds all.3) all.2)
 
--- rows that are each a row
+-- rows that each have a demand for each product
 pub rows_of : (setup : SetupFields) (f : ℕ → List ℕ) (n : ℕ) → ((bidder : ℕ) → bidder < n → IsRow setup.products (f bidder))
-    → All (IsRow setup.products) (map f (range_with_len 0 n))
+    → All (λ (demands : List ℕ). length demands ≡ length setup.products) (map f (range_with_len 0 n))
 rows_of setup f n each k d within =
     let count = length-map-range_with_len f 0 n in
     let below : k < n = omega arith in
-    subst (IsRow setup.products) (sym (get_or-map-range_with_len f 0 n k k d below (omega arith))) (each k below)
+    subst (λ (demands : List ℕ). length demands ≡ length setup.products) (sym (get_or-map-range_with_len f 0 n k k d below (omega arith))) (each k below).each
 
 -- at the end some round is closed
 pub some_closed : (setup : SetupFields) (closed : List ClosedRound) → (standing setup.products closed).ended ≡ true → 1 ≤ length closed

@@ -1,7 +1,7 @@
 //! The report of an auction, of its rounds so far.
 
 ghost use Rattle.std.specs.Prelude.{◌≡◌, ◌<◌, ◌≤◌, Some, length, map, reverse, slice_get, All, IfOk};
-ghost use Rattle.clock_reports.specs.{Reports.{ReportFields}, inside.Reports.{IsPricedLine, IsReport}};
+ghost use Rattle.clock_reports.specs.Reports.{IsPricedLine, IsReport, ReportFields};
 ghost use Rattle.clock_reports.specs.FinalReport as rules;
 
 use clock_device::{Items, NoMemory};
@@ -15,8 +15,7 @@ use std::marker::Model;
 pub type RoundSheets = Items<RoundSheet>;
 
 /// What an auction has come to so far: of a replay, or of an audit. The type keeps that there is at least one sheet,
-/// and in each a line for each product at prices from 1 to 10^12; and that the grid is one of the set-up, with each
-/// demand within its cap.
+/// and in each a line for each product at prices from 1 to 10^12; and that the grid is one of the set-up.
 #[derive(Drop)]
 pub struct Report {
     /// What the auction was set up with.

@@ -1,7 +1,7 @@
 //! The texts of reports: of a replay, of an auction itself, and of an audit.
 
 ghost use Rattle.std.specs.{Prelude.{◌≡◌, ◌≤◌, ◌++◌, All, IfOk, OnOk, length, decimal, codes, zip, true}, List.{flat_map}};
-ghost use Rattle.clock_terms.specs.Limits.{IsRow, most_products, most_supply};
+ghost use Rattle.clock_terms.specs.Limits.{most_products};
 ghost use Rattle.clock_reports.specs.inside.WonLines.{none_held};
 ghost use Rattle.clock_house.specs.House.{standing_in};
 ghost use Rattle.clock_reports.specs.ReportText as words;
@@ -42,7 +42,6 @@ pub fn report_text(alloc: Global, report: &Report) -> Result<Text, NoMemory>
 fn payment(lines: &[Line], demands: &Row) -> u64
     requires each { length demands.now ≡ length lines.now }
     requires few { length lines.now ≤ most_products }
-    requires small { All (λ demand. demand ≤ most_supply) demands.now }
     ensures { result ≡ words.payment lines.now demands.now }
 {
     let mut total: u64 = 0;
@@ -92,7 +91,7 @@ fn push_wins(
 ) -> Result<(), NoMemory>
     requires lines { length lines.now ≡ length setup.now.products }
     requires bidders { length grid.now ≡ length setup.now.bidders }
-    requires rows { All (IsRow setup.now.products) grid.now }
+    requires rows { All (λ demands. length demands ≡ length setup.now.products) grid.now }
     ensures { OnOk result (text.new ≡ text.old ++ flat_map (words.won_text lines.now)
         (zip setup.now.bidders grid.now)) }
 {

@@ -1,10 +1,12 @@
 -- How a run ends by one connection.
 use Rattle.std.proofs.Common.{◌≡◌, ◌<◌, ◌+◌, ℕ, List, [], ◌∷◌, ◌++◌, Option, Result, Ok, Err, length, refl, sym, ◌∙◌, subst, arith, length-append}
-use Rattle.clock_terms.specs.Limits.{IsSetup}
+use Rattle.clock_terms.specs.Limits.{IsSetup, SetupFields}
 use Rattle.clock_house.specs.House.{HouseFields}
 use Rattle.clock_journal.specs.Disks.{MayBeLeft}
+use Rattle.clock_front.specs.Fronts.{StandsForTexts}
 use Rattle.clock_journal.specs.Kept.{JournalState}
-use Rattle.clock_keeping.specs.Keeping.{IsInStep, LeavesOneMore}
+use Rattle.clock_journal.specs.Reading.{onto}
+use Rattle.clock_keeping.specs.Keeping.{IsAccepted, IsInStep, LeavesOneMore}
 use Rattle.clock_serving.specs.declared.serving.ServeFault.{ServeFault}
 use Rattle.clock_serving.specs.declared.serving.ServeFault.TheVariants.{Accept, Journal}
 use Rattle.clock_serving.specs.Exchanges.{Came, Exchange, HasClosed, bytes_given}
@@ -28,23 +30,28 @@ module _ (count : ℕ) (coming_old coming_mid coming_new : Option (List (List �
     (before : HasServed count coming_old coming_mid first mid told_old told_mid journal_old journal_mid old now) where
   -- one more was
   pub one_more : {U : Type 0} (done : U) → EndsOne coming_mid coming_new mid last told_mid told_new journal_mid journal_new now new (Ok done)
-      → new.setup ≡ now.setup → HasServed (count + 1) coming_old coming_new first last told_old told_new journal_old journal_new old new
-  one_more done ends still = record {
+      → HasServed (count + 1) coming_old coming_new first last told_old told_new journal_old journal_new old new
+  one_more done ends = record {
     exchanges = before.exchanges ++ ends.0 ∷ [];
     closed = grown_more first mid last before.exchanges (ends.0 ∷ []) before.closed ends.1;
     came = came_more coming_old coming_mid coming_new before.exchanges ends.0 before.came ends.2;
     counted = omega (arith, length-append before.exchanges (ends.0 ∷ []), before.counted);
-    served = served_more before.exchanges ends.0 told_old told_mid told_new journal_old journal_mid journal_new old now new limits same still before.served ends.3
-        ends.4;
+    served = served_more before.exchanges ends.0 ends.3.0 told_old told_mid told_new journal_old journal_mid journal_new old
+        now new limits same before.served ends.3.1 ends.3.2;
   }
 
   told_are_kept : (text : List ℕ) (digest : List ℕ) (past : List (List ℕ)) → IsInStep digest past journal_old old
-      → LeavesOneMore text journal_mid journal_new → journal_new.synced ≡ journal_mid.synced → HasKeptTold digest past before.exchanges text journal_new old
-  told_are_kept text digest past in_step leaves on_disk =
+      → LeavesOneMore text journal_mid journal_new → journal_new.synced ≡ journal_mid.synced
+      → ((texts : List (List ℕ)) → StandsForTexts texts now → IsAccepted now.setup texts text)
+      → HasKeptTold digest past before.exchanges text journal_old journal_new old
+  told_are_kept text digest past in_step leaves on_disk accepted =
       let so_far = before.served.kept digest past in_step in
       record {
         end = so_far.end;
+        before = journal_mid;
         walks = so_far.walks;
+        accepted = subst (λ (setup : SetupFields). IsAccepted setup (onto so_far.end []) text) same
+            (accepted (onto so_far.end []) so_far.in_step.stands);
         on_disk = on_disk ∙ so_far.in_step.has.synced_is ∙ so_far.in_step.has.file;
         left_ones = λ left may.
             leaves.moments digest so_far.end so_far.in_step.has left
@@ -53,7 +60,7 @@ module _ (count : ℕ) (coming_old coming_mid coming_new : Option (List (List �
       }
 
   -- the text of one more could not be kept
-  ends_unkept : (one : Exchange) → IsUnkept one journal_mid journal_new → told_new ≡ told_mid
+  ends_unkept : (one : Exchange) → IsUnkept one journal_mid journal_new now → told_new ≡ told_mid
       → EndsUnkept before.exchanges one told_old told_new journal_old journal_new old
   ends_unkept one unkept untold = record {
     text = unkept.0.text;
@@ -64,7 +71,8 @@ module _ (count : ℕ) (coming_old coming_mid coming_new : Option (List (List �
     replied = λ past stands.
         let so_far = before.served.replied past stands in
         (so_far.end, so_far.walks, subst (λ (told : Option (List ℕ)). TellsClosings old.setup past so_far.end told_old told) (sym untold) so_far.tells);
-    kept = λ digest past in_step. told_are_kept unkept.0.text digest past in_step unkept.0.moments unkept.0.on_disk;
+    kept = λ digest past in_step.
+        told_are_kept unkept.0.text digest past in_step unkept.0.moments unkept.0.on_disk unkept.0.accepted;
   }
 
   -- it ends the run

@@ -2,4 +2,5 @@ mod Walking
 pub mod Telling
 mod Served
 mod Ends
+mod Told
 mod Bytes

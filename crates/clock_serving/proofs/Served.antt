@@ -1,5 +1,5 @@
 -- A run goes on by one connection that is served.
-use Rattle.std.proofs.Common.{◌≡◌, ◌≤◌, ◌⊎◌, inl, inr, ℕ, List, [], ◌∷◌, ◌++◌, Option, Some, length, refl, sym, ap, ◌∙◌, subst, arith, length-append, append-nil}
+use Rattle.std.proofs.Common.{◌≡◌, ◌≤◌, inl, inr, ℕ, List, [], ◌∷◌, ◌++◌, Option, Some, length, refl, sym, ap, ◌∙◌, subst, arith, length-append, append-nil}
 use Rattle.std.specs.Prelude.{◌||◌, Result, Ok, Err, false, is_err}
 use Rattle.std.proofs.Math.Seq.{take-append_seam}
 use Rattle.clock_device.specs.Streams.{WritesText}
@@ -10,20 +10,28 @@ use Rattle.clock_terms.specs.Limits.{SetupFields, IsSetup}
 use Rattle.clock_house.specs.House.{HouseFields}
 use Rattle.clock_http.specs.Replies.{Answer}
 use Rattle.clock_front.specs.FixedReplies.{no_memory}
-use Rattle.clock_front.specs.Fronts.{IsStruckOut, StandsForTexts, reply}
+use Rattle.clock_connections.specs.Arrivals.{HasArrived}
+use Rattle.clock_front.specs.Effects.{RespondsTo, effect}
+use Rattle.clock_front.specs.Fronts.{StandsForTexts, reply}
+use Rattle.clock_front.specs.declared.front.response.Effect.{Effect}
+use Rattle.clock_front.specs.declared.front.response.Effect.TheVariants.{Nothing}
+use Rattle.clock_front.specs.declared.front.response.Response.{Response}
 use Rattle.clock_front.specs.Headline.{IsRight}
 use Rattle.clock_journal.specs.Crash.{LeavesTexts}
 use Rattle.clock_journal.specs.Disks.{MayBeLeft}
 use Rattle.clock_journal.specs.Kept.{HasTexts, JournalState, file_of}
 use Rattle.clock_journal.specs.Reading.{onto}
 use Rattle.clock_journal.proofs.Moments.{every_front}
-use Rattle.clock_keeping.specs.Keeping.{GrowsBy, IsInStep, IsKept}
+use Rattle.clock_keeping.specs.Keeping.{GrowsBy, IsInStep, IsKept, IsNextKept, kept_after}
+use Rattle.clock_keeping.proofs.EffectLaws.{right_after, stands_still}
+use Rattle.clock_serving.specs.Closings.{closed_by}
 use Rattle.clock_serving.specs.Exchanges.{Exchange}
-use Rattle.clock_serving.specs.Serving.{AreServed, KeepsText, RepliesTo, Walks, WritesReply}
-use Rattle.clock_serving.specs.inside.Served.{IsAnswered, IsServed, round_if}
+use Rattle.clock_serving.specs.Serving.{AreServed, IsKeptReply, KeepsText, KeptTexts, RepliesOver, RepliesTo, Walks}
+use Rattle.clock_serving.specs.Serving.{WritesReply}
+use Rattle.clock_serving.specs.inside.Served.{IsAnswered, IsServed, round_closed}
 use Rattle.clock_front.proofs.RunLaws.{right}
-use Rattle.clock_serving.proofs.Walking.{all_behind, walks_on}
-use Rattle.clock_serving.proofs.Telling.{tells_none, tells_on}
+use Rattle.clock_serving.proofs.Walking.{all_behind, kept_behind, walks_on}
+use Rattle.clock_serving.proofs.Telling.{CountsOn, counts_text, tells_none, tells_on}
 
 -- a reply was written, or a front of it
 pub reply_written : {U E : Type 0} (writing : Writing) (answer : Answer) (result : Result U E)
@@ -37,11 +45,11 @@ pub nothing_written : (told : SinkTold) → IsUnused told → WritesNothing (rec
 nothing_written told unused = record { unused = unused; bytes = same_bytes told.taken }
 
 -- what is known of an answer, said of an equal one
-pub answered_as : (reading : Reading) (told answer : Answer) (journal_old journal_new journal_mid : JournalState) (old new mid : HouseFields)
-    → answer ≡ told → journal_mid ≡ journal_new → mid ≡ new → IsAnswered reading told journal_old journal_new old new
-    → IsAnswered reading answer journal_old journal_mid old mid
-answered_as reading told answer journal_old journal_new journal_mid old new mid is kept same answered =
-    subst (λ (one : Answer). IsAnswered reading one journal_old journal_mid old mid) (sym is)
+pub answered_as : (reading : Reading) (told response : Response) (journal_old journal_new journal_mid : JournalState)
+    (old new mid : HouseFields) → response ≡ told → journal_mid ≡ journal_new → mid ≡ new
+    → IsAnswered reading told journal_old journal_new old new → IsAnswered reading response journal_old journal_mid old mid
+answered_as reading told response journal_old journal_new journal_mid old new mid is kept same answered =
+    subst (λ (one : Response). IsAnswered reading one journal_old journal_mid old mid) (sym is)
     (subst (λ (journal : JournalState). IsAnswered reading told journal_old journal old mid) (sym kept)
     (subst (λ (house : HouseFields). IsAnswered reading told journal_old journal_new old house) (sym same) answered))
 
@@ -57,45 +65,82 @@ left_since digest past more journal_old journal_new left has_old has_new may =
     (every_front digest (past ++ more) (length past) known.0 has_new.fit (omega (arith, length-append past more))
     (subst (λ (all : List (List ℕ)). length (file_of digest all) ≤ known.0) (sym (take-append_seam past more)) known.1))
 
-module _ (one : Exchange) (journal_old journal_new : JournalState) (old new : HouseFields) (setup : SetupFields) (limits : IsSetup setup)
-    (same : old.setup ≡ setup) where
+-- what one connection made of the texts that a front stood for
+pub record HasNext (setup : SetupFields) (past : List (List ℕ)) (one : Exchange) (changed : Effect) (new : HouseFields) : Type 0 where
+  pub next : List (List ℕ)
+  pub replies : RepliesTo setup past one next
+  pub stands : StandsForTexts next new
+  pub counts : CountsOn changed (closed_by setup past) (closed_by setup next)
+
+-- and of the texts that were kept
+pub record HasNextKept (digest : List ℕ) (setup : SetupFields) (past : List (List ℕ)) (one : Exchange)
+    (journal_old journal_new : JournalState) (new : HouseFields) : Type 0 where
+  pub next : List (List ℕ)
+  pub keeps : KeepsText digest setup (record { texts = past; journal = journal_old }) one
+      (record { texts = next; journal = journal_new })
+  pub in_step : IsInStep digest next journal_new new
+
+module _ (one : Exchange) (effect_is : Effect) (journal_old journal_new : JournalState) (old new : HouseFields)
+    (setup : SetupFields) (limits : IsSetup setup) (same : old.setup ≡ setup) where
   right_here : (past : List (List ℕ)) (text : List ℕ) (answer : Answer) → answer ≡ reply old.setup past text → IsRight setup past text answer
   right_here past text answer is = right setup limits past text answer (is ∙ ap (λ (of_setup : SetupFields). reply of_setup past text) same)
 
   written_no_memory : (answer : Answer) → answer ≡ no_memory → WritesReply one.writing answer → WritesReply one.writing no_memory
   written_no_memory answer is written = subst (λ (a : Answer). WritesReply one.writing a) is written
 
-  -- the texts of the front
-  replied_one : (past : List (List ℕ)) → StandsForTexts past old → IsServed one journal_old journal_new old new
-      → (next : List (List ℕ)) × RepliesTo setup past one next × StandsForTexts next new
-  replied_one past stands (inl (answer, inl told, written)) =
-      elim (told.answers past stands) [
-        | inl done ↦ (
-          told.text ∷ past,
-          inl (told.text, answer, record { arrived = told.arrived; written = written }, inl (right_here past told.text answer done.0, refl)),
-          done.1,
-        )
-        | inr struck ↦ (
-          past,
-          inl (told.text, answer, record { arrived = told.arrived; written = written }, inr (struck.0, refl)),
-          struck.1,
-        )
-      ]
-  replied_one past stands (inl (answer, inr (room, is, still, kept), written)) = (
-    past,
-    inr (inl (room, written_no_memory answer is written), refl),
-    subst (λ (house : HouseFields). StandsForTexts past house) (sym still) stands,
-  )
-  replied_one past stands (inr ((unanswered, kept), silent)) = (
-    past,
-    inr (inr (unanswered.0, silent), refl),
-    subst (λ (house : HouseFields). StandsForTexts past house) (sym unanswered.1) stands,
-  )
+  -- a connection that changed nothing closed no round
+  counts_nothing : (texts : List (List ℕ)) (changed : Effect) → effect_is ≡ changed → changed ≡ Nothing
+      → CountsOn effect_is (closed_by setup texts) (closed_by setup texts)
+  counts_nothing texts changed is nothing =
+      subst (λ (e : Effect). CountsOn e (closed_by setup texts) (closed_by setup texts)) (sym (is ∙ nothing)) refl
 
-  right_or_struck : (past : List (List ℕ)) (text : List ℕ) (answer : Answer) → (answer ≡ reply old.setup past text) ⊎ IsStruckOut text answer
-      → IsRight setup past text answer ⊎ IsStruckOut text answer
-  right_or_struck past text answer (inl is) = inl (right_here past text answer is)
-  right_or_struck past text answer (inr struck) = inr struck
+  -- one that was answered rightly, as many as its text
+  counts_here : (past : List (List ℕ)) (text : List ℕ) (changed : Effect) → effect_is ≡ changed
+      → changed ≡ effect old.setup past text → CountsOn effect_is (closed_by setup past) (closed_by setup (text ∷ past))
+  counts_here past text changed is right =
+      subst (λ (e : Effect). CountsOn e (closed_by setup past) (closed_by setup (text ∷ past)))
+      (sym (is ∙ right ∙ ap (λ (of_setup : SetupFields). effect of_setup past text) same)) (counts_text setup past text)
+
+  -- the texts of the front
+  replied_text : (past : List (List ℕ)) (text : List ℕ) (response : Response) → StandsForTexts past old
+      → HasArrived one.reading text → WritesReply one.writing response.reply → effect_is ≡ response.effect
+      → RespondsTo text response old new → HasNext setup past one effect_is new
+  replied_text past text response stands has written is (inl right) =
+      let after = right_after past text response old new stands right in
+      record {
+        next = text ∷ past;
+        replies = inl (
+          text,
+          response.reply,
+          record { arrived = has; written = written },
+          inl (right_here past text response.reply after.replied, refl),
+        );
+        stands = after.stands;
+        counts = counts_here past text response.effect is after.changed;
+      }
+  replied_text past text response stands has written is (inr (struck, nothing, still)) = record {
+    next = past;
+    replies = inl (text, response.reply, record { arrived = has; written = written }, inr (struck, refl));
+    stands = stands_still past old new stands still;
+    counts = counts_nothing past response.effect is nothing;
+  }
+
+  replied_one : (past : List (List ℕ)) → StandsForTexts past old → IsServed one effect_is journal_old journal_new old new
+      → HasNext setup past one effect_is new
+  replied_one past stands (inl (response, inl told, written, is, seen)) =
+      replied_text past told.text response stands told.arrived written is told.responds
+  replied_one past stands (inl (response, inr (room, none, still, kept), written, is, seen)) = record {
+    next = past;
+    replies = inr (inl (room, written_no_memory response.reply (ap (λ (r : Response). r.reply) none) written), refl);
+    stands = subst (λ (house : HouseFields). StandsForTexts past house) (sym still) stands;
+    counts = counts_nothing past response.effect is (ap (λ (r : Response). r.effect) none);
+  }
+  replied_one past stands (inr ((unanswered, kept), silent, is)) = record {
+    next = past;
+    replies = inr (inr (unanswered.0, silent), refl);
+    stands = subst (λ (house : HouseFields). StandsForTexts past house) (sym unanswered.1) stands;
+    counts = counts_nothing past Nothing is refl;
+  }
 
   in_step_still : (digest : List ℕ) (past : List (List ℕ)) → IsInStep digest past journal_old old → new ≡ old → journal_new ≡ journal_old
       → IsInStep digest past journal_new new
@@ -103,37 +148,67 @@ module _ (one : Exchange) (journal_old journal_new : JournalState) (old new : Ho
       subst (λ (house : HouseFields). IsInStep digest past journal_new house) (sym still)
       (subst (λ (journal : JournalState). IsInStep digest past journal old) (sym kept) in_step)
 
+  -- what is on the disk then, and what a stop leaves until then
+  has_next : (digest : List ℕ) (past : List (List ℕ)) → IsInStep digest past journal_old old → (next : List (List ℕ))
+      → IsInStep digest next journal_new new
+      → RepliesOver setup (record { texts = past; journal = journal_old }) one (record { texts = next; journal = journal_new })
+      → (more : List (List ℕ)) → next ≡ past ++ more → HasNextKept digest setup past one journal_old journal_new new
+  has_next digest past before next after replies more is = record {
+    next = next;
+    keeps = record {
+      replies = replies;
+      has = after.has;
+      moments = λ left may.
+          subst (λ (texts : List (List ℕ)). LeavesTexts digest left texts (length past)) (sym is)
+          (left_since digest past more journal_old journal_new left before.has
+          (subst (λ (texts : List (List ℕ)). HasTexts digest texts journal_new) is after.has) may);
+    };
+    in_step = after;
+  }
+
+  kept_reply : (past : List (List ℕ)) (text : List ℕ) (answer : Answer) (next : List (List ℕ))
+      → IsNextKept old.setup past text answer next → IsKeptReply setup past text answer next
+  kept_reply past text answer next (inl (is, kept)) = inl (
+    right_here (onto past []) text answer is,
+    kept ∙ ap (λ (of_setup : SetupFields). kept_after of_setup past text) same,
+  )
+  kept_reply past text answer next (inr struck) = inr struck
+
   -- the texts of the journal
-  kept_one : (digest : List ℕ) (past : List (List ℕ)) → IsInStep digest past journal_old old → IsServed one journal_old journal_new old new
-      → (next : List (List ℕ)) × KeepsText setup past one next × IsInStep digest next journal_new new
-  kept_one digest past in_step (inl (answer, inl told, written)) =
-      let kept : IsKept digest past told.text answer journal_new old new = told.kept digest past in_step in (
-        kept.texts,
-        inl (
-          told.text,
-          answer,
-          record { arrived = told.arrived; written = written },
-          kept.next,
-          right_or_struck (onto past []) told.text answer kept.right,
-        ),
-        kept.in_step,
-      )
-  kept_one digest past in_step (inl (answer, inr (room, is, still, kept), written)) = (
-    past,
-    inr (inl (room, written_no_memory answer is written), refl),
-    in_step_still digest past in_step still kept,
-  )
-  kept_one digest past in_step (inr ((unanswered, kept), silent)) = (
-    past,
-    inr (inr (unanswered.0, silent), refl),
-    in_step_still digest past in_step unanswered.1 kept,
-  )
+  kept_one : (digest : List ℕ) (past : List (List ℕ)) → IsInStep digest past journal_old old
+      → IsServed one effect_is journal_old journal_new old new → HasNextKept digest setup past one journal_old journal_new new
+  kept_one digest past in_step (inl (response, inl told, written, is, seen)) =
+      let kept : IsKept digest past told.text response.reply journal_new old new = told.kept digest past in_step in
+      let replies : RepliesOver setup (record { texts = past; journal = journal_old }) one
+      (record { texts = kept.texts; journal = journal_new }) =
+      inl (
+        told.text,
+        response.reply,
+        record { arrived = told.arrived; written = written },
+        kept_reply past told.text response.reply kept.texts kept.next,
+        seen,
+      ) in
+      let behind = kept_behind digest setup (record { texts = past; journal = journal_old }) one
+      (record { texts = kept.texts; journal = journal_new }) replies in
+      has_next digest past in_step kept.texts kept.in_step replies behind.0 behind.1
+  kept_one digest past in_step (inl (response, inr (room, none, still, kept), written, is, seen)) =
+      has_next digest past in_step past (in_step_still digest past in_step still kept)
+      (inr (
+        inl (room, written_no_memory response.reply (ap (λ (r : Response). r.reply) none) written),
+        ap (λ (journal : JournalState). record { texts = past; journal = journal }) kept,
+      )) [] (sym (append-nil past))
+  kept_one digest past in_step (inr ((unanswered, kept), silent, is)) =
+      has_next digest past in_step past (in_step_still digest past in_step unanswered.1 kept)
+      (inr (
+        inr (unanswered.0, silent),
+        ap (λ (journal : JournalState). record { texts = past; journal = journal }) kept,
+      )) [] (sym (append-nil past))
 
   -- the file was only added to
-  added_one : IsServed one journal_old journal_new old new → journal_new.uncut ≡ journal_old.uncut
-  added_one (inl (answer, inl told, written)) = told.added_to
-  added_one (inl (answer, inr (room, is, still, kept), written)) = ap (λ (journal : JournalState). journal.uncut) kept
-  added_one (inr ((unanswered, kept), silent)) = ap (λ (journal : JournalState). journal.uncut) kept
+  added_one : IsServed one effect_is journal_old journal_new old new → journal_new.uncut ≡ journal_old.uncut
+  added_one (inl (response, inl told, written, is, seen)) = told.added_to
+  added_one (inl (response, inr (room, none, still, kept), written, is, seen)) = ap (λ (journal : JournalState). journal.uncut) kept
+  added_one (inr ((unanswered, kept), silent, is)) = ap (λ (journal : JournalState). journal.uncut) kept
 
 -- none was served yet
 pub served_none : (told : Option (List ℕ)) (journal : JournalState) (house : HouseFields) → AreServed [] told told journal journal house house
@@ -152,36 +227,38 @@ served_none told journal house = record {
 }
 
 -- one more was served
-pub served_more : (exchanges : List Exchange) (one : Exchange) (told_old told_mid told_new : Option (List ℕ))
+pub served_more : (exchanges : List Exchange) (one : Exchange) (changed : Effect) (told_old told_mid told_new : Option (List ℕ))
     (journal_old journal_mid journal_new : JournalState) (old mid new : HouseFields)
-    → IsSetup old.setup → mid.setup ≡ old.setup → new.setup ≡ mid.setup → AreServed exchanges told_old told_mid journal_old journal_mid old mid
-    → IsServed one journal_mid journal_new mid new → GrowsBy told_mid told_new (round_if (length mid.closed) (length new.closed))
+    → IsSetup old.setup → mid.setup ≡ old.setup → AreServed exchanges told_old told_mid journal_old journal_mid old mid
+    → IsServed one changed journal_mid journal_new mid new → GrowsBy told_mid told_new (round_closed changed)
     → AreServed (exchanges ++ one ∷ []) told_old told_new journal_old journal_new old new
-served_more exchanges one told_old told_mid told_new journal_old journal_mid journal_new old mid new limits same still before served tells = record {
-  added_to = added_one one journal_mid journal_new mid new old.setup limits same served ∙ before.added_to;
+served_more exchanges one changed told_old told_mid told_new journal_old journal_mid journal_new old mid new limits same before served tells = record {
+  added_to = added_one one changed journal_mid journal_new mid new old.setup limits same served ∙ before.added_to;
   replied = λ past stands.
       let so_far = before.replied past stands in
-      let next = replied_one one journal_mid journal_new mid new old.setup limits same so_far.end so_far.stands served in
+      let next = replied_one one changed journal_mid journal_new mid new old.setup limits same so_far.end so_far.stands served in
       record {
-        end = next.0;
-        walks = walks_on (RepliesTo old.setup) past exchanges so_far.end one next.0 so_far.walks next.1;
-        stands = next.2;
-        tells = tells_on old.setup past so_far.end one next.0 told_old told_mid told_new mid new same (still ∙ same) so_far.stands next.2
-            so_far.tells next.1 tells;
+        end = next.next;
+        walks = walks_on (RepliesTo old.setup) past exchanges so_far.end one next.next so_far.walks next.replies;
+        stands = next.stands;
+        tells = tells_on old.setup past so_far.end next.next changed told_old told_mid told_new so_far.tells next.counts tells;
       };
   kept = λ digest past in_step.
       let so_far = before.kept digest past in_step in
-      let next = kept_one one journal_mid journal_new mid new old.setup limits same digest so_far.end so_far.in_step served in
-      let walks : Walks (KeepsText old.setup) past (exchanges ++ one ∷ []) next.0 =
-      walks_on (KeepsText old.setup) past exchanges so_far.end one next.0 so_far.walks next.1 in
-      let behind = all_behind old.setup past (exchanges ++ one ∷ []) next.0 walks in
+      let next = kept_one one changed journal_mid journal_new mid new old.setup limits same digest so_far.end so_far.in_step served in
+      let first : KeptTexts = record { texts = past; journal = journal_old } in
+      let last : KeptTexts = record { texts = next.next; journal = journal_new } in
+      let walks : Walks (KeepsText digest old.setup) first (exchanges ++ one ∷ []) last =
+      walks_on (KeepsText digest old.setup) first exchanges (record { texts = so_far.end; journal = journal_mid }) one last
+      so_far.walks next.keeps in
+      let behind = all_behind digest old.setup first (exchanges ++ one ∷ []) last walks in
       record {
-        end = next.0;
+        end = next.next;
         walks = walks;
-        in_step = next.2;
+        in_step = next.in_step;
         moments = λ left may.
             subst (λ (texts : List (List ℕ)). LeavesTexts digest left texts (length past)) (sym behind.1)
             (left_since digest past behind.0 journal_old journal_new left in_step.has
-            (subst (λ (texts : List (List ℕ)). HasTexts digest texts journal_new) behind.1 next.2.has) may);
+            (subst (λ (texts : List (List ℕ)). HasTexts digest texts journal_new) behind.1 next.in_step.has) may);
       };
 }

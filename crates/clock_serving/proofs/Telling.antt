@@ -1,52 +1,72 @@
 -- Each round that is closed is told once, in order.
-use Rattle.std.proofs.Common.{◌≡◌, ◌≤◌, ◌+◌, ◌-◌, inl, inr, ℕ, zero, suc, Bool, true, false, List, [], ◌∷◌, ◌++◌, Option, Result, Ok, Err, length, nat_lt, refl, sym, ap, ◌∙◌, subst, arith, append-nil}
-use Rattle.std.specs.Prelude.{if◌then◌else◌}
+use Rattle.std.proofs.Common.{◌≡◌, ◌==◌, ◌≤◌, ◌+◌, ◌-◌, ℕ, true, zero, suc, List, [], ◌∷◌, ◌++◌, Option, Some, None, Result, Ok, Err}
+use Rattle.std.proofs.Common.{length, refl, sym, ap, ◌∙◌, subst, arith, append-nil}
 use Rattle.std.specs.List.{range_with_len}
-use Rattle.clock_terms.specs.Limits.{SetupFields}
+use Rattle.clock_terms.specs.declared.increments.Increments.{Increments}
+use Rattle.clock_terms.specs.Limits.{SetupFields, public_setup}
+use Rattle.clock_order.specs.declared.ties.Tie.{Tie}
+use Rattle.clock_closing.proofs.Closings.{IsClosing, closing_passed}
 use Rattle.clock_closing.specs.declared.closed_round.ClosedRound.{ClosedRound}
 use Rattle.clock_closing.specs.declared.fault.CloseFault.{CloseFault}
 use Rattle.clock_house.specs.Command.{Command, put, close, other}
-use Rattle.clock_house.specs.History.{Auction, history, after_closing, after_command, closing_of}
-use Rattle.clock_house.specs.House.{HouseFields}
-use Rattle.clock_front.specs.Fronts.{StandsForTexts, commands_of, text_command}
-use Rattle.clock_journal.proofs.Tested.{less_where, not_less}
+use Rattle.clock_house.specs.History.{after_closing, after_command, closing_of, history, standing}
+use Rattle.clock_house.specs.House.{put_fault_in}
+use Rattle.clock_house.specs.declared.fault.PutFault.{PutFault}
+use Rattle.clock_house.specs.inside.OpenRounds.{open_round}
+use Rattle.clock_house.proofs.Numbers.{numbered, round-closed}
+use Rattle.clock_front.specs.Effects.{close_effect, effect, effect_in, put_effect}
+use Rattle.clock_front.specs.Fronts.{commands_of, house_after, text_command}
+use Rattle.clock_front.specs.declared.front.response.Effect.{Effect}
+use Rattle.clock_front.specs.declared.front.response.Effect.TheVariants.{Nothing, Sheet, Closing}
 use Rattle.clock_keeping.specs.Keeping.{GrowsBy}
-use Rattle.clock_serving.specs.Exchanges.{Exchange}
 use Rattle.clock_serving.specs.Closings.{TellsClosings, closed_by, rounds_between}
-use Rattle.clock_serving.specs.inside.Served.{round_if}
-use Rattle.clock_serving.specs.Serving.{RepliesTo}
+use Rattle.clock_serving.specs.inside.Served.{round_closed}
 use Rattle.clock_serving.proofs.Walking.{grown_more, grown_none}
 
--- as many, or one more
-pub record IsNext (before after : ℕ) : Type 0 where
-  pub least : before ≤ after
-  pub most : after ≤ before + 1
+-- a closing closes the next round, and nothing else closes any
+abbrev pub CountsOn : Effect → ℕ → ℕ → Type 0
+CountsOn Nothing before after = after ≡ before
+CountsOn Sheet before after = after ≡ before
+CountsOn (Closing round) before after = (round ≡ before + 1) × (after ≡ before + 1)
 
-next_by_closing : (auction : Auction) (command : Command) (result : Result ClosedRound CloseFault)
-    → IsNext (length auction.closed) (length (after_closing auction command result).closed)
-next_by_closing auction command (Ok round) = record { least = omega arith; most = omega arith }
-next_by_closing auction command (Err fault) = record { least = omega arith; most = omega arith }
+counts_put : (fault : Option PutFault) (count : ℕ) → CountsOn (put_effect fault) count count
+counts_put None count = refl
+counts_put (Some fault) count = refl
 
--- a command closes one round at most, and opens none again
-pub next_by_command : (setup : SetupFields) (auction : Auction) (command : Command)
-    → IsNext (length auction.closed) (length (after_command setup auction command).closed)
-next_by_command setup auction (put bidder round bids) = record { least = omega arith; most = omega arith }
-next_by_command setup auction (close round increments ties) =
-    next_by_closing auction (close round increments ties) (closing_of setup auction round increments ties)
-next_by_command setup auction other = record { least = omega arith; most = omega arith }
+counts_closing : (setup : SetupFields) (commands : List Command) (round : ℕ) (increments : Increments) (ties : List Tie)
+    (result : Result ClosedRound CloseFault) → closing_of setup (history setup commands) round increments ties ≡ result
+    → CountsOn (close_effect round result) (length (history setup commands).closed)
+    (length (after_closing (history setup commands) (close round increments ties) result).closed)
+counts_closing setup commands round increments ties (Ok closed) is =
+    let auction = history setup commands in
+    let passed : IsClosing (public_setup setup) (open_round setup auction) round increments ties closed =
+    closing_passed (public_setup setup) (open_round setup auction) round increments ties closed is in
+    let number : (standing setup.products auction.closed).round ≡ suc (length auction.closed) =
+    round-closed setup auction.closed (numbered setup commands) passed.going in
+    let same : (round == (standing setup.products auction.closed).round) ≡ true = passed.current in
+    let current : round ≡ (standing setup.products auction.closed).round = grind (arith, same) in
+    (omega (arith, current, number), omega arith)
+counts_closing setup commands round increments ties (Err fault) is = refl
 
-unchanged : (setup : SetupFields) (past next : List (List ℕ)) → next ≡ past → IsNext (closed_by setup past) (closed_by setup next)
-unchanged setup past next same =
-    subst (λ (texts : List (List ℕ)). IsNext (closed_by setup past) (closed_by setup texts)) (sym same) (record { least = omega arith; most = omega arith })
+counts_command : (setup : SetupFields) (commands : List Command) (command : Command)
+    → CountsOn (effect_in (house_after setup commands) command) (length (history setup commands).closed)
+    (length (after_command setup (history setup commands) command).closed)
+counts_command setup commands (put bidder round bids) =
+    counts_put (put_fault_in (house_after setup commands) bidder round bids) (length (history setup commands).closed)
+counts_command setup commands (close round increments ties) =
+    counts_closing setup commands round increments ties (closing_of setup (history setup commands) round increments ties) refl
+counts_command setup commands other = refl
 
--- nor does a connection
-next_by_reply : (setup : SetupFields) (past : List (List ℕ)) (one : Exchange) (next : List (List ℕ)) → RepliesTo setup past one next
-    → IsNext (closed_by setup past) (closed_by setup next)
-next_by_reply setup past one next (inl (text, answer, replied, inl right)) =
-    subst (λ (texts : List (List ℕ)). IsNext (closed_by setup past) (closed_by setup texts)) (sym right.1)
-    (next_by_command setup (history setup (commands_of setup past)) (text_command setup text))
-next_by_reply setup past one next (inl (text, answer, replied, inr struck)) = unchanged setup past next struck.1
-next_by_reply setup past one next (inr alone) = unchanged setup past next alone.1
+-- so does a text, after others
+pub counts_text : (setup : SetupFields) (texts : List (List ℕ)) (text : List ℕ)
+    → CountsOn (effect setup texts text) (closed_by setup texts) (closed_by setup (text ∷ texts))
+counts_text setup texts text = counts_command setup (commands_of setup texts) (text_command setup text)
+
+-- no round that was closed is open again
+pub counts_more : (one : Effect) (before after : ℕ) → CountsOn one before after → before ≤ after
+counts_more Nothing before after counts = omega (arith, counts)
+counts_more Sheet before after counts = omega (arith, counts)
+counts_more (Closing round) before after counts = omega (arith, counts.1)
 
 -- ---- the numbers of rounds
 
@@ -59,18 +79,19 @@ range_suc first (suc count) =
     ap (λ (rest : List ℕ). first ∷ rest)
     (range_suc (first + 1) count ∙ ap (λ (last : ℕ). range_with_len (first + 1) count ++ last ∷ []) same)
 
-rounds_on : (closed : Bool) (first before after : ℕ) → nat_lt before after ≡ closed → first ≤ before → IsNext before after
-    → rounds_between first before ++ (if closed then after ∷ [] else []) ≡ rounds_between first after
-rounds_on true first before after is more next =
-    let above = less_where before after is in
-    let last : after ≡ (first + 1) + (before - first) = omega (arith, next.most) in
-    let many : suc (before - first) ≡ after - first = omega (arith, next.most) in
+rounds_same : (first before after : ℕ) → after ≡ before → rounds_between first before ++ [] ≡ rounds_between first after
+rounds_same first before after same =
+    append-nil (rounds_between first before) ∙ ap (λ (round : ℕ). rounds_between first round) (sym same)
+
+rounds_on : (one : Effect) (first before after : ℕ) → first ≤ before → CountsOn one before after
+    → rounds_between first before ++ round_closed one ≡ rounds_between first after
+rounds_on Nothing first before after more same = rounds_same first before after same
+rounds_on Sheet first before after more same = rounds_same first before after same
+rounds_on (Closing number) first before after more counts =
+    let last : number ≡ (first + 1) + (before - first) = omega (arith, more, counts.0) in
+    let many : suc (before - first) ≡ after - first = omega (arith, more, counts.1) in
     ap (λ (round : ℕ). rounds_between first before ++ round ∷ []) last ∙ sym (range_suc (first + 1) (before - first))
     ∙ ap (λ (count : ℕ). range_with_len (first + 1) count) many
-rounds_on false first before after is more next =
-    let below = not_less before after is in
-    let same : before ≡ after = omega (arith, next.least) in
-    append-nil (rounds_between first before) ∙ ap (λ (round : ℕ). rounds_between first round) same
 
 -- ---- what is told
 
@@ -83,27 +104,17 @@ tells_none setup past told =
       told = subst (λ (count : ℕ). GrowsBy told told (range_with_len (closed_by setup past + 1) count)) none (grown_none told);
     }
 
--- what a house has closed is what its texts have
-closed_is : (setup : SetupFields) (texts : List (List ℕ)) (house : HouseFields) → house.setup ≡ setup → StandsForTexts texts house
-    → length house.closed ≡ closed_by setup texts
-closed_is setup texts house same stands = ap length stands.closed ∙ ap (λ (one : SetupFields). closed_by one texts) same
-
 -- one more connection
-pub tells_on : (setup : SetupFields) (past end : List (List ℕ)) (one : Exchange) (next : List (List ℕ)) (told_old told_mid told_new : Option (List ℕ))
-    (mid new : HouseFields) → mid.setup ≡ setup → new.setup ≡ setup → StandsForTexts end mid → StandsForTexts next new
-    → TellsClosings setup past end told_old told_mid → RepliesTo setup end one next
-    → GrowsBy told_mid told_new (round_if (length mid.closed) (length new.closed)) → TellsClosings setup past next told_old told_new
-tells_on setup past end one next told_old told_mid told_new mid new same_mid same_new stands_mid stands_new before replies tells =
-    let after = next_by_reply setup end one next replies in
-    let closed_mid = closed_is setup end mid same_mid stands_mid in
-    let closed_new = closed_is setup next new same_new stands_new in
-    let here : GrowsBy told_mid told_new (round_if (closed_by setup end) (closed_by setup next)) =
-    subst (λ (count : ℕ). GrowsBy told_mid told_new (round_if (closed_by setup end) count)) closed_new
-    (subst (λ (count : ℕ). GrowsBy told_mid told_new (round_if count (length new.closed))) closed_mid tells) in
+pub tells_on : (setup : SetupFields) (past end next : List (List ℕ)) (one : Effect) (told_old told_mid told_new : Option (List ℕ))
+    → TellsClosings setup past end told_old told_mid → CountsOn one (closed_by setup end) (closed_by setup next)
+    → GrowsBy told_mid told_new (round_closed one) → TellsClosings setup past next told_old told_new
+tells_on setup past end next one told_old told_mid told_new before counts here =
+    let after : closed_by setup end ≤ closed_by setup next =
+    counts_more one (closed_by setup end) (closed_by setup next) counts in
     record {
-      more = omega (arith, before.more, after.least);
+      more = omega (arith, before.more, after);
       told = subst (λ (rounds : List ℕ). GrowsBy told_old told_new rounds)
-          (rounds_on (nat_lt (closed_by setup end) (closed_by setup next)) (closed_by setup past) (closed_by setup end) (closed_by setup next) refl before.more after)
+          (rounds_on one (closed_by setup past) (closed_by setup end) (closed_by setup next) before.more counts)
           (grown_more told_old told_mid told_new (rounds_between (closed_by setup past) (closed_by setup end))
-          (round_if (closed_by setup end) (closed_by setup next)) before.told here);
+          (round_closed one) before.told here);
     }

@@ -1,11 +1,14 @@
 -- Connections that follow one another.
-use Rattle.std.proofs.Common.{◌≡◌, inl, inr, ℕ, List, [], ◌∷◌, ◌++◌, map, Option, Some, None, refl, sym, ap, ◌∙◌, subst, append_assoc, append-nil}
+use Rattle.std.proofs.Common.{◌≡◌, inl, inr, ℕ, Bool, true, false, List, [], ◌∷◌, ◌++◌, map, Option, Some, None}
+use Rattle.std.proofs.Common.{refl, sym, ap, ◌∙◌, subst, append_assoc, append-nil}
 use Rattle.clock_terms.specs.Limits.{SetupFields}
-use Rattle.clock_device.specs.Told.{Reading, SinkTold, SourceTold, Writing}
+use Rattle.clock_device.specs.Told.{SinkTold, SourceTold}
 use Rattle.std.proofs.lemmas.List.{map-append}
-use Rattle.clock_keeping.specs.Keeping.{GrowsBy}
+use Rattle.clock_front.specs.Effects.{effect}
+use Rattle.clock_journal.specs.Reading.{onto}
+use Rattle.clock_keeping.specs.Keeping.{GrowsBy, is_change, kept_if}
 use Rattle.clock_serving.specs.Exchanges.{Came, Closes, Exchange, HasClosed, Offer, bytes_given}
-use Rattle.clock_serving.specs.Serving.{KeepsText, Walks}
+use Rattle.clock_serving.specs.Serving.{KeepsText, KeptTexts, RepliesOver, Walks}
 
 -- none was added
 pub grown_none : {A : Type 0} (list : Option (List A)) → GrowsBy list list []
@@ -49,35 +52,50 @@ came_one first mid last offer one came still from =
     (subst (λ (told : SourceTold). Came first mid (told.left ∷ [])) from came)
 
 -- one connection more
-pub walks_on : (step : List (List ℕ) → Exchange → List (List ℕ) → Type 0) (past : List (List ℕ)) (exchanges : List Exchange) (end : List (List ℕ))
-    (one : Exchange) (next : List (List ℕ)) → Walks step past exchanges end → step end one next → Walks step past (exchanges ++ one ∷ []) next
-walks_on step past [] end one next walks steps = (next, subst (λ (texts : List (List ℕ)). step texts one next) walks steps, refl)
-walks_on step past (first ∷ others) end one next walks steps = (walks.0, walks.1, walks_on step walks.0 others end one next walks.2 steps)
+pub walks_on : {A : Type 0} (step : A → Exchange → A → Type 0) (past : A) (exchanges : List Exchange) (end : A)
+    (one : Exchange) (next : A) → Walks step past exchanges end → step end one next
+    → Walks step past (exchanges ++ one ∷ []) next
+walks_on {A = A} step past [] end one next walks steps = (next, subst (λ (now : A). step now one next) walks steps, refl)
+walks_on step past (first ∷ others) end one next walks steps =
+    (walks.0, walks.1, walks_on step walks.0 others end one next walks.2 steps)
 
 -- what is kept stays, and more comes behind it
-kept_behind : (setup : SetupFields) (past : List (List ℕ)) (one : Exchange) (next : List (List ℕ)) → KeepsText setup past one next
-    → (more : List (List ℕ)) × (next ≡ past ++ more)
-kept_behind setup past one next (inl told) =
-    elim told.3 [
-      | inl accepted ↦ (told.0 ∷ [], accepted.1)
-      | inr passed ↦ ([], passed.1 ∙ sym (append-nil past))
-    ]
-kept_behind setup past one next (inr alone) = ([], alone.1 ∙ sym (append-nil past))
+kept_if_behind : (changes : Bool) (past : List (List ℕ)) (text : List ℕ)
+    → (more : List (List ℕ)) × (kept_if changes past text ≡ past ++ more)
+kept_if_behind true past text = (text ∷ [], refl)
+kept_if_behind false past text = ([], sym (append-nil past))
 
-pub all_behind : (setup : SetupFields) (past : List (List ℕ)) (exchanges : List Exchange) (end : List (List ℕ))
-    → Walks (KeepsText setup) past exchanges end → (more : List (List ℕ)) × (end ≡ past ++ more)
-all_behind setup past [] end walks = ([], walks ∙ sym (append-nil past))
-all_behind setup past (one ∷ others) end walks =
-    let here = kept_behind setup past one walks.0 walks.1 in
-    let later = all_behind setup walks.0 others end walks.2 in
-    (here.0 ++ later.0, later.1 ∙ ap (λ (texts : List (List ℕ)). texts ++ later.0) here.1 ∙ append_assoc past here.0 later.0)
+pub kept_behind : (digest : List ℕ) (setup : SetupFields) (before : KeptTexts) (one : Exchange) (after : KeptTexts)
+    → RepliesOver setup before one after → (more : List (List ℕ)) × (after.texts ≡ before.texts ++ more)
+kept_behind digest setup before one after (inl (text, answer, replied, inl (right, is), seen)) =
+    let behind = kept_if_behind (is_change (effect setup (onto before.texts []) text)) before.texts text in
+    (behind.0, is ∙ behind.1)
+kept_behind digest setup before one after (inl (text, answer, replied, inr (struck, is), seen)) =
+    ([], is ∙ sym (append-nil before.texts))
+kept_behind digest setup before one after (inr (alone, is)) =
+    ([], ap (λ (kept : KeptTexts). kept.texts) is ∙ sym (append-nil before.texts))
+
+pub all_behind : (digest : List ℕ) (setup : SetupFields) (past : KeptTexts) (exchanges : List Exchange) (end : KeptTexts)
+    → Walks (KeepsText digest setup) past exchanges end → (more : List (List ℕ)) × (end.texts ≡ past.texts ++ more)
+all_behind digest setup past [] end walks =
+    ([], ap (λ (kept : KeptTexts). kept.texts) walks ∙ sym (append-nil past.texts))
+all_behind digest setup past (one ∷ others) end walks =
+    let here = kept_behind digest setup past one walks.0 walks.1.replies in
+    let later = all_behind digest setup walks.0 others end walks.2 in (
+      here.0 ++ later.0,
+      later.1 ∙ ap (λ (texts : List (List ℕ)). texts ++ later.0) here.1 ∙ append_assoc past.texts here.0 later.0,
+    )
 
 -- the one that was open was closed
-pub closed_one : (first mid last : Option (List Exchange)) (offer : Offer) (reading : Reading) (writing : Writing) → mid ≡ first
-    → offer.source ≡ reading.before → offer.sink ≡ writing.before
-    → Closes mid last (record reading { before = offer.source }) (record writing { before = offer.sink })
-    → HasClosed first last (record { reading = reading; writing = writing } ∷ [])
-closed_one first mid last offer reading writing same from to closes =
-    subst (λ (closed : Option (List Exchange)). Closes closed last reading writing) same
-    (subst (λ (told : SourceTold). Closes mid last (record reading { before = told }) writing) from
-    (subst (λ (told : SinkTold). Closes mid last (record reading { before = offer.source }) (record writing { before = told })) to closes))
+pub closed_one : (first mid last : Option (List Exchange)) (offer : Offer) (one : Exchange) → mid ≡ first
+    → offer.source ≡ one.reading.before → offer.sink ≡ one.writing.before
+    → Closes mid last (record one.reading { before = offer.source }) (record one.writing { before = offer.sink }) one.kept
+    → HasClosed first last
+    (record { reading = one.reading; writing = one.writing; kept = one.kept } ∷ [])
+closed_one first mid last offer one same from to closes =
+    let reading = one.reading in
+    let writing = one.writing in
+    subst (λ (closed : Option (List Exchange)). Closes closed last reading writing one.kept) same
+    (subst (λ (told : SourceTold). Closes mid last (record reading { before = told }) writing one.kept) from
+    (subst (λ (told : SinkTold). Closes mid last (record reading { before = offer.source }) (record writing { before = told })
+    one.kept) to closes))

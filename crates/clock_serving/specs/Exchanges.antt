@@ -4,9 +4,11 @@
 --     HasClosed old new exchanges      these connections were closed, in order, and no others
 --     Came old new given      connections came that were given these bytes, in order, and the others are still to come
 --     bytes_given exchanges      what the source of each had before it was read
---     Closes old new reading writing      one was
+--     Closes old new reading writing kept      one was
+--     IsSeen seen journal      this was kept, where that is told
 use Rattle.std.specs.Prelude.{◌≡◌, ◌++◌, ℕ, List, [], ◌∷◌, map, Option, Some, None}
 use Rattle.clock_device.specs.Told.{Reading, SinkTold, SourceTold, Writing}
+use Rattle.clock_journal.specs.Kept.{JournalState}
 use Rattle.clock_keeping.specs.Keeping.{GrowsBy}
 
 -- what its source and its sink tell
@@ -14,10 +16,12 @@ pub record Offer : Type 0 where
   pub source : SourceTold
   pub sink : SinkTold
 
--- all reads and all writes that were made on one connection
+-- all reads and all writes that were made on one connection, and what was kept when the first byte was written, where
+-- that is told
 pub record Exchange : Type 0 where
   pub reading : Reading
   pub writing : Writing
+  pub kept : Option JournalState
 
 -- these connections were closed, in order, and no others
 abbrev pub HasClosed : Option (List Exchange) → Option (List Exchange) → List Exchange → Type 0
@@ -34,5 +38,11 @@ abbrev pub bytes_given : List Exchange → List (Option (List ℕ))
 bytes_given exchanges = map (λ one. one.reading.before.left) exchanges
 
 -- one connection was closed
-abbrev pub Closes : Option (List Exchange) → Option (List Exchange) → Reading → Writing → Type 0
-Closes old new reading writing = HasClosed old new (record { reading = reading; writing = writing } ∷ [])
+abbrev pub Closes : Option (List Exchange) → Option (List Exchange) → Reading → Writing → Option JournalState → Type 0
+Closes old new reading writing kept =
+    HasClosed old new (record { reading = reading; writing = writing; kept = kept } ∷ [])
+
+-- nothing is said where it is not told
+abbrev pub IsSeen : Option JournalState → JournalState → Type 0
+IsSeen None journal = Unit {0}
+IsSeen (Some seen) journal = seen ≡ journal

@@ -3,9 +3,11 @@
 --     WritesReply writing answer      the reply was written, or a front of it where a write failed
 --     IsReplied one text answer      the text was read, and the reply was written
 --     EndsAlone one      no text was read that could be answered
---     Walks step past exchanges end      connection by connection the texts become others by this step
+--     Walks step past exchanges end      connection by connection what there is becomes another by this step
 --     RepliesTo setup past one next      the reply is the right one after the texts before it
---     KeepsText setup past one next      it is the right one after the kept texts, and an accepted text is kept
+--     KeptTexts      the texts that are kept, and the journal that has them
+--     KeepsText digest setup before one after      it is the right one after the kept texts, and a text that changes the
+--         auction is kept, on the disk, when the first byte of its reply is written
 --     AreServed exchanges ..      so all of these connections were served
 --     EndsUnkept served last ..      after these the text of the last could not be kept
 --     is_accept_fault result      a connection could not be taken
@@ -22,10 +24,10 @@ use Rattle.clock_front.specs.Fronts.{IsStruckOut, StandsForTexts}
 use Rattle.clock_front.specs.Headline.{IsRight}
 use Rattle.clock_journal.specs.Crash.{LeavesTexts}
 use Rattle.clock_journal.specs.Disks.{MayBeLeft}
-use Rattle.clock_journal.specs.Kept.{JournalState, file_of}
+use Rattle.clock_journal.specs.Kept.{HasTexts, JournalState, file_of}
 use Rattle.clock_journal.specs.Reading.{onto}
-use Rattle.clock_keeping.specs.Keeping.{IsInStep, IsNextKept}
-use Rattle.clock_serving.specs.Exchanges.{Exchange}
+use Rattle.clock_keeping.specs.Keeping.{IsAccepted, IsInStep, kept_after}
+use Rattle.clock_serving.specs.Exchanges.{Exchange, IsSeen}
 use Rattle.clock_serving.specs.Closings.{TellsClosings}
 use Rattle.clock_serving.specs.declared.serving.ServeFault.{ServeFault}
 use Rattle.clock_serving.specs.declared.serving.ServeFault.TheVariants as fault
@@ -45,10 +47,10 @@ EndsAlone one =
     (HasNoRoom one.reading × WritesReply one.writing no_memory)
     ⊎ (IsNotRead one.reading × WritesNothing one.writing)
 
--- connection by connection, in order, the texts become others by this step
-abbrev pub Walks : (List (List ℕ) → Exchange → List (List ℕ) → Type 0) → List (List ℕ) → List Exchange → List (List ℕ) → Type 0
+-- connection by connection, in order, what there is becomes another by this step
+abbrev pub Walks : {A : Type 0} → (A → Exchange → A → Type 0) → A → List Exchange → A → Type 0
 Walks step past [] end = end ≡ past
-Walks step past (one ∷ others) end = (next : List (List ℕ)) × step past one next × Walks step next others end
+Walks {A = A} step past (one ∷ others) end = (next : A) × step past one next × Walks step next others end
 
 -- the right reply, after which the text stands before the others; or the text found no memory, and is struck out
 abbrev pub IsNextReply : SetupFields → List (List ℕ) → List ℕ → Answer → List (List ℕ) → Type 0
@@ -61,12 +63,32 @@ RepliesTo setup past one next =
     ((text : List ℕ) × (answer : Answer) × IsReplied one text answer × IsNextReply setup past text answer next)
     ⊎ (EndsAlone one × (next ≡ past))
 
--- the same after the kept texts, behind which the text is put if it was accepted as a sheet or a closing
-abbrev pub KeepsText : SetupFields → List (List ℕ) → Exchange → List (List ℕ) → Type 0
-KeepsText setup past one next =
-    ((text : List ℕ) × (answer : Answer) × IsReplied one text answer × IsNextKept past text answer next
-    × (IsRight setup (onto past []) text answer ⊎ IsStruckOut text answer))
-    ⊎ (EndsAlone one × (next ≡ past))
+-- the right reply after the kept texts, behind which the text is put if it changes the auction; or it found no memory
+abbrev pub IsKeptReply : SetupFields → List (List ℕ) → List ℕ → Answer → List (List ℕ) → Type 0
+IsKeptReply setup past text answer next =
+    (IsRight setup (onto past []) text answer × (next ≡ kept_after setup past text))
+    ⊎ (IsStruckOut text answer × (next ≡ past))
+
+-- the texts that are kept, the oldest first, and the journal that has them
+pub record KeptTexts : Type 0 where
+  pub texts : List (List ℕ)
+  pub journal : JournalState
+
+-- the request that was read got this reply, whose first byte was written when this was kept; or there was none, this
+-- connection ended alone, and nothing has changed
+abbrev pub RepliesOver : SetupFields → KeptTexts → Exchange → KeptTexts → Type 0
+RepliesOver setup before one after =
+    ((text : List ℕ) × (answer : Answer) × IsReplied one text answer
+    × IsKeptReply setup before.texts text answer after.texts × IsSeen one.kept after.journal)
+    ⊎ (EndsAlone one × (after ≡ before))
+
+-- so it was replied to, and then all that is kept is on the disk. A stop at any moment from the connection before until
+-- then leaves the texts that were kept before, and at most the one that is kept now
+pub record KeepsText (digest : List ℕ) (setup : SetupFields) (before : KeptTexts) (one : Exchange) (after : KeptTexts) : Type 0 where
+  pub replies : RepliesOver setup before one after
+  pub has : HasTexts digest after.texts after.journal
+  pub moments : (left : List ℕ) → MayBeLeft before.journal.synced after.journal.written left
+      → LeavesTexts digest left after.texts (length before.texts)
 
 -- what these connections have made of the texts that the front stood for; and each round that was closed was told
 pub record HasReplied (past : List (List ℕ)) (exchanges : List Exchange) (told_old told_new : Option (List ℕ)) (old new : HouseFields) : Type 0 where
@@ -75,10 +97,13 @@ pub record HasReplied (past : List (List ℕ)) (exchanges : List Exchange) (told
   pub stands : StandsForTexts end new
   pub tells : TellsClosings old.setup past end told_old told_new
 
--- what they made of the kept texts is on disk; a stop at any moment since leaves the first, no fewer than there were
-pub record HasKept (digest : List ℕ) (past : List (List ℕ)) (exchanges : List Exchange) (journal_old journal_new : JournalState) (old new : HouseFields) : Type 0 where
+-- connection by connection, what they made of the kept texts was on the disk, and so it is in the end; a stop at any
+-- moment since leaves the first, no fewer than there were
+pub record HasKept (digest : List ℕ) (past : List (List ℕ)) (exchanges : List Exchange)
+    (journal_old journal_new : JournalState) (old new : HouseFields) : Type 0 where
   pub end : List (List ℕ)
-  pub walks : Walks (KeepsText old.setup) past exchanges end
+  pub walks : Walks (KeepsText digest old.setup) (record { texts = past; journal = journal_old }) exchanges
+      (record { texts = end; journal = journal_new })
   pub in_step : IsInStep digest end journal_new new
   pub moments : (left : List ℕ) → MayBeLeft journal_old.synced journal_new.written left → LeavesTexts digest left end (length past)
 
@@ -88,10 +113,15 @@ pub record AreServed (exchanges : List Exchange) (told_old told_new : Option (Li
   pub replied : (past : List (List ℕ)) → StandsForTexts past old → HasReplied past exchanges told_old told_new old new
   pub kept : (digest : List ℕ) (past : List (List ℕ)) → IsInStep digest past journal_old old → HasKept digest past exchanges journal_old journal_new old new
 
--- all texts that were told are on the disk, and a stop leaves these, and at most the one that could not be kept
-pub record HasKeptTold (digest : List ℕ) (past : List (List ℕ)) (served : List Exchange) (text : List ℕ) (journal : JournalState) (old : HouseFields) : Type 0 where
+-- all texts that were told are on the disk, and a stop leaves these, and at most the one that could not be kept, which
+-- was accepted
+pub record HasKeptTold (digest : List ℕ) (past : List (List ℕ)) (served : List Exchange) (text : List ℕ)
+    (journal_old journal : JournalState) (old : HouseFields) : Type 0 where
   pub end : List (List ℕ)
-  pub walks : Walks (KeepsText old.setup) past served end
+  pub before : JournalState
+  pub walks : Walks (KeepsText digest old.setup) (record { texts = past; journal = journal_old }) served
+      (record { texts = end; journal = before })
+  pub accepted : IsAccepted old.setup (onto end []) text
   pub on_disk : journal.synced ≡ Some (file_of digest end)
   pub left_ones : (left : List ℕ) → MayBeLeft (Some (file_of digest end)) journal.written left → LeavesTexts digest left (end ++ text ∷ []) (length end)
 
@@ -103,7 +133,7 @@ pub record EndsUnkept (served : List Exchange) (last : Exchange) (told_old told_
   pub silent : WritesNothing last.writing
   pub added_to : journal_new.uncut ≡ journal_old.uncut
   pub replied : (past : List (List ℕ)) → StandsForTexts past old → (end : List (List ℕ)) × Walks (RepliesTo old.setup) past served end × TellsClosings old.setup past end told_old told_new
-  pub kept : (digest : List ℕ) (past : List (List ℕ)) → IsInStep digest past journal_old old → HasKeptTold digest past served text journal_new old
+  pub kept : (digest : List ℕ) (past : List (List ℕ)) → IsInStep digest past journal_old old → HasKeptTold digest past served text journal_old journal_new old
 
 -- a connection could not be taken
 abbrev pub is_accept_fault : {U : Type 0} → Result U ServeFault → Bool

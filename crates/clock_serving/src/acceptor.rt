@@ -2,7 +2,8 @@ ghost use Rattle.std.specs.Prelude.{◌≡◌, ◌||◌, ◌∷◌, [], ℕ, Boo
 ghost use Rattle.clock_device.specs.Told.{IsUnread, IsUnused, unread, unused};
 ghost use Rattle.clock_serving.specs.Exchanges.{Came, Closes, Exchange, Offer};
 
-use clock_device::{Failed, FromReader, Sink, Source, ToWriter};
+use crate::outlet::Outlet;
+use clock_device::{Failed, FromReader, Source, ToWriter};
 use std::net::{TcpListener, TcpStream};
 
 /// A connection that was taken: where its request comes from, and where its reply goes.
@@ -20,7 +21,7 @@ pub struct Connection<R, W> {
 pub trait Acceptor {
     type Reader: Source;
 
-    type Writer: Sink;
+    type Writer: Outlet;
 
     ghost coming: { Self → Option (List (List ℕ)) };
 
@@ -54,7 +55,8 @@ pub trait Acceptor {
         ensures failed { has_failed self.new ≡ has_failed self.old }
         ensures closed { Closes (closed self.old) (closed self.new)
             (record { before = (offer self.old).source; after = Self.Reader.told connection.source })
-            (record { before = (offer self.old).sink; after = Self.Writer.told connection.sink }) };
+            (record { before = (offer self.old).sink; after = Self.Writer.told connection.sink })
+            (Self.Writer.kept connection.sink) };
 }
 
 /// The connections of a port of this machine that is listened on. It tells no bytes, as sockets tell none.

@@ -2,11 +2,12 @@ ghost use Rattle.std.specs.Prelude.{◌≡◌, List, OnOk, None, false};
 ghost use Rattle.clock_device.specs.Told.{IsUnread, IsUnused};
 ghost use Rattle.clock_keeping.specs.Keeping.{no_journal};
 ghost use Rattle.clock_serving.specs.Exchanges.{Came, Exchange, HasClosed, bytes_given};
-ghost use Rattle.clock_serving.specs.{Laws.{ToldBytes}, Serving.{EndsServing, is_accept_fault}, inside.Served.{EndsOne, EndsTaken}};
+ghost use Rattle.clock_serving.specs.{Laws.{ToldBytes}, Serving.{EndsServing, is_accept_fault}, inside.Served.{EndsOne, EndsTaken, IsToldAs}};
 
 use crate::acceptor::{Acceptor, Listening};
-use clock_device::{Failed, Sink, Source, write_all};
-use clock_front::{Front, Unread, no_memory_reply, read_request};
+use crate::outlet::Outlet;
+use clock_device::{Failed, Source};
+use clock_front::{Effect, Front, Response, Unread, no_memory_reply, read_request};
 use clock_keeping::{Keeper, Unkept};
 use clock_processor::Processor;
 use std::alloc::Global;
@@ -27,32 +28,37 @@ pub enum ServeFault {
     Journal,
 }
 
-/// Reads one request, answers it, keeps it where it was accepted as a sheet or a closing, and then writes its reply.
-fn serve_one<P: Processor, K: Keeper, R: Source, W: Sink>(
+/// Reads one request, answers it, keeps it if it changed the auction, and then writes its reply. Returns what it changed.
+fn serve_one<P: Processor, K: Keeper, R: Source, W: Outlet>(
     alloc: Global,
     front: &mut Front<P>,
     keeper: &mut K,
     source: &mut R,
     sink: &mut W,
-) -> Result<(), Failed>
+) -> Result<Effect, Failed>
     requires unread { IsUnread (R.told source.old) }
     requires unused { IsUnused (W.told sink.old) }
     requires unfailed { (K.journal keeper.old).has_failed ≡ false }
-    ensures served { EndsTaken (record { before = R.told source.old; after = R.told source.new })
-        (record { before = W.told sink.old; after = W.told sink.new }) (K.journal keeper.old) (K.journal keeper.new)
-        front.old front.new result }
+    ensures served { EndsTaken (record {
+      reading = record { before = R.told source.old; after = R.told source.new };
+      writing = record { before = W.told sink.old; after = W.told sink.new };
+      kept = W.kept sink.new;
+    }) (K.journal keeper.old) (K.journal keeper.new) front.old front.new result }
     ensures unfailed { OnOk result ((K.journal keeper.new).has_failed ≡ false) }
     ensures told { K.told keeper.new ≡ K.told keeper.old }
     ensures setup { front.new.setup ≡ front.old.setup }
 {
-    let reply = match read_request(alloc, source) {
+    let response = match read_request(alloc, source) {
         Ok(request) => keeper.answer(front, request.as_slice(), request.progress())?,
-        Err(Unread::Memory) => no_memory_reply(),
-        Err(Unread::Read) => return Ok(()),
+        Err(Unread::Memory) => Response {
+            reply: no_memory_reply(),
+            effect: Effect::Nothing,
+        },
+        Err(Unread::Read) => return Ok(Effect::Nothing),
     };
     // a fault ends this connection alone: what its request has done is told by the front
-    let _fault = write_all(sink, reply.bytes());
-    Ok(())
+    let _fault = sink.reply(keeper, response.reply.bytes());
+    Ok(response.effect)
 }
 
 /// Takes the next connection, serves it and closes it.
@@ -76,17 +82,24 @@ fn serve_next<P: Processor, K: Keeper, C: Acceptor>(
     let Ok(mut one) = connections.accept() else {
         return Err(ServeFault::Accept);
     };
-    let before = front.house().closed_rounds();
-    let kept = serve_one(alloc, front, keeper, &mut one.source, &mut one.sink);
+    let served = serve_one(alloc, front, keeper, &mut one.source, &mut one.sink);
     connections.close(one);
-    if let Err(Failed) = kept {
-        return Err(ServeFault::Journal);
+    tell_closing(keeper, served)
+}
+
+/// Tells the keeper of the round that a request has closed, if it has.
+fn tell_closing<K: Keeper>(keeper: &mut K, served: Result<Effect, Failed>) -> Result<(), ServeFault>
+    ensures kept { K.journal keeper.new ≡ K.journal keeper.old }
+    ensures told { IsToldAs (K.told keeper.old) (K.told keeper.new) served result }
+{
+    match served {
+        Ok(Effect::Closing(round)) => {
+            keeper.round_closed(round);
+            Ok(())
+        }
+        Ok(Effect::Nothing | Effect::Sheet) => Ok(()),
+        Err(Failed) => Err(ServeFault::Journal),
     }
-    let after = front.house().closed_rounds();
-    if before < after {
-        keeper.round_closed(after);
-    }
-    Ok(())
 }
 
 /// Serves so many connections, one after the other, with one request each. A fault of a stream ends its connection

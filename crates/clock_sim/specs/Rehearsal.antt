@@ -1,11 +1,12 @@
 -- What scripted bidders and closings make of an auction: the requests that are sent, as texts of bytes, and what comes
 -- of them. Texts stand the newest first.
+--     HasRefusalCode fault      a fault of a request has the code of a refusal
 --     after_request setup texts sender round text      a request is answered
 --     after_puts setup bidder scripts texts      the bidders from this one on put their sheets
 --     after_close setup closing texts      the round is closed
 --     rehearsed setup scripts closings texts      all requests until the end, or the first fault
 --     simulated replay, played_text replay      the report of these requests or its text, or the first fault
-use Rattle.std.specs.Prelude.{ℕ, ◌+◌, List, [], ◌∷◌, Option, Some, None, Result, Ok, Err, if◌then◌else◌}
+use Rattle.std.specs.Prelude.{◌≢◌, ⊤, ℕ, ◌+◌, List, [], ◌∷◌, Option, Some, None, Result, Ok, Err, if◌then◌else◌}
 use Rattle.clock_terms.specs.Limits.{SetupFields}
 use Rattle.clock_terms.specs.Faults.{◌>>=◌}
 use Rattle.clock_house.specs.History.{history, standing}
@@ -31,6 +32,13 @@ rounds_after setup texts = (history setup (commands_of setup texts)).closed
 abbrev pub refused_by : Option ℕ → ℕ → Code → SimFault
 refused_by (Some bidder) round code = faults.Refused bidder round code
 refused_by None round code = faults.Closing round code
+
+-- the code of a refused request is neither that of a request that is done nor that of want of memory
+abbrev pub HasRefusalCode : SimFault → Type 0
+HasRefusalCode (faults.Refused bidder round code) = (code ≢ codes.Done) × (code ≢ codes.Memory)
+HasRefusalCode (faults.Closing round code) = (code ≢ codes.Done) × (code ≢ codes.Memory)
+HasRefusalCode faults.ClosingsSpent = ⊤
+HasRefusalCode faults.NoMemory = ⊤
 
 -- a request that is done stands before the others; every other reply is a fault
 abbrev pub if_done : {T : Type 0} → Code → T → SimFault → Result T SimFault

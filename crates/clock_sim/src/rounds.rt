@@ -1,7 +1,7 @@
 //! The rounds of a replay: the sheet of each bidder, then the closing. A request is sent over a connection of its own,
 //! its head before its body. Sheets go in groups: their connections stand at once, all heads come before the first body.
 
-ghost use Rattle.std.specs.Prelude.{◌≡◌, ◌<◌, [], ◌++◌, Some, ℕ, List, length, true, OnOk};
+ghost use Rattle.std.specs.Prelude.{◌≡◌, ◌<◌, [], ◌++◌, Some, ℕ, List, length, true, IfErr, OnOk};
 ghost use Rattle.clock_connections.specs.Connections.{text_of, KeepsOthers};
 ghost use Rattle.clock_house.specs.House.{standing_in};
 ghost use Rattle.clock_replays.specs.Replays.{IsScript};
@@ -55,7 +55,9 @@ impl Group {
         requires heads { StandFrom 0 hub.old.connections (requests_in self.now) (λ k one. one.head) }
         requires apart { AreApart (requests_in self.now) }
         requires within { AreWritten self.now }
-        ensures { MakesStep (after_group hub.old.house.setup (requests_in self.now)) hub.old.house hub.new.house result }
+        ensures step { MakesStep (after_group hub.old.house.setup (requests_in self.now)) hub.old.house
+            hub.new.house result }
+        ensures held { IfErr result rules.HasRefusalCode }
     {
         for one in &self.waiting {
             let body = &self.text[one.written.body..one.written.head];
@@ -69,6 +71,7 @@ impl Group {
         requires { Waits hub.old.connections self.old }
         ensures step { MakesStep (after_group hub.old.house.setup (requests_in self.old)) hub.old.house
             hub.new.house result }
+        ensures held { IfErr result rules.HasRefusalCode }
         ensures none { OnOk result (requests_in self.new ≡ []) }
         ensures text { OnOk result (self.new.text ≡ self.old.text) }
     {
@@ -81,7 +84,8 @@ impl Group {
 
 /// What the code of a reply is told as: a refusal as the fault of a bidder, or of the operator.
 fn told(code: Code, sender: Option<u64>, round: u64) -> Result<(), SimFault>
-    ensures { IsTold code (rules.refused_by sender round code) result }
+    ensures step { IsTold code (rules.refused_by sender round code) result }
+    ensures held { IfErr result rules.HasRefusalCode }
 {
     match (code, sender) {
         (Code::Done, _) => Ok(()),
@@ -102,6 +106,7 @@ fn send_body<P: Processor>(
     ensures step { (head : List ℕ) → text_of hub.old.connections conn ≡ Some head
         → MakesStep (λ texts. rules.after_request hub.old.house.setup texts sender round (head ++ body.now))
         hub.old.house hub.new.house result }
+    ensures held { IfErr result rules.HasRefusalCode }
     ensures others { (head : List ℕ) → text_of hub.old.connections conn ≡ Some head
         → OnOk result (KeepsOthers hub.old.connections hub.new.connections conn) }
 {
@@ -120,8 +125,9 @@ fn send<P: Processor>(
     head: &[u8],
     body: &[u8],
 ) -> Result<(), SimFault>
-    ensures { MakesStep (λ texts. rules.after_request hub.old.house.setup texts sender round (head.now ++ body.now))
-        hub.old.house hub.new.house result }
+    ensures step { MakesStep (λ texts. rules.after_request hub.old.house.setup texts sender round
+        (head.now ++ body.now)) hub.old.house hub.new.house result }
+    ensures held { IfErr result rules.HasRefusalCode }
 {
     law_decided_once();
     law_one_head();
@@ -143,8 +149,9 @@ fn put_scripted<P: Processor>(
     requires known { bidder < length hub.old.house.setup.bidders }
     requires script { IsScript hub.old.house.setup.products script.now }
     requires under_way { IsUnderWay hub.old group.old }
-    ensures { ComesUnderWay (with_put hub.old.house.setup (requests_in group.old) bidder script.now) hub.old hub.new
-        group.new result }
+    ensures step { ComesUnderWay (with_put hub.old.house.setup (requests_in group.old) bidder script.now) hub.old
+        hub.new group.new result }
+    ensures held { IfErr result rules.HasRefusalCode }
 {
     if group.waiting.is_empty() {
         group.text.clear();
@@ -183,7 +190,8 @@ fn put_all<P: Processor>(
 ) -> Result<(), SimFault>
     requires scripts { AreScriptsOf hub.old.house.setup scripts.now }
     requires going { IsGoing hub.old.house }
-    ensures { MakesStep (rules.after_puts hub.old.house.setup 0 scripts.now) hub.old.house hub.new.house result }
+    ensures step { MakesStep (rules.after_puts hub.old.house.setup 0 scripts.now) hub.old.house hub.new.house result }
+    ensures held { IfErr result rules.HasRefusalCode }
 {
     // the bidders are few enough to be numbered
     hub.front().house().law_of_house();
@@ -200,7 +208,8 @@ fn close_scripted<P: Processor>(
     text: &mut Vec<u8>,
     closing: &Closing,
 ) -> Result<(), SimFault>
-    ensures { MakesStep (rules.after_close hub.old.house.setup closing.now) hub.old.house hub.new.house result }
+    ensures step { MakesStep (rules.after_close hub.old.house.setup closing.now) hub.old.house hub.new.house result }
+    ensures held { IfErr result rules.HasRefusalCode }
 {
     text.clear();
     let house = hub.front().house();
@@ -221,6 +230,7 @@ pub(crate) fn play<P: Processor>(
     requires going { IsGoing hub.old.house }
     ensures step { MakesStep (rules.rehearsed hub.old.house.setup scripts.now closings.now) hub.old.house
         hub.new.house result }
+    ensures held { IfErr result rules.HasRefusalCode }
     ensures ended { OnOk result ((standing_in hub.new.house).ended ≡ true) }
 {
     let mut group = Group {

@@ -2,7 +2,7 @@ ghost use Rattle.std.specs.Prelude.{◌≡◌, [], Ok, true, IfOk, IfErr, OnOk};
 ghost use Rattle.clock_terms.specs.Faults.{IsRefusal};
 ghost use Rattle.clock_house.specs.House.{standing_in};
 ghost use Rattle.clock_front.specs.Fronts.{StandsForTexts};
-ghost use Rattle.clock_reports.specs.FinalReport.{report_of};
+ghost use Rattle.clock_reports.specs.{FinalReport.{report_of}, Reports.{IsReport}};
 ghost use Rattle.clock_sim.specs.Rehearsal as rules;
 ghost use Rattle.clock_sim.specs.{inside.Steps.{AreScriptsOf, replay_of}, declared.simulation.SimFault.TheVariants.{NoMemory}};
 
@@ -67,6 +67,7 @@ fn play_out<P: Processor>(
     ensures ended { OnOk result ((standing_in hub.new.house).ended ≡ true) }
     ensures err { IfErr result (IsRefusal SimFault.NoMemory
         (rules.simulated (replay_of hub.old.house scripts.now closings.now))) }
+    ensures held { IfErr result rules.HasRefusalCode }
 {
     play(alloc, hub, scripts, closings)
 }
@@ -80,7 +81,9 @@ fn played<P: Processor>(
     requires first { StandsForTexts [] hub.old.house }
     requires same { hub.old.house.setup ≡ replay.now.setup }
     ensures ok { IfOk result (λ report. rules.simulated replay.now ≡ Ok report) }
+    ensures report { IfOk result IsReport }
     ensures err { IfErr result (IsRefusal SimFault.NoMemory (rules.simulated replay.now)) }
+    ensures held { IfErr result rules.HasRefusalCode }
 {
     let scripts = replay.scripts.as_slice();
     play_out(alloc, hub, scripts, replay.closings.as_slice())?;
@@ -100,6 +103,7 @@ fn text_played<P: Processor>(
     ensures ok { IfOk result (λ text. rules.played_text (replay_of hub.old.house scripts closings) ≡ Ok text) }
     ensures err { IfErr result (IsRefusal SimFault.NoMemory
         (rules.played_text (replay_of hub.old.house scripts closings))) }
+    ensures held { IfErr result rules.HasRefusalCode }
 {
     let played = play_out(alloc, hub, scripts.as_slice(), closings.as_slice());
     drop(scripts);
@@ -115,7 +119,9 @@ pub fn simulate_with<P: Processor + Drop>(
     processor: P,
 ) -> Result<Report, SimFault>
     ensures ok { IfOk result (λ report. rules.simulated replay.now ≡ Ok report) }
+    ensures report { IfOk result IsReport }
     ensures err { IfErr result (IsRefusal SimFault.NoMemory (rules.simulated replay.now)) }
+    ensures held { IfErr result rules.HasRefusalCode }
 {
     let setup = replay.setup.copy(alloc)?;
     let mut hub = Hub::new(alloc, Front::new(alloc, setup, processor)?);
@@ -134,7 +140,9 @@ pub fn simulate_with<P: Processor + Drop>(
 /// order of the requests is answered: one that is refused, or that the auction goes on and no closing is left.
 pub fn simulate(alloc: Global, replay: &Replay) -> Result<Report, SimFault>
     ensures ok { IfOk result (λ report. rules.simulated replay.now ≡ Ok report) }
+    ensures report { IfOk result IsReport }
     ensures err { IfErr result (IsRefusal SimFault.NoMemory (rules.simulated replay.now)) }
+    ensures held { IfErr result rules.HasRefusalCode }
 {
     simulate_with(alloc, replay, Woken)
 }
@@ -144,6 +152,7 @@ pub fn simulate(alloc: Global, replay: &Replay) -> Result<Report, SimFault>
 pub fn replay_text(alloc: Global, replay: Replay) -> Result<Text, SimFault>
     ensures ok { IfOk result (λ text. rules.played_text replay ≡ Ok text) }
     ensures err { IfErr result (IsRefusal SimFault.NoMemory (rules.played_text replay)) }
+    ensures held { IfErr result rules.HasRefusalCode }
 {
     let mut hub = Hub::new(alloc, Front::new(alloc, replay.setup, Woken)?);
     let text = text_played(alloc, &mut hub, replay.scripts, replay.closings);

@@ -23,7 +23,7 @@ use Rattle.clock_posting.specs.Posting.{IsPosting, IsConsistent, post_fault, pri
 use Rattle.clock_closing.specs.declared.fault.CloseFault.TheVariants as close_faults
 use Rattle.clock_closing.specs.Faults.{fault_check}
 use Rattle.clock_closing.specs.Closing.{ClosedRound, RoundResult, requests_by, first_result, round_result, closed_round}
-use Rattle.clock_closing.specs.inside.Results.{AreConsistent}
+use Rattle.clock_closing.specs.Results.{AreConsistent}
 
 -- all bidders' requests, in any order
 abbrev pub AreRequests : OpenRound → List Change → Type 0

@@ -6,7 +6,9 @@
 --     with_waiting line place cost      the line with one more request
 --     IsSpent left old new      only costs of requests of which nothing is left were spent
 --     IsFirstWaiting left line limit place      the first request in a line of which something is left within the limit
-use Rattle.std.specs.Prelude.{◌≡◌, ℕ, ◌+◌, ◌*◌, ◌<◌, ◌⊎◌, List, [], ◌∷◌, ◌++◌, length, slice_index}
+--     lines_of index lines      all lines, by the positions of those in which somebody ever waited
+--     IsIndex index count      each line has no position, or one of its own below the count
+use Rattle.std.specs.Prelude.{◌≡◌, ℕ, ◌+◌, ◌*◌, ◌-◌, ◌^◌, ◌<◌, ◌⊎◌, List, [], ◌∷◌, ◌++◌, length, map, slice_index, slice_index_or}
 use Rattle.clock_terms.specs.declared.setup.Product.{Product}
 use Rattle.clock_terms.specs.Limits.{units_of}
 use Rattle.clock_terms.specs.declared.change.Change.{Change}
@@ -68,3 +70,17 @@ pub record IsFirstWaiting (left : List ℕ) (line : LineFields) (limit : ℕ) (p
   pub is_first : IsFirstWithin line.costs limit at
   pub is : slice_index line.places at ≡ place
   pub waits : 0 < slice_index left place
+
+-- what stands for a line in which nobody ever waited
+abbrev pub nowhere : ℕ
+nowhere = 2 ^ 64 - 1
+
+-- each line by its position: one that has none is empty
+abbrev pub lines_of : List ℕ → List LineFields → List LineFields
+lines_of index lines = map (λ at. slice_index_or lines at empty_line) index
+
+-- each line has no position, or one of its own
+pub record IsIndex (index : List ℕ) (count : ℕ) : Type 0 where
+  pub positions : (line : ℕ) → line < length index → (slice_index index line < count) ⊎ (slice_index index line ≡ nowhere)
+  pub own : (one other : ℕ) → one < length index → other < length index → slice_index index one < count →
+      slice_index index one ≡ slice_index index other → one ≡ other

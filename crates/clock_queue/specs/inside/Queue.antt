@@ -7,6 +7,8 @@
 --     IsKept changes queue      what holds of the lines
 --     IsTracking changes queue ready      each admitted request with room stands behind a ready one of its line with room
 --     HasWoken line limit old new      the first request of a line within a limit was made ready
+--     HasWokenProduct change rest old new      the first that waits for the product of a request was made ready, or the
+--         request is a reduction of which something is left
 --     IsAppliedWhole changes place old new      a request is applied by its whole room
 --     IsTested changes place old new      a request was tested, and applied if it had room
 --     StaysWithinTests changes queue      the tests that were made, and those that the ready requests will take, are
@@ -17,11 +19,12 @@ use Rattle.std.specs.Prelude.{◌≡◌, ℕ, ◌+◌, ◌*◌, ◌<◌, ◌≤�
 use Rattle.std.specs.List.{Contains}
 use Rattle.clock_terms.specs.declared.setup.Product.{Product}
 use Rattle.clock_terms.specs.declared.change.Change.{Change}
+use Rattle.clock_terms.specs.declared.change.Kind.TheVariants.{Reduction}
 use Rattle.clock_processor.specs.Board.{tested}
 use Rattle.clock_processor.specs.Settling.{Progress, Reaches, no_change, room_at, with_application}
 use Rattle.clock_processor.specs.inside.UnderWay.{IsUnderWay, progress_of}
 use Rattle.clock_queue.specs.declared.queue.Queue.{Queue}
-use Rattle.clock_queue.specs.inside.Lines.{line_of, cost_of, HasLines, LineFields, empty_line, IsSpent, IsFirstWaiting}
+use Rattle.clock_queue.specs.inside.Lines.{line_of, cost_of, product_line, HasLines, LineFields, empty_line, IsSpent, IsFirstWaiting}
 use Rattle.clock_queue.specs.inside.Ready.{IsAdded}
 use Rattle.clock_queue.specs.Bound.{most_woken}
 
@@ -59,6 +62,16 @@ pub record HasWoken (line limit : ℕ) (old new : Queue) : Type 0 where
   pub others : new.lines ≡ slice_set old.lines line (line_in new line)
   pub spent : IsSpent old.left (line_in old line) (line_in new line)
   pub woken : IsMadeReady line limit old new ⊎ IsLeft line limit old new
+
+-- nobody was made ready: the request is a reduction of which something is left
+pub record IsPassedOver (change : Change) (rest : ℕ) (old new : Queue) : Type 0 where
+  pub same : new ≡ old
+  pub reduces : change.kind ≡ Reduction
+  pub more : 0 < rest
+
+-- the first that waits for the product of a request was made ready, if there is one and it may have room
+abbrev pub HasWokenProduct : Change → ℕ → Queue → Queue → Type 0
+HasWokenProduct change rest old new = HasWoken (product_line change.product) 0 old new ⊎ IsPassedOver change rest old new
 
 -- each application takes a block away and makes two ready at most; each test takes one out of the ready ones
 abbrev pub work : Queue → ℕ

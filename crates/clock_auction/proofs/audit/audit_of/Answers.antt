@@ -37,7 +37,7 @@ returns-clause-ok c =
     let all = c.in_ok-recover.ensures.read in
     let end = c.recover.new.machine in
     let recounted = all.stands [] (record { stands = c.requires; chain_is = refl; count_is = refl; digests_are = c.new.ensures.items }) in
-    audit_is c.args.front.setup end.auction.front.setup c.args.first end.first c.args.bytes.items c.as_slice.result.now _ all.texts c.in_ok-recover.field-0 end.auction.front
-    end.chain end.auction.texts end.digests.items c.as_slice.ensures.value
+    audit_is c.args.front.setup end.front.setup c.args.first end.first c.args.bytes.items c.as_slice.result.now _ all.texts c.in_ok-recover.field-0 end.front
+    end.chain end.texts end.digests.items c.as_slice.ensures.value
     (ap (λ (rules : SetupFields × List ℕ). rules.0) c.recover.ensures.rules) (ap (λ (rules : SetupFields × List ℕ). rules.1) c.recover.ensures.rules)
     all.placed recounted (c.in_ok-text.ensures (onto all.texts []) recounted)

@@ -1,14 +1,14 @@
-use Rattle.std.proofs.Common.{◌≡◌, ◌≤◌, ◌+◌, ◌-◌, ◌++◌, inl, inr, List, [], ◌∷◌, ℕ, get_or, length, take, drop, refl, sym, ap, ◌∙◌, subst, arith, length-drop, rules, Bool, true, false, bytes_eq}
+use Rattle.std.proofs.Common.{◌≡◌, ◌≤◌, ◌+◌, ◌-◌, ◌++◌, inl, List, [], ◌∷◌, ℕ, length, take, drop, refl, sym, ap, ◌∙◌, subst, arith, length-drop, rules, Bool, true, false, bytes_eq}
 use Rattle.std.specs.Prelude.{not}
 use Rattle.std.proofs.lemmas.List.{take_rest}
 use Rattle.clock_journal.specs.Format.{before_text, head_length, kind, link, last_link}
-use Rattle.clock_journal.specs.Headings.{headed, heading, unknown}
+use Rattle.clock_journal.specs.Headings.{heading, of_another, unknown}
 use Rattle.clock_journal.specs.Reading.{Reads, Ends, Next, next, damaged, whole, onto}
-use Rattle.clock_journal.specs.Crash.{LeavesTexts}
 use Rattle.clock_journal.specs.inside.Replays.{IsOnWay, IsReplayed}
 use Rattle.clock_journal.specs.Recovering.{IsFoundAt, IsRefusedAt}
 use Rattle.clock_journal.proofs.Moments.{last_link-push}
-use Rattle.clock_journal.proofs.TakenOver.{another_is, has_taken, headed_at, headed_is, is_undamaged, kind_unknown, short_unknown, told_of_left}
+use Rattle.clock_journal.proofs.TakenOver.{another_is, has_taken, has_taken_none, headed_at, headed_is, is_undamaged, kind_unknown, none_unknown, short_unknown, texts_left, told_of_left}
+use Rattle.clock_journal.proofs.Tails.{damaged_behind, has_taken_first, told_of_front}
 use Rattle.clock_journal.proofs.Tested.{same_where}
 use Rattle.clock_journal.proofs.recovery.recover.Goals as goal
 
@@ -105,7 +105,43 @@ pub returns-then-ne-clause-crash : goal.returns-then-ne-clause-crash
 unfolding kind
 returns-then-ne-clause-crash g c texts least leaves =
     let none : heading c.args.digest.now c.args.bytes.now ≡ unknown = kind_unknown c.args.digest.now c.args.bytes.now (omega (arith, c.if-bytes-lt-HEAD_LENGTH.false)) (was_false _ (sym c.ne.ensures ∙ c.if-ne.true)) in
-    let e = told_of_left c.args.digest.now c.args.bytes.now texts least unknown (search rules) leaves (sym none) in cc
+    let e = told_of_left c.args.digest.now c.args.bytes.now texts least unknown (search rules)
+    (texts_left c.args.digest.now c.args.bytes.now texts least leaves (omega (arith, c.if-bytes-lt-HEAD_LENGTH.false))) (sym none) in cc
+
+pub returns-then-ne-2-clause-crash : goal.returns-then-ne-2-clause-crash
+unfolding kind
+returns-then-ne-2-clause-crash g c texts least leaves =
+    let long : head_length ≤ length c.args.bytes.now = omega (arith, c.if-bytes-lt-HEAD_LENGTH.false) in
+    let other : heading c.args.digest.now c.args.bytes.now ≡ of_another =
+    another_is c.args.digest.now c.args.bytes.now long (was_true _ (sym c.ne.ensures ∙ c.if-ne.false))
+    (subst (λ (h : List ℕ). bytes_eq (take head_length c.args.bytes.now) h ≡ false) c.head_of-head.ensures (was_false _ (sym c.ne-2.ensures ∙ c.if-ne-2.true))) in
+    let e = told_of_left c.args.digest.now c.args.bytes.now texts least of_another (search rules)
+    (texts_left c.args.digest.now c.args.bytes.now texts least leaves long) (sym other) in cc
+
+pub returns-then-bytes-lt-HEAD_LENGTH-clause-crash : goal.returns-then-bytes-lt-HEAD_LENGTH-clause-crash
+returns-then-bytes-lt-HEAD_LENGTH-clause-crash g c texts least leaves =
+    none_unknown c.args.digest.now c.args.bytes.now texts least (search rules) leaves (omega (arith, c.if-bytes-lt-HEAD_LENGTH.true))
+    (short_unknown c.args.digest.now c.args.bytes.now (omega (arith, c.if-bytes-lt-HEAD_LENGTH.true))
+    (subst (λ (h : List ℕ). bytes_eq c.args.bytes.now (take (length c.args.bytes.now) h) ≡ false) c.head_of-head.ensures (sym c.eq.ensures ∙ c.if-eq.false)))
+
+pub returns-then-eq-clause-crash : goal.returns-then-eq-clause-crash
+returns-then-eq-clause-crash g c texts least leaves =
+    has_taken_none (g.M.Machine.stands_for c.args.machine.now) c.args.digest.now c.args.bytes.now texts least (search rules) leaves
+    (omega (arith, c.if-bytes-lt-HEAD_LENGTH.true))
+
+pub returns-then-ne-clause-any_tail : goal.returns-then-ne-clause-any_tail
+unfolding kind
+returns-then-ne-clause-any_tail g c texts begins =
+    let none : heading c.args.digest.now c.args.bytes.now ≡ unknown = kind_unknown c.args.digest.now c.args.bytes.now (omega (arith, c.if-bytes-lt-HEAD_LENGTH.false)) (was_false _ (sym c.ne.ensures ∙ c.if-ne.true)) in
+    let e = told_of_front c.args.digest.now c.args.bytes.now texts unknown (search rules) begins (sym none) in cc
+
+pub returns-then-ne-2-clause-any_tail : goal.returns-then-ne-2-clause-any_tail
+unfolding kind
+returns-then-ne-2-clause-any_tail g c texts begins =
+    let other : heading c.args.digest.now c.args.bytes.now ≡ of_another =
+    another_is c.args.digest.now c.args.bytes.now (omega (arith, c.if-bytes-lt-HEAD_LENGTH.false)) (was_true _ (sym c.ne.ensures ∙ c.if-ne.false))
+    (subst (λ (h : List ℕ). bytes_eq (take head_length c.args.bytes.now) h ≡ false) c.head_of-head.ensures (was_false _ (sym c.ne-2.ensures ∙ c.if-ne-2.true))) in
+    let e = told_of_front c.args.digest.now c.args.bytes.now texts of_another (search rules) begins (sym other) in cc
 
 pub returns-then-ne-2-clause-read : goal.returns-then-ne-2-clause-read
 unfolding kind
@@ -143,9 +179,11 @@ returns-in-Ended-clause-read g c =
 
 pub returns-in-Ended-clause-crash : goal.returns-in-Ended-clause-crash
 returns-in-Ended-clause-crash g c texts least leaves =
-    has_taken _ _ c.args.digest.now c.args.bytes.now texts least (length c.args.bytes.now) _ (search rules) leaves
+    let long : head_length ≤ length c.args.bytes.now = omega (arith, c.if-bytes-lt-HEAD_LENGTH.false) in
+    has_taken _ _ c.args.digest.now c.args.bytes.now texts least _ (λ place. search rules) (search rules) long
+    (texts_left c.args.digest.now c.args.bytes.now texts least leaves long)
     (replayed (g.M.Machine.stands_for c.args.machine.now) (g.M.Machine.stands_for c.loop-chain.machine) c.args.digest.now c.args.bytes.now
-    c.loop-chain.chain c.loop-chain.rest.now (omega (arith, c.if-bytes-lt-HEAD_LENGTH.false)) c.loop-chain.invariant.0 (search rules))
+    c.loop-chain.chain c.loop-chain.rest.now long c.loop-chain.invariant.0 (search rules))
 
 pub returns-in-Damaged-clause-read : goal.returns-in-Damaged-clause-read
 returns-in-Damaged-clause-read g c =
@@ -158,9 +196,11 @@ returns-in-Damaged-clause-read g c =
 
 pub returns-in-Damaged-clause-crash : goal.returns-in-Damaged-clause-crash
 returns-in-Damaged-clause-crash g c texts least leaves =
-    is_undamaged c.args.digest.now c.args.bytes.now texts least (length c.args.bytes.now) _ (search rules) leaves
+    let long : head_length ≤ length c.args.bytes.now = omega (arith, c.if-bytes-lt-HEAD_LENGTH.false) in
+    is_undamaged c.args.digest.now c.args.bytes.now texts least (length c.args.bytes.now) _ (search rules)
+    (texts_left c.args.digest.now c.args.bytes.now texts least leaves long)
     (found_at (g.M.Machine.stands_for c.args.machine.now) (g.M.Machine.stands_for c.loop-chain.machine) c.args.digest.now c.args.bytes.now
-    c.loop-chain.chain c.loop-chain.rest.now damaged (omega (arith, c.if-bytes-lt-HEAD_LENGTH.false)) c.loop-chain.invariant.0 (sym c.in-Damaged.ensures.next))
+    c.loop-chain.chain c.loop-chain.rest.now damaged long c.loop-chain.invariant.0 (sym c.in-Damaged.ensures.next))
 
 pub returns-in-Err-Refused-clause-read : goal.returns-in-Err-Refused-clause-read
 returns-in-Err-Refused-clause-read g c =
@@ -180,3 +220,16 @@ returns-in-Err-Refused-clause-refused g c =
     (g.M.Machine.stands_for c.args.machine.now) (g.M.Machine.stands_for c.loop-chain.machine) c.args.digest.now c.args.bytes.now
     c.loop-chain.chain c.loop-chain.rest.now c.in-Whole.text.now (omega (arith, c.if-bytes-lt-HEAD_LENGTH.false)) c.loop-chain.invariant.0 (sym c.in-Whole.ensures.next)
     (ap g.M.Machine.refuses c.loop-chain.invariant.1) (λ texts. c.take.ensures.refused texts (search rules))
+
+pub returns-in-Ended-clause-any_tail : goal.returns-in-Ended-clause-any_tail
+returns-in-Ended-clause-any_tail g c texts begins =
+    has_taken_first (g.M.Machine.stands_for c.args.machine.now) (g.M.Machine.stands_for c.loop-chain.machine)
+    c.args.digest.now c.args.bytes.now texts _ (λ place. search rules) (search rules) begins
+    (replayed (g.M.Machine.stands_for c.args.machine.now) (g.M.Machine.stands_for c.loop-chain.machine) c.args.digest.now c.args.bytes.now
+    c.loop-chain.chain c.loop-chain.rest.now (omega (arith, c.if-bytes-lt-HEAD_LENGTH.false)) c.loop-chain.invariant.0 (search rules))
+
+pub returns-in-Damaged-clause-any_tail : goal.returns-in-Damaged-clause-any_tail
+returns-in-Damaged-clause-any_tail g c texts begins =
+    damaged_behind c.args.digest.now c.args.bytes.now texts _ (λ place. search rules) (search rules) begins
+    (found_at (g.M.Machine.stands_for c.args.machine.now) (g.M.Machine.stands_for c.loop-chain.machine) c.args.digest.now c.args.bytes.now
+    c.loop-chain.chain c.loop-chain.rest.now damaged (omega (arith, c.if-bytes-lt-HEAD_LENGTH.false)) c.loop-chain.invariant.0 (sym c.in-Damaged.ensures.next))

@@ -1,7 +1,7 @@
 use Rattle.std.proofs.Common.{◌≡◌, ℕ, suc, ◌+◌, All, take, sym, subst, arith, rules}
 use Rattle.std.proofs.Math.Seq.{take-suc}
 use Rattle.std.proofs.lemmas.List.Elements.{All-push}
-use Rattle.clock_reports.specs.inside.Reports.{IsPricedLine}
+use Rattle.clock_reports.specs.Reports.{IsPricedLine}
 use Rattle.clock_reports.proofs.report.law_of_prices.Goals as goal
 
 pub loop-line-preserved : goal.loop-line-preserved

@@ -1,5 +1,5 @@
 use Rattle.std.proofs.Common.{take, All}
-use Rattle.clock_reports.specs.inside.Reports.{IsPricedLine}
+use Rattle.clock_reports.specs.Reports.{IsPricedLine}
 use Rattle.clock_reports.proofs.report.law_of_prices.Given as goal
 
 -- the lines so far are priced

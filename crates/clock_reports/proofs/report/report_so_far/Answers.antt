@@ -3,7 +3,7 @@ use Rattle.std.specs.Prelude.{reverse, map}
 use Rattle.std.specs.List.{range_with_len}
 use Rattle.std.proofs.lemmas.List.{length-map, length-reverse}
 use Rattle.std.proofs.lemmas.List.FromFn.{length-map-range_with_len}
-use Rattle.clock_terms.specs.Limits.{SetupFields, IsSetup, IsRow}
+use Rattle.clock_terms.specs.Limits.{SetupFields, IsSetup}
 use Rattle.clock_posting.specs.declared.sheet.RoundSheet.{RoundSheet}
 use Rattle.clock_closing.specs.declared.closed_round.ClosedRound.{ClosedRound}
 use Rattle.clock_house.specs.House.{holding_in}
@@ -30,7 +30,7 @@ invariant_of-result g c =
       priced = c.in_ok-sheets.ensures.priced;
       bidders = ap (λ (rows : List (List ℕ)). length rows) held ∙ length-map-range_with_len f 0 (length house.setup.bidders)
           ∙ sym (ap (λ (setup : SetupFields). length setup.bidders) same);
-      rows = subst (λ (setup : SetupFields). All (IsRow setup.products) grid) (sym same)
-          (subst (All (IsRow house.setup.products)) (sym held)
+      rows = subst (λ (setup : SetupFields). All (λ (demands : List ℕ). length demands ≡ length setup.products) grid) (sym same)
+          (subst (All (λ (demands : List ℕ). length demands ≡ length house.setup.products)) (sym held)
           (rows_of house.setup f (length house.setup.bidders) (λ bidder below. (c.law_of_house.ensures.within bidder below).row)));
     }

@@ -4,7 +4,7 @@ use Rattle.std.proofs.lemmas.List.{length-map, length-reverse, take_all}
 use Rattle.std.proofs.lemmas.List.Elements.{All-push}
 use Rattle.clock_posting.specs.declared.sheet.RoundSheet.{RoundSheet}
 use Rattle.clock_closing.specs.declared.closed_round.ClosedRound.{ClosedRound}
-use Rattle.clock_reports.specs.inside.Reports.{IsPricedLine}
+use Rattle.clock_reports.specs.Reports.{IsPricedLine}
 use Rattle.clock_reports.proofs.RoundLaws.{take_next}
 use Rattle.clock_reports.proofs.report.sheets_of.Goals as goal
 

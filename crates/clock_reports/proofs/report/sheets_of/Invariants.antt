@@ -1,6 +1,6 @@
 use Rattle.std.proofs.Common.{◌≡◌, take, map, All}
 use Rattle.std.specs.Prelude.{reverse}
-use Rattle.clock_reports.specs.inside.Reports.{IsPricedLine}
+use Rattle.clock_reports.specs.Reports.{IsPricedLine}
 use Rattle.clock_reports.proofs.report.sheets_of.Given as goal
 
 -- the sheets of the rounds so far

@@ -2,7 +2,7 @@ use Rattle.std.proofs.Common.{◌≡◌, ◌≤◌, ◌+◌, ◌-◌, ◌++◌, 
 use Rattle.std.specs.Prelude.{reverse, slice_get, slice_index_or}
 use Rattle.std.specs.List.{flat_map}
 use Rattle.std.proofs.lemmas.List.{append_assoc, append-nil, drop_all, length-map, length-reverse}
-use Rattle.clock_terms.specs.Limits.{SetupFields, IsRow}
+use Rattle.clock_terms.specs.Limits.{SetupFields}
 use Rattle.clock_posting.specs.SheetText.{sheet_text}
 use Rattle.clock_posting.specs.declared.sheet.Line.{Line}
 use Rattle.clock_posting.specs.declared.sheet.RoundSheet.{RoundSheet}
@@ -40,8 +40,8 @@ pub push_wins-requires-clause-rows : goal.push_wins-requires-clause-rows
 push_wins-requires-clause-rows g c =
     let house = c.args.house.now in
     let f = λ (bidder : ℕ). (holding_in house bidder).demands in
-    subst (λ (setup : SetupFields). All (IsRow setup.products) c.demands.result.now) (sym c.setup-2.ensures)
-    (subst (All (IsRow house.setup.products)) (sym c.demands.ensures)
+    subst (λ (setup : SetupFields). All (λ (demands : List ℕ). length demands ≡ length setup.products) c.demands.result.now) (sym c.setup-2.ensures)
+    (subst (All (λ (demands : List ℕ). length demands ≡ length house.setup.products)) (sym c.demands.ensures)
     (rows_of house.setup f (length house.setup.bidders) (λ bidder below. (c.law_of_house.ensures.within bidder below).row)))
 
 pub returns : goal.returns

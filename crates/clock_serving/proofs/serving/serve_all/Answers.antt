@@ -51,7 +51,7 @@ loop-connection-preserved g c =
       served = one_more loop._connection (coming c.args.connections.now) (coming loop.connections) (coming c.serve_next.new.connections) (closed c.args.connections.now) (closed loop.connections) (closed c.serve_next.new.connections)
           (told c.args.keeper.now) (told loop.keeper) (told c.serve_next.new.keeper) (journal c.args.keeper.now) (journal loop.keeper) (journal c.serve_next.new.keeper) c.args.front.now loop.front c.serve_next.new.front
           (limits_of c.house.result.now c.args.front.now c.house.ensures c.law_of_house.ensures.limits) loop.invariant.setup loop.invariant.served
-          c.in_ok-serve_next.field-0 c.in_ok-serve_next.ensures.ends c.in_ok-serve_next.ensures.setup;
+          c.in_ok-serve_next.field-0 c.in_ok-serve_next.ensures.ends;
       unfailed = c.in_ok-serve_next.ensures.unfailed;
       closed = c.in_ok-serve_next.ensures.closed;
       taken = c.in_ok-serve_next.ensures.taken;

@@ -1,68 +1,47 @@
-use Rattle.std.proofs.Common.{refl, sym, subst, ◌∙◌, rules}
-use Rattle.clock_journal.specs.Kept.{JournalState}
+use Rattle.std.proofs.Common.{◌≡◌, Option, List, ℕ, sym, subst, ◌∙◌, refl}
 use Rattle.clock_serving.specs.Exchanges.{Exchange}
-use Rattle.clock_serving.specs.inside.Served.{IsServed}
+use Rattle.clock_serving.specs.inside.Served.{IsToldAs}
+use Rattle.clock_serving.proofs.Told.{ends_one, not_accept, unfailed}
 use Rattle.clock_serving.proofs.Walking.{came_one, closed_one}
 use Rattle.clock_serving.proofs.serving.serve_next.Goals as goal
 
-pub returns-then-before-after-clause-ends : goal.returns-then-before-after-clause-ends
-returns-then-before-after-clause-ends g c =
+pub returns-clause-ends : goal.returns-clause-ends
+returns-clause-ends g c =
     let source = g.C.Reader.Source in
-    let sink = g.C.Writer.Sink in
+    let sink = g.C.Writer.Outlet in
+    let closed = g.C.Acceptor.closed in
+    let coming = g.C.Acceptor.coming in
     let journal = g.K.Keeper.journal in
+    let told = g.K.Keeper.told in
     let one : Exchange = record {
-      reading = record { before = source.told c.in-Ok.one.source; after = source.told c.serve_one-kept.new.source };
-      writing = record { before = sink.told c.in-Ok.one.sink; after = sink.told c.serve_one-kept.new.sink };
-    } in (
-      one,
-      closed_one (g.C.Acceptor.closed c.args.connections.now) (g.C.Acceptor.closed c.accept.new.self) (g.C.Acceptor.closed c.close.new.self)
-          (g.C.Acceptor.offer c.accept.new.self) one.reading one.writing
-          c.in-Ok.ensures.closed c.in-Ok.ensures.source c.in-Ok.ensures.sink c.close.ensures.closed,
-      came_one (g.C.Acceptor.coming c.args.connections.now) (g.C.Acceptor.coming c.accept.new.self) (g.C.Acceptor.coming c.close.new.self)
-          (g.C.Acceptor.offer c.accept.new.self) one c.in-Ok.ensures.came c.close.ensures.coming c.in-Ok.ensures.source,
-      subst (λ (kept : JournalState). IsServed one (journal c.args.keeper.now) kept c.args.front.now c.serve_one-kept.new.front)
-          (sym c.round_closed.ensures.kept) c.in_default-kept.ensures.served,
-      search rules,
-    )
+      reading = record { before = source.told c.in-Ok.one.source; after = source.told c.serve_one-served.new.source };
+      writing = record { before = sink.told c.in-Ok.one.sink; after = sink.told c.serve_one-served.new.sink };
+      kept = sink.kept c.serve_one-served.new.sink;
+    } in
+    ends_one (coming c.args.connections.now) (coming c.close.new.self) (closed c.args.connections.now) (closed c.close.new.self)
+    (told c.args.keeper.now) (told c.tell_closing.new.keeper) (journal c.args.keeper.now) (journal c.serve_one-served.new.keeper)
+    (journal c.tell_closing.new.keeper) c.args.front.now c.serve_one-served.new.front one c.serve_one-served.result
+    c.tell_closing.result
+    (closed_one (closed c.args.connections.now) (closed c.accept.new.self) (closed c.close.new.self)
+    (g.C.Acceptor.offer c.accept.new.self) one c.in-Ok.ensures.closed c.in-Ok.ensures.source c.in-Ok.ensures.sink
+    c.close.ensures.closed)
+    (came_one (coming c.args.connections.now) (coming c.accept.new.self) (coming c.close.new.self)
+    (g.C.Acceptor.offer c.accept.new.self) one c.in-Ok.ensures.came c.close.ensures.coming c.in-Ok.ensures.source)
+    c.serve_one-served.ensures.served c.tell_closing.ensures.kept
+    (subst (λ (before : Option (List ℕ)). IsToldAs before (told c.tell_closing.new.keeper) c.serve_one-served.result
+    c.tell_closing.result) c.serve_one-served.ensures.told c.tell_closing.ensures.told)
 
-pub returns-else-before-after-clause-ends : goal.returns-else-before-after-clause-ends
-returns-else-before-after-clause-ends g c =
-    let source = g.C.Reader.Source in
-    let sink = g.C.Writer.Sink in
-    let one : Exchange = record {
-      reading = record { before = source.told c.in-Ok.one.source; after = source.told c.serve_one-kept.new.source };
-      writing = record { before = sink.told c.in-Ok.one.sink; after = sink.told c.serve_one-kept.new.sink };
-    } in (
-      one,
-      closed_one (g.C.Acceptor.closed c.args.connections.now) (g.C.Acceptor.closed c.accept.new.self) (g.C.Acceptor.closed c.close.new.self)
-          (g.C.Acceptor.offer c.accept.new.self) one.reading one.writing
-          c.in-Ok.ensures.closed c.in-Ok.ensures.source c.in-Ok.ensures.sink c.close.ensures.closed,
-      came_one (g.C.Acceptor.coming c.args.connections.now) (g.C.Acceptor.coming c.accept.new.self) (g.C.Acceptor.coming c.close.new.self)
-          (g.C.Acceptor.offer c.accept.new.self) one c.in-Ok.ensures.came c.close.ensures.coming c.in-Ok.ensures.source,
-      c.in_default-kept.ensures.served,
-      search rules,
-    )
+pub returns-clause-unfailed : goal.returns-clause-unfailed
+returns-clause-unfailed g c =
+    let journal = g.K.Keeper.journal in
+    let told = g.K.Keeper.told in
+    unfailed (told c.serve_one-served.new.keeper) (told c.tell_closing.new.keeper) c.serve_one-served.result
+    c.tell_closing.result (journal c.serve_one-served.new.keeper) (journal c.tell_closing.new.keeper)
+    c.tell_closing.ensures.told c.tell_closing.ensures.kept c.serve_one-served.ensures.unfailed
 
-pub returns-in-Err-clause-ends : goal.returns-in-Err-clause-ends
-returns-in-Err-clause-ends g c =
-    let source = g.C.Reader.Source in
-    let sink = g.C.Writer.Sink in
-    let one : Exchange = record {
-      reading = record { before = source.told c.in-Ok.one.source; after = source.told c.serve_one-kept.new.source };
-      writing = record { before = sink.told c.in-Ok.one.sink; after = sink.told c.serve_one-kept.new.sink };
-    } in (
-      one,
-      closed_one (g.C.Acceptor.closed c.args.connections.now) (g.C.Acceptor.closed c.accept.new.self) (g.C.Acceptor.closed c.close.new.self)
-          (g.C.Acceptor.offer c.accept.new.self) one.reading one.writing
-          c.in-Ok.ensures.closed c.in-Ok.ensures.source c.in-Ok.ensures.sink c.close.ensures.closed,
-      came_one (g.C.Acceptor.coming c.args.connections.now) (g.C.Acceptor.coming c.accept.new.self) (g.C.Acceptor.coming c.close.new.self)
-          (g.C.Acceptor.offer c.accept.new.self) one c.in-Ok.ensures.came c.close.ensures.coming c.in-Ok.ensures.source,
-      c.in-Err.ensures.served,
-      c.serve_one-kept.ensures.told,
-    )
-
-pub returns-in-Err-clause-unfailed : goal.returns-in-Err-clause-unfailed
-returns-in-Err-clause-unfailed g c = tt
-
-pub returns-in-Err-clause-taken : goal.returns-in-Err-clause-taken
-returns-in-Err-clause-taken g c = c.close.ensures.failed ∙ c.in-Ok.ensures.failed ∙ rw c.requires.taken refl
+pub returns-clause-taken : goal.returns-clause-taken
+returns-clause-taken g c =
+    let told = g.K.Keeper.told in
+    c.close.ensures.failed ∙ c.in-Ok.ensures.failed ∙ rw c.requires.taken
+    (not_accept (told c.serve_one-served.new.keeper) (told c.tell_closing.new.keeper) c.serve_one-served.result
+    c.tell_closing.result c.tell_closing.ensures.told)

@@ -3,11 +3,13 @@ use Rattle.std.proofs.lemmas.Result.{err_from_is_err_and}
 use Rattle.clock_device.specs.Told.{Reading}
 use Rattle.clock_connections.specs.Arrivals.{HasArrived}
 use Rattle.clock_connections.proofs.LengthLaws.{short_arrived}
+use Rattle.clock_front.specs.declared.front.response.Effect.TheVariants.{Nothing}
+use Rattle.clock_http.specs.Replies.{Answer}
 use Rattle.clock_journal.specs.Format.{most_text}
 use Rattle.clock_serving.specs.inside.Served.{IsAnswered}
 use Rattle.clock_serving.proofs.Served.{answered_as, nothing_written, reply_written}
 use Rattle.clock_serving.proofs.serving.serve_one.Goals as goal
-use Rattle.clock_serving.proofs.serving.serve_one.Goals.{in-Ok+in_ok-reply-in-Ok, in-Err-Memory}
+use Rattle.clock_serving.proofs.serving.serve_one.Goals.{in-Ok+in_ok-response-in-Ok, in-Err-Memory}
 
 -- the bytes that are looked at are those of the request
 arrived : (reading : Reading) (request text : List ℕ) → text ≡ request → HasArrived reading request → HasArrived reading text
@@ -19,8 +21,8 @@ disk_failed : (reading : Reading) (text : List ℕ) (has_failed : Bool) → HasA
 disk_failed reading text has_failed has (inl failed) = failed
 disk_failed reading text has_failed has (inr long) = absurd (omega (arith, short_arrived reading text has))
 
-pub returns-in_err-reply-in-Ok-clause-served : goal.returns-in_err-reply-in-Ok-clause-served
-returns-in_err-reply-in-Ok-clause-served g c =
+pub returns-in_err-response-in-Ok-clause-served : goal.returns-in_err-response-in-Ok-clause-served
+returns-in_err-response-in-Ok-clause-served g c =
     let p = err_from_is_err_and c.from_residual.result c.from_residual.ensures.1 in
     let reading : Reading = record { before = g.R.Source.told c.args.source.now; after = g.R.Source.told c.read_request.new.source } in
     let has = arrived reading c.in-Ok.request c.as_slice.result.now c.as_slice.ensures c.in-Ok.ensures.arrival in
@@ -28,9 +30,10 @@ returns-in_err-reply-in-Ok-clause-served g c =
       record {
         text = c.as_slice.result.now;
         arrived = has;
-        failed = disk_failed reading c.as_slice.result.now _ has c.in_err-reply-in-Ok.ensures.err;
-        moments = c.in_err-reply-in-Ok.ensures.moments;
-        on_disk = c.in_err-reply-in-Ok.ensures.on_disk;
+        accepted = c.in_err-response-in-Ok.ensures.accepted;
+        failed = disk_failed reading c.as_slice.result.now _ has c.in_err-response-in-Ok.ensures.err;
+        moments = c.in_err-response-in-Ok.ensures.moments;
+        on_disk = c.in_err-response-in-Ok.ensures.on_disk;
       },
       nothing_written _ c.requires.unused,
     )
@@ -40,23 +43,31 @@ returns-clause-served g c =
     let journal = g.K.Keeper.journal in
     let join = c.match-read_request in
     let reading : Reading = record { before = g.R.Source.told c.args.source.now; after = g.R.Source.told c.read_request.new.source } in
-    let answered : IsAnswered reading join.reply (journal c.args.keeper.now) (journal join.keeper) c.args.front.now join.front = elim join.branch [
-      | in-Ok+in_ok-reply-in-Ok w ↦ answered_as reading _ join.reply (journal c.args.keeper.now) (journal w.answer.new.self)
-          (journal join.keeper) c.args.front.now w.answer.new.front join.front w.reply-is (ap journal w.keeper-is) w.front-is
+    let answered : IsAnswered reading join.response (journal c.args.keeper.now) (journal join.keeper) c.args.front.now join.front = elim join.branch [
+      | in-Ok+in_ok-response-in-Ok w ↦ answered_as reading _ join.response (journal c.args.keeper.now) (journal w.answer.new.self)
+          (journal join.keeper) c.args.front.now w.answer.new.front join.front w.response-is (ap journal w.keeper-is) w.front-is
           (inl (record {
             text = w.as_slice.result.now;
             arrived = arrived _ w.in-Ok.request w.as_slice.result.now w.as_slice.ensures w.in-Ok.ensures.arrival;
-            answers = w.in_ok-reply-in-Ok.ensures.answered;
-            kept = w.in_ok-reply-in-Ok.ensures.kept;
-            added_to = w.in_ok-reply-in-Ok.ensures.moments.added_to;
+            responds = w.in_ok-response-in-Ok.ensures.response;
+            kept = w.in_ok-response-in-Ok.ensures.kept;
+            added_to = w.in_ok-response-in-Ok.ensures.moments.added_to;
           }))
-      | in-Err-Memory w ↦ answered_as reading w.no_memory_reply-reply.result join.reply (journal c.args.keeper.now) (journal c.args.keeper.now)
-          (journal join.keeper) c.args.front.now c.args.front.now join.front w.reply-is (ap journal w.keeper-is) w.front-is
-          (inr (rw w.in-Err-Memory.field-0-is at w.in-Err-Memory.ensures.arrival, w.no_memory_reply-reply.ensures, refl, refl))
+      | in-Err-Memory w ↦ answered_as reading (record { reply = w.no_memory_reply.result; effect = Nothing }) join.response
+          (journal c.args.keeper.now) (journal c.args.keeper.now) (journal join.keeper) c.args.front.now c.args.front.now
+          join.front w.response-is (ap journal w.keeper-is) w.front-is
+          (inr (
+            rw w.in-Err-Memory.field-0-is at w.in-Err-Memory.ensures.arrival,
+            ap (λ (reply : Answer). record { reply = reply; effect = Nothing }) w.no_memory_reply.ensures,
+            refl,
+            refl,
+          ))
     ] in
     inl (
-      join.reply,
+      join.response,
       answered,
-      reply_written _ join.reply c.write_all-fault.result (rw c.bytes.ensures at c.write_all-fault.ensures.bytes) c.requires.unused.unfailed
-          c.write_all-fault.ensures.failed,
+      reply_written _ join.response.reply c.reply-fault.result (rw c.bytes.ensures at c.reply-fault.ensures.bytes)
+          c.requires.unused.unfailed c.reply-fault.ensures.failed,
+      refl,
+      c.reply-fault.ensures.kept,
     )

@@ -7,13 +7,13 @@ use Rattle.clock_sim.specs.Rehearsal.{after_close}
 use Rattle.clock_sim.proofs.StepLaws.{out_of_memory, round_closed}
 use Rattle.clock_sim.proofs.rounds.close_scripted.Goals as goal
 
-pub returns-in_err-written : goal.returns-in_err-written
-returns-in_err-written g c =
+pub returns-in_err-written-clause-step : goal.returns-in_err-written-clause-step
+returns-in_err-written-clause-step g c =
     let told = err_from_is_err_and c.from_residual.result c.from_residual.ensures.1 in
     rw (told.1, told.2) (out_of_memory (after_close c.args.hub.now.house.setup c.args.closing.now) c.args.hub.now.house c.args.hub.now.house refl)
 
-pub returns : goal.returns
-returns g c =
+pub returns-clause-step : goal.returns-clause-step
+returns-clause-step g c =
     let one = c.in_ok-written.written in
     let same = c.house-house.ensures ∙ c.front.ensures in
     let head = head_in c.deref.result.now one in
@@ -22,4 +22,4 @@ returns g c =
     ap₂ (λ (first second : List ℕ). head_in first one ++ body_in second one) c.deref.ensures.value c.deref-2.ensures.value in
     round_closed c.args.hub.now.house c.send.new.hub.house c.args.closing.now (head ++ body) c.round-round.result c.send.result
     (text ∙ c.in_ok-written.ensures.reads ∙ ap (λ (house : HouseFields). scripted_close house.setup house.closed c.args.closing.now) same)
-    (c.round-round.ensures.is ∙ ap (λ (house : HouseFields). (standing_in house).round) same) c.send.ensures
+    (c.round-round.ensures.is ∙ ap (λ (house : HouseFields). (standing_in house).round) same) c.send.ensures.step

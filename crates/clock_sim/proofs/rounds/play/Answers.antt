@@ -27,7 +27,7 @@ returns-in_err-put_all-clause-step g c =
     (round_refused (rehearsed c.args.hub.now.house.setup c.args.scripts.now c.args.closings.now) c.args.scripts.now c.args.closings.now
     c.loop-closing.closing-index c.closing-item.result c.args.hub.now.house now next c.loop-closing-test.true
     c.closing-item.is c.loop-closing.invariant.0 _
-    (no_further {T = ℕ} (after_puts now.setup 0 c.args.scripts.now) (after_close now.setup c.closing-item.result) now next _ c.in_err-put_all.ensures))
+    (no_further {T = ℕ} (after_puts now.setup 0 c.args.scripts.now) (after_close now.setup c.closing-item.result) now next _ c.in_err-put_all.ensures.step))
 
 pub returns-in_err-close_scripted-clause-step : goal.returns-in_err-close_scripted-clause-step
 returns-in_err-close_scripted-clause-step g c =
@@ -38,8 +38,8 @@ returns-in_err-close_scripted-clause-step g c =
     (round_refused (rehearsed c.args.hub.now.house.setup c.args.scripts.now c.args.closings.now) c.args.scripts.now c.args.closings.now
     c.loop-closing.closing-index c.closing-item.result c.args.hub.now.house now next c.loop-closing-test.true
     c.closing-item.is c.loop-closing.invariant.0 _
-    (puts_then_close c.args.scripts.now c.closing-item.result now c.put_all.new.hub.house next _ _ c.in_ok-put_all.ensures
-    c.in_err-close_scripted.ensures))
+    (puts_then_close c.args.scripts.now c.closing-item.result now c.put_all.new.hub.house next _ _ c.in_ok-put_all.ensures.step
+    c.in_err-close_scripted.ensures.step))
 
 pub returns-then-ended : goal.returns-then-ended
 returns-then-ended g c =
@@ -51,9 +51,10 @@ returns-then-ended g c =
       step = round_ends (rehearsed c.args.hub.now.house.setup c.args.scripts.now c.args.closings.now) c.args.scripts.now c.args.closings.now
           c.loop-closing.closing-index c.closing-item.result c.args.hub.now.house now next c.loop-closing-test.true
           c.closing-item.is c.loop-closing.invariant.0 _ _
-          (puts_then_close c.args.scripts.now c.closing-item.result now c.put_all.new.hub.house next _ _ c.in_ok-put_all.ensures
-          c.in_ok-close_scripted.ensures)
+          (puts_then_close c.args.scripts.now c.closing-item.result now c.put_all.new.hub.house next _ _ c.in_ok-put_all.ensures.step
+          c.in_ok-close_scripted.ensures.step)
           over;
+      held = tt;
       ended = over;
     }
 
@@ -66,8 +67,8 @@ loop-closing-preserved g c =
     round_passed (rehearsed c.args.hub.now.house.setup c.args.scripts.now c.args.closings.now) c.args.scripts.now c.args.closings.now
     c.loop-closing.closing-index c.closing-item.result c.args.hub.now.house now next c.loop-closing-test.true
     c.closing-item.is c.loop-closing.invariant.0 _
-    (puts_then_close c.args.scripts.now c.closing-item.result now c.put_all.new.hub.house next _ _ c.in_ok-put_all.ensures
-    c.in_ok-close_scripted.ensures)
+    (puts_then_close c.args.scripts.now c.closing-item.result now c.put_all.new.hub.house next _ _ c.in_ok-put_all.ensures.step
+    c.in_ok-close_scripted.ensures.step)
     (over ∙ c.if-ended.false) c.loop-closing.invariant.1
 
 pub returns-in_err-put_all-2-clause-step : goal.returns-in_err-put_all-2-clause-step
@@ -76,10 +77,10 @@ returns-in_err-put_all-2-clause-step g c =
     rw (told.1, told.2)
     (last_refused (rehearsed c.args.hub.now.house.setup c.args.scripts.now c.args.closings.now) c.args.scripts.now c.args.closings.now
     c.loop-closing.closing-index c.args.hub.now.house c.loop-closing.hub.house c.put_all-2.new.hub.house (omega arith) c.loop-closing.invariant.0 _
-    c.in_err-put_all-2.ensures)
+    c.in_err-put_all-2.ensures.step)
 
 pub returns-clause-step : goal.returns-clause-step
 returns-clause-step g c =
     closings_spent (rehearsed c.args.hub.now.house.setup c.args.scripts.now c.args.closings.now) c.args.scripts.now c.args.closings.now
     c.loop-closing.closing-index c.args.hub.now.house c.loop-closing.hub.house c.put_all-2.new.hub.house (omega arith) c.loop-closing.invariant.0 _
-    c.in_ok-put_all-2.ensures
+    c.in_ok-put_all-2.ensures.step

@@ -35,20 +35,20 @@ pub loop-bidder-preserved : goal.loop-bidder-preserved
 loop-bidder-preserved g c = (
   turn_over (after_puts c.args.hub.now.house.setup 0 c.args.scripts.now) c.args.scripts.now (requests_in c.loop-bidder.group) (requests_in c.put_scripted.new.group)
       c.loop-bidder.bidder c.index-scripts-bidder.result c.args.hub.now.house c.loop-bidder.hub.house c.put_scripted.new.hub.house
-      c.loop-bidder-test.true c.index-scripts-bidder.is c.loop-bidder.invariant.0 _ c.in_ok-put_scripted.ensures.way,
-  c.in_ok-put_scripted.ensures.under_way,
+      c.loop-bidder-test.true c.index-scripts-bidder.is c.loop-bidder.invariant.0 _ c.in_ok-put_scripted.ensures.step.way,
+  c.in_ok-put_scripted.ensures.step.under_way,
 )
 
-pub returns-in_err-put_scripted : goal.returns-in_err-put_scripted
-returns-in_err-put_scripted g c =
+pub returns-in_err-put_scripted-clause-step : goal.returns-in_err-put_scripted-clause-step
+returns-in_err-put_scripted-clause-step g c =
     let told = err_from_is_err_and c.from_residual.result c.from_residual.ensures.1 in
     rw (told.1, told.2)
     (turn_refused (after_puts c.args.hub.now.house.setup 0 c.args.scripts.now) c.args.scripts.now (requests_in c.loop-bidder.group) (requests_in c.put_scripted.new.group)
     c.loop-bidder.bidder c.index-scripts-bidder.result c.args.hub.now.house c.loop-bidder.hub.house c.put_scripted.new.hub.house
-    c.loop-bidder-test.true c.index-scripts-bidder.is c.loop-bidder.invariant.0 _ c.in_err-put_scripted.ensures.way)
+    c.loop-bidder-test.true c.index-scripts-bidder.is c.loop-bidder.invariant.0 _ c.in_err-put_scripted.ensures.step.way)
 
-pub returns : goal.returns
-returns g c =
+pub returns-clause-step : goal.returns-clause-step
+returns-clause-step g c =
     last_sent (after_puts c.args.hub.now.house.setup 0 c.args.scripts.now) c.args.scripts.now (requests_in c.loop-bidder.group) c.loop-bidder.bidder
     c.args.hub.now.house c.loop-bidder.hub.house c.send_all.new.hub.house c.send_all.result (omega arith) c.loop-bidder.invariant.0
     c.send_all.ensures.step

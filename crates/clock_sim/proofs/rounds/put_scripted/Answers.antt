@@ -26,8 +26,8 @@ counted waiting is same empty =
     let none : vec_len waiting ≡ 0 = eqb-true (vec_len waiting) 0 (sym same ∙ empty) in
     omega (arith, none, waiting.ok.0)
 
-pub returns-in_default : goal.returns-in_default
-returns-in_default g c =
+pub returns-in_default-clause-step : goal.returns-in_default-clause-step
+returns-in_default-clause-step g c =
     let hub = c.args.hub.now in
     let group = c.args.group.now in
     let bidder = c.args.bidder in
@@ -57,8 +57,8 @@ send_all-requires g c =
     c.in_ok-written.field-0 c.requires.under_way room same c.in_ok-written.ensures.writes one c.in-Some.is in
     next.under_way.waits
 
-pub returns-in_err-send_all : goal.returns-in_err-send_all
-returns-in_err-send_all g c =
+pub returns-in_err-send_all-clause-step : goal.returns-in_err-send_all-clause-step
+returns-in_err-send_all-clause-step g c =
     let hub = c.args.hub.now in
     let group = c.args.group.now in
     let bidder = c.args.bidder in
@@ -79,8 +79,8 @@ returns-in_err-send_all g c =
     c.requires.under_way room same c.in_ok-written.ensures.writes c.in-Some.written round c.send_all.new.hub c.send_all.new.self (Err _) c.in-Some.is at
     (refused_before grown c.send_all.new.self bidder round (text_at c.write_put.new.text.items one) hub c.send_all.new.hub _ c.in_err-send_all.ensures.step))
 
-pub returns-then-not-needs_body : goal.returns-then-not-needs_body
-returns-then-not-needs_body g c =
+pub returns-then-not-needs_body-clause-step : goal.returns-then-not-needs_body-clause-step
+returns-then-not-needs_body-clause-step g c =
     let hub = c.args.hub.now in
     let group = c.args.group.now in
     let bidder = c.args.bidder in
@@ -104,7 +104,7 @@ returns-then-not-needs_body g c =
     c.requires.under_way room same c.in_ok-written.ensures.writes c.in-Some.written round c.send.new.hub last c.send.result c.in-Some.is at
     (subst (λ (sent : List ℕ). ComesUnderWay (with_request hub.house.setup (requests_in grown) bidder round sent) hub c.send.new.hub last c.send.result) text
     (sent_alone grown last bidder round whole hub c.send_all.new.hub c.send.new.hub _ c.send.result next.under_way (subst ClosesNoRound (sym text) next.closes)
-    c.in_ok-send_all.ensures.step c.in_ok-send_all.ensures.none c.send.ensures))
+    c.in_ok-send_all.ensures.step c.in_ok-send_all.ensures.none c.send.ensures.step))
 
 pub send_all-requires-then-len-ge-MOST_WAITING : goal.send_all-requires-then-len-ge-MOST_WAITING
 send_all-requires-then-len-ge-MOST_WAITING g c =
@@ -136,8 +136,8 @@ send_all-requires-then-len-ge-MOST_WAITING g c =
     joined tt hub c.connect.new.self grown c.push.new.self this next needs c.in_ok-conn.ensures.connected c.in_ok-conn.ensures.front more in
     waits.under_way.waits
 
-pub returns-then-len-ge-MOST_WAITING : goal.returns-then-len-ge-MOST_WAITING
-returns-then-len-ge-MOST_WAITING g c =
+pub returns-then-len-ge-MOST_WAITING-clause-step : goal.returns-then-len-ge-MOST_WAITING-clause-step
+returns-then-len-ge-MOST_WAITING-clause-step g c =
     let hub = c.args.hub.now in
     let group = c.args.group.now in
     let bidder = c.args.bidder in
@@ -169,8 +169,8 @@ returns-then-len-ge-MOST_WAITING g c =
     c.requires.under_way room same c.in_ok-written.ensures.writes c.in-Some.written round sent.new.hub sent.new.self sent.result c.in-Some.is at
     (sent_full tt (with_turn hub.house.setup grown bidder round one) hub c.connect.new.self sent.new.hub full sent.new.self sent.result waits sent.ensures.step sent.ensures.none)
 
-pub returns : goal.returns
-returns g c =
+pub returns-clause-step : goal.returns-clause-step
+returns-clause-step g c =
     let hub = c.args.hub.now in
     let group = c.args.group.now in
     let bidder = c.args.bidder in

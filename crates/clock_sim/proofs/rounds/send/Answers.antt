@@ -9,8 +9,8 @@ use Rattle.clock_sim.proofs.SendLaws.{answered_early}
 use Rattle.clock_sim.proofs.StepLaws.{sent}
 use Rattle.clock_sim.proofs.rounds.send.Goals as goal
 
-pub returns-in-Reply : goal.returns-in-Reply
-returns-in-Reply g c =
+pub returns-in-Reply-clause-step : goal.returns-in-Reply-clause-step
+returns-in-Reply-clause-step g c =
     let head = c.args.head.now in
     let body = c.args.body.now in
     let mid = c.connect.new.self in
@@ -22,4 +22,4 @@ returns-in-Reply g c =
     let whole = answered_early c.law_decided_once.ensures c.law_one_head.ensures head body c.in-Reply.reply mid.house new.house fed.0 fed.1.answered in
     sent (head ++ body) c.in-Reply.reply c.code.result c.args.hub.now.house new.house c.args.sender c.args.round c.told.result
     (subst (λ (house : HouseFields). AnswersText (head ++ body) c.in-Reply.reply house new.house) c.in_ok-conn.ensures.front whole)
-    (fed.1.setup ∙ ap (λ (house : HouseFields). house.setup) c.in_ok-conn.ensures.front) c.code.ensures c.told.ensures
+    (fed.1.setup ∙ ap (λ (house : HouseFields). house.setup) c.in_ok-conn.ensures.front) c.code.ensures c.told.ensures.step

@@ -29,7 +29,8 @@ returns-clause-answer g c =
     settled_by c.args.self.now c.args.increments.now c.in_ok-increments.increments c.args.ties.now c.in_ok-ties.ties c.in_ok-increments.ensures
     c.in_ok-ties.ensures.listed
     (closes-tested c.args.self.now (is_open c.self.view_is c.self.invariant.1) c.self.inside.setup.now c.as_slice.result.now c.args.increments.now
-    c.args.ties.now (ap (λ (round : OpenRoundFields). round.setup) c.self.view_is)
+    c.args.ties.now (ap (λ (round : OpenRoundFields). round.before.standing.ended) (sym c.self.view_is))
+    (ap (λ (round : OpenRoundFields). round.setup) c.self.view_is)
     (c.as_slice.ensures ∙ ap (λ (one : SetupFields). one.products) c.setup.view_is) (sym c.if-not-are_within.ensures) c.in_ok-ties.ensures.good)
     ∙ c.in_ok-results.ensures.closes
 
@@ -41,6 +42,7 @@ returns-in_err-results-clause-answer g c =
     settled_by c.args.self.now c.args.increments.now c.in_ok-increments.increments c.args.ties.now c.in_ok-ties.ties c.in_ok-increments.ensures
     c.in_ok-ties.ensures.listed
     (closes-tested c.args.self.now (is_open c.self.view_is c.self.invariant.1) c.self.inside.setup.now c.as_slice.result.now c.args.increments.now
-    c.args.ties.now (ap (λ (round : OpenRoundFields). round.setup) c.self.view_is)
+    c.args.ties.now (ap (λ (round : OpenRoundFields). round.before.standing.ended) (sym c.self.view_is))
+    (ap (λ (round : OpenRoundFields). round.setup) c.self.view_is)
     (c.as_slice.ensures ∙ ap (λ (one : SetupFields). one.products) c.setup.view_is) (sym c.if-not-are_within.ensures) c.in_ok-ties.ensures.good)
     ∙ c.in_err-results.ensures other)

@@ -2,8 +2,7 @@ use Rattle.std.proofs.Common.{◌≡◌, ◌≢◌, ◌≤◌, ap, sym, ◌∙�
 use Rattle.std.proofs.lemmas.List.Sorted.{All-permutation}
 use Rattle.clock_posting.specs.PostedPrice.{IsWithinPrices}
 use Rattle.clock_posting.specs.Posting.{opening_posted}
-use Rattle.clock_closing.specs.OpenRound.{OpenRoundFields}
-use Rattle.clock_closing.specs.inside.OpenRound.{IsOpenRound}
+use Rattle.clock_closing.specs.OpenRound.{IsOpenRound, OpenRoundFields}
 use Rattle.clock_closing.specs.Closing.{requests, first_result, later_result}
 use Rattle.clock_closing.proofs.Posts.{posts_by}
 use Rattle.clock_closing.proofs.OpenRounds.{asked_within, priced_requests}

@@ -1,6 +1,6 @@
 use Rattle.std.proofs.Common.{◌≡◌, false, sym, subst, ◌∙◌}
 use Rattle.std.specs.Prelude.{reverse}
-use Rattle.clock_closing.specs.inside.OpenRound.{IsOpenRound}
+use Rattle.clock_closing.specs.OpenRound.{IsOpenRound}
 use Rattle.clock_house.specs.House.{HouseFields}
 use Rattle.clock_house.proofs.InHouse.{many_eligibilities, many_demands, open_is}
 use Rattle.clock_house.proofs.Kept.{stands_open_round}

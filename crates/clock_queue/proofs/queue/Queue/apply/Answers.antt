@@ -1,5 +1,5 @@
 -- The calls do what an application does to a queue.
-use Rattle.std.proofs.Common.{◌≡◌, ℕ, ◌-◌, ◌<◌, ◌∷◌, min, List, length, get_or, set, ap, sym, subst, ◌∙◌, arith, All}
+use Rattle.std.proofs.Common.{◌≡◌, ℕ, ◌-◌, ◌<◌, ◌∷◌, min, List, length, get_or, set, ap, refl, sym, subst, ◌∙◌, arith, All}
 use Rattle.std.proofs.lemmas.List.{get_or_read, length-set}
 use Rattle.clock_terms.specs.Limits.{most_units}
 use Rattle.clock_terms.specs.declared.change.Change.{Change}
@@ -8,20 +8,19 @@ use Rattle.clock_processor.specs.Board.{BoardFields, IsBoard, MayApply, applied_
 use Rattle.clock_processor.specs.Settling.{no_change}
 use Rattle.clock_queue.specs.declared.queue.Queue.{Queue}
 use Rattle.clock_queue.specs.inside.Lines.{product_line, bidder_line}
-use Rattle.clock_queue.specs.inside.Queue.{HasWoken, IsAppliedWhole, IsKept, IsTracking, line_in, room_in}
+use Rattle.clock_queue.specs.inside.Queue.{HasWoken, HasWokenProduct, IsAppliedWhole, IsKept, IsTracking, line_in, room_in}
 use Rattle.clock_queue.proofs.Applies.{after, applied_whole, kept_mid, may_apply_first, places_within}
-use Rattle.clock_queue.proofs.queue.Queue.apply.Goals.{In_ok-wake}
 use Rattle.clock_queue.proofs.queue.Queue.apply.Goals as goal
 
 some_room : (room r : ℕ) → room ≡ r → 0 < room → 0 < r
 some_room room r same some = subst (λ n. 0 < n) same some
 
 -- what the calls say of the fields, as one application of the request at a place
-module _ (changes : List Change) (first room : ℕ) (old mid new : Queue) (one : Change) (board : BoardFields) (read left : List ℕ) (unused line other limit : ℕ)
+module _ (changes : List Change) (first room : ℕ) (old mid new : Queue) (one : Change) (board : BoardFields) (read left : List ℕ) (unused rest other limit : ℕ)
     (is : IsKept changes old) (lt : first < length changes) (is_board : IsBoard old.board.products old.board.eligibilities old.board.grid)
     (room_is : room ≡ room_in changes old first) (positive : 0 < room) (one_is : one ≡ get_or changes first one)
     (board_is : board ≡ applied_to old.board one room) (read_is : read ≡ old.left) (left_is : left ≡ set old.left first (get_or read first 0 - room))
-    (line_is : line ≡ product_line one.product) (woken : HasWoken line 0 (record old { board = board; left = left }) mid) where
+    (rest_is : rest ≡ get_or read first 0 - room) (woken : HasWokenProduct one rest (record old { board = board; left = left }) mid) where
   some : 0 < room_in changes old first
   some = some_room room (room_in changes old first) room_is positive
 
@@ -38,9 +37,14 @@ module _ (changes : List Change) (first room : ℕ) (old mid new : Queue) (one :
   after_is : ◌≡◌ {A = Queue} (record old { board = board; left = left }) (after changes old first is lt is_board some)
   after_is = λ k. record { board = board_after k; left = left_after k; admitted = old.admitted; ready = old.ready; lines = old.lines }
 
-  product_woken : HasWoken (product_line (get_or changes first no_change).product) 0 (after changes old first is lt is_board some) mid
-  product_woken = subst (λ (queue : Queue). HasWoken (product_line (get_or changes first no_change).product) 0 queue mid) after_is
-      (subst (λ n. HasWoken n 0 (record old { board = board; left = left }) mid) (line_is ∙ ap (λ (c : Change). product_line c.product) change_is) woken)
+  rest_after : rest ≡ get_or old.left first 0 - room_in changes old first
+  rest_after = rest_is ∙ ap (λ (list : List ℕ). get_or list first 0 - room) read_is ∙ ap (λ n. get_or old.left first 0 - n) room_is
+
+  product_woken : HasWokenProduct (get_or changes first no_change) (get_or old.left first 0 - room_in changes old first)
+      (after changes old first is lt is_board some) mid
+  product_woken = subst (λ (queue : Queue). HasWokenProduct (get_or changes first no_change) (get_or old.left first 0 - room_in changes old first) queue mid)
+      after_is (subst (λ n. HasWokenProduct (get_or changes first no_change) n (record old { board = board; left = left }) mid) rest_after
+      (subst (λ (c : Change). HasWokenProduct c rest (record old { board = board; left = left }) mid) change_is woken))
 
   pub places_mid : (at : ℕ) → All (λ place. place < length mid.left) (line_in mid at).places
   places_mid = places_within changes mid (kept_mid changes old first is lt is_board some mid product_woken)
@@ -64,25 +68,25 @@ apply-unused-requires c =
     (sym (get_or_read c.args.changes.now c.args.place c.index-changes-place.result c.requires.within c.index-changes-place.is no_change))
     (may_apply_first c.args.changes.now c.args.self.now c.args.place c.requires.kept c.requires.within c.requires.is_board some))
 
-pub wake-requires-clause-places : goal.wake-requires-clause-places
-wake-requires-clause-places c = λ k d within. omega (
+pub wake_product-requires-clause-places : goal.wake_product-requires-clause-places
+wake_product-requires-clause-places c = λ k d within. omega (
   arith,
-  places_within c.args.changes.now c.args.self.now c.requires.kept c.product_line.result k d within,
+  places_within c.args.changes.now c.args.self.now c.requires.kept (product_line c.index-changes-place.result.product) k d within,
   ap (λ (list : List ℕ). length list) c.set.ensures,
   length-set c.args.self.now.left c.args.place (get_or c.as_slice.result.now c.args.place 0 - c.args.room),
 )
 
-pub wake-requires-2-clause-places : goal.wake-requires-2-clause-places
-wake-requires-2-clause-places c =
-    places_mid c.args.changes.now c.args.place c.args.room c.args.self.now c.wake.new.self c.wake.new.self c.index-changes-place.result
-    c.apply-unused.new.self c.as_slice.result.now c.set.new.self c.apply-unused.result c.product_line.result c.bidder_line.result c.min.result
-    c.requires.kept c.requires.within c.requires.is_board c.requires.room c.requires.positive c.index-changes-place.is c.apply-unused.ensures.applied
-    c.as_slice.ensures c.set.ensures c.product_line.ensures c.in_ok-wake.ensures c.bidder_line.result
+pub wake-requires-clause-places : goal.wake-requires-clause-places
+wake-requires-clause-places c =
+    places_mid c.args.changes.now c.args.place c.args.room c.args.self.now c.wake_product.new.self c.wake_product.new.self c.index-changes-place.result
+    c.apply-unused.new.self c.as_slice.result.now c.set.new.self c.apply-unused.result (get_or c.as_slice.result.now c.args.place 0 - c.args.room)
+    c.bidder_line.result c.min.result c.requires.kept c.requires.within c.requires.is_board c.requires.room c.requires.positive
+    c.index-changes-place.is c.apply-unused.ensures.applied c.as_slice.ensures c.set.ensures refl c.in_ok-wake_product.ensures c.bidder_line.result
 
 pub returns : goal.returns
 returns c =
-    joined c.args.changes.now c.args.place c.args.room c.args.self.now c.wake.new.self c.wake-2.new.self c.index-changes-place.result
-    c.apply-unused.new.self c.as_slice.result.now c.set.new.self c.apply-unused.result c.product_line.result c.bidder_line.result c.min.result
-    c.requires.kept c.requires.within c.requires.is_board c.requires.room c.requires.positive c.index-changes-place.is c.apply-unused.ensures.applied
-    c.as_slice.ensures c.set.ensures c.product_line.ensures c.in_ok-wake.ensures c.requires.tracked c.apply-unused.ensures.unused c.bidder_line.ensures
-    c.min.ensures c.in_ok-wake-2.ensures
+    joined c.args.changes.now c.args.place c.args.room c.args.self.now c.wake_product.new.self c.wake.new.self c.index-changes-place.result
+    c.apply-unused.new.self c.as_slice.result.now c.set.new.self c.apply-unused.result (get_or c.as_slice.result.now c.args.place 0 - c.args.room)
+    c.bidder_line.result c.min.result c.requires.kept c.requires.within c.requires.is_board c.requires.room c.requires.positive
+    c.index-changes-place.is c.apply-unused.ensures.applied c.as_slice.ensures c.set.ensures refl c.in_ok-wake_product.ensures
+    c.requires.tracked c.apply-unused.ensures.unused c.bidder_line.ensures c.min.ensures c.in_ok-wake.ensures

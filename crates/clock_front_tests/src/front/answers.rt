@@ -1,0 +1,245 @@
+//! What requests are answered with, one after the other.
+use super::requests::{Told, compare, reply_of, request_of, setup_of, text_of};
+use super::texts::{ACCEPTED, PUT};
+use crate::comparing::{assert_is, assert_is_at};
+use crate::front::example::{on_front, on_one_product};
+use crate::repeated::{Repeated, repeated};
+use clock_device::{Items, Text};
+use clock_fixtures::{ACTIVITY_LIMIT, AT_THE_HIGHEST, GRANULES_AND_INCREMENTS, ONE_PRODUCT};
+use clock_front::{Front, Reply, run};
+use clock_http::Code;
+use clock_processor::Plain;
+use std::alloc::Global;
+use std::process::Abort;
+
+/// Sends the request of a row, and compares its reply. Returns nothing if the row lacks a field.
+fn send(rt: &impl Abort, alloc: Global, front: &mut Front<Plain>, row: &str) -> Option<()> {
+    let (request, reply) = row.split_once('>')?;
+    let (status, page) = reply.split_once('|')?;
+    let text = request_of(alloc, request)?;
+    compare(rt, alloc, front, row, text.as_str(), (status, page))
+}
+
+/// Sends the requests of all rows in turn.
+fn send_rows(rt: &impl Abort, alloc: Global, front: &mut Front<Plain>, rows: &str) -> Option<()> {
+    for row in rows.split('\n') {
+        let sent = send(rt, alloc, front, row);
+        assert_is_at(rt, row, sent, Some(()));
+    }
+    Some(())
+}
+
+/// X's sheet is replaced by another one, and by one without bids; Y has none.
+const SHEETS: &str =
+    r#"GET /v1/me/bids|X|>200 OK|{"bids":[{"price":100,"product":0,"quantity":2}],"round":1}
+PUT /v1/me/bids|X|{"bids":[{"price":100,"product":0,"quantity":1}],"round":1}>200 OK|{"accepted":true,"bids":1,"round":1}
+GET /v1/me/bids|X|>200 OK|{"bids":[{"price":100,"product":0,"quantity":1}],"round":1}
+PUT /v1/me/bids|X|{"bids":[],"round":1}>200 OK|{"accepted":true,"bids":0,"round":1}
+GET /v1/me/bids|X|>200 OK|{"bids":[],"round":1}
+GET /v1/me/bids|Y|>200 OK|{"bids":null,"round":1}"#;
+
+/// The 147 bytes of a sheet that X puts, byte for byte, and its reply; then the rows.
+fn put_and_told(rt: &impl Abort, alloc: Global, front: &mut Front<Plain>) -> Option<()> {
+    let reply = reply_of(alloc, front, PUT)?;
+    assert_is(rt, reply.as_str(), ACCEPTED);
+    send_rows(rt, alloc, front, SHEETS)
+}
+
+#[test]
+fn a_sheet_is_put_and_told(rt: HostRuntime) {
+    assert_is(&rt, PUT.len(), 147);
+    let done = on_one_product(rt.alloc(), |front| put_and_told(&rt, rt.alloc(), front));
+    assert_is(&rt, done, Some(()));
+}
+
+/// X drops two blocks, of which one is given up.
+const DROP_IN_PART: &str =
+    r#"PUT /v1/me/bids|X|{"bids":[{"price":100,"product":0,"quantity":2}],"round":1}>200 OK|{"accepted":true,"bids":1,"round":1}
+PUT /v1/me/bids|Y|{"bids":[{"price":100,"product":0,"quantity":1}],"round":1}>200 OK|{"accepted":true,"bids":1,"round":1}
+POST /v1/close|O|{"increment":10,"round":1,"ties":[]}>200 OK|{"closed":1,"ended":false}
+PUT /v1/me/bids|X|{"bids":[{"price":110,"product":0,"quantity":2}],"round":1}>409 Conflict|{"code":"wrong_round","round":2,"status":409}
+PUT /v1/me/bids|X|{"bids":[{"price":103,"product":0,"quantity":0}],"round":2}>200 OK|{"accepted":true,"bids":1,"round":2}
+PUT /v1/me/bids|Y|{"bids":[{"price":110,"product":0,"quantity":1}],"round":2}>200 OK|{"accepted":true,"bids":1,"round":2}
+GET /v1/me|X|>200 OK|{"activity":2,"demands":[2],"eligibility":3,"ended":false,"name":"X","round":2}
+POST /v1/close|O|{"increment":10,"round":2,"ties":[]}>200 OK|{"closed":2,"ended":true}
+GET /v1/results|O|>200 OK|{"bidders":[{"demands":[1],"eligibility":2,"name":"X"},{"demands":[1],"eligibility":2,"name":"Y"}],"ended":true,"round":2}
+GET /v1/me/rounds/2|X|>200 OK|{"activity":1,"demands":[1],"eligibility":2,"round":2}
+GET /v1/rounds/2||>200 OK|{"ended":true,"products":[{"clock":110,"demand":null,"name":"A","next":null,"posted":103,"start":100}],"round":2}
+PUT /v1/me/bids|X|{"bids":[],"round":2}>409 Conflict|{"code":"ended","status":409}
+PUT /v1/me/bids|X|{"bids":[],"round":1}>409 Conflict|{"code":"ended","status":409}
+PUT /v1/me/bids|X|{"bids":[]}>422 Unprocessable Entity|{"code":"shape","status":422}
+POST /v1/close|O|{"increment":10,"round":1,"ties":[]}>409 Conflict|{"code":"ended","status":409}
+POST /v1/close|O|{"increments":[10],"round":2,"ties":[]}>422 Unprocessable Entity|{"code":"shape","status":422}"#;
+
+/// Each request has two faults or more, of which the earlier one answers.
+const REFUSALS: &str = r#"DELETE /v1/none||>404 Not Found|{"code":"no_page","status":404}
+DELETE /v1/me/bids||>405 Method Not Allowed|{"code":"method","status":405}
+PUT /v1/me/bids||x>401 Unauthorized|{"code":"token","status":401}
+PUT /v1/me/bids|O|x>403 Forbidden|{"code":"role","status":403}
+PUT /v1/me/bids|O|{"bids":[]}>403 Forbidden|{"code":"role","status":403}
+POST /v1/close|X|x>403 Forbidden|{"code":"role","status":403}
+POST /v1/close|X|{"increments":[10],"round":1,"ties":[]}>403 Forbidden|{"code":"role","status":403}
+PUT /v1/me/bids|X|x>400 Bad Request|{"code":"bad_json","status":400}
+PUT /v1/me/bids|X|{"bids":[]}>422 Unprocessable Entity|{"code":"shape","status":422}
+PUT /v1/me/bids|X|{"bids":[{"price":1,"product":1,"quantity":2}],"round":2}>409 Conflict|{"code":"wrong_round","round":1,"status":409}
+PUT /v1/me/bids|X|{"bids":[{"price":1,"product":1,"quantity":2}],"round":1}>422 Unprocessable Entity|{"code":"unknown_product","place":0,"status":422}
+PUT /v1/me/bids|X|{"bids":[{"price":101,"product":0,"quantity":3}],"round":1}>422 Unprocessable Entity|{"code":"price_range","place":0,"status":422}
+POST /v1/close|O|{"increments":[10],"round":2,"ties":[]}>422 Unprocessable Entity|{"code":"shape","status":422}
+POST /v1/close|O|{"increment":51,"round":2,"ties":[[0,1,5]]}>409 Conflict|{"code":"wrong_round","round":1,"status":409}
+POST /v1/close|O|{"increment":51,"round":1,"ties":[[0,1,5]]}>422 Unprocessable Entity|{"code":"increment","status":422}
+POST /v1/close|O|{"increment":10,"round":1,"ties":[[0,0,1],[0,0,2]]}>422 Unprocessable Entity|{"code":"tie_repeated","place":1,"status":422}
+GET /v1/rounds/01||>404 Not Found|{"code":"no_round","status":404}
+GET /v1/products||>200 OK|{"products":[{"cap":2,"name":"A","opening":100,"supply":2,"units":1}],"requirement":95,"version":1}"#;
+
+/// Each request has one fault.
+const FAULTS: &str = r#"GET /v1/me||>401 Unauthorized|{"code":"token","status":401}
+GET /v1/me|O|>403 Forbidden|{"code":"role","status":403}
+GET /v1/rounds/1||>404 Not Found|{"code":"no_round","status":404}
+POST /v1/close|O|{"increment":0,"round":1,"ties":[]}>422 Unprocessable Entity|{"code":"increment","status":422}
+POST /v1/close|O|{"increment":51,"round":1,"ties":[]}>422 Unprocessable Entity|{"code":"increment","status":422}
+POST /v1/close|O|{"increment":10,"round":1,"ties":[[0,1,5]]}>422 Unprocessable Entity|{"code":"tie_range","place":0,"status":422}
+PUT /v1/me/bids|X|{"bids":[{"price":101,"product":0,"quantity":1}],"round":1}>422 Unprocessable Entity|{"code":"price_range","place":0,"status":422}
+PUT /v1/me/bids|X|{"bids":[{"price":100,"product":0,"quantity":3}],"round":1}>422 Unprocessable Entity|{"code":"over_cap","place":0,"status":422}
+PUT /v1/me/bids|X|{"bids":[{"price":100,"product":0,"quantity":1},{"price":100,"product":0,"quantity":2}],"round":1}>422 Unprocessable Entity|{"code":"price_order","place":1,"status":422}
+PUT /v1/me/bids|X|{"bids":[{"price":100,"product":0,"quantity":2}],"round":1}>200 OK|{"accepted":true,"bids":1,"round":1}
+PUT /v1/me/bids|Y|{"bids":[{"price":100,"product":0,"quantity":1}],"round":1}>200 OK|{"accepted":true,"bids":1,"round":1}
+POST /v1/close|O|{"increment":10,"round":1,"ties":[]}>200 OK|{"closed":1,"ended":false}
+PUT /v1/me/bids|X|{"bids":[{"price":103,"product":0,"quantity":1},{"price":105,"product":0,"quantity":2}],"round":2}>422 Unprocessable Entity|{"code":"mixed_direction","place":1,"status":422}
+PUT /v1/me/bids|X|{"bids":[{"price":105,"product":0,"quantity":2}],"round":2}>422 Unprocessable Entity|{"code":"keep_price","place":0,"status":422}"#;
+
+/// More activity than a bidder is eligible for.
+const ACTIVE: &str =
+    r#"PUT /v1/me/bids|X|{"bids":[{"price":100,"product":0,"quantity":4},{"price":100,"product":1,"quantity":1}],"round":1}>422 Unprocessable Entity|{"code":"over_activity","status":422}"#;
+
+/// A round that cannot be closed at its demand keeps its sheets, and can be closed once it has less.
+const PRICE_LIMIT: &str =
+    r#"PUT /v1/me/bids|X|{"bids":[{"price":1000000000000,"product":0,"quantity":2}],"round":1}>200 OK|{"accepted":true,"bids":1,"round":1}
+PUT /v1/me/bids|Y|{"bids":[{"price":1000000000000,"product":0,"quantity":1}],"round":1}>200 OK|{"accepted":true,"bids":1,"round":1}
+POST /v1/close|O|{"increment":1,"round":1,"ties":[[0,1,5]]}>422 Unprocessable Entity|{"code":"tie_range","place":0,"status":422}
+POST /v1/close|O|{"increment":1,"round":1,"ties":[]}>422 Unprocessable Entity|{"code":"price_limit","place":0,"status":422}
+GET /v1/status||>200 OK|{"ended":false,"round":1,"version":1}
+GET /v1/me/bids|X|>200 OK|{"bids":[{"price":1000000000000,"product":0,"quantity":2}],"round":1}
+GET /v1/me/bids|Y|>200 OK|{"bids":[{"price":1000000000000,"product":0,"quantity":1}],"round":1}
+PUT /v1/me/bids|X|{"bids":[{"price":1000000000000,"product":0,"quantity":1}],"round":1}>200 OK|{"accepted":true,"bids":1,"round":1}
+POST /v1/close|O|{"increment":1,"round":1,"ties":[]}>200 OK|{"closed":1,"ended":true}"#;
+
+/// A closing has an increment for each product.
+const VERSION_2: &str =
+    r#"POST /v1/close|O|{"increment":10,"round":1,"ties":[]}>422 Unprocessable Entity|{"code":"shape","status":422}
+POST /v1/close|O|{"increments":[10],"round":1,"ties":[]}>422 Unprocessable Entity|{"code":"increment","status":422}
+POST /v1/close|O|{"increments":[10,20,30],"round":1,"ties":[]}>422 Unprocessable Entity|{"code":"increment","status":422}
+POST /v1/close|O|{"increments":[10,51],"round":1,"ties":[]}>422 Unprocessable Entity|{"code":"increment","status":422}
+POST /v1/close|O|{"increments":[10,20],"round":1,"ties":[]}>200 OK|{"closed":1,"ended":true}
+GET /v1/status||>200 OK|{"ended":true,"round":1,"version":2}"#;
+
+/// The set-ups of auctions, and the requests that are sent to each.
+const AUCTIONS: &[(&str, &str)] = &[
+    (ONE_PRODUCT, DROP_IN_PART),
+    (ONE_PRODUCT, REFUSALS),
+    (ONE_PRODUCT, FAULTS),
+    (ACTIVITY_LIMIT, ACTIVE),
+    (AT_THE_HIGHEST, PRICE_LIMIT),
+    (GRANULES_AND_INCREMENTS, VERSION_2),
+];
+
+#[test]
+fn requests_are_answered_in_turn(rt: HostRuntime) {
+    for &(document, rows) in AUCTIONS {
+        let done = on_front(rt.alloc(), document, |front| {
+            send_rows(&rt, rt.alloc(), front, rows)
+        });
+        assert_is_at(&rt, document, done, Some(()));
+    }
+}
+
+/// Request lines and whose token they have, bodies of one item more than the most, one like the other, and the page of
+/// the reply: a sheet has at most 8,192 bids, and a closing at most 16,384 ties.
+const TOO_MANY: &[(&str, &str, Repeated<'static>, &str)] = &[
+    (
+        "PUT /v1/me/bids",
+        "X",
+        (
+            r#"{"bids":[{"price":100,"product":0,"quantity":1}"#,
+            r#",{"price":100,"product":0,"quantity":1}"#,
+            8_192,
+            r#"],"round":1}"#,
+        ),
+        r#"{"code":"too_many","status":422}"#,
+    ),
+    (
+        "POST /v1/close",
+        "O",
+        (
+            r#"{"increment":10,"round":1,"ties":[[0,1,5]"#,
+            ",[0,1,5]",
+            16_384,
+            "]}",
+        ),
+        r#"{"code":"too_many_ties","status":422}"#,
+    ),
+];
+
+/// The text of a request line, whose token it has and the parts of its body.
+fn long_text(alloc: Global, asked: (&str, &str), parts: Repeated<'_>) -> Option<String> {
+    let body = repeated(alloc, parts)?;
+    text_of(alloc, asked.0, asked.1, body.as_str())
+}
+
+/// A body of these parts is refused with a page.
+fn has_too_many(
+    rt: &impl Abort,
+    alloc: Global,
+    front: &mut Front<Plain>,
+    asked: (&str, &str),
+    parts: Repeated<'_>,
+    page: &str,
+) -> Option<()> {
+    let text = long_text(alloc, asked, parts)?;
+    let told: Told<'_> = ("422 Unprocessable Entity", page);
+    compare(rt, alloc, front, asked.0, text.as_str(), told)
+}
+
+#[test]
+fn a_body_has_at_most_so_many_items(rt: HostRuntime) {
+    for &(line, who, parts, page) in TOO_MANY {
+        let done = on_one_product(rt.alloc(), |front| {
+            has_too_many(&rt, rt.alloc(), front, (line, who), parts, page)
+        });
+        assert_is_at(&rt, line, done, Some(()));
+    }
+}
+
+/// The texts of rows.
+fn texts_of(alloc: Global, rows: &str) -> Option<Items<Text>> {
+    let mut texts = Items::new(alloc);
+    for row in rows.split('|') {
+        let text = Text::from_slice(alloc, row.as_bytes()).ok()?;
+        texts.push(text).ok()?;
+    }
+    Some(texts)
+}
+
+/// The codes of replies are these.
+fn have_codes(rt: &impl Abort, replies: &[Reply], codes: &[Code]) {
+    assert_is(rt, replies.len(), codes.len());
+    for (place, (reply, code)) in replies.iter().zip(codes).enumerate() {
+        assert_is_at(rt, place, reply.code(), *code);
+    }
+}
+
+/// The codes of the replies to the texts of rows are these.
+fn run_has_codes(rt: &impl Abort, alloc: Global, rows: &str, codes: &[Code]) -> Option<()> {
+    let texts = texts_of(alloc, rows)?;
+    let setup = setup_of(alloc, ONE_PRODUCT)?;
+    let replies = run(alloc, setup, Plain, texts.as_slice()).ok()?;
+    have_codes(rt, replies.as_slice(), codes);
+    drop(replies);
+    Some(())
+}
+
+#[test]
+fn a_run_gives_a_reply_to_each_text(rt: HostRuntime) {
+    let rows = "GET /v1/status HTTP/1.1\r\n\r\n|GET /v1/status";
+    let codes = [Code::Done, Code::CutShort];
+    assert_is(&rt, run_has_codes(&rt, rt.alloc(), rows, &codes), Some(()));
+}

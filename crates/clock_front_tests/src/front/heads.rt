@@ -1,0 +1,125 @@
+//! What is answered where a head is at a limit or past it, or is none.
+use super::requests::{Told, compare};
+use crate::comparing::assert_is_at;
+use crate::front::example::on_one_product;
+use crate::repeated::{Repeated, repeated};
+use std::alloc::Global;
+use std::process::Abort;
+
+/// Those of a head that is read, and whose path has no page.
+const NO_PAGE: Told<'static> = ("404 Not Found", r#"{"code":"no_page","status":404}"#);
+
+/// Those of a head that is too long.
+const LONG_HEAD: Told<'static> = (
+    "431 Request Header Fields Too Large",
+    r#"{"code":"long_head","status":431}"#,
+);
+
+/// Those of a text that has no head of the form.
+pub const BAD_HEAD: Told<'static> = ("400 Bad Request", r#"{"code":"bad_head","status":400}"#);
+
+/// Those of a head that does not tell one length.
+pub const BAD_LENGTH: Told<'static> = ("400 Bad Request", r#"{"code":"bad_length","status":400}"#);
+
+const CUT_SHORT: Told<'static> = ("400 Bad Request", r#"{"code":"cut_short","status":400}"#);
+
+const LONG_BODY: Told<'static> = (
+    "413 Payload Too Large",
+    r#"{"code":"long_body","status":413}"#,
+);
+
+/// Those of a head whose body comes in another coding.
+pub const CODING: Told<'static> = ("501 Not Implemented", r#"{"code":"coding","status":501}"#);
+
+/// Requests, and the replies to them. Where there are two faults the earlier one answers.
+const TEXTS: &[(&str, Told<'static>)] = &[
+    (
+        "GET /v1/none HTTP/1.1\r\ncontent-length: +5\r\n\r\n",
+        BAD_LENGTH,
+    ),
+    (
+        "GET /v1/none HTTP/1.1\r\ncontent-length: 1048577\r\n\r\n",
+        LONG_BODY,
+    ),
+    (
+        "GET /v1/none HTTP/1.1\r\ncontent-length: 1048576\r\n\r\n",
+        CUT_SHORT,
+    ),
+    (
+        "GET /v1/none HTTP/1.1\r\ntransfer-encoding: chunked\r\n\r\n",
+        CODING,
+    ),
+    (
+        "GET /v1/none HTTP/1.1\r\ntransfer-encoding: chunked\r\na : b\r\n\r\n",
+        BAD_HEAD,
+    ),
+    (
+        "GET /v1/none HTTP/1.1\r\ncontent-length: x\r\ntransfer-encoding: chunked\r\n\r\n",
+        CODING,
+    ),
+    (
+        "GET /v1/none HTTP/1.1\r\ncontent-length: 1048577\r\ncontent-length: 1048577\r\n\r\n",
+        BAD_LENGTH,
+    ),
+    ("GET /v1/none HTTP/1.1\r\na : b\r\n\r\n", BAD_HEAD),
+    ("GET /v1/none HTTP/1.1\r\na: b\r\n\r\n", NO_PAGE),
+    ("GET /v1/status HTTP/1.1\r\na: b\nc: d\r\n\r\n", BAD_HEAD),
+];
+
+/// A text by itself is answered with a status and a page.
+fn answers(rt: &impl Abort, alloc: Global, text: &str, told: Told<'_>) -> Option<()> {
+    on_one_product(alloc, |front| {
+        compare(rt, alloc, front, text, text, told)
+    })
+}
+
+#[test]
+fn header_lines_are_answered_by_their_faults(rt: HostRuntime) {
+    for &(text, told) in TEXTS {
+        let done = answers(&rt, rt.alloc(), text, told);
+        assert_is_at(&rt, text, done, Some(()));
+    }
+}
+
+/// Heads of at most 64 lines and of at most 16,384 bytes: the parts, and how many bytes they are.
+const WITHIN: &[(Repeated<'static>, usize)] = &[
+    (("GET / HTTP/1.1\r\n", "a: b\r\n", 64, "\r\n"), 402),
+    (("GET / HTTP/1.1\r\na: ", "x", 16_361, "\r\n\r\n"), 16_384),
+];
+
+/// Heads of more, the last of which has not ended yet.
+const BEYOND: &[(Repeated<'static>, usize)] = &[
+    (("GET / HTTP/1.1\r\n", "a: b\r\n", 65, "\r\n"), 408),
+    (("\nGET / HTTP/1.1\r\n", "a: b\r\n", 65, "\r\n"), 409),
+    (("GET / HTTP/1.1\r\na: ", "x", 16_362, "\r\n\r\n"), 16_385),
+    (("GET / HTTP/1.1\r\na: ", "x", 16_365, ""), 16_384),
+];
+
+/// A long head has so many bytes, and is answered so.
+fn long_head_answers(
+    rt: &impl Abort,
+    alloc: Global,
+    parts: Repeated<'_>,
+    length: usize,
+    told: Told<'_>,
+) -> Option<()> {
+    let text = repeated(alloc, parts)?;
+    assert_is_at(rt, parts.2, text.len(), length);
+    answers(rt, alloc, text.as_str(), told)
+}
+
+#[test]
+fn a_head_has_at_most_64_lines_and_16384_bytes(rt: HostRuntime) {
+    for &(parts, length) in WITHIN {
+        let done = long_head_answers(&rt, rt.alloc(), parts, length, NO_PAGE);
+        assert_is_at(&rt, length, done, Some(()));
+    }
+}
+
+#[test]
+fn a_longer_head_is_refused(rt: HostRuntime) {
+    for &(parts, length) in BEYOND {
+        let done = long_head_answers(&rt, rt.alloc(), parts, length, LONG_HEAD);
+        assert_is_at(&rt, length, done, Some(()));
+    }
+}

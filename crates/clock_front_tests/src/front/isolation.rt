@@ -1,0 +1,276 @@
+//! One bidder's replies in two runs in which it sees the same.
+mod in_pieces;
+
+use super::requests::{reply_of, request_of};
+use crate::comparing::assert_is_at;
+use crate::front::example::on_front;
+use clock_front::Front;
+use clock_processor::Plain;
+use std::alloc::{AllocError, Global};
+use std::process::Abort;
+
+/// What is public.
+const PUBLIC: &str =
+    r#""version":1,"requirement":95,"operator":"OPERATOROPERATOR","products":[{"name":"A","units":1,"supply":2,"cap":2,"opening":100}]"#;
+
+/// The bidders of a run. X has the same row in each list of them.
+const X_AND_Y: &str =
+    r#"{"name":"X","token":"XXXXXXXXXXXXXXXX","eligibility":10},{"name":"Y","token":"YYYYYYYYYYYYYYYY","eligibility":10}"#;
+
+/// X's own requests: the request line, whose token it has, and its body. The others send theirs in turn: a line of `~`
+/// alone stands between two turns.
+const OWN: &str = r#"GET /v1/me/bids|X|
+PUT /v1/me/bids|X|{"bids":[{"price":100,"product":0,"quantity":3}],"round":1}
+PUT /v1/me/bids|X|{"bids":[{"price":100,"product":0,"quantity":2}],"round":1}
+~
+GET /v1/me/bids|X|
+GET /v1/rounds/1|X|
+~
+PUT /v1/me/bids|X|{"bids":[{"price":110,"product":0,"quantity":2}],"round":1}
+GET /v1/rounds/1|X|
+GET /v1/me/rounds/1|X|
+PUT /v1/me/bids|X|{"bids":[{"price":103,"product":0,"quantity":0}],"round":2}
+GET /v1/me|X|
+~
+GET /v1/me/bids|X|
+GET /v1/status|X|
+~
+GET /v1/me|X|
+GET /v1/me/rounds/2|X|
+GET /v1/rounds/2|X|
+GET /v1/products|X|
+GET /v1/none|X|
+DELETE /v1/me/bids|X|
+GET /v1/results|X|
+POST /v1/close|X|{"increment":10,"round":2,"ties":[]}
+PUT /v1/me/bids|X|{"bids":[],"round":2}"#;
+
+/// The pages that X is shown of itself in round 2, and of round 2's results.
+const PAGES: &str =
+    r#"{"activity":2,"demands":[2],"eligibility":3,"ended":false,"name":"X","round":2}
+{"activity":1,"demands":[1],"eligibility":2,"round":2}
+{"ended":true,"products":[{"clock":110,"demand":null,"name":"A","next":null,"posted":103,"start":100}],"round":2}"#;
+
+/// The row of a request of a run, and whether it is X's.
+type Sent<'a> = (&'a str, bool);
+
+/// Adds the requests of rows.
+fn push_rows<'a>(requests: &mut Vec<Sent<'a>>, rows: &'a str, is_own: bool) -> Option<()> {
+    for row in rows.split('\n') {
+        if !row.is_empty() {
+            requests.push((row, is_own)).ok()?;
+        }
+    }
+    Some(())
+}
+
+/// The requests of a run in their order: X's of each turn, and then those of the others.
+fn requests_of(alloc: Global, others: &str) -> Option<Vec<Sent<'_>>> {
+    let mut requests = Vec::new(alloc);
+    let mut others = others.split('~');
+    for own in OWN.split('~') {
+        push_rows(&mut requests, own, true)?;
+        push_rows(&mut requests, others.next().unwrap_or(""), false)?;
+    }
+    Some(requests)
+}
+
+/// The reply to the request of a row.
+fn reply_to(alloc: Global, front: &mut Front<Plain>, row: &str) -> Option<String> {
+    let text = request_of(alloc, row)?;
+    reply_of(alloc, front, text.as_str())
+}
+
+/// What X is told by a front that answers the requests in turn.
+fn told_in_turn(alloc: Global, front: &mut Front<Plain>, requests: &[Sent]) -> Option<String> {
+    let mut told = String::new(alloc);
+    for &(row, is_own) in requests {
+        let reply = reply_to(alloc, front, row)?;
+        if is_own {
+            told.push_str(reply.as_str()).ok()?;
+        }
+    }
+    Some(told)
+}
+
+/// The document of what is public and of bidders.
+fn document_of(alloc: Global, public: &str, bidders: &str) -> Result<String, AllocError> {
+    format!(in alloc; "{{{public},\"bidders\":[{bidders}]}}")
+}
+
+/// A run: its bidders, and what the others send.
+type Run<'a> = (&'a str, &'a str);
+
+/// What X is told in a run of what is public.
+fn told_x(alloc: Global, public: &str, run: Run<'_>) -> Option<String> {
+    let document = document_of(alloc, public, run.0).ok()?;
+    let requests = requests_of(alloc, run.1)?;
+    on_front(alloc, document.as_str(), |front| {
+        told_in_turn(alloc, front, requests.as_slice())
+    })
+}
+
+/// Whether each of X's pages stands among its replies.
+fn has_pages(told: &str) -> bool {
+    PAGES.split('\n').all(|page| told.contains(page))
+}
+
+/// Y wants one block in both rounds.
+const BY_Y: &str = r#"PUT /v1/me/bids|Y|{"bids":[{"price":100,"product":0,"quantity":1}],"round":1}
+~
+POST /v1/close|O|{"increment":10,"round":1,"ties":[]}
+~
+PUT /v1/me/bids|Y|{"bids":[{"price":110,"product":0,"quantity":1}],"round":2}
+~
+POST /v1/close|O|{"increment":10,"round":2,"ties":[]}"#;
+
+/// X among others.
+const V_X_AND_W: &str =
+    r#"{"name":"V","token":"VVVVVVVVVVVVVVVV","eligibility":3},{"name":"X","token":"XXXXXXXXXXXXXXXX","eligibility":10},
+{"name":"W","token":"WWWWWWWWWWWWWWWW","eligibility":5}"#;
+
+/// W in its place, after a sheet of two blocks, and before one that is over the cap.
+const BY_W: &str = r#"PUT /v1/me/bids|W|{"bids":[{"price":100,"product":0,"quantity":2}],"round":1}
+PUT /v1/me/bids|W|{"bids":[{"price":100,"product":0,"quantity":1}],"round":1}
+PUT /v1/me/bids|W|{"bids":[{"price":100,"product":0,"quantity":3}],"round":1}
+~
+POST /v1/close|O|{"increment":10,"round":1,"ties":[]}
+~
+PUT /v1/me/bids|W|{"bids":[{"price":110,"product":0,"quantity":1}],"round":2}
+~
+POST /v1/close|O|{"increment":10,"round":2,"ties":[]}"#;
+
+/// Three further requests, each of them refused: a closing, a sheet of nobody's, and what is no head.
+const BY_Y_AND_STRANGERS: &str =
+    r#"PUT /v1/me/bids|Y|{"bids":[{"price":100,"product":0,"quantity":1}],"round":1}
+POST /v1/close|O|{"increment":0,"round":1,"ties":[]}
+~
+PUT /v1/me/bids|N|{"bids":[{"price":100,"product":0,"quantity":1}],"round":1}
+POST /v1/close|O|{"increment":10,"round":1,"ties":[]}
+~
+GET  /v1/status|N|
+PUT /v1/me/bids|Y|{"bids":[{"price":110,"product":0,"quantity":1}],"round":2}
+~
+POST /v1/close|O|{"increment":10,"round":2,"ties":[]}"#;
+
+/// The same in the second version.
+const PUBLIC_2: &str = r#""version":2,"limit":125,"requirement":95,"operator":"OPERATOROPERATOR",
+"products":[{"name":"A","units":1,"supply":2,"cap":2,"opening":100,"granule":1}]"#;
+
+/// In it a closing has an increment for each product.
+const BY_Y_2: &str =
+    r#"PUT /v1/me/bids|Y|{"bids":[{"price":100,"product":0,"quantity":1}],"round":1}
+~
+POST /v1/close|O|{"increments":[10],"round":1,"ties":[]}
+~
+PUT /v1/me/bids|Y|{"bids":[{"price":110,"product":0,"quantity":1}],"round":2}
+~
+POST /v1/close|O|{"increments":[10],"round":2,"ties":[]}"#;
+
+const BY_W_2: &str =
+    r#"PUT /v1/me/bids|W|{"bids":[{"price":100,"product":0,"quantity":2}],"round":1}
+PUT /v1/me/bids|W|{"bids":[{"price":100,"product":0,"quantity":1}],"round":1}
+PUT /v1/me/bids|W|{"bids":[{"price":100,"product":0,"quantity":3}],"round":1}
+~
+POST /v1/close|O|{"increments":[10],"round":1,"ties":[]}
+~
+PUT /v1/me/bids|W|{"bids":[{"price":110,"product":0,"quantity":1}],"round":2}
+~
+POST /v1/close|O|{"increments":[10],"round":2,"ties":[]}"#;
+
+/// The same bidders by other numbers.
+const Y_AND_X: &str =
+    r#"{"name":"Y","token":"YYYYYYYYYYYYYYYY","eligibility":10},{"name":"X","token":"XXXXXXXXXXXXXXXX","eligibility":10}"#;
+
+/// Y's wrong sheets and the operator's refused closings, in another order at each place, and ties by other numbers.
+const BY_Y_WITH_FAULTS: &str = r#"POST /v1/close|O|{"increment":51,"round":1,"ties":[]}
+PUT /v1/me/bids|Y|{"bids":[{"price":101,"product":0,"quantity":1}],"round":1}
+PUT /v1/me/bids|Y|{"bids":[{"price":100,"product":0,"quantity":1}],"round":1}
+~
+PUT /v1/me/bids|Y|{"bids":[],"round":2}
+POST /v1/close|O|{"increment":10,"round":2,"ties":[]}
+POST /v1/close|O|{"increment":10,"round":1,"ties":[[0,0,7],[1,0,3]]}
+~
+PUT /v1/me/bids|Y|{"bids":[{"price":110,"product":0,"quantity":1}],"round":2}
+POST /v1/close|O|{"increments":[10],"round":2,"ties":[]}
+PUT /v1/me/bids|Y|{"bids":[{"price":110,"product":0,"quantity":1}]}
+~
+POST /v1/close|O|{"increment":10,"round":2,"ties":[[1,0,1],[1,0,1]]}
+POST /v1/close|O|{"increment":10,"round":2,"ties":[[1,0,2]]}"#;
+
+/// The same with other faults.
+const BY_Y_WITH_OTHER_FAULTS: &str =
+    r#"PUT /v1/me/bids|Y|{"bids":[{"price":100,"product":0,"quantity":1}],"round":1}
+PUT /v1/me/bids|Y|{"bids":[{"price":100,"product":1,"quantity":1}],"round":1}
+POST /v1/close|O|{"increment":10,"round":1,"ties":[[2,0,1]]}
+~
+POST /v1/close|Y|{"increment":10,"round":1,"ties":[]}
+POST /v1/close|O|{"increment":10,"round":1,"ties":[]}
+PUT /v1/me/bids|Y|{"bids":[],"round":1}
+~
+POST /v1/close|O|{"increment":10,"round":1,"ties":[]}
+PUT /v1/me/bids|Y|{"bids":[{"price":105,"product":0,"quantity":2}],"round":2}
+PUT /v1/me/bids|Y|{"bids":[{"price":110,"product":0,"quantity":1}],"round":2}
+~
+PUT /v1/me/bids|Y|{"bids":[{"price":111,"product":0,"quantity":1}],"round":2}
+POST /v1/close|O|{"increment":10,"round":2,"ties":[[0,0,8]]}"#;
+
+/// What does not show in X's replies, what is public, and two runs that differ in it alone.
+const RUNS: &[(&str, &str, Run<'static>, Run<'static>)] = &[
+    ("rivals", PUBLIC, (X_AND_Y, BY_Y), (V_X_AND_W, BY_W)),
+    (
+        "refused requests",
+        PUBLIC,
+        (X_AND_Y, BY_Y_AND_STRANGERS),
+        (V_X_AND_W, BY_W),
+    ),
+    (
+        "rivals in version 2",
+        PUBLIC_2,
+        (X_AND_Y, BY_Y_2),
+        (V_X_AND_W, BY_W_2),
+    ),
+    ("its number", PUBLIC, (X_AND_Y, BY_Y), (Y_AND_X, BY_Y)),
+    (
+        "faults and ties of others",
+        PUBLIC,
+        (X_AND_Y, BY_Y_WITH_FAULTS),
+        (X_AND_Y, BY_Y_WITH_OTHER_FAULTS),
+    ),
+];
+
+/// Asserts what X is told in a run, its pages among it. A failure names what the runs hide.
+fn is_told(
+    rt: &impl Abort,
+    alloc: Global,
+    hidden: &str,
+    public: &str,
+    run: Run<'_>,
+    expected: &str,
+) -> Option<()> {
+    let told = told_x(alloc, public, run)?;
+    let is_whole = has_pages(told.as_str());
+    assert_is_at(rt, hidden, (told.as_str(), is_whole), (expected, true));
+    Some(())
+}
+
+/// X is told the same in both runs.
+fn is_told_alike(
+    rt: &impl Abort,
+    alloc: Global,
+    hidden: &str,
+    public: &str,
+    one: Run<'_>,
+    two: Run<'_>,
+) -> Option<()> {
+    let told = told_x(alloc, public, one)?;
+    is_told(rt, alloc, hidden, public, two, told.as_str())
+}
+
+#[test]
+fn what_a_bidder_may_not_see_shows_in_no_reply(rt: HostRuntime) {
+    for &(hidden, public, one, two) in RUNS {
+        let done = is_told_alike(&rt, rt.alloc(), hidden, public, one, two);
+        assert_is_at(&rt, hidden, done, Some(()));
+    }
+}

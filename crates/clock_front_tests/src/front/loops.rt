@@ -1,0 +1,128 @@
+//! The loop of a server over connections in memory: what is written on each, where one fails, and where a text can't be
+//! kept.
+ghost use Rattle.std.specs.Prelude.{◌≡◌, false};
+
+use super::texts::{ACCEPTED, CUT_SHORT, FIRST_ROUND, PUT, STATUS};
+use crate::comparing::{assert_is, assert_is_at, assert_reads_at};
+use crate::front::example::on_one_product;
+use crate::listed::{Client, Closed, Listed};
+use clock_device::Stop;
+use clock_fixtures::MemoryDisk;
+use clock_front::Front;
+use clock_journal::Journal;
+use clock_processor::Plain;
+use clock_serving::{Keeper, ServeFault, Unkept, serve_all};
+use std::alloc::Global;
+use std::process::Abort;
+
+/// A client that sends this in small pieces, and takes a reply in small pieces.
+fn client(text: &str) -> Client<'_> {
+    Client {
+        bytes: text.as_bytes(),
+        read: 7,
+        read_stop: None,
+        room: 1024,
+        write: 9,
+        write_stop: None,
+    }
+}
+
+/// A sheet, a part of one, a connection that fails at its second read, a client that takes 18 bytes of its reply, and a
+/// question.
+fn clients() -> [Client<'static>; 5] {
+    let mut broken = client(PUT);
+    broken.read_stop = Some((1, Stop::Failed));
+    let mut gone = client(STATUS);
+    gone.write_stop = Some(2);
+    [
+        client(PUT),
+        client("PUT /v1/me"),
+        broken,
+        gone,
+        client(STATUS),
+    ]
+}
+
+/// Asserts what was written on each connection.
+fn assert_written(rt: &impl Abort, connections: &[Closed<'_>], written: &[&str]) {
+    assert_is(rt, connections.len(), written.len());
+    for (place, (closed, bytes)) in connections.iter().zip(written).enumerate() {
+        assert_reads_at(rt, place, closed.written(), bytes);
+    }
+}
+
+/// Serves clients, and compares how that ends and what is written on each connection that was taken.
+fn compare<K: Keeper>(
+    rt: &impl Abort,
+    alloc: Global,
+    front: &mut Front<Plain>,
+    keeper: &mut K,
+    ended: Result<(), ServeFault>,
+    written: &[&str],
+) -> Option<()>
+    requires { (K.journal keeper.old).has_failed ≡ false }
+{
+    let clients = clients();
+    let mut listed = Listed::new(alloc, &clients).ok()?;
+    let end = serve_all(alloc, front, keeper, &mut listed, 5);
+    assert_is(rt, end, ended);
+    assert_written(rt, listed.closed(), written);
+    Some(())
+}
+
+/// The same with a journal whose syncs fail from one on.
+fn compare_kept(
+    rt: &impl Abort,
+    alloc: Global,
+    front: &mut Front<Plain>,
+    syncs: u64,
+    ended: Result<(), ServeFault>,
+    written: &[&str],
+) -> Option<()> {
+    let mut journal = Journal::new(MemoryDisk::new(alloc, 4096, syncs), [7; 32]);
+    let compared = if journal.begin().is_ok() {
+        compare(rt, alloc, front, &mut journal, ended, written)
+    } else {
+        None
+    };
+    let length = journal.disk().bytes().len();
+    drop(journal);
+    assert_is(rt, length, 56 + 40 + PUT.len());
+    compared
+}
+
+/// The same without a journal, or with one whose syncs fail from one on.
+fn compare_either(
+    rt: &impl Abort,
+    alloc: Global,
+    front: &mut Front<Plain>,
+    syncs: Option<u64>,
+    ended: Result<(), ServeFault>,
+    written: &[&str],
+) -> Option<()> {
+    match syncs {
+        None => compare(rt, alloc, front, &mut Unkept, ended, written),
+        Some(syncs) => compare_kept(rt, alloc, front, syncs, ended, written),
+    }
+}
+
+/// What is written where nothing fails but what the clients do.
+const WRITTEN: &[&str] = &[ACCEPTED, CUT_SHORT, "", "HTTP/1.1 200 OK\r\nc", FIRST_ROUND];
+
+/// How many syncs a journal has, how the loop ends, and what is written. Where the sync of the first text fails, its
+/// client hears nothing, and no other connection is taken.
+const LOOPS: &[(Option<u64>, Result<(), ServeFault>, &[&str])] = &[
+    (None, Ok(()), WRITTEN),
+    (Some(2), Ok(()), WRITTEN),
+    (Some(1), Err(ServeFault::Journal), &[""]),
+];
+
+#[test]
+fn each_connection_gets_its_own_reply_once_it_is_kept(rt: HostRuntime) {
+    for &(syncs, ended, written) in LOOPS {
+        let done = on_one_product(rt.alloc(), |front| {
+            compare_either(&rt, rt.alloc(), front, syncs, ended, written)
+        });
+        assert_is_at(&rt, (syncs, ended), done, Some(()));
+    }
+}

@@ -1,0 +1,185 @@
+//! Requests in pieces over connections that stand at once.
+use super::events::{connected, piece, push_byte};
+use super::hubs;
+use super::hubs::{fed, finished, on_hub};
+use super::requests::setup_of;
+use super::texts::{ACCEPTED, BIDS_OF_Y, CUT_SHORT, FIRST_ROUND, NO_BIDS, PUT, STATUS};
+use crate::comparing::{assert_is, assert_is_at, assert_reads_at};
+use clock_device::Text;
+use clock_fixtures::ONE_PRODUCT;
+use clock_front::{Conn, Event, EventReplies, EventReply, Hub, HubFault, run_events};
+use clock_processor::Plain;
+use std::alloc::Global;
+use std::process::Abort;
+
+/// The texts of three connections.
+const TEXTS: [&str; 3] = [PUT, STATUS, "PUT /v1/me"];
+
+/// The replies to them, and to Y's request for its bids, which is whole in one piece, with the numbers of their
+/// connections.
+const IN_ORDER_OF_COMPLETION: &[(u64, &str)] = &[
+    (1, FIRST_ROUND),
+    (0, ACCEPTED),
+    (2, CUT_SHORT),
+    (3, NO_BIDS),
+];
+
+/// The byte of each text at a place, in turn.
+fn push_bytes(alloc: Global, events: &mut Vec<Event>, place: usize) -> Option<()> {
+    for (number, text) in TEXTS.iter().enumerate() {
+        push_byte(alloc, events, number as u64, text.as_bytes(), place)?;
+    }
+    Some(())
+}
+
+/// Three connections get their texts one byte at a time in turn, and the last one ends. Then Y asks for its bids.
+fn push_all(alloc: Global, events: &mut Vec<Event>) -> Option<()> {
+    for place in 0..PUT.len() {
+        push_bytes(alloc, events, place)?;
+    }
+    events.push(Event::Finish(2)).ok()?;
+    events.push(Event::Connect).ok()?;
+    events.push(piece(alloc, 3, BIDS_OF_Y.as_bytes())?).ok()?;
+    Some(())
+}
+
+/// What comes of these connections.
+fn in_single_bytes(alloc: Global) -> Option<Vec<Event>> {
+    let mut events = connected(alloc, 3)?;
+    push_all(alloc, &mut events)?;
+    Some(events)
+}
+
+/// The replies to events.
+fn replies_to(alloc: Global, events: &[Event]) -> Option<EventReplies> {
+    let setup = setup_of(alloc, ONE_PRODUCT)?;
+    run_events(alloc, setup, Plain, events).ok()
+}
+
+/// Asserts the replies and their order.
+fn are_told(rt: &impl Abort, replies: &[EventReply], expected: &[(u64, &str)]) {
+    assert_is(rt, replies.len(), expected.len());
+    for (one, (number, reply)) in replies.iter().zip(expected) {
+        assert_is_at(rt, *number, one.number, *number);
+        assert_reads_at(rt, *number, one.reply.bytes(), reply);
+    }
+}
+
+/// What comes of the three connections has its replies in order.
+fn are_told_in_order(rt: &impl Abort, alloc: Global) -> Option<()> {
+    let events = in_single_bytes(alloc)?;
+    let replies = replies_to(alloc, events.as_slice());
+    drop(events);
+    let replies = replies?;
+    are_told(rt, replies.as_slice(), IN_ORDER_OF_COMPLETION);
+    drop(replies);
+    Some(())
+}
+
+#[test]
+fn three_connections_in_single_bytes(rt: HostRuntime) {
+    assert_is(&rt, are_told_in_order(&rt, rt.alloc()), Some(()));
+}
+
+/// So many connections more.
+fn connect_all(hub: &mut Hub<Plain>, count: usize) -> Result<(), HubFault> {
+    for _ in 0..count {
+        hubs::connected(hub)?;
+    }
+    Ok(())
+}
+
+/// So many stand, and no further one.
+fn is_full_at(rt: &impl Abort, hub: &mut Hub<Plain>, count: usize) -> Option<()> {
+    assert_is(rt, connect_all(hub, count), Ok(()));
+    assert_is(rt, hubs::connected(hub), Err(HubFault::Full));
+    Some(())
+}
+
+#[test]
+fn no_more_than_256_stand(rt: HostRuntime) {
+    let done = on_hub(rt.alloc(), |hub| is_full_at(&rt, hub, 256));
+    assert_is(&rt, done, Some(()));
+}
+
+/// What a connection is told that there is not.
+const UNKNOWN: &str = "no such connection";
+
+/// What the connections are told that are asked for in turn, as one after the other gets a text or its input ends:
+/// nothing where more is needed.
+const STEPS: &[(usize, &str, &str)] = &[
+    (0, "connect", ""),
+    (0, STATUS, FIRST_ROUND),
+    (0, STATUS, UNKNOWN),
+    (1, "connect", ""),
+    (1, "", ""),
+    (1, "GET", ""),
+    (1, "end", CUT_SHORT),
+    (1, "end", UNKNOWN),
+    (2, "connect", ""),
+    (1, STATUS, UNKNOWN),
+    (2, STATUS, FIRST_ROUND),
+];
+
+/// A fault in words.
+fn words_of(alloc: Global, fault: HubFault) -> Option<Text> {
+    let words = format!(in alloc; "{fault}").ok()?;
+    Text::from_slice(alloc, words.as_str().as_bytes()).ok()
+}
+
+/// What a connection is told whose input ends.
+fn told_at_end(alloc: Global, hub: &mut Hub<Plain>, conn: Conn) -> Option<Text> {
+    match finished(alloc, hub, conn) {
+        Ok(reply) => Some(reply),
+        Err(fault) => words_of(alloc, fault),
+    }
+}
+
+/// What a connection is told that gets a text.
+fn told_of(alloc: Global, hub: &mut Hub<Plain>, conn: Conn, text: &str) -> Option<Text> {
+    match fed(alloc, hub, conn, text.as_bytes()) {
+        Ok(Some(reply)) => Some(reply),
+        Ok(None) => Some(Text::new(alloc)),
+        Err(fault) => words_of(alloc, fault),
+    }
+}
+
+/// What a connection is told at a step.
+fn told(alloc: Global, hub: &mut Hub<Plain>, conn: Conn, text: &str) -> Option<Text> {
+    match text {
+        "end" => told_at_end(alloc, hub, conn),
+        text => told_of(alloc, hub, conn, text),
+    }
+}
+
+/// Asserts it.
+fn is_told(
+    rt: &impl Abort,
+    alloc: Global,
+    hub: &mut Hub<Plain>,
+    conn: Conn,
+    text: &str,
+    expected: &str,
+) -> Option<()> {
+    let told = told(alloc, hub, conn, text)?;
+    assert_reads_at(rt, text, told.as_slice(), expected);
+    Some(())
+}
+
+/// Takes all steps.
+fn take_steps(rt: &impl Abort, alloc: Global, hub: &mut Hub<Plain>) -> Option<()> {
+    let mut conns = Vec::new(alloc);
+    for &(number, text, expected) in STEPS {
+        match conns.as_slice().get(number) {
+            None => conns.push(hubs::connected(hub).ok()?).ok()?,
+            Some(conn) => is_told(rt, alloc, hub, *conn, text, expected)?,
+        }
+    }
+    Some(())
+}
+
+#[test]
+fn a_connection_is_gone_with_its_reply(rt: HostRuntime) {
+    let done = on_hub(rt.alloc(), |hub| take_steps(&rt, rt.alloc(), hub));
+    assert_is(&rt, done, Some(()));
+}

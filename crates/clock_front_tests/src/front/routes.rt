@@ -1,0 +1,54 @@
+//! Which page a path names.
+use crate::comparing::assert_is_at;
+use crate::front::example::on_one_product;
+use clock_http::Code;
+use std::alloc::Global;
+use std::process::Abort;
+
+/// What is answered where a path is asked for without a token, and such paths.
+const PATHS: &[(Code, &[&str])] = &[
+    (Code::Done, &["/v1/status", "/v1/products"]),
+    (Code::NoRound, &["/v1/rounds/12", "/v1/rounds/x"]),
+    (
+        Code::Token,
+        &["/v1/me", "/v1/me/bids", "/v1/me/rounds/01", "/v1/results"],
+    ),
+    (Code::Method, &["/v1/close"]),
+    (Code::BadHead, &[""]),
+    (Code::NoPage, NO_PAGES),
+];
+
+const NO_PAGES: &[&str] = &[
+    "*",
+    "/",
+    "/v1/status/",
+    "//v1/status",
+    "/v1/%73tatus",
+    "/V1/status",
+    "/v1/rounds",
+    "/v1/rounds/",
+    "/v1/rounds/1/2",
+    "http://x/v1/status",
+];
+
+/// The code of the reply to who asks for a path without a token.
+fn code_of(alloc: Global, path: &str) -> Option<Code> {
+    let text = format!(in alloc; "GET {path} HTTP/1.1\r\n\r\n").ok()?;
+    on_one_product(alloc, |front| {
+        Some(front.answer(text.as_str().as_bytes()).code())
+    })
+}
+
+/// These paths are answered so.
+fn are_answered(rt: &impl Abort, alloc: Global, paths: &[&str], code: Code) {
+    for path in paths {
+        assert_is_at(rt, *path, code_of(alloc, path), Some(code));
+    }
+}
+
+#[test]
+fn a_path_names_a_page_or_none(rt: HostRuntime) {
+    for &(code, paths) in PATHS {
+        are_answered(&rt, rt.alloc(), paths, code);
+    }
+}

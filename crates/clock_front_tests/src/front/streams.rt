@@ -1,0 +1,156 @@
+//! One request over one stream, whose reads and writes bring little, fail or are interrupted.
+ghost use Rattle.std.specs.Prelude.{◌≤◌};
+
+use super::requests::reply_of;
+use super::texts::{ACCEPTED, BIDS_OF_X, NO_SHEET, PUT, SHEET};
+use crate::comparing::assert_is_at;
+use crate::front::example::on_one_product;
+use clock_device::{ListSink, ListSource, NoMemory, Stop, Text};
+use clock_front::{Front, StreamFault, serve_stream};
+use clock_http::Code;
+use clock_processor::Plain;
+use std::alloc::Global;
+use std::process::Abort;
+
+/// How a text is served by reads and writes of so many bytes at most, one of which may stop: what is answered and
+/// written, and whether X's sheet is in force then.
+#[derive(Drop)]
+struct Row<'a> {
+    text: &'a [u8],
+    piece: usize,
+    read: Option<(u64, Stop)>,
+    write: Option<u64>,
+    answer: Result<Code, StreamFault>,
+    written: &'a [u8],
+    has_sheet: bool,
+    ghost some: { 1 ≤ piece },
+}
+
+/// Serves a text by reads and writes of so many bytes at most, one of which may stop: what is answered, and written.
+pub(super) fn serve(
+    alloc: Global,
+    front: &mut Front<Plain>,
+    text: &[u8],
+    piece: usize,
+    read: Option<(u64, Stop)>,
+    write: Option<u64>,
+) -> Result<(Result<Code, StreamFault>, Text), NoMemory>
+    requires { 1 ≤ piece }
+{
+    let mut source = ListSource::new(text, piece, read);
+    let mut sink = ListSink::new(alloc, 1024, piece, write)?;
+    let answer = serve_stream(alloc, front, &mut source, &mut sink);
+    let written = Text::from_slice(alloc, sink.bytes());
+    drop(sink);
+    Ok((answer, written?))
+}
+
+/// Whether X's sheet is in force, by its page, which shows this sheet or none.
+fn has_sheet(alloc: Global, front: &mut Front<Plain>) -> Option<bool> {
+    let reply = reply_of(alloc, front, BIDS_OF_X)?;
+    let has_sheet = reply.as_str().ends_with(SHEET);
+    if has_sheet || reply.as_str().ends_with(NO_SHEET) {
+        Some(has_sheet)
+    } else {
+        None
+    }
+}
+
+/// Compares how the text of a row is served.
+fn served_as(
+    rt: &impl Abort,
+    alloc: Global,
+    front: &mut Front<Plain>,
+    row: &Row<'_>,
+) -> Option<()> {
+    let (answer, written) = serve(alloc, front, row.text, row.piece, row.read, row.write).ok()?;
+    let at = (row.piece, row.read, row.write);
+    assert_is_at(
+        rt,
+        at,
+        (answer, written.as_slice()),
+        (row.answer, row.written),
+    );
+    drop(written);
+    assert_is_at(rt, at, has_sheet(alloc, front), Some(row.has_sheet));
+    Some(())
+}
+
+/// The same with a front of its own.
+fn compare(rt: &impl Abort, alloc: Global, row: &Row<'_>) {
+    let done = on_one_product(alloc, |front| served_as(rt, alloc, front, row));
+    let at = (row.piece, row.read, row.write);
+    assert_is_at(rt, at, done, Some(()));
+}
+
+/// The sheet is put, by reads of so many bytes.
+fn put(piece: usize, read: Option<(u64, Stop)>) -> Row<'static>
+    requires { 1 ≤ piece }
+{
+    Row {
+        text: PUT.as_bytes(),
+        piece,
+        read,
+        write: None,
+        answer: Ok(Code::Done),
+        written: ACCEPTED.as_bytes(),
+        has_sheet: true,
+    }
+}
+
+/// A read fails, and nothing happens.
+fn unread(piece: usize, read: u64) -> Row<'static>
+    requires { 1 ≤ piece }
+{
+    Row {
+        text: PUT.as_bytes(),
+        piece,
+        read: Some((read, Stop::Failed)),
+        write: None,
+        answer: Err(StreamFault::Read),
+        written: b"",
+        has_sheet: false,
+    }
+}
+
+/// A write of one byte fails, with the sheet in force.
+fn unwritten(write: usize) -> Row<'static> {
+    Row {
+        text: PUT.as_bytes(),
+        piece: 1,
+        read: None,
+        write: Some(write as u64),
+        answer: Err(StreamFault::Write(Code::Done)),
+        written: ACCEPTED.as_bytes().get(..write).unwrap_or(b"more"),
+        has_sheet: true,
+    }
+}
+
+/// In single bytes the request is decided by read 146, so read 147 is never made.
+#[test]
+fn no_read_is_made_once_the_request_is_decided(rt: HostRuntime) {
+    compare(&rt, rt.alloc(), &put(1024, None));
+    compare(&rt, rt.alloc(), &put(1, Some((147, Stop::Failed))));
+}
+
+#[test]
+fn a_failed_read_changes_nothing(rt: HostRuntime) {
+    compare(&rt, rt.alloc(), &unread(100, 1));
+    for read in 0..147 {
+        compare(&rt, rt.alloc(), &unread(1, read));
+    }
+}
+
+#[test]
+fn an_interrupted_read_is_tried_again(rt: HostRuntime) {
+    for read in 0..147 {
+        compare(&rt, rt.alloc(), &put(1, Some((read, Stop::Interrupted))));
+    }
+}
+
+#[test]
+fn a_failed_write_leaves_the_sheet_in_force(rt: HostRuntime) {
+    for write in 0..ACCEPTED.len() {
+        compare(&rt, rt.alloc(), &unwritten(write));
+    }
+}

@@ -1,0 +1,216 @@
+-- What a stop leaves while a journal is begun, or taken over from a file.
+use Rattle.std.proofs.Common.{◌≡◌, ◌≤◌, ◌<◌, ◌+◌, ◌-◌, ◌⊎◌, inl, inr, ◌++◌, ℕ, zero, suc, List, [], ◌∷◌, Option, Some, None, length, take, drop, refl, sym, ap, ◌∙◌, subst, arith, length-append}
+use Rattle.std.proofs.lemmas.List.{append_assoc, append-nil, take_all, take-take, length-take, length-take-le, take-append-drop, drop_at}
+use Rattle.std.proofs.lemmas.Bool.{cases_lt}
+use Rattle.clock_device.specs.Streams.{HasWrittenFront}
+use Rattle.clock_journal.specs.Disks.{LeaveOnly, MayBeLeft, Moment, Passes, up_to}
+use Rattle.clock_journal.specs.Format.{head, head_length, records, last_link}
+use Rattle.clock_journal.specs.Kept.{file_of}
+use Rattle.clock_journal.specs.Reading.{Ends, Reads}
+use Rattle.clock_journal.specs.Crash.{BeginsWithTexts, IsPartOfHead, LeavesJournal, LeavesTexts}
+use Rattle.clock_journal.specs.Recovering.{IsPlaced, IsHeaded}
+use Rattle.clock_journal.specs.declared.recovery.Recovered.{Recovered}
+use Rattle.clock_journal.proofs.Cuts.{cut_leaves}
+use Rattle.clock_journal.proofs.Fronts.{ends_stop, reads_first, reads_records, take_none}
+use Rattle.clock_journal.proofs.Moments.{every_front, length-head, take_of_take}
+use Rattle.clock_journal.proofs.Passing.{leave_one, leave_then}
+use Rattle.clock_journal.proofs.Tails.{long_front, parts_of, records-append}
+
+-- ---- the head
+
+part_is : (digest left : List ℕ) (n : ℕ) → length digest ≡ 32 → left ≡ take n (head digest) → length left < head_length
+    → IsPartOfHead digest left
+part_is digest left n size is short =
+    let before = length-head digest size in
+    elim (cases_lt n (length (head digest))) [
+      | inl less ↦ (let same : length left ≡ n = ap length is ∙ length-take-le n (head digest) (omega (arith, less)) in
+          record { short = short; front = is ∙ ap (λ (k : ℕ). take k (head digest)) (sym same) })
+      | inr all ↦ (let same = ap length (is ∙ take_all n (head digest) all) in
+          absurd (omega (arith, same, before, short)))
+    ]
+
+pub front_of_head : (digest left : List ℕ) (n : ℕ) → length digest ≡ 32 → left ≡ take n (head digest)
+    → LeavesJournal digest left [] 0
+front_of_head digest left n size is =
+    let before = length-head digest size in
+    elim (cases_lt (length left) head_length) [
+      | inl short ↦ inr (refl, part_is digest left n size is short)
+      | inr long ↦ (let count = ap length is ∙ length-take n (head digest) in
+          let all = length-append (head digest) [] in
+          let enough : length (head digest ++ []) ≤ n = omega (arith, count, all, before, long) in
+          inl (subst (λ (b : List ℕ). LeavesTexts digest b [] 0) (sym (is ∙ ap (take n) (sym (append-nil (head digest)))))
+          (every_front digest [] 0 n tt (omega arith) enough)))
+    ]
+
+head_left : (digest written left : List ℕ) (synced : Option (List ℕ)) → length digest ≡ 32
+    → HasWrittenFront (Some []) (Some written) (head digest) → MayBeLeft synced (Some written) left
+    → LeavesJournal digest left [] 0
+head_left digest written left (Some synced) size front may =
+    let part = take_of_take may.0 front.0 (head digest) in
+    front_of_head digest left part.0 size (may.2 ∙ (ap (take may.0) front.1 ∙ part.1))
+head_left digest written left None size front may = absurd may
+
+head_known : (digest : List ℕ) (synced written : Option (List ℕ)) → length digest ≡ 32
+    → HasWrittenFront (Some []) written (head digest) → (left : List ℕ) → MayBeLeft synced written left
+    → LeavesJournal digest left [] 0
+head_known digest synced (Some written) size front left may = head_left digest written left synced size front may
+head_known digest synced None size front left may = absurd front.1
+
+-- while the head, or a front of it, was added to nothing
+pub head_reads : (digest bytes : List ℕ) (old synced written : Option (List ℕ)) → length digest ≡ 32 → old ≡ Some []
+    → bytes ≡ head digest → HasWrittenFront old written bytes → (left : List ℕ) → MayBeLeft synced written left
+    → LeavesJournal digest left [] 0
+head_reads digest bytes old synced written size empty is front =
+    head_known digest synced written size (subst (λ (h : List ℕ). HasWrittenFront (Some []) written h) is
+    (subst (λ (o : Option (List ℕ)). HasWrittenFront o written bytes) empty front))
+
+-- ---- the file is cut off
+
+cut_passes : (old new : Option (List Moment)) (synced written was : Option (List ℕ)) (bytes : List ℕ) (place : ℕ)
+    → synced ≡ was → written ≡ was → was ≡ Some bytes → Passes old new (up_to place synced) written
+    → Passes old new (Some (take place bytes)) (Some bytes)
+cut_passes old new synced written was bytes place same still is passes =
+    subst (λ (w : Option (List ℕ)). Passes old new (Some (take place bytes)) w) (still ∙ is)
+    (subst (λ (s : Option (List ℕ)). Passes old new (up_to place s) written) (same ∙ is) passes)
+
+-- through a sync and a cut behind it
+pub through_cut : (first mid last : Option (List Moment)) (synced written synced_then written_then : Option (List ℕ))
+    (bytes : List ℕ) (place : ℕ) (Leaves : List ℕ → Type 0) → Passes first mid synced written
+    → ((left : List ℕ) → MayBeLeft synced written left → Leaves left)
+    → Passes mid last (up_to place synced_then) written_then → synced_then ≡ written → written_then ≡ written
+    → written ≡ Some bytes → ((left : List ℕ) → MayBeLeft (Some (take place bytes)) (Some bytes) left → Leaves left)
+    → LeaveOnly first last Leaves
+through_cut first mid last synced written synced_then written_then bytes place Leaves passes before cut same still is after =
+    leave_then first mid last Leaves (leave_one first mid synced written Leaves passes before)
+    (leave_one mid last (Some (take place bytes)) (Some bytes) Leaves
+    (cut_passes mid last synced_then written_then written bytes place same still is cut) after)
+
+-- what stands there now may be left
+pub now_left : (synced written : Option (List ℕ)) (on_disk bytes : List ℕ) → synced ≡ Some on_disk → written ≡ Some bytes
+    → MayBeLeft synced written bytes
+now_left synced written on_disk bytes same is =
+    subst (λ (s : Option (List ℕ)). MayBeLeft s written bytes) (sym same)
+    (subst (λ (w : Option (List ℕ)). MayBeLeft (Some on_disk) w bytes) (sym is)
+    (length on_disk + length bytes, omega arith, sym (take_all (length on_disk + length bytes) bytes (omega arith))))
+
+long_file : (digest bytes : List ℕ) (read : List (List ℕ)) (recovered : Recovered) → length digest ≡ 32
+    → IsHeaded digest bytes read recovered
+    → (length (file_of digest read) ≡ recovered.end) × (head_length ≤ recovered.end) × (recovered.end ≤ length bytes)
+long_file digest bytes read recovered size headed =
+    let same = sym (ap length headed.file) ∙ length-take-le recovered.end bytes headed.within in
+    let parts = length-append (head digest) (records digest read) in
+    let before = length-head digest size in
+    (same, omega (arith, same, parts, before), headed.within)
+
+pub crash_cut : (digest bytes : List ℕ) (texts read : List (List ℕ)) (least : ℕ) (recovered : Recovered) (left : List ℕ)
+    → length digest ≡ 32 → LeavesJournal digest bytes texts least → IsPlaced digest bytes read recovered
+    → MayBeLeft (Some (take recovered.end bytes)) (Some bytes) left → LeavesJournal digest left texts least
+crash_cut digest bytes texts read least recovered left size (inl leaves) placed may =
+    inl (cut_leaves digest bytes texts read least recovered left size leaves placed may)
+crash_cut digest bytes texts read least recovered left size (inr part) (inl headed) may =
+    let long = long_file digest bytes read recovered size headed in
+    let short = part.1.short in
+    absurd (omega (arith, long.1, long.2, short))
+crash_cut digest bytes texts read least recovered left size (inr part) (inr begun) may =
+    let front = take_of_take may.0 (length bytes) (head digest) in
+    let shorter = ap length may.2 ∙ length-take may.0 bytes in
+    let short = part.1.short in
+    inr (
+      part.0,
+      part_is digest left front.0 size (may.2 ∙ (ap (take may.0) part.1.front ∙ front.1))
+          (omega (arith, shorter, short)),
+    )
+
+-- texts that stand first stand before the place
+first_before : (digest bytes : List ℕ) (texts read : List (List ℕ)) (recovered : Recovered) → length digest ≡ 32
+    → BeginsWithTexts digest bytes texts → IsHeaded digest bytes read recovered
+    → length (file_of digest texts) ≤ recovered.end
+first_before digest bytes texts read recovered size begins headed =
+    let more = drop (length (file_of digest texts)) bytes in
+    let rest = drop recovered.end bytes in
+    let before = length-head digest size in
+    let all : bytes ≡ head digest ++ (records digest read ++ rest) =
+    sym (take-append-drop recovered.end bytes) ∙ (ap (λ (b : List ℕ). b ++ rest) headed.file
+    ∙ append_assoc (head digest) (records digest read) rest) in
+    let one : drop head_length bytes ≡ records digest texts ++ more =
+    ap (drop head_length) (parts_of digest bytes texts begins)
+    ∙ drop_at (head digest) (records digest texts ++ more) head_length before in
+    let other : drop head_length bytes ≡ records digest read ++ rest =
+    ap (drop head_length) all ∙ drop_at (head digest) (records digest read ++ rest) head_length before in
+    let first = reads_first digest texts more read rest begins.fit
+    (subst (λ (b : List ℕ). Reads digest b read rest) (sym other ∙ one) (reads_records digest read rest headed.fit))
+    (ends_stop _ _ headed.ends) in
+    let longer : length (records digest read) ≡ length (records digest texts) + length (records (last_link digest texts) first.0) =
+    ap length (ap (records digest) first.1 ∙ records-append digest texts first.0)
+    ∙ length-append (records digest texts) (records (last_link digest texts) first.0) in
+    let file = length-append (head digest) (records digest texts) in
+    let whole = length-append (head digest) (records digest read) in
+    let long = long_file digest bytes read recovered size headed in
+    omega (arith, longer, file, whole, long.0)
+
+pub tail_cut : (digest bytes : List ℕ) (texts read : List (List ℕ)) (recovered : Recovered) (left : List ℕ)
+    → length digest ≡ 32 → BeginsWithTexts digest bytes texts → IsPlaced digest bytes read recovered
+    → MayBeLeft (Some (take recovered.end bytes)) (Some bytes) left → BeginsWithTexts digest left texts
+tail_cut digest bytes texts read recovered left size begins (inl headed) may =
+    let enough = first_before digest bytes texts read recovered size begins headed in
+    let most = length-take-le recovered.end bytes headed.within in
+    let count = may.1 in
+    record {
+      front = ap (take (length (file_of digest texts))) may.2
+          ∙ (take-take (length (file_of digest texts)) may.0 bytes (omega (arith, enough, most, count)) ∙ begins.front);
+      fit = begins.fit;
+    }
+tail_cut digest bytes texts read recovered left size begins (inr begun) may =
+    let long = long_front digest bytes texts size begins in
+    let short = begun.short in
+    absurd (omega (arith, long, short))
+
+-- ---- a file that is begun anew
+
+nothing_told : (digest bytes : List ℕ) (texts : List (List ℕ)) (least : ℕ) → length digest ≡ 32
+    → LeavesJournal digest bytes texts least → length bytes < head_length → least ≡ 0
+nothing_told digest bytes texts least size (inl leaves) short =
+    let same = ap length leaves.headed in
+    let before = length-head digest size in
+    let part = length-take (length (head digest)) bytes in
+    absurd (omega (arith, same, before, part, short))
+nothing_told digest bytes texts least size (inr part) short = part.0
+
+begun_anew : (digest bytes : List ℕ) (read : List (List ℕ)) (recovered : Recovered) → length digest ≡ 32
+    → recovered.end ≡ 0 → IsPlaced digest bytes read recovered → length bytes < head_length
+begun_anew digest bytes read recovered size nowhere (inl headed) =
+    let long = long_file digest bytes read recovered size headed in
+    absurd (omega (arith, long.1, nowhere))
+begun_anew digest bytes read recovered size nowhere (inr begun) = begun.short
+
+none_of_any : (digest left : List ℕ) (texts : List (List ℕ)) → LeavesTexts digest left [] 0 → LeavesTexts digest left texts 0
+none_of_any digest left texts leaves =
+    let some = leaves.reads in
+    record {
+      headed = leaves.headed;
+      reads = record {
+        count = 0;
+        rest = some.rest;
+        enough = omega arith;
+        most = omega arith;
+        reads = subst (λ (ts : List (List ℕ)). Reads digest (drop (length (head digest)) left) ts some.rest) (take_none some.count) some.reads;
+        ends = subst (λ (ts : List (List ℕ)). Ends (last_link digest ts) some.rest) (take_none some.count) some.ends;
+      };
+    }
+
+-- so whatever texts there were, none was told
+pub anew_leaves : (digest bytes : List ℕ) (texts read : List (List ℕ)) (least : ℕ) (recovered : Recovered) (left : List ℕ)
+    → length digest ≡ 32 → recovered.end ≡ 0 → LeavesJournal digest bytes texts least
+    → IsPlaced digest bytes read recovered → LeavesJournal digest left [] 0 → LeavesJournal digest left texts least
+anew_leaves digest bytes texts read least recovered left size nowhere leaves placed (inl now) =
+    let none = nothing_told digest bytes texts least size leaves (begun_anew digest bytes read recovered size nowhere placed) in
+    inl (subst (λ (n : ℕ). LeavesTexts digest left texts n) (sym none) (none_of_any digest left texts now))
+anew_leaves digest bytes texts read least recovered left size nowhere leaves placed (inr now) =
+    inr (nothing_told digest bytes texts least size leaves (begun_anew digest bytes read recovered size nowhere placed), now.1)
+
+pub none_first : (digest bytes : List ℕ) (texts read : List (List ℕ)) (recovered : Recovered) → length digest ≡ 32
+    → recovered.end ≡ 0 → BeginsWithTexts digest bytes texts → IsPlaced digest bytes read recovered → ⊥
+none_first digest bytes texts read recovered size nowhere begins placed =
+    let long = long_front digest bytes texts size begins in
+    let short = begun_anew digest bytes read recovered size nowhere placed in
+    omega (arith, long, short)

@@ -1,0 +1,105 @@
+-- A file that begins with the journal of some texts, whatever follows.
+use Rattle.std.proofs.Common.{◌≡◌, ◌≤◌, ◌<◌, ◌+◌, ◌++◌, ℕ, List, [], ◌∷◌, length, get_or, take, drop, refl, sym, ap, ◌∙◌, subst, arith, length-append, length-drop}
+use Rattle.std.proofs.lemmas.List.{append_assoc, take-append-drop, take_at, drop_at, get_or-drop}
+use Rattle.clock_journal.specs.Format.{head_length, head, link, record_of, records, last_link}
+use Rattle.clock_journal.specs.Headings.{Heading, headed, heading}
+use Rattle.clock_journal.specs.Reading.{Reads, Stops, Ends, damaged, onto}
+use Rattle.clock_journal.specs.Kept.{file_of}
+use Rattle.clock_journal.specs.Crash.{BeginsWith, BeginsWithTexts}
+use Rattle.clock_journal.specs.Recovering.{HasTakenFirst, IsFoundAt}
+use Rattle.clock_journal.specs.declared.recovery.Recovered.{Recovered}
+use Rattle.clock_journal.specs.inside.Replays.{IsReplayed}
+use Rattle.clock_journal.proofs.Whole.{read_back}
+use Rattle.clock_journal.proofs.Fronts.{reads_first, ends_stop, damage_stops}
+use Rattle.clock_journal.proofs.Moments.{length-head}
+use Rattle.clock_journal.proofs.TakenOver.{headed_is}
+use Rattle.clock_journal.proofs.Tested.{bytes_eq_same}
+
+pub records-append : (chain : List ℕ) (texts further : List (List ℕ))
+    → records chain (texts ++ further) ≡ records chain texts ++ records (last_link chain texts) further
+records-append chain [] further = refl
+records-append chain (text ∷ texts) further =
+    ap (λ (bytes : List ℕ). record_of chain text ++ bytes) (records-append (link chain text) texts further)
+    ∙ sym (append_assoc (record_of chain text) (records (link chain text) texts)
+    (records (last_link (link chain text) texts) further))
+
+-- its head, its records, and what follows
+pub parts_of : (digest bytes : List ℕ) (texts : List (List ℕ)) → BeginsWithTexts digest bytes texts
+    → bytes ≡ head digest ++ (records digest texts ++ drop (length (file_of digest texts)) bytes)
+parts_of digest bytes texts begins =
+    let more = drop (length (file_of digest texts)) bytes in
+    sym (take-append-drop (length (file_of digest texts)) bytes) ∙ (ap (λ (b : List ℕ). b ++ more) begins.front
+    ∙ append_assoc (head digest) (records digest texts) more)
+
+pub headed_front : (digest bytes : List ℕ) (texts : List (List ℕ)) → BeginsWithTexts digest bytes texts
+    → take (length (head digest)) bytes ≡ head digest
+headed_front digest bytes texts begins =
+    ap (take (length (head digest))) (parts_of digest bytes texts begins)
+    ∙ take_at (head digest) (records digest texts ++ drop (length (file_of digest texts)) bytes) (length (head digest)) refl
+
+pub long_front : (digest bytes : List ℕ) (texts : List (List ℕ)) → length digest ≡ 32 → BeginsWithTexts digest bytes texts
+    → head_length ≤ length bytes
+long_front digest bytes texts size begins =
+    let more = drop (length (file_of digest texts)) bytes in
+    omega (
+      arith,
+      ap length (parts_of digest bytes texts begins),
+      length-append (head digest) (records digest texts ++ more),
+      length-head digest size,
+    )
+
+-- what is read of it begins with the texts, and what is left stands behind them
+pub texts_first : (digest bytes : List ℕ) (texts read : List (List ℕ)) (rest : List ℕ)
+    → ((place : ℕ) → get_or bytes place 0 < 256) → length digest ≡ 32 → BeginsWithTexts digest bytes texts
+    → Reads digest (drop head_length bytes) read rest → Stops (last_link digest read) rest
+    → BeginsWith texts read × (length (file_of digest texts) + length rest ≤ length bytes)
+texts_first digest bytes texts read rest small size begins reads stops =
+    let more = drop (length (file_of digest texts)) bytes in
+    let parts = parts_of digest bytes texts begins in
+    let before = length-head digest size in
+    let behind : drop head_length bytes ≡ records digest texts ++ more =
+    ap (drop head_length) parts ∙ drop_at (head digest) (records digest texts ++ more) head_length before in
+    let first = reads_first digest texts more read rest begins.fit
+    (subst (λ (b : List ℕ). Reads digest b read rest) behind reads) stops in
+    let back = read_back digest (drop head_length bytes) read rest
+    (λ place. subst (λ (n : ℕ). n < 256) (sym (get_or-drop head_length bytes place 0)) (small (head_length + place))) reads in
+    let further = records (last_link digest texts) first.0 in
+    let all : drop head_length bytes ≡ (records digest texts ++ further) ++ rest =
+    back.0 ∙ ap (λ (b : List ℕ). b ++ rest) (ap (records digest) first.1 ∙ records-append digest texts first.0) in
+    let whole = ap length parts ∙ length-append (head digest) (records digest texts ++ more) in
+    let part = ap length all ∙ length-append (records digest texts ++ further) rest in
+    let inner = length-append (records digest texts) further in
+    let file = length-append (head digest) (records digest texts) in
+    let rest_is = length-drop head_length bytes in
+    (first, omega (arith, whole, part, inner, file, before, rest_is))
+
+-- so no other answer is given of how it begins
+pub told_of_front : (digest bytes : List ℕ) (texts : List (List ℕ)) (told : Heading) → length digest ≡ 32
+    → BeginsWithTexts digest bytes texts → told ≡ heading digest bytes → told ≡ headed (drop head_length bytes)
+told_of_front digest bytes texts told size begins is =
+    let same : take head_length bytes ≡ head digest =
+    ap (λ (n : ℕ). take n bytes) (sym (length-head digest size)) ∙ headed_front digest bytes texts begins in
+    is ∙ headed_is digest bytes (long_front digest bytes texts size begins)
+    (bytes_eq_same (take head_length bytes) (head digest) same)
+
+-- the texts are taken first
+pub has_taken_first : (old new : List (List ℕ) → Type 0) (digest bytes : List ℕ) (texts : List (List ℕ)) (recovered : Recovered)
+    → ((place : ℕ) → get_or bytes place 0 < 256) → length digest ≡ 32 → BeginsWithTexts digest bytes texts
+    → IsReplayed old new digest (drop head_length bytes) (length bytes) recovered
+    → HasTakenFirst old new digest texts recovered
+has_taken_first old new digest bytes texts recovered small size begins done =
+    let first = texts_first digest bytes texts done.texts done.rest small size begins done.reads (ends_stop _ _ done.ends) in
+    record {
+      further = first.0.0;
+      stands = λ past was. subst (λ (all : List (List ℕ)). new (onto all past)) first.0.1 (done.stands past was);
+      behind = omega (arith, first.1, done.end_is);
+    }
+
+-- and nothing before their end is damaged
+pub damaged_behind : (digest bytes : List ℕ) (texts : List (List ℕ)) (place : ℕ)
+    → ((at : ℕ) → get_or bytes at 0 < 256) → length digest ≡ 32 → BeginsWithTexts digest bytes texts
+    → IsFoundAt digest (drop head_length bytes) (length bytes) place damaged → length (file_of digest texts) ≤ place
+damaged_behind digest bytes texts place small size begins found =
+    let first = texts_first digest bytes texts found.texts found.rest small size begins found.reads
+    (damage_stops _ _ found.found_is) in
+    omega (arith, first.1, found.place_is)

@@ -1,0 +1,103 @@
+-- What a text changes, after the texts that a house stands for.
+use Rattle.std.proofs.Common.{◌≡◌, ◌≤◌, inl, inr, ℕ, Bool, true, false, List, [], ◌∷◌, Option, refl, sym, ap, ◌∙◌, subst}
+use Rattle.std.proofs.Common.{length, arith}
+use Rattle.clock_terms.specs.Limits.{SetupFields, public_setup}
+use Rattle.clock_bids.specs.declared.sheet.Bid.{Bid}
+use Rattle.clock_closing.specs.declared.closed_round.ClosedRound.{ClosedRound}
+use Rattle.clock_closing.specs.Closing.{closing}
+use Rattle.clock_house.specs.Command.{Command, put, close, other}
+use Rattle.clock_house.specs.History.{history, holding, round_to_close, standing}
+use Rattle.clock_house.specs.House.{HouseFields, StandsFor, StandsStill}
+use Rattle.clock_house.specs.Standing.{put_fault}
+use Rattle.clock_http.specs.declared.code.Code.TheVariants.{CutShort}
+use Rattle.clock_http.specs.Framing.{framing, incomplete, needs_more}
+use Rattle.clock_front.specs.Askers.{asker}
+use Rattle.clock_front.specs.Effects.{IsRightResponse, RespondsTo, close_effect, effect, effect_in, put_effect}
+use Rattle.clock_front.specs.Fronts.{AnswersText, StandsForTexts, commands_of, house_after, reply, text_command}
+use Rattle.clock_front.specs.Outcomes.{answer_of}
+use Rattle.clock_front.specs.Requests.{request_of}
+use Rattle.clock_front.specs.declared.front.response.Effect.{Effect}
+use Rattle.clock_front.specs.declared.front.response.Effect.TheVariants.{Nothing, Sheet, Closing}
+use Rattle.clock_front.specs.declared.front.response.Response.{Response}
+use Rattle.clock_front.proofs.FrontLaws.{away_command, needs_by_test, outcome_after}
+use Rattle.clock_keeping.specs.Keeping.{IsAccepted, is_change}
+
+-- what a command changes as a house stands is what it changes after the commands that the house stands for
+effect_after : (house : HouseFields) (commands : List Command) (command : Command) → StandsFor commands house
+    → effect_in house command ≡ effect_in (house_after house.setup commands) command
+effect_after house commands (put bidder round bids) stands =
+    ap (λ (closed : List ClosedRound). put_effect (put_fault (public_setup house.setup)
+    (standing house.setup.products closed) (holding house.setup closed bidder) round bids)) stands.closed
+effect_after house commands (close round increments ties) stands =
+    ap (λ (closed : List ClosedRound). close_effect round (closing (public_setup house.setup)
+    (round_to_close house.setup closed house.sheets) round increments ties)) stands.closed
+    ∙ ap (λ (sheets : List (Option (List Bid))). close_effect round (closing (public_setup house.setup)
+    (round_to_close house.setup (history house.setup commands).closed sheets) round increments ties)) stands.sheets
+effect_after house commands other stands = refl
+
+-- the right response after some texts, and the house stands for these and the text
+pub record IsAfter (setup : SetupFields) (texts : List (List ℕ)) (text : List ℕ) (response : Response)
+    (new : HouseFields) : Type 0 where
+  pub replied : response.reply ≡ reply setup texts text
+  pub changed : response.effect ≡ effect setup texts text
+  pub stands : StandsForTexts (text ∷ texts) new
+
+pub right_after : (texts : List (List ℕ)) (text : List ℕ) (response : Response) (old new : HouseFields)
+    → StandsForTexts texts old → IsRightResponse text old new response → IsAfter old.setup texts text response new
+right_after texts text response old new stands right = record {
+  replied = right.reply ∙ ap answer_of (outcome_after old (commands_of old.setup texts)
+      (asker old.setup (request_of text).token) (request_of text).ask stands);
+  changed = right.effect ∙ effect_after old (commands_of old.setup texts) (text_command old.setup text) stands;
+  stands = subst (λ (setup : SetupFields). StandsFor (commands_of setup (text ∷ texts)) new) (sym right.followed.setup)
+      (right.followed.stands (commands_of old.setup texts) stands);
+}
+
+pub stands_still : (texts : List (List ℕ)) (old new : HouseFields) → StandsForTexts texts old → StandsStill old new
+    → StandsForTexts texts new
+stands_still texts old new stands still =
+    subst (λ (setup : SetupFields). StandsFor (commands_of setup texts) new) (sym still.setup)
+    (still.stands (commands_of old.setup texts) stands)
+
+-- a response answers its text
+pub answers : (text : List ℕ) (response : Response) (old new : HouseFields) → RespondsTo text response old new
+    → AnswersText text response.reply old new
+answers text response old new (inl right) texts stands =
+    let after = right_after texts text response old new stands right in inl (after.replied, after.stands)
+answers text response old new (inr (struck, nothing, still)) texts stands =
+    inr (struck, stands_still texts old new stands still)
+
+-- ---- what changes the auction
+
+pub nothing_where : (one : Effect) → is_change one ≡ false → one ≡ Nothing
+nothing_where Nothing is = refl
+nothing_where Sheet is = absurd (let no : ⊥ = cc in no)
+nothing_where (Closing round) is = absurd (let no : ⊥ = cc in no)
+
+-- what has changed something did not want memory
+pub right_where : (text : List ℕ) (response : Response) (old new : HouseFields) → RespondsTo text response old new
+    → is_change response.effect ≡ true → IsRightResponse text old new response
+right_where text response old new (inl right) is = right
+right_where text response old new (inr (struck, nothing, still)) is =
+    let no : true ≡ false = sym is ∙ ap is_change nothing in absurd (let bad : ⊥ = cc in bad)
+
+pub accepted_where : (texts : List (List ℕ)) (text : List ℕ) (response : Response) (old new : HouseFields)
+    → StandsForTexts texts old → RespondsTo text response old new → is_change response.effect ≡ true
+    → IsAccepted old.setup texts text
+accepted_where texts text response old new stands responds is =
+    sym (ap is_change (right_after texts text response old new stands
+    (right_where text response old new responds is)).changed) ∙ is
+
+nothing_needs_more : needs_more [] ≡ true
+unfolding framing
+nothing_needs_more = refl
+
+-- so a text that is accepted is not empty
+pub some_bytes : (text : List ℕ) (response : Response) (old new : HouseFields) → RespondsTo text response old new
+    → is_change response.effect ≡ true → 1 ≤ length text
+some_bytes [] response old new responds is =
+    let right = right_where [] response old new responds is in
+    let none = away_command old.setup (asker old.setup (request_of []).token) [] incomplete CutShort
+    (sym (needs_by_test [] nothing_needs_more)) refl in
+    let no : true ≡ false = sym is ∙ ap is_change (right.effect ∙ ap (effect_in old) none) in
+    absurd (let bad : ⊥ = cc in bad)
+some_bytes (byte ∷ rest) response old new responds is = omega arith

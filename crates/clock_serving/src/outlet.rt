@@ -1,0 +1,34 @@
+ghost use Rattle.std.specs.Prelude.{◌≡◌, ◌||◌, Option, is_err, None};
+ghost use Rattle.clock_device.specs.{Streams.{WritesText}, Told.{IsUnused, SinkTold}};
+ghost use Rattle.clock_journal.specs.Kept.{JournalState};
+ghost use Rattle.clock_serving.specs.Exchanges.{IsSeen};
+
+use clock_device::{Failed, Sink, write_all};
+use clock_keeping::Keeper;
+
+/// Where the reply on one connection goes. No byte is written but by this call, once.
+///
+/// Contracts see what was written, and what was kept when the first byte of the reply was written, where it tells that.
+pub trait Outlet {
+    ghost told: { Self → SinkTold };
+
+    ghost kept: { Self → Option JournalState };
+
+    /// Writes all of a reply, or a front of it where a write fails, while this is kept.
+    fn reply<K: Keeper>(&mut self, keeper: &K, bytes: &[u8]) -> Result<(), Failed>
+        requires unused { IsUnused (told self.old) }
+        ensures bytes { WritesText (told self.old).taken (told self.new).taken bytes.now result }
+        ensures failed { (told self.new).has_failed ≡ ((told self.old).has_failed || is_err result) }
+        ensures kept { IsSeen (kept self.new) (K.journal keeper.now) };
+}
+
+/// Any sink. It does not tell what was kept.
+impl<W: Sink> Outlet for W {
+    ghost told = { λ sink. W.told sink };
+
+    ghost kept = { λ sink. None };
+
+    fn reply<K: Keeper>(&mut self, _keeper: &K, bytes: &[u8]) -> Result<(), Failed> {
+        write_all(self, bytes)
+    }
+}
