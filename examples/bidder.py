@@ -1,7 +1,7 @@
 #!/usr/bin/env python3
 """A bidder that follows price limits, like a sincere script of a replay document.
 
-    TOKEN=.. examples/bidder.py URL LIMITS [--every SECONDS]
+    TOKEN=.. examples/bidder.py URL LIMITS [--every SECONDS] [--receipts FILE]
 
 URL begins with http:// or https://. LIMITS is a file such as {"North": [2300, 1900], "South": [610]}: for each product,
 up to which price you want the first block, the second, and so on, never rising. The token is in the environment, and so
@@ -9,6 +9,11 @@ neither in the shell's history nor in the list of processes. CA names a file of 
 the server.
 
 It prints each round's sheet, then the round's results for this bidder ("slip"), and at the end what it won.
+
+After each accepted sheet it waits up to two seconds for the receipt, checks it, adds it to FILE, by default
+receipts.jsonl, and says so or says what is missing. Its first line is the commitment. scripts/check_receipts holds the
+file against the published journal. Signatures are checked if openssl is there. It also checks the published seed of
+each closed round. Without a commitment, as at the server's own port, it says once that there are no receipts.
 
 It reads the status every SECONDS, by default 1, and misses no round that is open longer than that. If no reply comes,
 or a page that is not the server's, it says so and repeats the request for an hour. After such a failure, and at every
@@ -19,18 +24,23 @@ Exit status: 1 if a sheet is refused, if it missed a round, or if the number of 
 server answers. Also 1, before any bid, if LIMITS is wrong or names a product that is not in the auction.
 """
 import argparse
+import hashlib
 import http.client
 import itertools
 import json
 import os
+import pathlib
 import ssl
+import subprocess
 import sys
+import tempfile
 import time
 import urllib.request
 
 BUSY = (408, 429, 500, 502, 503, 504)
 PATIENCE = 3600
 LOOK = 30
+RECEIPT_SECONDS = 2
 
 # What is read of each page: some keys of an object, and each entry of a list that has one for each product.
 STATUS = {"ended": bool, "round": int}
@@ -41,6 +51,9 @@ SLIP = {"demands": [int]}
 ACCOUNT = {**STATUS, **SLIP, "name": str}
 IN_FORCE = {"bids": (list, type(None))}
 ACCEPTED = {"accepted": bool}
+COMMITMENT = {"auction": str, "chain": (dict, type(None)), "key": str}
+SEED = {"seed": str}
+RECEIPT = {"auction": str, "bidder": str, "body": str, "round": int, "sheet": int, "signature": str, "text": str}
 
 
 def has_shape(page, shape, products):
@@ -58,6 +71,11 @@ class EachReply(urllib.request.HTTPErrorProcessor):
     http_response = https_response = lambda self, request, reply: reply
 
 
+def text_of(sheet):
+    """The body of a sheet, as it is sent."""
+    return json.dumps(sheet)
+
+
 class Auction:
     """The pages of an auction, as one bidder sees them."""
 
@@ -68,9 +86,12 @@ class Auction:
         proxies = urllib.request.ProxyHandler(None if tls else {})      # without TLS, the proxy of `http_proxy` would see the token
         self.opener = urllib.request.build_opener(EachReply, proxies, urllib.request.HTTPSHandler(context=tls))
 
-    def ask(self, path, shape, sheet=None):
-        """Returns the page. Repeats the request if no reply came, another page, or a busy server. A refusal ends the program."""
-        body = None if sheet is None else json.dumps(sheet).encode()
+    def ask(self, path, shape, sheet=None, may_lack=False):
+        """Returns the page. Repeats the request if no reply came, another page, or a busy server. A refusal ends the program.
+
+        With `may_lack`, a page that does not exist is None.
+        """
+        body = None if sheet is None else text_of(sheet).encode()
         headers = {"authorization": "Bearer " + self.token, "content-type": "application/json"}
         request = urllib.request.Request(self.url + path, body, headers, method="GET" if sheet is None else "PUT")
         given_up = time.monotonic() + PATIENCE
@@ -82,6 +103,8 @@ class Auction:
                     given_up = time.monotonic() + PATIENCE
                     time.sleep(self.every)
                     continue
+                if reply.status == 404 and may_lack:
+                    return None
                 if reply.status >= 300 and reply.status not in BUSY:
                     sys.exit(f"{path} is refused: {reply.status} {text.decode(errors='replace')}")
                 if reply.status < 300 and has_shape(page := json.loads(text), shape, self.products):
@@ -111,6 +134,99 @@ class Auction:
                 if last_closed(self.ask("/v1/me", ACCOUNT), number) < number:       # else none is in force because the round is closed
                     print(f"the sheet of round {number} is no longer in force: submitting it again", file=sys.stderr)
                     self.ask("/v1/me/bids", ACCEPTED, sheet)
+
+
+class Receipts:
+    """The receipts of this bidder's sheets, in a file that scripts/check_receipts reads."""
+
+    def __init__(self, auction, path):
+        self.auction, self.path, self.have = auction, path, set()
+        self.commitment = auction.ask("/public/commitment.json", COMMITMENT, may_lack=True)
+        if self.commitment is None:
+            print("no commitment is published, so sheets have no receipts", flush=True)
+        elif path.exists():
+            first, *lines = map(json.loads, path.read_text(encoding="utf-8").splitlines())
+            if first != self.commitment:
+                sys.exit(f"{path} has another commitment than the one that is published")
+            self.have = {(receipt["round"], receipt["sheet"]) for receipt in lines}
+        else:
+            self.add(self.commitment)
+
+    def add(self, line):
+        with open(self.path, "a", encoding="utf-8") as file:
+            file.write(json.dumps(line) + "\n")
+            file.flush()
+            os.fsync(file.fileno())
+
+    def await_one(self, sheet):
+        """Waits for the receipt of a sheet that was accepted. Others of this bidder that come first are stored too."""
+        text, end = text_of(sheet), time.monotonic() + RECEIPT_SECONDS
+        while self.commitment:
+            receipt = self.take(sheet["round"], text)
+            if receipt and receipt["body"] == digest_of(text):
+                return print(f"receipt of sheet {receipt['sheet']} of round {receipt['round']}", flush=True)
+            if receipt is None and time.monotonic() > end:
+                return print(f"no receipt within {RECEIPT_SECONDS} s: call the operator", file=sys.stderr)
+            if receipt is None:
+                time.sleep(0.2)
+
+    def check_seed(self, number):
+        """Says so if the published seed of a closed round is not the committed one. It may not be published yet."""
+        chain = self.commitment and self.commitment["chain"]
+        page = chain and self.auction.ask(f"/public/rounds/{number}.json", SEED, may_lack=True)
+        if not page:
+            return
+        seed = bytes_in(page["seed"])
+        for _ in range(number):
+            seed = hashlib.sha256(seed).digest()
+        if seed.hex() != chain["end"]:
+            print(f"the seed of round {number} is not the committed one: call the auditor", file=sys.stderr)
+
+    def take(self, number, text=""):
+        """The next receipt of a round, which is stored, or None if it is not there."""
+        place = next(place for place in itertools.count(1) if (number, place) not in self.have)
+        receipt = self.commitment and self.auction.ask(f"/receipts/{number}/{place}.json", RECEIPT, may_lack=True)
+        if not receipt:
+            return None
+        self.have.add((number, place))
+        named = receipt["auction"], receipt["round"], receipt["sheet"]
+        is_right = named == (self.commitment["auction"], number, place)
+        if not is_right or not is_signed(self.commitment["key"], receipt):
+            print(f"this is not a receipt of sheet {place} of round {number}: {receipt}", file=sys.stderr)
+            return {**receipt, "body": ""}
+        self.add({**receipt, "sent": text} if receipt["body"] == digest_of(text) else receipt)
+        return receipt
+
+
+def bytes_in(digits):
+    """The bytes that a text has in hexadecimal, or none if it is no such text."""
+    try:
+        return bytes.fromhex(digits)
+    except ValueError:
+        return b""
+
+
+def digest_of(text):
+    return hashlib.sha256(text.encode()).hexdigest()
+
+
+def is_signed(key, receipt):
+    """Whether the committed key signed a receipt. Without openssl nobody knows, and the answer is yes."""
+    fields = ("auction", "bidder", "round", "sheet", "body", "text")
+    lines = ["clock_auction receipt 1", *(f"{name} {receipt[name]}" for name in fields)]
+    files = {
+        "key": f"-----BEGIN PUBLIC KEY-----\n{key}\n-----END PUBLIC KEY-----\n".encode(),
+        "message": "".join(line + "\n" for line in lines).encode(),
+        "signature": bytes_in(receipt["signature"]),
+    }
+    words = "openssl pkeyutl -verify -rawin -pubin -inkey key -sigfile signature -in message"
+    with tempfile.TemporaryDirectory() as folder:
+        for name, data in files.items():
+            pathlib.Path(folder, name).write_bytes(data)
+        try:
+            return subprocess.run(words.split(), cwd=folder, capture_output=True).returncode == 0
+        except OSError:
+            return True
 
 
 def last_closed(page, number):
@@ -161,17 +277,23 @@ def limits_of(path):
     return wanted
 
 
-def play(auction, wanted):
+def play(auction, wanted, path):
     products = auction.ask("/v1/products", PRODUCTS)["products"]
     auction.products = len(products)
     account = auction.ask("/v1/me", ACCOUNT)
     if strangers := wanted.keys() - {product["name"] for product in products}:
         sys.exit(f"no product is called {', '.join(sorted(strangers))}")
+    receipts = Receipts(auction, path)
     while not account["ended"]:
         number = account["round"]
         sheet = {"bids": bids_of(wanted, products, auction.prices(products, number), account["demands"], number), "round": number}
         print("sheet", json.dumps(sheet), auction.ask("/v1/me/bids", ACCEPTED, sheet)["accepted"], flush=True)
+        receipts.await_one(sheet)
+        for closed in range(1, number)[-1:]:
+            receipts.check_seed(closed)         # of the round before, which is published by now
         auction.wait(number, sheet)
+        while receipts.take(number, text_of(sheet)):
+            pass                                # those that came late, or of sheets that were submitted in another way
         print("slip", json.dumps(auction.ask(f"/v1/me/rounds/{number}", SLIP)), flush=True)
         account = auction.ask("/v1/me", ACCOUNT)
         last_closed(account, number)
@@ -185,6 +307,7 @@ def main():
     parser.add_argument("url")
     parser.add_argument("limits")
     parser.add_argument("--every", type=float, default=1.0)
+    parser.add_argument("--receipts", type=pathlib.Path, default=pathlib.Path("receipts.jsonl"))
     arguments = parser.parse_args()
     if not arguments.url.startswith(("http://", "https://")):
         parser.error("URL must begin with http:// or https://")
@@ -197,7 +320,7 @@ def main():
         auction = Auction(arguments.url, token, arguments.every)
     except OSError as error:
         sys.exit(f"CA: {error}")
-    play(auction, limits_of(arguments.limits))
+    play(auction, limits_of(arguments.limits), arguments.receipts)
 
 
 if __name__ == "__main__":

@@ -8,6 +8,7 @@ TOP = pathlib.Path(__file__).resolve().parent.parent
 sys.path[:0] = [str(TOP / "deploy"), str(TOP / "scripts")]
 
 from conducting import commands
+from conducting.receiving import Desk, Sheets
 from conducting.report import State
 from trying import timetables as rows
 from trying.stage import Stage
@@ -16,6 +17,7 @@ CONDUCTOR, PUBLIC = "conductor.schema.json", "public.schema.json"
 FILES = [
     ("conductor.json", CONDUCTOR, "settings"),
     ("operator/conductor.json", CONDUCTOR, "report"),
+    ("public/commitment.json", PUBLIC, "commitment"),
     ("public/timetable.json", PUBLIC, "timetable"),
     ("public/announcements.json", PUBLIC, "announcements"),
     ("public/winners.json", PUBLIC, "winners"),
@@ -44,12 +46,22 @@ def texts(program: pathlib.Path) -> set[tuple[str, str, str]]:
         stage.play()
         commands.winners(stage.office())
         note()
+        found.update((PUBLIC, "receipt", text) for text in receipts(stage))
         found.update(
             (PUBLIC, "published_round", file.read_text()) for file in (stage.folder / "public/rounds").iterdir()
         )
         return found
     finally:
         stage.stop()
+
+
+def receipts(stage: Stage) -> list[str]:
+    """The receipts of all sheets."""
+    folder, office = stage.folder / "receipts", stage.office()
+    folder.mkdir()
+    key = (stage.folder / "kept/receipts.pem").read_bytes()
+    Desk(Sheets(office.settings.journal, office.setup), key, folder).look()
+    return [file.read_text() for file in folder.rglob("*.json")]
 
 
 def timetables() -> Iterator[tuple[str, Any, bool]]:

@@ -22,12 +22,12 @@ REHEARSAL = TOP / "examples/rehearsal_version_2.json"
 SETUP = {
     "version": 1, "requirement": 50, "operator": "0PERAT0RST0KEN01",
     "products": [{"name": "A", "units": 1, "supply": 2, "cap": 2, "opening": 100}],
-    "bidders": [{"name": f"B{n}", "token": f"BIDDERT0KEN{n:05}", "eligibility": 2} for n in range(10)],
+    "bidders": [{"name": f"B{n}", "token": f"BIDDERT0KEN{n:05}", "eligibility": 2} for n in range(12)],
 }
 TOKENS = [bidder["token"] for bidder in SETUP["bidders"]]
 SHEET = {"bids": [{"price": 100, "product": 0, "quantity": 1}], "round": 1}
-# Closed rounds are for whoever has a token that nginx takes for a known one.
-CACHED = "/v1/rounds/{n}"
+# Closed rounds and receipts are for whoever has a token that nginx takes for a known one.
+BY_NGINX = ("/v1/rounds/{n}", "/receipts/{n}/{sheet}.json")  # the server does not see the token
 # Statuses that are described and not tried here: no memory, a server that is too late, and the faults of a sheet, which
 # the server finds by itself.
 NOT_TRIED = {503, 504, 422}
@@ -62,6 +62,11 @@ def page_of(place: Place, line: str, token: str, body: bytes = b"") -> dict[str,
     return json.loads(reply_to(place.server_port, head.encode() + body).partition(b"\r\n\r\n")[2])
 
 
+def target_of(path: str, number: int = 1) -> str:
+    """A path with numbers in it."""
+    return path.replace("{n}", str(number)).replace("{sheet}", "1")
+
+
 class Port:
     """nginx with a server behind it, from 502 to the end of an auction, and what came for each operation."""
 
@@ -77,7 +82,8 @@ class Port:
     ) -> int:
         """Sends a request of an operation, and compares the reply with the description. Returns its status."""
         client = client or Client(self.place.outside)
-        status, head, page = client.ask(method, path.replace("{n}", str(number)), token, *lines, body=body)
+        target = target_of(path, number)
+        status, head, page = client.ask(method, target, token, *lines, body=body)
         return self.compare(method, path, status, head, page)
 
     def send(self, method: str, path: str, text: str) -> None:
@@ -100,8 +106,9 @@ class Port:
 
     def try_heads(self) -> None:
         """What nginx refuses by the head, for each operation; and 502, since there is no server yet."""
+        (self.place.folder / "public/commitment.json").unlink()
         for (method, path), operation in self.operations.items():
-            target = path.replace("{n}", "1")
+            target = target_of(path)
             line = f"{method} {target} HTTP/1.1\r\nhost: x\r\nauthorization: Bearer {TOKENS[0]}\r\n"
             self.send(method, path, f"{method} {target} HTTP/1.1\r\n\r\n")
             self.send(method, path, f"{line}content-length: 1048577\r\n\r\n")
@@ -116,9 +123,13 @@ class Port:
         self.place.program = self.program
         self.place.begin()
         token, sheet = next(self.tokens), json.dumps(SHEET).encode()
-        for public in ("timetable", "announcements", "winners", "rounds/1"):
+        for public in ("commitment", "timetable", "announcements", "winners", "rounds/1"):
             file = self.place.folder / f"public/{public}.json"
             file.parent.mkdir(parents=True, exist_ok=True)
+            file.write_text("{}")
+        for bidder in SETUP["bidders"]:
+            file = self.place.folder / f"receipts/{bidder['name']}/1-1.json"
+            file.parent.mkdir(parents=True)
             file.write_text("{}")
         gate = self.place.folder / "gate/open"
         gate.unlink()
@@ -132,13 +143,13 @@ class Port:
             self.ask(method, path, token=token)
             if operation["security"]:          # nginx takes it for the right one, and the server refuses it
                 status = self.ask(method, path, number=2, token=token.lower(), body=sheet if method == "PUT" else b"")
-                if status != (404 if path in CACHED else 401):
+                if status != (404 if path in BY_NGINX else 401):
                     raise Failed(f"{method} {path} with a token in lower case: {status}")
             if "304" in operation["responses"]:
                 self.ask(method, path, "if-none-match: *", token=token)
             if "{n}" in path:
                 self.ask(method, path, number=99, token=token)
-            line = f"DELETE {path.replace('{n}', '1')} HTTP/1.1\r\nhost: x\r\nauthorization: Bearer {token}\r\n"
+            line = f"DELETE {target_of(path)} HTTP/1.1\r\nhost: x\r\nauthorization: Bearer {token}\r\n"
             self.send(method, path, f"{line}\r\n")
 
     def try_rates(self) -> None:

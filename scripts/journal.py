@@ -1,9 +1,20 @@
-"""A journal, read by its format alone: nothing here is shared with the program."""
+"""A journal, read by its format alone: nothing here is shared with the program.
+
+    python3 scripts/journal.py SETUP JOURNAL
+
+Started like this, it checks the records of a whole journal, and prints `journal N HEX` as the program does, or one line
+`fault: WORDS` with status 1. It judges no sheet: scripts/verify checks the whole auction.
+"""
 import hashlib
+import sys
 
 KIND = b"clock_auction journal 1\n"
 HEAD = len(KIND) + 32
 FRONT = 40
+
+
+class Wrong(AssertionError):
+    """What is wrong in a journal, and at which byte."""
 
 
 def whole_texts_of(setup, bytes):
@@ -56,20 +67,38 @@ def body_in(text):
 
 
 def texts_of(setup, bytes):
-    """The texts of a whole journal of this set-up, each with its digest. A wrong record is an AssertionError."""
+    """The texts of a whole journal of this set-up, each with its digest, or what is Wrong."""
     return list(each_text_of(setup, bytes, len(bytes)))
 
 
 def each_text_of(setup, bytes, length):
-    """The same of so many bytes, one text after the other: none is kept."""
+    """Like texts_of, of the first `length` bytes, one text after the other: none is stored."""
     digest = hashlib.sha256(setup).digest()
-    assert bytes[:HEAD] == KIND + digest, "no journal of this set-up"
+    if bytes[:HEAD] != KIND + digest:
+        raise Wrong("no journal of this set-up")
     place = HEAD
     while place < length:
         size = int.from_bytes(bytes[place : place + 4], "big")
         text = bytes[place + FRONT : place + FRONT + size]
         digest = hashlib.sha256(digest + text).digest()
-        assert bytes[place + 4 : place + 8] == bytes[place : place + 4] and len(text) == size, f"no record at {place}"
-        assert bytes[place + 8 : place + FRONT] == digest, f"another digest at {place}"
+        if bytes[place + 4 : place + 8] != bytes[place : place + 4] or len(text) != size:
+            raise Wrong(f"no whole record at byte {place}")
+        if bytes[place + 8 : place + FRONT] != digest:
+            raise Wrong(f"another digest at byte {place}")
         yield text, digest.hex()
         place += FRONT + size
+
+
+def main():
+    if len(sys.argv) != 3:
+        sys.exit(__doc__.strip())
+    try:
+        setup, bytes = (open(name, "rb").read() for name in sys.argv[1:])
+        texts = texts_of(setup, bytes)
+    except (OSError, Wrong) as fault:
+        sys.exit(f"fault: {fault}")
+    print(f"journal {len(texts)} {texts[-1][1] if texts else hashlib.sha256(setup).hexdigest()}")
+
+
+if __name__ == "__main__":
+    main()

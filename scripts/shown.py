@@ -14,7 +14,8 @@ def typed_lines(text: str) -> collections.abc.Iterator[tuple[str, str]]:
 
 
 def comparable(text: str) -> str:
-    """A text without digests, places in a journal, and times of logs, which depend on ports, curl, and the moment."""
+    """A text without digests, keys, places in a journal, and times of logs, which depend on ports, curl, and time."""
     text = re.sub(r"(?m)^\d{4}-\S+Z (?=[a-z]+: )", "TIME ", text)
     text = re.sub(r"\b[0-9a-f]{64}\b|\b[0-9a-f]{12}\.\.", "DIGEST", text)
+    text = re.sub(r"\bMCowBQYDK2VwAyEA[A-Za-z0-9+/]{43}=", "KEY", text)
     return re.sub(r"(?<=journal_damaged )\d+", "PLACE", text)

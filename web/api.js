@@ -37,7 +37,7 @@ export class Asker {
         continue;
       }
       const page = await reply.json().catch(() => null);
-      if (reply.ok && ["round", "products", "closed", "state"].some((key) => page?.[key])) return page;
+      if (reply.ok && ["round", "products", "closed", "state", "auction"].some((key) => page?.[key])) return page;
       // nginx without the server, or neither of them
       if (reply.ok || !page?.code || (page.code === "proxy" && reply.status >= 500)) throw noAnswer();
       throw new Fault(page, reply.status);
@@ -67,6 +67,8 @@ export class Asker {
   close(closing) { return this.ask("/v1/close", "POST", closing); }
   results() { return this.ask("/v1/results"); }
   conductor() { return this.ask("/conductor.json"); }
+  commitment() { return this.ask("/public/commitment.json"); }
+  receipt(n, sheet) { return this.ask(`/receipts/${n}/${sheet}.json`); }
 }
 
 /**

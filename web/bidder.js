@@ -5,12 +5,13 @@ import { BidTable, keyOf } from "./bids.js";
 import { readBids, save, writtenBids } from "./csv.js";
 import { at, counted, door, drawn, lastClosed, make, number, question, say, sum, tell, timeOfDay, unask } from "./page.js";
 import { Past } from "./past.js";
+import { Receipts } from "./receipts.js";
 import { faultsOf, wordsOf } from "./rules.js";
 import { Sheet } from "./sheet.js";
 import { missingWords, standingOf, tellJudged, tellSums, todoOf } from "./standing.js";
 import { Times } from "./times.js";
 
-const sheet = new Sheet(), past = new Past(), table = new BidTable(sheet, typed);
+const sheet = new Sheet(), past = new Past(), receipts = new Receipts(), table = new BidTable(sheet, typed);
 const LONG = 10_000_000; // dollars from which prices need more space in a narrow window
 const plain = (bids) => bids.map(({ price, product, quantity }) => ({ price, product, quantity }));
 
@@ -180,6 +181,7 @@ async function submit() {
     const since = same ? "" : " Your changes since then are not submitted.";
     say(`✓ Accepted: ${counted(done.bids, "bid")} for round ${done.round}${late ? ", which is closed by now" : ""}.${since}`);
     draw();
+    receipts.expect(round, sent);
   } catch (fault) {
     tellRefused(fault, round, bids);
   } finally {
@@ -282,6 +284,7 @@ async function enter(token) {
   asker = new Asker(token);
   past.clear(); // another token may have come this far
   await load();
+  await receipts.begin(asker, me.round);
   answered = timeOfDay();
   watch(asker, heard, slow, missed);
 }
@@ -299,6 +302,7 @@ at("back").addEventListener("click", () => {
   at("again").focus();
 });
 at("down").addEventListener("click", download);
+at("receipts").addEventListener("click", () => receipts.save(me.name));
 at("up").addEventListener("change", upload);
 document.addEventListener("keydown", (event) => {
   if (event.key !== "Enter" || !(event.ctrlKey || event.metaKey) || at("desk").hidden || at("question").open) return;

@@ -1,7 +1,7 @@
 // The table of bids: for each price point of a product its prices, its demand, the bid as typed, what that bid asks for, and
 // the submitted bid.
 
-import { at, cell, counted, demandCell, dollars, make, note, number, rowHead } from "./page.js";
+import { at, cell, counted, demandCell, dollars, make, note, number, rowHead, sentence } from "./page.js";
 import { quantityOf } from "./sheet.js";
 import { Rows } from "./table.js";
 
@@ -167,7 +167,7 @@ export class BidTable {
 
   #tellRow(key, row) {
     const [p, step] = partsOf(key), fault = this.#faults.get(key), effect = row.querySelector(".effect");
-    const [kind, words] = fault === undefined ? this.#effect(p, step) : ["fault", "⚠ " + fault];
+    const [kind, words] = fault === undefined ? this.#effect(p, step) : ["fault", "⚠ " + sentence(fault)];
     row.classList.toggle("wrong", fault !== undefined);
     row.classList.toggle("missing", kind === "missing");
     if (effect.textContent !== words) effect.textContent = words;

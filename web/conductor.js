@@ -32,7 +32,7 @@ export class Conductor {
   /** What the conductor waits for. */
   words() {
     if (!this.#report) {
-      return "No conductor is running: close each round here, or with deploy/close, which first lists who has submitted bids.";
+      return "No conductor is running: close each round with deploy/close, which first lists who has submitted bids.";
     }
     const since = new Date(this.#report.time).toLocaleTimeString("en-GB");
     if (this.#isStale()) return `⚠ The conductor has not reported since ${since}. It may have stopped, or a long closing is under way.`;

@@ -1,5 +1,4 @@
-// The operator's page: who has submitted bids, increments, tie-breaking numbers, closing after a question, all results, and
-// each closed round.
+// The operator's page: who has submitted bids, increments, closing after a question, all results, and each closed round.
 
 import { Asker, watch } from "./api.js";
 import { Conductor } from "./conductor.js";
@@ -12,37 +11,16 @@ import { activityOf, wordsOf } from "./rules.js";
 import { Rows } from "./table.js";
 import { Times } from "./times.js";
 
-const MOST_TIES = 16_384, LONG = 72; // letters that a row has space for
+const LONG = 72; // letters that a row has space for
 const rounds = new Map(), conductor = new Conductor();
 // the results, which have the round too; `underWay` is the round that is being closed; when the server last answered
-let asker, page, results, underWay = 0, ties = [], increments = [], gone = false, answered = "";
+let asker, page, results, underWay = 0, increments = [], gone = false, answered = "";
 
 const incTable = new Rows(at("incframe"), at("incbody"), drawIncrement);
 const resTable = new Rows(at("resframe"), at("resbody"), drawBidder);
 const pastTable = new Rows(at("pastframe"), at("pastbody"), drawProduct);
 
-/** A random whole number below n, from the browser's secure source. */
-function below(n) {
-  const word = new Uint32Array(1), most = Math.floor(2 ** 32 / n) * n;
-  do crypto.getRandomValues(word); while (word[0] >= most);
-  return word[0] % n;
-}
-
-/** Draws tie-breaking numbers at random: for all pairs of bidder and product, or for as many as one closing may list. */
-function drawTies() {
-  const products = page.products.length, pairs = results.bidders.length * products, count = Math.min(pairs, MOST_TIES);
-  const places = Array.from({ length: pairs }, (_, pair) => pair);
-  for (let k = 0; k < count; k++) {
-    const other = k + below(pairs - k);
-    [places[k], places[other]] = [places[other], places[k]];
-  }
-  ties = places.slice(0, count).map((pair, k) => [Math.floor(pair / products), pair % products, k + 1]);
-  const time = timeOfDay(), whole = `all ${number(pairs)} pairs of bidder and product`;
-  at("ties").textContent = count === pairs ? `drawn at random at ${time}, for ${whole}.`
-    : `drawn at random at ${time}, for ${number(count)} of ${whole}. A closing may list no more. The others have 0 and come first.`;
-}
-
-/** Asks for the results and the last closed round, and draws tie-breaking numbers for the next closing. */
+/** Asks for the results and the last closed round. */
 async function load() {
   page ??= await asker.products();
   const now = await asker.results(), last = lastClosed(now), fell = now.round < results?.round; // one reply: a closing may come between two
@@ -50,12 +28,11 @@ async function load() {
   if (fell) { underWay = 0; rounds.clear(); } // another server, or another auction
   if (last > 0) rounds.set(last, sold);
   results = now;
-  drawTies();
   drawn(() => drawAll(last));
 }
 
 function drawAll(last) {
-  at("round").textContent = results.ended ? `Ended after round ${results.round}` : `Round ${results.round} is open`;
+  at("round").textContent = results.ended ? `Ended after round ${results.round}` : `Round ${results.round}`;
   document.title = `${results.ended ? "Ended" : "Round " + results.round} · operator · clock auction`;
   at("closing").hidden = results.ended;
   at("eachlabel").hidden = page.version === 1;
@@ -142,8 +119,14 @@ function closing() {
   const one = at("increment").value.trim(), each = at("each").checked;
   const all = page.products.map((_, p) => (each && increments[p].trim()) || one);
   if (all.some((text) => !/^\d{1,3}$/.test(text) || Number(text) < 1 || Number(text) > 50)) return null;
-  const base = { round: results.round, ties };
+  const base = { round: results.round, ties: [] };
   return page.version === 1 ? { ...base, increment: Number(one) } : { ...base, increments: all.map(Number) };
+}
+
+/** Why this page may not close a round, or nothing. From round 2 on, tie-breaking numbers come from a seed, which no browser has. */
+async function whyNot(round) {
+  const { chain } = round === 1 ? {} : await asker.commitment().catch(() => ({ chain: "not known" }));
+  return chain ? `round ${round} needs tie-breaking numbers from its seed: use deploy/close, or let the conductor close it` : "";
 }
 
 /** Who has submitted bids, for the question before a closing. */
@@ -171,6 +154,8 @@ async function close() {
   const asked = closing();
   if (!asked) return say("⚠ Not closed: " + wordsOf("increment") + ".");
   if (asked.round === underWay) return say(`Round ${underWay} is already being closed.`);
+  const why = await whyNot(asked.round);
+  if (why) return say(`⚠ Not closed: ${why}.`);
   if (!await question(...questionOf(asked))) return;
   underWay = asked.round;
   say(`Closing round ${underWay} …`);
@@ -201,7 +186,7 @@ async function heard(now) {
   const then = results.round, fell = now.round < then, risen = now.round > then || (now.ended && !results.ended);
   if (risen) unask();
   if (gone || risen || fell) await load();
-  const next = results.ended ? "The auction has ended." : `Round ${results.round} is open.`;
+  const next = results.ended ? "The auction has ended." : `The current round is ${results.round}.`;
   if (risen) say(`✓ Round ${lastClosed(results)} is closed. ${next}`);
   if (fell) {
     say(`⚠ The round fell from ${then} to ${results.round}: another server answers, or one without its journal. Tell bidders to stop.`);
@@ -231,7 +216,6 @@ async function enter(token) {
 door(enter, wordsOf);
 new Times({});
 at("ask").addEventListener("click", close);
-at("draw").addEventListener("click", () => { drawTies(); say("New tie-breaking numbers are drawn."); });
 at("each").addEventListener("change", () => { at("incframe").hidden = !at("each").checked; });
 at("increment").addEventListener("input", () => {
   for (const input of at("incbody").querySelectorAll("input")) input.placeholder = at("increment").value;

@@ -18,6 +18,7 @@ export const number = (n) => (n === null || n === undefined ? "–" : n.toLocale
 export const dollars = (n) => (n === null || n === undefined ? "–" : "$" + number(n));
 /** A count with its noun, in the plural unless the count is 1. */
 export const counted = (n, noun) => `${number(n)} ${noun}${n === 1 ? "" : "s"}`;
+export const sentence = (words) => words.charAt(0).toUpperCase() + words.slice(1);
 export const sum = (numbers) => numbers.reduce((a, b) => a + b, 0);
 /** The first names of a list, and how many more there are. */
 export const listed = (names, most) => (names.length <= most ? names.join(", ")
@@ -31,7 +32,10 @@ export const lastClosed = (status) => (status.ended ? status.round : status.roun
 export const excessOf = (sold, product) => (sold.demand === null ? 0 : sold.demand - product.supply);
 
 /** A message to the person, which a screen reader reads out at once. */
-export const say = (text) => { at("say").textContent = text; };
+export const say = (text) => {
+  at("say").textContent = text;
+  at("say").className = text.startsWith("⚠") ? "fault" : "";
+};
 /** Sets a text. A screen reader reads it out only if it has changed. */
 export const tell = (id, words) => { if (at(id).textContent !== words) at(id).textContent = words; };
 

@@ -1,7 +1,7 @@
 // Where a bidder stands in the round: what the form commits to, its activity and eligibility, what is wrong or missing in it,
 // and what is left to do.
 
-import { at, counted, dollars, facts, number, sum, tell } from "./page.js";
+import { at, counted, dollars, facts, number, sentence, sum, tell } from "./page.js";
 import { activityLimit, activityOf, askedDemands, costOf, leastActivity, neededActivity, nextEligibility } from "./rules.js";
 
 const costHeld = ({ me, terms }) => me.demands.reduce((cost, blocks, p) => cost + BigInt(blocks) * BigInt(terms.prices[p].start), 0n);
@@ -44,7 +44,7 @@ export function tellSums(view, bids, { requested, most, needed, left }) {
 export function tellJudged(view, bids, standing, whole, count) {
   const { me } = view, lost = me.eligibility - standing.left;
   const [kind, words] = me.ended ? ["", ""]
-    : whole ? ["fault", "⚠ " + whole]
+    : whole ? ["fault", `⚠ ${sentence(whole)}.`]
     : count ? ["fault", `⚠ ${count} ${count === 1 ? "bid has an error" : "bids have errors"}.`]
     : standing.missing.length ? ["warning", "● " + missingWords(view, standing)]
     : bids.length === 0 ? ["", "The form is empty."]

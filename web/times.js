@@ -50,6 +50,13 @@ function stateOf(table, now) {
   return { phase: "shut", words: "Closed for bids. The results follow." };
 }
 
+/** The card with the announcements and the timetable, which is hidden until there is a timetable. */
+const card = () => make("aside", { id: "times", class: "card", "aria-labelledby": "timed", hidden: true },
+  make("h2", { id: "timed" }, "Time and announcements"), make("p", { id: "notice" }),
+  make("div", { id: "announcing", hidden: true }, make("h3", { id: "announcements" }, "Announcements"),
+    make("ol", { id: "announced", reversed: true, role: "log", "aria-live": "polite", "aria-labelledby": "announcements", tabindex: 0 })),
+  make("div", {}, make("h3", {}, "Timetable, in your local time"), make("ul", { id: "windows" })));
+
 /**
  * Asks for the timetable and shows it. `heard` takes each timetable; `changed` is called if the round's phase changes;
  * `isMissing` is whether this bidder has yet to submit bids.
@@ -63,6 +70,7 @@ export class Times {
 
   constructor({ heard, changed, isMissing }) {
     Object.assign(this, { heard, changed, isMissing });
+    document.querySelector("main").append(card());
     this.#watch();
     setInterval(() => this.#draw(), 250);
   }

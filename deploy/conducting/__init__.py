@@ -4,6 +4,8 @@
     setup       the parts of a set-up that these tools read
     server      requests in the operator's name
     journal     the server's journal, read on as it grows
+    chain       the seeds of tie-breaking numbers
+    commitment  what is published before round 1
     closing     one round's closing: fixed on disk, sent, and its pages stored
 
     settings    the conductor's settings and folders

@@ -31,10 +31,15 @@ class Board:
         """The round results of a published round."""
         return json.loads(self.round_file(number).read_text(encoding="utf-8")) if number else None
 
-    def publish_round(self, number: int, results: Page, digest: str, now: float) -> None:
-        """Publishes a closed round with the digest of its closing, unless it is published."""
+    def has_ended(self) -> bool:
+        """Whether the last published round is the end of the auction."""
+        results = self.results(self.published())
+        return bool(results and results["ended"])
+
+    def publish_round(self, number: int, results: Page, now: float) -> None:
+        """Publishes what is stored of a closed round, unless it is published."""
         if not self.round_file(number).exists():
-            self.put(self.round_file(number), {**results, "digest": digest, "published": utc(now)})
+            self.put(self.round_file(number), {**results, "published": utc(now)})
 
     def announcements(self) -> list[dict[str, Any]]:
         file = self.folders.public / "announcements.json"

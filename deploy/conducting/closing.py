@@ -4,15 +4,15 @@ stored.
 import dataclasses
 import enum
 import json
-import secrets
 from pathlib import Path
 
+from ties import MOST_TIES, needed_pairs, ties_of
+
 from . import disk
+from .chain import Chain
 from .journal import Journal
 from .server import Operator, Page
 from .setup import Setup
-
-MOST_TIES = 16_384
 
 # The increments of a closing, in percent: one for all products, or in version 2 one for each.
 Increments = list[int]
@@ -23,9 +23,9 @@ class NotClosed(Exception):
 
 
 class Ties(enum.Enum):
-    """What tie-breaking numbers a closing has: random ones, or none."""
+    """What tie-breaking numbers a closing has: those of the chain, or none if it cannot list all that matter."""
 
-    RANDOM = "random"
+    OF_CHAIN = "of the chain"
     NONE = "none"
 
 
@@ -64,6 +64,10 @@ class Auction:
     def lock(self) -> Path:
         """The lock of whoever closes a round, from the last look at the status to the stored pages."""
         return self.folder / ".lock"
+
+    def chain(self) -> Chain:
+        """The auction's chain of seeds."""
+        return Chain.read(self.folder / "chain.json", self.setup)
 
     def body_file(self, number: int) -> Path:
         return self.folder / f"closing-{number}.json"
@@ -105,33 +109,41 @@ def body_of(setup: Setup, number: int, increments: Increments, ties: list[list[i
 def pairs_of(auction: Auction, number: int) -> list[tuple[int, int]]:
     """The pairs of bidder and product that get a tie-breaking number, by number.
 
-    All of them, or if these are more than a closing may list, those that hold a block or have a bid in force. None in
-    round 1, in which nothing is processed in order.
+    If there are too many for a closing, those with processed demand or with a bid in force.
     """
-    if number == 1:
-        return []
     setup = auction.setup
-    pairs = [(bidder, product) for bidder in range(len(setup.bidders)) for product in range(len(setup.products))]
-    if len(pairs) <= MOST_TIES:
-        return pairs
+    counts = len(setup.bidders), len(setup.products)
+    matter = set() if number == 1 or counts[0] * counts[1] <= MOST_TIES else pairs_that_matter(auction)
+    return needed_pairs(number, *counts, matter)
+
+
+def pairs_that_matter(auction: Auction) -> set[tuple[int, int]]:
+    """The pairs with processed demand or with a bid in force."""
     bidders = auction.operator.page("/v1/results")["bidders"]
-    asked = auction.journal.asked()
-    return [pair for pair in pairs if pair in asked or bidders[pair[0]]["demands"][pair[1]]]
+    demands = {
+        (bidder, product) for bidder, row in enumerate(bidders) for product, blocks in enumerate(row["demands"]) if blocks
+    }
+    return demands | auction.journal.asked()
 
 
-def random_ties(pairs: list[tuple[int, int]]) -> list[list[int]]:
-    """A random number for each pair, none twice."""
-    if len(pairs) > MOST_TIES:
-        raise NotClosed(
-            f"{len(pairs)} pairs of bidder and product can matter, and a closing has at most {MOST_TIES} tie-breaking "
-            "numbers. With --no-ties it "
-            "has none: at the same price point the lower bidder then comes first, so draw the order of the bidders in "
-            "the set-up by lot "
-            "before the auction."
-        )
-    numbers = list(range(1, len(pairs) + 1))
-    secrets.SystemRandom().shuffle(numbers)
-    return [[bidder, product, number] for (bidder, product), number in zip(pairs, numbers)]
+def listed_ties(auction: Auction, number: int, ties: Ties) -> list[list[int]]:
+    """The tie-breaking numbers of this round's closing, by the seed of the round."""
+    chain = auction.chain()
+    seed = chain.seed(number)
+    if seed is None:
+        return []
+    pairs = pairs_of(auction, number)
+    if len(pairs) <= MOST_TIES:
+        if pairs and ties is Ties.NONE:
+            raise NotClosed(f"--no-ties: the closing can list all {len(pairs)} pairs, and bidders were promised that")
+        return ties_of(seed, chain.draw, number, pairs)
+    if ties is Ties.NONE:
+        return []
+    raise NotClosed(
+        f"{len(pairs)} pairs of bidder and product can matter, and a closing has at most {MOST_TIES} tie-breaking "
+        "numbers. With --no-ties it has none: at the same price point the lower bidder then comes first, so draw the "
+        "order of the bidders in the set-up by lot before the auction."
+    )
 
 
 def fixed_increments(auction: Auction, number: int) -> Increments | None:
@@ -150,8 +162,8 @@ def fix(auction: Auction, number: int, increments: Increments, ties: Ties) -> Or
     """
     if auction.body_file(number).exists():
         return Origin.BEFORE
-    listed = random_ties(pairs_of(auction, number)) if ties is Ties.RANDOM else []
-    disk.store(auction.body_file(number), body_of(auction.setup, number, increments, listed))
+    body = body_of(auction.setup, number, increments, listed_ties(auction, number, ties))
+    disk.store(auction.body_file(number), body)
     return Origin.NOW
 
 
@@ -189,15 +201,25 @@ def keep(auction: Auction) -> int:
     for number, body in enumerate(bodies[:last], 1):
         if number == last or not auction.sheet_file(number).exists():
             disk.store(auction.body_file(number), body)
-            disk.store(auction.sheet_file(number), json.dumps(auction.operator.page(f"/v1/rounds/{number}")))
+            disk.store(auction.sheet_file(number), json.dumps(to_publish(auction, number)))
     lines = [json.dumps(json.loads(body), separators=(",", ":")) + "\n" for body in bodies]
     disk.store(auction.folder / "closings.jsonl", "".join(lines))
     disk.store(auction.results_file(last), json.dumps(results))
     return last
 
 
+def to_publish(auction: Auction, number: int) -> Page:
+    """The results of a closed round, with the digest of its closing and its seed, for everyone."""
+    seed = auction.chain().seed(number)
+    return {
+        **auction.operator.page(f"/v1/rounds/{number}"),
+        "digest": auction.journal.closings[number - 1].digest,
+        "seed": None if seed is None else seed.hex(),
+    }
+
+
 def stored_results(auction: Auction, number: int) -> Page:
-    """The round results that are stored of a closed round."""
+    """What is stored of a closed round, for everyone."""
     return json.loads(auction.sheet_file(number).read_bytes())
 
 

@@ -23,12 +23,8 @@ def current(office: Office) -> int:
     try:
         status = office.status()
     except (NoReply, Refused):
-        last = office.board.published()
-        results = office.board.results(last)
-        status = {
-            "round": last if results and results["ended"] else last + 1,
-            "ended": bool(results and results["ended"]),
-        }
+        last, ended = office.board.published(), office.board.has_ended()
+        status = {"round": last if ended else last + 1, "ended": ended}
     if status["ended"]:
         raise CommandFault(f"the auction ended after round {status['round']}")
     return status["round"]
@@ -82,6 +78,7 @@ def pause(office: Office, words: str) -> None:
     with office.changing() as changed:
         if changed.paused:
             raise CommandFault(f"the auction is paused already: {changed.paused.words}")
+        current(office)  # refuses after the end
         changed.paused = Pause(office.clock.wall(), words)
         changed.announce(f"The auction is paused. {words}")
         office.plan_file.store(changed)

@@ -6,7 +6,7 @@ from typing import Any
 
 from . import closing, disk
 from .clock import in_words, utc
-from .closing import NotClosed, Origin, Outcome, last_closed
+from .closing import NotClosed, Origin, Outcome, Ties, last_closed
 from .increments import increments_for
 from .journal import JournalFault
 from .office import Office
@@ -88,10 +88,10 @@ class Conductor:
         return self.follow(plan, self.number, status["ended"])
 
     def look_at_clock(self, plan: Plan) -> None:
-        """If the clock was set, shuts the gate and pauses: the time of day then decides nothing."""
+        """If the clock was set before the end, shuts the gate and pauses: the time of day then decides nothing."""
         before = self.watch.now
         jump = self.watch.look()
-        if jump is not None and not plan.paused:
+        if jump is not None and not plan.paused and not self.office.board.has_ended():
             self.office.gate.shut()
             plan.paused = pause_for(jump, before)
             plan.announce(f"The auction is paused. {plan.paused.words}")
@@ -169,7 +169,7 @@ class Conductor:
         auction, results = self.office.auction, self.office.board.results(number - 1)
         with disk.locked(auction.lock()):
             increments = increments_for(plan.increments, self.office.setup, number + 1, results)
-            origin: Origin = closing.fix(auction, number, increments, self.office.ties())
+            origin: Origin = closing.fix(auction, number, increments, Ties.OF_CHAIN)
             answer = closing.send(auction, number, origin)
         if answer.outcome is Outcome.REFUSED:
             plan.word, plan.doubt = None, Doubt(number, f"the server refuses its closing, {answer.page}")
@@ -197,8 +197,7 @@ class Conductor:
             if not ended:
                 self.leave_time(plan, closed + 1)
         for number in missing:
-            results, digest = closing.stored_results(office.auction, number), office.journal.closings[number - 1].digest
-            office.board.publish_round(number, results, digest, office.clock.wall())
+            office.board.publish_round(number, closing.stored_results(office.auction, number), office.clock.wall())
         made = {announcement["key"] for announcement in office.board.announcements()}
         for number in range(1, closed + 1):
             if closing_key(number) not in made:

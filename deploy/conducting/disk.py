@@ -11,12 +11,22 @@ PRIVATE, PUBLIC = 0o600, 0o644
 
 def store(path: Path, text: str, mode: int = PRIVATE) -> None:
     """Writes a file and brings it to the disk. After a crash or a power loss it has its old text or this one, whole."""
+    prepare(path, text, mode)
+    put(path)
+    sync_folder(path.parent)
+
+
+def prepare(path: Path, text: str, mode: int) -> None:
+    """Writes a file next to its place, and brings it to the disk."""
     with fresh_file(path, mode) as file:
         file.write(text)
         file.flush()
         os.fsync(file.fileno())
-    os.rename(file.name, path)
-    sync_folder(path.parent)
+
+
+def put(path: Path) -> None:
+    """Puts a file that was prepared in its place. The name may still be lost in a crash."""
+    os.rename(f"{path}.new", path)
 
 
 def show(path: Path, text: str, mode: int = PUBLIC) -> None:

@@ -6,7 +6,7 @@ from pathlib import Path
 from . import disk
 from .board import Board
 from .clock import Clock, MachineClock
-from .closing import Auction, Ties
+from .closing import Auction
 from .gate import Gate
 from .journal import Journal
 from .plan import Plan, PlanFile
@@ -28,6 +28,7 @@ class Office:
         self.journal = Journal(self.settings.journal, self.setup)
         self.operator = Operator(self.settings.url, self.settings.token.read_text(encoding="utf-8").strip())
         self.auction = Auction(self.operator, self.setup, self.journal, self.folders.kept)
+        self.auction.chain()  # there must be one
         self.plan_file, self.board, self.gate = (
             PlanFile(self.folders.state / "plan.json"),
             Board(self.folders),
@@ -66,7 +67,3 @@ class Office:
         if type(page.get("round")) is not int or type(page.get("ended")) is not bool:
             raise NoReply(f"this is not a status: {page}")
         return page
-
-    def ties(self) -> Ties:
-        """What tie-breaking numbers closings have, by the settings."""
-        return Ties(self.settings.ties)

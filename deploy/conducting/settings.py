@@ -5,6 +5,7 @@ import dataclasses
 import grp
 import json
 import os
+import re
 import stat
 from pathlib import Path
 from typing import Self
@@ -14,6 +15,15 @@ from . import disk
 
 class SettingsFault(Exception):
     """What is wrong in conductor.json."""
+
+
+def group_of_workers(configuration: Path) -> str:
+    """The group of nginx's workers by its line `user USER [GROUP];`, or Debian's default."""
+    try:
+        found = re.search(r"(?m)^user\s+(\w[\w-]*)(?:\s+(\w[\w-]*))?\s*;", configuration.read_text(encoding="utf-8"))
+    except FileNotFoundError:
+        found = None
+    return (found[2] or found[1]) if found else "nogroup"
 
 
 @dataclasses.dataclass(frozen=True)
@@ -27,8 +37,7 @@ class Settings:
     drain: int = 5  # from a window's end to the closing, for requests that began in time
     between: int = 300  # at the least from results to the next opening
     notice: int = 900  # a window that begins within this time is not brought forward or shortened
-    ties: str = "random"  # tie-breaking numbers: "random", or "none" if a closing cannot list all pairs that matter
-    readers: str = "nogroup"  # the group of nginx's workers, which read the report to the operator's page
+    readers: str = ""  # the group of nginx's workers, which read the report to the operator's page; "" asks nginx.conf
 
     @classmethod
     def read(cls, folder: Path) -> Self:
@@ -46,9 +55,7 @@ class Settings:
         for name, seconds in times.items():
             if type(seconds) is not int or seconds < 0:
                 raise SettingsFault(f"{path}: {name} must be whole seconds, 0 or more")
-        if settings.ties not in ("random", "none"):
-            raise SettingsFault(f'{path}: ties must be "random" or "none"')
-        return settings
+        return dataclasses.replace(settings, readers=settings.readers or group_of_workers(folder / "nginx.conf"))
 
 
 @dataclasses.dataclass(frozen=True)

@@ -1,5 +1,6 @@
 """The parts of a set-up document that a closing and a timetable need."""
 import dataclasses
+import hashlib
 import json
 from pathlib import Path
 from typing import Self
@@ -37,3 +38,8 @@ class Setup:
             return cls(document, value["version"], products, list(tokens.values()), tokens)
         except (KeyError, TypeError, ValueError) as error:
             raise ValueError(f"{path} is not a set-up document: {error!r}") from error
+
+    @property
+    def digest(self) -> str:
+        """The SHA-256 digest of the document, which identifies the auction."""
+        return hashlib.sha256(self.document).hexdigest()

@@ -4,6 +4,7 @@ import collections
 import http.client
 import json
 import os
+import re
 import signal
 import socket
 import subprocess
@@ -14,6 +15,7 @@ from trying.limits import connected
 from trying.place import wait_for
 
 AT_ONCE, MORE, A_SECOND = 200, 60, 20
+HEAD = 300                                    # bytes of a head that nginx hands on, and of a record
 PAGES_HAVE = "default-src 'self'; base-uri 'none'; form-action 'none'; frame-ancestors 'none'"
 
 
@@ -77,6 +79,20 @@ def try_log(place):
     print(f"log: {len(early)} requests that nginx refuses before it counts them wrote no line; {len(lines)} lines of hostile requests are JSON in ASCII")
 
 
+def try_settings(place):
+    """What would take long to see: how fast one bidder can make the journal grow, and that no cached status is removed while nginx waits for a
+    reply, which would be an alert in error.log."""
+    text = (place.folder / "nginx.conf").read_text()
+    stored, waits = (int(re.search(rf"{words}(\d+)s", text)[1]) for words in ("zone=status:1m inactive=", "proxy_read_timeout "))
+    ensure("a cached status is stored for longer than a reply may take", stored > waits, (stored, waits))
+    small, large, longest = (int(re.search(words, text)[1]) for words in (
+        r"zone=bidder:1m +rate=(\d+)r/s", r"zone=large:1m +rate=(\d+)r/m", r"client_max_body_size (\d{3,});"))
+    digits = int(re.search(r"\^PUT \(\\d\{(\d+),\}\)\?\$", text)[1])
+    grown = 3600 * (small * (10 ** (digits - 1) + HEAD) + large / 60 * longest)
+    ensure("what one bidder can add to the journal in an hour", grown < 0.5e9, grown)
+    print(f"the journal: one bidder can add at most {grown / 1e9:.2f} GB an hour, of sheets of any length")
+
+
 def try_networks(place):
     """Addresses of one IPv6 network of 64 bits share a limit, and those of another do not. The trial's header says the address."""
     for network in ("2001:db8:0:7:%x::9", "2001:db8::%x:0:0:9", "fe80:0:0:%d::1"):
@@ -124,6 +140,22 @@ def try_large(place, token):
     ensure("a sheet of unknown length counts as a large one", statuses(place.outside, [chunked])[0] == {429: 1})
     ensure("a small sheet", statuses(place.outside, [sheet(9_999)])[0] == {200: 1})
     print(f"large sheets: {found[200]} of 25 at once are handed on, and a small one after them")
+
+
+def try_longest(place, token):
+    """With sheet.conf, a sheet may be as long as the set-up needs, and no longer."""
+    most = place.bound_sheets()
+    place.nginx.send_signal(signal.SIGHUP)
+
+    def status_of(length):
+        client = Client(place.outside)
+        status, _, _ = client.ask("PUT", "/v1/me/bids", token, body=b" " * length)
+        client.peer.close()
+        return status
+
+    wait_for("a sheet that is too long for the set-up", lambda: status_of(most + 1) == 413, 5)
+    ensure("the longest sheet of the set-up", status_of(most) == 200)
+    print(f"sheets: with sheet.conf, {most:,} bytes are handed on for a set-up of one product, and no more")
 
 
 def try_at_once(place, server):

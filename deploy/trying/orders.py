@@ -58,6 +58,13 @@ def try_extend(program: pathlib.Path) -> str:
         bidders = [{"demands": [1], "name": name, "pays": 121} for name in "XY"]
         ensure("winners", won == {"bidders": bidders, "round": 3}, won)
         ensure("extended after the end", "the auction ended" in is_refused(commands.extend, stage.office(), 5))
+        ensure("paused after the end", "the auction ended" in is_refused(commands.pause, stage.office(), "Late."))
+        stage.kill_server()
+        ensure("also without a server", "the auction ended" in is_refused(commands.pause, stage.office(), "Late."))
+        stage.begin_server()
+        stage.time.now += 3600.0
+        stage.look()
+        ensure("a clock that is set after the end", stage.is_in(State.ENDED) and not stage.announced("is paused"))
         fault = is_refused(commands.close_next, stage.office(), 3, True)
         ensure("a word after the end", "does not wait for a word" in fault, fault)
         for words in ("Round 1 is open until 12:08", "extension 105", "What each bidder has won"):

@@ -1,5 +1,6 @@
 """What a trial of program and nginx needs: free ports, waiting, and both started in a folder of their own."""
 import json
+import os
 import pathlib
 import re
 import shutil
@@ -10,8 +11,10 @@ import tempfile
 import time
 
 TOP = pathlib.Path(__file__).resolve().parents[2]
-sys.path.insert(0, str(TOP / "scripts"))
+sys.path[:0] = [str(TOP / "deploy"), str(TOP / "scripts")]
 
+from conducting import commitment
+from conducting.setup import Setup
 from loopback import free_port
 from packages import PATHS
 
@@ -48,16 +51,22 @@ def started(program, setup, port, journal=None):
     return server
 
 
+def commit(folder, has_ties=True):
+    """Commits to the auction in a folder, as deploy/commit does."""
+    commitment.make(commitment.Places(folder / "kept", folder / "public"), Setup.read(folder / "setup.json"), has_ties)
+
+
 class Place:
     """Program and nginx in a folder of their own, on free ports of this machine, as docs/operators.md starts them. Without a program nginx
-    is there alone, and whoever wants to be its server listens at `server_port`. `more` are lines for nginx.conf."""
+    is there alone, and whoever wants to be its server listens at `server_port`. `more` are lines for nginx.conf. nginx's workers are of the user
+    `worker`, or of Debian's default."""
 
-    def __init__(self, program, setup_text, more=""):
+    def __init__(self, program, setup_text, more="", worker="", has_ties=True):
         self.folder = pathlib.Path(tempfile.mkdtemp(prefix="deploy-"))
         self.children = []
         self.server_port, self.outside, self.inside = free_port(), free_port(), free_port()
         try:
-            self.write(setup_text, more)
+            self.write(program, setup_text, more, worker, has_ties)
             self.program, self.kills = program, 0
             if program is not None:
                 self.begin()
@@ -75,6 +84,17 @@ class Place:
         """Starts the server, or starts it again, on its journal."""
         self.server = self.keep(started(self.program, self.folder / "setup.json", self.server_port, self.folder / "auction.journal"))
 
+    def begin_receipts(self):
+        """Starts the service that signs receipts, in a folder that nginx's workers read."""
+        folder = self.folder / "receipts"
+        folder.mkdir()
+        if os.geteuid() == 0:                 # else nginx's workers are this user
+            shutil.chown(folder, group="nogroup")
+        folder.chmod(0o2750)
+        files = ("setup.json", "auction.journal", "kept", "receipts")
+        words = [sys.executable, TOP / "deploy/receipts", *(self.folder / name for name in files)]
+        return self.keep(subprocess.Popen(words, stdin=subprocess.DEVNULL, stdout=subprocess.DEVNULL))
+
     def kill(self):
         """Ends the server at once, as a loss of power would, and starts it again."""
         self.server.kill()
@@ -87,7 +107,7 @@ class Place:
         self.children.append(child)
         return child
 
-    def write(self, setup_text, more):
+    def write(self, program, setup_text, more, worker, has_ties):
         """The folder's files: the set-up and its tokens for their owner alone, the pages, the certificate, nginx's configuration."""
         self.folder.chmod(0o755)              # nginx's workers are another user
         for name in ("tmp", "log", "gate"):
@@ -97,19 +117,34 @@ class Place:
         setup = self.folder / "setup.json"
         setup.touch(0o600)
         setup.write_text(setup_text)
+        commit(self.folder, has_ties)
         lines = subprocess.run([sys.executable, TOP / "deploy/tokens", setup], check=True, capture_output=True).stdout
         for name, text in (("bidders.map", lines), ("operator.map", b'"Bearer %s" yes;\n' % json.loads(setup_text)["operator"].encode())):
             (self.folder / name).touch(0o600)
             (self.folder / name).write_bytes(text)
+        if program is not None:
+            self.bound_sheets()
         shutil.copytree(TOP / "web", self.folder / "web")
         shutil.copy(TOP / "schemas/openapi.json", self.folder)
-        ports = {"8105": self.server_port, "8106": self.inside, "8443": self.outside}
         text = (TOP / "deploy/nginx.conf").read_text().replace("listen 8443", "listen 127.0.0.1:8443")   # a trial is for this machine alone
-        text = re.sub(r"\n *listen \[::\][^\n]*|\nuser [^\n]*", "", text).replace("\nhttp {", "\nhttp {" + more)
-        (self.folder / "nginx.conf").write_text(re.sub(r"\b(8105|8106|8443)\b", lambda port: str(ports[port[0]]), text))
+        text = re.sub(r"\n *listen \[::\][^\n]*", "", text).replace("\nhttp {", "\nhttp {" + more)
+        text = re.sub(r"\nuser [^\n]*", f"\nuser {worker};" if worker else "", text)
+        (self.folder / "nginx.conf").write_text(self.with_ports(text))
         subprocess.run(["openssl", "req", "-x509", "-newkey", "rsa:2048", "-nodes", "-days", "30", "-subj", "/CN=localhost",
                         "-addext", "subjectAltName=DNS:localhost,IP:127.0.0.1", "-keyout", self.folder / "key.pem",
                         "-out", self.folder / "cert.pem"], check=True, capture_output=True)
+
+    def bound_sheets(self):
+        """Writes sheet.conf, and returns the most bytes of a sheet."""
+        words = [sys.executable, TOP / "deploy/tokens", "--sheet", self.folder / "setup.json"]
+        line = subprocess.run(words, check=True, capture_output=True, text=True).stdout
+        (self.folder / "sheet.conf").write_text(line)
+        return int(re.fullmatch(r"client_max_body_size (\d+);\n", line)[1])
+
+    def with_ports(self, text):
+        """A text with this place's ports instead of the usual ones."""
+        ports = {"8105": self.server_port, "8106": self.inside, "8443": self.outside}
+        return re.sub(r"\b(8105|8106|8443)\b", lambda port: str(ports[port[0]]), text)
 
     def stop(self):
         """Ends what was started here, and removes the folder."""

@@ -3,6 +3,7 @@ killed at any step.
 """
 import contextlib
 import errno
+import functools
 import json
 import os
 import pathlib
@@ -16,7 +17,7 @@ from typing import Any
 TOP = pathlib.Path(__file__).resolve().parents[2]
 sys.path[:0] = [str(TOP / "scripts")]
 
-from conducting import disk
+from conducting import closing, disk
 from conducting.commands import CommandFault
 from conducting.conductor import Conductor
 from conducting.office import Office
@@ -24,11 +25,13 @@ from conducting.report import State
 from conducting.server import NoReply, Operator
 from conducting.timetable import Window
 from loopback import free_port, reply_to
-from trying.place import Failed, started
+from ties import Commitment, check_ties
+from trying.place import Failed, commit, started
 
 BEGIN = 1_795_867_200  # 12:00 UTC on November 28, 2026
 WINDOWS = [(60, 360), (420, 720), (780, 1080)]
 MEMORY = "/dev/shm"  # a folder where a sync costs nothing, if there is one
+FIXED = ("kept/chain.json", "kept/receipts.pem", "public/commitment.json")
 
 
 def ensure(what: str, holds: Any, found: Any = "") -> None:
@@ -148,6 +151,16 @@ def set_up(version: int = 1) -> dict[str, Any]:
     }
 
 
+@functools.cache
+def committed(document: str) -> dict[str, bytes]:
+    """The files of one commitment to this set-up, which all auctions of a process have: openssl needs its time."""
+    with tempfile.TemporaryDirectory() as name:
+        folder = pathlib.Path(name)
+        (folder / "setup.json").write_text(document)
+        commit(folder)
+        return {file: (folder / file).read_bytes() for file in FIXED}
+
+
 class Stage:
     """A server with a journal, the conductor's folder, and what was seen: states, announcements, and sheets that came
     through the gate.
@@ -183,6 +196,9 @@ class Stage:
                 }
             )
         )
+        for name, data in committed(document).items():
+            (self.folder / name).parent.mkdir(exist_ok=True)
+            (self.folder / name).write_bytes(data)
         self.begin_server()
         self.conductor = self.fresh()
         if windows:
@@ -247,6 +263,12 @@ class Stage:
         body = json.dumps({"bids": [{"price": price, "product": 0, "quantity": quantity}], "round": number}).encode()
         head = f"PUT /v1/me/bids HTTP/1.1\r\nauthorization: Bearer {name * 16}\r\ncontent-length: {len(body)}\r\n\r\n"
         return b'"accepted":true' in reply_to(self.port, head.encode() + body)
+
+    def close_by_hand(self, number: int, increment: int) -> None:
+        """Closes a round as somebody else than the conductor, with the tie-breaking numbers that were committed."""
+        ties = closing.listed_ties(self.conductor.office.auction, number, closing.Ties.OF_CHAIN)
+        body = json.dumps({"increment": increment, "round": number, "ties": ties})
+        self.operator().ask("/v1/close", body.encode())
 
     def operator(self) -> Operator:
         return Operator(f"http://127.0.0.1:{self.port}", "OPERATOROPERATOR")
@@ -369,6 +391,7 @@ class Stage:
         ensure("the gate is shut", not list((self.folder / "gate").iterdir()))
         self.check_announcements(digests)
         self.check_files(rounds)
+        self.check_ties(pages)
         return [line for line in audit if not line.startswith(("closed", "journal"))]
 
     def check_announcements(self, digests: list[str]) -> None:
@@ -387,6 +410,7 @@ class Stage:
         """The files of each round are stored, with the closings that the journal has, and none is half-written."""
         kept = self.folder / "kept"
         names = {f"{kind}-{number}.json" for kind in ("closing", "round", "results") for number in rounds}
+        names |= {pathlib.Path(name).name for name in FIXED[:2]}
         ensure(
             "stored files",
             {file.name for file in kept.glob("[!.]*")} == names | {"closings.jsonl"},
@@ -399,6 +423,14 @@ class Stage:
         folders = [self.folder / name for name in ("public", "public/rounds", "kept", "state")]
         left = [file.name for folder in folders for file in folder.glob("*.new") if file.name != "look.json.new"]
         ensure("half-written files", not left, left)
+
+
+    def check_ties(self, pages: list[dict[str, Any]]) -> None:
+        """Each round has the tie-breaking numbers that were committed, by the seed that is published with it."""
+        chain = Commitment.read(self.folder / "public/commitment.json").chain
+        for number, page in enumerate(pages, 1):
+            ties = json.loads((self.folder / f"kept/closing-{number}.json").read_text())["ties"]
+            check_ties(chain, number, bytes.fromhex(page["seed"]), ties, 2, 1)
 
 
 @contextlib.contextmanager

@@ -9,7 +9,7 @@ sheet='{"bids":[{"price":100,"product":0,"quantity":2}],"round":1}'
 
 seen() { echo "seen: $1"; }
 finish() { systemctl poweroff --no-block; exit 0; }
-fail() { echo "FAILED: $1"; journalctl -b -u $unit -u clock-auction-conductor --no-pager -o cat | tail -n 20; finish; }
+fail() { echo "FAILED: $1"; journalctl -b -u $unit -u clock-auction-conductor -u clock-auction-receipts --no-pager -o cat | tail -n 20; finish; }
 expect() { local what=$1; shift; if "$@"; then seen "$what"; else fail "$what"; fi; }
 within() { local what=$1; shift; for _ in $(seq 150); do if "$@" > /dev/null 2>&1; then seen "$what"; return; fi; sleep 0.2; done; fail "$what, not within 30 s"; }
 asked() { curl -sS -m 5 -H "authorization: Bearer $token" "${@:2}" "http://127.0.0.1:8105$1"; }
@@ -23,7 +23,8 @@ cannot_write() { ! nsenter -t "$(main_process)" -m -- touch "$1" 2> /dev/null; }
 
 within "it answers after the start of the machine" answers
 process=$(main_process)
-expect "it has a user of its own" test "$(stat -c %u "/proc/$process")" -gt 60000
+expect "it has a user of its own" test "$(stat -c %U "/proc/$process")" = auction-server
+expect "no other user can connect to it" bash -c '! setpriv --reuid nobody --regid nogroup --clear-groups curl -s -m 5 http://127.0.0.1:8105/v1/status'
 expect "it has no capability" grep -qE '^CapEff:\s0+$' "/proc/$process/status"
 expect "its calls are filtered" grep -qE '^Seccomp:\s2$' "/proc/$process/status"
 expect "its address space is limited to 4 GiB" limit_is "Max address space" 4294967296
@@ -77,6 +78,7 @@ cp /etc/clock_auction/setup.json $folder/
 echo OPERATOROPERATOR > $folder/operator.token
 echo secret > $folder/key.pem
 echo '{"url":"http://127.0.0.1:8105","setup":"setup.json","token":"operator.token","journal":"'"$journal"'","drain":2,"between":0,"notice":0}' > "$folder/conductor.json"
+/usr/local/lib/clock_auction/deploy/commit $folder/setup.json $folder/kept $folder/public > /dev/null || fail "the commitment"
 tell() { /usr/local/lib/clock_auction/deploy/conductor "$folder" "$@"; }
 reports() { tell status | grep -qF "$1"; }
 conducting_process() { systemctl show -p MainPID --value $conductor; }
@@ -89,7 +91,7 @@ expect "it has one capability" grep -qE '^CapEff:\s0*4$' "/proc/$process/status"
 expect "its calls are filtered" grep -qE '^Seccomp:\s2$' "/proc/$process/status"
 expect "it cannot see nginx's key" cannot_see $folder/key.pem
 expect "it cannot write the set-up" bash -c "! nsenter -t $process -m -- touch $folder/setup.json 2> /dev/null"
-expect "its report is for nginx's workers only" test "$(stat -c %a:%G $folder/operator/conductor.json)" = 640:nogroup
+expect "its report is for nginx's workers only" test "$(stat -c %a:%G $folder/operator/conductor.json)" = 640:auction-nginx
 first=$(( $(date +%s) / 10 * 10 + 10 ))
 at() { date -u -d "@$1" +%T; }
 echo '{"days":[{"date":"'"$(date -u -d "@$first" +%F)"'","windows":["'"$(at $first)-$(at $((first + 10)))"'"]}]}' > "$folder/timetable.json"
@@ -102,6 +104,15 @@ within "it closes the round, and the auction has ended" reports "The auction end
 expect "it publishes the digest of the journal" grep -qF "$(tail -c +1 $folder/public/rounds/1.json | grep -oE '[0-9a-f]{64}')" <(/usr/local/bin/clock_auction audit --setup $folder/setup.json --journal $journal)
 expect "everyone may read what is public" test "$(stat -c %a $folder/public $folder/public/rounds $folder/public/rounds/1.json | paste -sd ' ')" = "755 755 644"
 systemctl stop $conductor
+receipts=clock-auction-receipts.service
+systemctl start $receipts
+within "a receipt of the sheet" test -s $folder/receipts/X/1-1.json
+process=$(systemctl show -p MainPID --value $receipts)
+expect "it has one capability" grep -qE '^CapEff:\s0*4$' "/proc/$process/status"
+expect "it has no network" test -z "$(nsenter -t "$process" -n -- ls /sys/class/net 2> /dev/null | grep -v lo)"
+expect "its receipts are for nginx's workers only" test "$(stat -c %a:%G $folder/receipts/X/1-1.json)" = 640:auction-nginx
+expect "it cannot write the key" bash -c "! nsenter -t $process -m -- touch $folder/kept/receipts.pem 2> /dev/null"
+systemctl stop $receipts
 systemctl stop $unit
 
 printf x | dd of=$journal bs=1 seek=20 conv=notrunc status=none

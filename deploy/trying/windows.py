@@ -75,12 +75,11 @@ def publish(place):
     """Files as the conductor publishes them, and some that must not be seen."""
     public = place.folder / "public"
     (public / "rounds").mkdir(parents=True)
-    names = ("timetable", "announcements", "winners", "rounds/1", "rounds/12")
+    names = ("commitment", "timetable", "announcements", "winners", "rounds/1", "rounds/12")
     for name in names:
         (public / f"{name}.json").write_text(json.dumps({"file": name}))
     for name in ("plan", "rounds/01", "rounds/x"):
         (public / f"{name}.json").write_text("{}")
-    (place.folder / "kept").mkdir()
     (place.folder / "kept" / "results-1.json").write_text("{}")
     (place.folder / "plan.json").write_text("{}")
     return names
@@ -122,6 +121,7 @@ def try_published(place, server):
         "/public/%2e%2e/setup.json",
         "/plan.json",
         "/kept/results-1.json",
+        "/kept/chain.json",
         "/gate/open",
         "/public/timetable.json%0a",
     ):
@@ -137,10 +137,36 @@ def try_published(place, server):
     ensure("each reader got the file", files == READERS * ASKING_ONCE, files)
     ensure("a published file cost the server a connection", len(server.seen) == before, server.seen[before:])
     print(
-        f"published: five kinds of files and no other, without a token; {files} requests of {READERS} readers in "
+        f"published: six kinds of files and no other, without a token; {files} requests of {READERS} readers in "
         f"{took:.1f} s, of which none "
         "reached the server"
     )
+
+
+def try_receipts(place, server):
+    """A receipt is for its own bidder's token, and costs the server nothing."""
+    before, files = len(server.seen), {"One": ("1-1", "1-2", "12-3"), "Other": ("1-1",)}
+    for name, sheets in files.items():
+        (place.folder / "receipts" / name).mkdir(parents=True)
+        for sheet in sheets:
+            (place.folder / "receipts" / name / f"{sheet}.json").write_text(json.dumps({"of": name, "sheet": sheet}))
+    client = Client(place.outside)
+    for token, name in ((BIDDER, "One"), (OTHER, "Other")):
+        for path, sheet in (("/receipts/1/1.json", "1-1"), ("/receipts/1/2.json", "1-2"), ("/receipts/12/3.json", "12-3")):
+            status, head, page = answer = client.ask("GET", path, token)
+            if sheet in files[name]:
+                mine = status == 200 and json.loads(page) == {"of": name, "sheet": sheet}
+                ensure(f"{path} of {name}", mine and "\ncache-control: no-store" in head, answer)
+            else:
+                ensure(f"{path} of {name}", is_refusal(answer, 404, "no_page"), answer)
+    for path in ("/receipts/1/1.json", "/receipts/9/9.json"):
+        for token in (None, "N0B0DYST0KENATALL"):
+            ensure(f"{path} with {token}", is_refusal(client.ask("GET", path, token), 401, "token"))
+    for path in ("/receipts/", "/receipts/One/1-1.json", "/receipts/1-1.json", "/receipts/1/01.json", "/receipts/1/1.json%0a", "/receipts/1/"):
+        ensure(path, is_refusal(answer := client.ask("GET", path, OTHER), 404, "no_page"), answer)
+    ensure("PUT", is_refusal(client.ask("PUT", "/receipts/1/1.json", BIDDER, body=b"x"), 405, "method"))
+    ensure("a receipt cost the server a connection", len(server.seen) == before)
+    print("receipts: each is for its own bidder's token, and no list of them is served")
 
 
 def asked_inside(place, path, token=None):

@@ -11,6 +11,7 @@ REFUSED_TEXTS = (
     ("a sheet of an unknown token", sheet("N" * 16, 1, 100, 1)),
     ("a sheet above the cap", sheet(BIDDERS[1], 1, 100, 3)),
     ("a closing of a later round", closing(7)),
+    ("a request for a page", text_of("GET /v1/status", BIDDERS[1])),
     ("a request without a page", text_of("GET /none", BIDDERS[1])),
     ("half a request", b"PUT /v1/me/bids HTTP/1.1\r\n"),
 )

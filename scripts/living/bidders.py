@@ -58,14 +58,20 @@ class Bidder:
     """The program of a bidder, in the background."""
 
     def __init__(self, url: str, token: str, limits: pathlib.Path, every: float, **environment: str) -> None:
-        command = [sys.executable, built.TOP / "examples" / "bidder.py", url, limits, "--every", str(every)]
+        self.receipts = limits.with_suffix(".receipts")
+        options = ("--every", str(every), "--receipts", self.receipts)
+        command = [sys.executable, built.TOP / "examples" / "bidder.py", url, limits, *options]
         streams = {"stdout": subprocess.PIPE, "stderr": subprocess.PIPE, "text": True}
         self.child = subprocess.Popen(command, env={**os.environ, "TOKEN": token, **environment}, **streams)
 
     def ended(self) -> tuple[int, str, str]:
-        """Its status, its output and its errors, once it has ended by itself."""
+        """Its status, its output and its errors, once it has ended by itself.
+
+        On a busy machine a receipt may come late, which is no error here.
+        """
         output, errors = self.child.communicate(timeout=PATIENCE)
-        return self.child.returncode, output, errors
+        lines = [line for line in errors.splitlines(True) if not line.startswith("no receipt within")]
+        return self.child.returncode, output, "".join(lines)
 
     def expect_failure(self, words: str) -> None:
         """It ends with status 1, and says so in these words."""

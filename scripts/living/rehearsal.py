@@ -4,9 +4,10 @@ import pathlib
 
 import built
 import packages
+import receipts
 from servers import Server
 from trial import expect
-from trying.place import Place
+from trying.place import Place, wait_for
 
 from .bidders import Bidder, Played, asked, put, wait_for_sheet
 
@@ -87,16 +88,35 @@ def play_straight(rehearsal: Rehearsal, folder: pathlib.Path) -> None:
 
 
 def play_behind_nginx(rehearsal: Rehearsal, folder: pathlib.Path) -> None:
-    """The rehearsal over TLS behind nginx."""
+    """The rehearsal over TLS behind nginx. No window is open when the bidders begin, so they wait for one."""
     if absent := packages.missing("nginx", "openssl"):
         print(f"no {absent[0]} here: examples/bidder.py is not played over TLS")
         return
     place = Place(str(built.program()), json.dumps(rehearsal.setup))
     with Played() as played:
         played.callback(place.stop)
-        certificates = str(place.folder / "cert.pem")
+        certificates, gate = str(place.folder / "cert.pem"), place.folder / "gate" / "open"
+        gate.unlink()
         bidders = rehearsal.bidders(played, folder, f"https://localhost:{place.outside}", 0.4, CA=certificates)
-        rehearsal.play(place.server_port, bidders, "over TLS behind nginx")
+        log = place.folder / "log" / "access.log"
+        wait_for("each sheet is refused", lambda: log.read_text().count('"status":409') >= len(bidders), 30)
+        place.begin_receipts()
+        gate.touch()
+        rehearsal.play(place.server_port, bidders, "over TLS behind nginx, once a window is open")
+        check_receipts(place, bidders)
+
+
+def check_receipts(place: Place, bidders: dict[str, Bidder]) -> None:
+    """Each bidder has a receipt for each of its sheets, and the journal has these sheets."""
+    journal, count = (place.folder / "auction.journal").read_bytes(), 0
+    for name, bidder in bidders.items():
+        file = receipts.read_kept(bidder.receipts)
+        expect(f"{name}'s receipts against the journal", receipts.faults(file, journal), [])
+        expect(f"{name}'s own sheets", all(kept.sent for kept in file.receipts), True)
+        files = list((place.folder / "receipts" / name).iterdir())
+        expect(f"receipts of {name}", len(file.receipts), len(files))
+        count += len(files)
+    print(f"{count} sheets have receipts, which their bidders keep and which fit the journal")
 
 
 def play(folder: pathlib.Path) -> None:

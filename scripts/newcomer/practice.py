@@ -1,4 +1,5 @@
 """A practice that runs, with what it prints and what its address gives."""
+import atexit
 import contextlib
 import http.client
 import pathlib
@@ -37,6 +38,13 @@ class Practice:
         self.process = subprocess.Popen(
             command, stdout=subprocess.PIPE, stderr=subprocess.STDOUT, text=True, start_new_session=True
         )
+        atexit.register(self.stop)  # if something is not as it must be
+
+    def stop(self) -> None:
+        """Ends a practice that still runs, with its server."""
+        if self.process.poll() is None:
+            self.process.terminate()
+            self.process.wait(20)
 
     def until(self, words: str) -> None:
         """Reads what it prints until it has these words."""

@@ -1,9 +1,9 @@
 """What the page says if the server is slow or gone, if bids come another way, and to unknown tokens."""
+import datetime
 import re
-import time
 
 from clicks.auctions import OPERATOR, OPERATORS, X
-from clicks.stand import expect, wait_for
+from clicks.stand import busy, expect, wait_for
 
 UNKNOWN = "It is not known whether your bids were accepted"
 
@@ -11,7 +11,7 @@ UNKNOWN = "It is not known whether your bids were accepted"
 def gone(stand, window):
     """A server that is gone is reported, and asked less often; returns the seconds between two requests."""
     window.noted()
-    time.sleep(3.3)
+    wait_for("the status is asked for", lambda: len(window.run("return window.asks")) > 4)
     stand.stop()
     window.says("link", "No answer from the server. Retrying every five seconds. Your entries stay in the form.")
     window.says("todo", "The state of the round is not known")
@@ -21,8 +21,8 @@ def gone(stand, window):
     after = window.run("return window.asks")
     fast = min(later - earlier for earlier, later in zip(before, before[1:])) / 1000
     slow = (after[len(before)] - before[-1]) / 1000
-    expect(f"it is asked each second: {fast:.2f}", 0.9 < fast < 2)
-    expect(f"and each five seconds without an answer: {slow:.2f}", 4.9 < slow < 15)
+    expect(f"it is asked each second: {fast:.2f}", 0.9 < fast < 2 * busy())
+    expect(f"and each five seconds without an answer: {slow:.2f}", 4.9 < slow < 10 * busy())
     return f"the status is asked for each {fast:.1f} s, each {slow:.1f} s without an answer"
 
 
@@ -56,11 +56,14 @@ def slow(window):
     """An answer that takes long is named after three seconds, and until it comes no line is green."""
     wait_for("nothing is left to do", lambda: window.kind("todo") == "done")
     window.slow()
-    begun = time.monotonic()
-    words = re.compile(r"No answer since \d\d:\d\d:\d\d\. The round may be closing\.")
+    words = re.compile(r"No answer since (\d\d:\d\d:\d\d)\. The round may be closing\.")
     wait_for("a slow answer is named", lambda: words.match(window.text("link")))
-    waited = time.monotonic() - begun
-    expect(f"three seconds after the last answer, and not before: {waited:.1f}", 1.5 < waited < 10)
+    named, since = (
+        datetime.datetime.strptime(text, "%H:%M:%S")
+        for text in (window.run("return window.named"), words.match(window.text("link"))[1])
+    )
+    waited = (named - since).seconds
+    expect(f"three seconds after the last answer, and not before: {waited}", 3 <= waited < 5 * busy())
     window.says("todo", "The state of the round is not known")
     expect("no line is green", window.kind("todo") == "")
     window.let_go()

@@ -38,7 +38,7 @@ def live_round(x, y, operator):
         window.send("Accepted: 1 bid for round 1")
         window.says("force", "Submitted: 1 bid, accepted at")
         window.says("todo", "✓ Your bids are submitted. Nothing is left to do in this round.")
-        expect("that is green", window.kind("todo") == "done")
+        wait_for("that is green", lambda: window.kind("todo") == "done")
     x.bid(0, 2, 99)
     x.says("todo", "the form differs from your submitted bids")
     operator.close_round()
@@ -139,7 +139,7 @@ def closing_too_high(stand, x, y, operator):
     sent(y, 1, 10**12)
     operator.close_round()
     operator.says("say", "would be above 10^12 dollars: use a smaller increment (A). Nothing was closed.")
-    expect("the round is still open", operator.text("round") == "Round 1 is open")
+    expect("the round is still open", operator.text("round") == "Round 1")
     sent(y, 0, 10**12)
     y.deaf()
     operator.deaf()
@@ -165,12 +165,28 @@ def closed_elsewhere(stand, x, y, operator):
         window.send("Accepted: 1 bid")
     y.deaf()
     operator.deaf()
+    committed_closing(stand, operator)
     operator.click("ask")
+    wait_for("a closing is asked about first", lambda: operator.at("question").is_displayed())
     stand.close(2)
     operator.at("yes").click()
     operator.says("say", "Refused: another round is the current one")
     y.send("Refused: another round is the current one")
     expect("no bids of a closed round are said to stay in force", "in force" not in y.text("say"))
+
+
+def committed_closing(stand, operator):
+    """The page does not close round 2 if that needs tie-breaking numbers, or if no commitment is there."""
+    file = stand.place.folder / "public/commitment.json"
+    text = file.read_text()
+    chained = text.replace("null", '{"draw":"","end":"%s","length":10000}' % ("0" * 64))
+    for put in (chained, None):
+        file.unlink() if put is None else file.write_text(put)
+        operator.click("ask")
+        operator.says("say", "⚠ Not closed: round 2 needs tie-breaking numbers from its seed")
+        operator.run("document.getElementById('say').textContent=''")
+        expect("and nothing is asked", not operator.at("question").is_displayed())
+    file.write_text(text)
 
 
 def answered_late(stand, window):

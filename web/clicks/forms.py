@@ -12,7 +12,7 @@ def refused(window, words, step=0):
     wait_for(f"said at the row: {words}", lambda: words in window.wrong(0, step))
     expect("with a sign, not by color alone", window.wrong(0, step)[0] == "⚠")
     window.click("send")
-    wait_for(f"refused by the server: {words}", lambda: "refused" in window.wrong(0, step))
+    wait_for(f"refused by the server: {words}", lambda: "Refused" in window.wrong(0, step))
     window.says("say", "Refused", words)
 
 
@@ -70,7 +70,7 @@ def faults(window):
     window.send("Refused: the sheet requests more activity")
     for quantity, price, words in [("x", 100, WRONG_QUANTITY), ("", 100, WRONG_QUANTITY), (1, "1,00", WRONG_PRICE)]:
         window.bid(1, quantity, price)
-        wait_for(f"said at the row: {words}", lambda: words in window.wrong(1))
+        wait_for(f"said at the row: {words}", lambda: words[1:] in window.wrong(1))
         window.send("Not submitted: a row cannot be read")
     window.click("down")
     window.says("say", "Not saved: a row cannot be read")
@@ -98,9 +98,6 @@ def files(window, work):
     wanted = [f"line {number}: {words}" for number, words in enumerate(wrong, 3)]
     wait_for("each wrong line is listed", lambda: window.text("lines").splitlines() == wanted)
     expect("and nothing is taken", window.value("quantity", 1) == "0")
-    taken("A,1,100\n" * 8193)
-    window.says("judged", "more than 8,192 bids")
-    window.send("Refused: more than 8,192 bids")
     taken("A,1,100\n" * 30000)
     window.says("say", "30,000 bids read")
     window.send("Refused: there are too many bids to send")

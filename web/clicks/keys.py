@@ -16,6 +16,7 @@ def bidder(window, stand):
     window.driver.get(stand.address(""))
     window.tab_to("the token", "#token").send_keys(Y, Keys.ENTER)
     window.says("round", "Round 1")
+    cursor_at(window, "round")  # where the page puts it last; before that it would take it from where Tab has moved it
     quantity = window.tab_to("a quantity", '[data-key="0.0"][data-field="quantity"]')
     quantity.send_keys(Keys.CONTROL + "a")
     quantity.send_keys("1")
@@ -30,6 +31,7 @@ def bidder(window, stand):
     window.driver.get(stand.address(""))
     window.tab_to("the token", "#token").send_keys(Y, Keys.ENTER)
     window.says("force", "2 bids")
+    cursor_at(window, "round")
     window.tab_to("the button that submits", "#send").send_keys(Keys.ENTER)
     window.says("say", "Accepted: 2 bids")
     cursor_at(window, "send")
@@ -39,7 +41,8 @@ def operator(window, stand, bidders):
     """Enters, and closes a round after No, Escape, and a question that is asked again at once."""
     window.driver.get(stand.address(OPERATORS))
     window.tab_to("the token", "#token").send_keys(OPERATOR, Keys.ENTER)
-    window.says("round", "Round 1 is open")
+    window.says("round", "Round 1")
+    cursor_at(window, "round")
     window.tab_to("the button that closes", "#ask").send_keys(Keys.ENTER)
     cursor_at(window, "no")
     window.press(Keys.ESCAPE)

@@ -6,7 +6,7 @@ from selenium.webdriver.common.keys import Keys
 
 from clicks import scripts
 from clicks.auctions import OPERATOR, OPERATORS, X
-from clicks.stand import expect, wait_for
+from clicks.stand import busy, expect, wait_for
 
 MOST_ROWS = 45
 COUNT = "return document.querySelector('.bids').getAttribute('aria-rowcount')"
@@ -15,12 +15,12 @@ COUNT = "return document.querySelector('.bids').getAttribute('aria-rowcount')"
 def key_time(window, what):
     """The milliseconds of a key: reading and judging the form, and drawing. The quick ones count: else it was busy."""
     times = window.run(scripts.KEYS)
-    expect(f"{what}, a key takes {times[7]:.1f} ms", times[7] < 50)
+    expect(f"{what}, a key takes {times[7]:.1f} ms", times[7] < 50 * busy())
     return times[7]
 
 
 def entry_time(window, stand, page, token, body):
-    """Enters, and returns the milliseconds until rows are drawn. On a busy machine the best of three counts."""
+    """Enters, and returns the milliseconds until rows are drawn: within a second, if each process has a processor."""
     for attempt in range(3):
         window.driver.get(stand.address(page))
         window.at("token").send_keys(token)
@@ -29,7 +29,7 @@ def entry_time(window, stand, page, token, body):
         wait_for("the table is there", lambda: window.run("return window.waited") is not None)
         if (waited := window.run("return window.waited")) < 1000 or attempt == 2:
             break
-    expect(f"the table is there within a second: {waited:.0f} ms", waited < 1000)
+    expect(f"the table is there within a second: {waited:.0f} ms", waited < 1000 * busy())
     return waited
 
 
@@ -63,6 +63,10 @@ def bidder(window, stand, work):
     window.click("tofault")
     at_fault = lambda: window.run("return document.activeElement.dataset.key") == "3232.0"
     wait_for("the cursor moves to the error far below", lambda: at_fault() and "cap" in window.wrong(3232))
+    file.write_text("P-19,1,100\n" * 8193)
+    window.at("up").send_keys(str(file))
+    window.says("judged", "More than 8,192 bids")
+    window.send("Refused: more than 8,192 bids")
     window.click("clear")
     times = f"{there:.0f} ms after the click, a key takes {key:.1f} ms, and {full:.1f} ms with 3,233 bids"
     return f"3,233 products: {rows} rows are laid out, the table is there {times}"
@@ -74,18 +78,10 @@ def operator(window, stand):
 
 
 def closing(window):
-    """A closing with more pairs of bidder and product than it may list."""
-    window.says("ties", "for 16,384 of all 19,398 pairs")
+    """The closing of round 1, which has no tie-breaking numbers."""
     window.noted()
-    window.click("draw")
-    window.says("say", "New tie-breaking numbers")
     window.close_round()
-    wait_for("its round is closed", lambda: "Ended after round 1" in window.text("round"), 30)
-    ties = json.loads(window.run("return window.sent[0]"))["ties"]
-    pairs, numbers = {(bidder, product) for bidder, product, _ in ties}, [number for _, _, number in ties]
-    expect("16,384 pairs, each once", len(ties) == len(pairs) == 16_384)
-    expect("with each number once", sorted(numbers) == list(range(1, 16_385)))
-    shares = [sum(1 for bidder, _ in pairs if bidder == each) for each in range(6)]
-    expect(f"each bidder has its share of them {shares}", min(shares) > 2600)
+    wait_for("its round is closed", lambda: "Ended after round 1" in window.text("round"))
+    expect("it has no tie-breaking numbers", json.loads(window.run("return window.sent[0]"))["ties"] == [])
     rows = window.run("return document.querySelectorAll('#pastbody tr').length")
     expect("few rows of the closed round are laid out", 0 < rows < MOST_ROWS)

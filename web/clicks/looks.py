@@ -3,7 +3,7 @@ import re
 
 from clicks import scripts
 from clicks.auctions import OPERATOR, X, Y, Z, enter
-from clicks.stand import expect
+from clicks.stand import expect, wait_for
 
 WIDTHS = (360, 768, 1024, 1270, 1600)
 ROLES = ("textbox", "searchbox", "button", "combobox", "checkbox", "region", "image", "meter", "dialog")
@@ -90,7 +90,9 @@ def four_rounds(stand, x, y, operator):
 def pictured(stand, windows, folder):
     """Looks at both pages in round 5 of an auction, and saves pictures of them; returns the least contrast."""
     x, y, operator = windows
+    stand.place.begin_receipts()
     four_rounds(stand, x, y, operator)
+    wait_for("it is said whether the receipt is there", lambda: x.text("receipt"))
     whole(x, "the bidder's page")
     whole(operator, "the operator's page")
     least = min(contrast(x, "the bidder's page"), contrast(operator, "the operator's page"))

@@ -25,11 +25,20 @@ window.fetch = (path, options) => {
     return new Promise(() => {});
 };"""
 
+# what names a slow answer is noted with its time
 SLOW = """const asked = window.fetch, gone = new Promise(done => { window.let_go = done; });
 window.fetch = async (path, options) => {
     if (path.endsWith('/status')) await gone;
     return asked(path, options);
-};"""
+};
+new MutationObserver(() => { window.named ??= new Date().toLocaleTimeString('en-GB'); })
+    .observe(document.getElementById('link'), {childList: true});"""
+
+# the time left as it was drawn last, and when, by a clock that the page does not use
+DRAWN = """const note = () => {
+    window.drawn = [document.getElementById('left').textContent, performance.timeOrigin + performance.now()];
+};
+new MutationObserver(note).observe(document.getElementById('left'), {childList: true});"""
 
 HELD = """const asked = window.fetch, gone = new Promise(done => { window.let_go = done; }), answers = arguments[0];
 window.fetch = async (path, options) => {

@@ -1,5 +1,6 @@
 """The program with a journal behind nginx, as deploy/ has it, and what was seen of it."""
 import json
+import os
 import pathlib
 import ssl
 import sys
@@ -13,6 +14,12 @@ sys.path[:0] = [str(TOP / "scripts"), str(TOP / "deploy")]
 from trying.place import Place
 
 SEEN = []
+PATIENCE = 90  # seconds: a machine with other work may take long, and whoever waits loses nothing
+
+
+def busy():
+    """How many processes there are for each processor, at least 1: as many times longer something may take."""
+    return max(1, os.getloadavg()[0] / os.cpu_count())
 
 
 def expect(what, good):
@@ -22,9 +29,9 @@ def expect(what, good):
     SEEN.append(what)
 
 
-def wait_for(what, look, seconds=15):
-    """Waits until what is looked for is there, at most so long."""
-    end = time.monotonic() + seconds
+def wait_for(what, look):
+    """Waits until what is looked for is there."""
+    end = time.monotonic() + PATIENCE
     while time.monotonic() < end:
         try:
             if look():
@@ -32,14 +39,15 @@ def wait_for(what, look, seconds=15):
         except Exception:
             pass  # not there yet, or drawn anew meanwhile
         time.sleep(0.04)
-    sys.exit(f"web/try: not within {seconds} s: {what}")
+    sys.exit(f"web/try: not within {PATIENCE} s: {what}")
 
 
 class Stand:
     """An auction of its own: bidders come over TLS, the operator on the machine itself."""
 
     def __init__(self, program, setup):
-        self.place = Place(program, json.dumps(setup))
+        # without tie-breaking numbers, since the operator's page can close such an auction
+        self.place = Place(program, json.dumps(setup), has_ties=False)
 
     def address(self, page):
         place = self.place

@@ -1,0 +1,135 @@
+"""The record of an auction: what it has, when it is refused, and that each change of it is found."""
+import hashlib
+import os
+import pathlib
+import shutil
+import subprocess
+from collections.abc import Iterator
+
+import setups
+from trial import TOP, ensure, expect
+
+from . import rows
+from .auction import BIDDERS, COUNTS, Auction, ran
+
+RECORD = TOP / "deploy/record"
+INDEX = "SHA256SUMS"
+KILLS = (1, 2, 9, 16, 99, 99)  # at how many files it is killed; at 99 when the record is there
+WITH_TOKENS = {"setup.json", "auction.journal"}
+
+
+def made(auction: Auction, *words: str) -> tuple[int, str]:
+    """Calls deploy/record, and returns its status and what it said."""
+    folder = auction.folder
+    done = ran(RECORD, auction.setup, auction.journal, folder / "public", folder / "record", *words)
+    return done.returncode, done.stdout + done.stderr
+
+
+def files_of(folder: pathlib.Path) -> dict[str, bytes]:
+    paths = (path for path in folder.rglob("*") if path.is_file())
+    return {str(path.relative_to(folder)): path.read_bytes() for path in paths}
+
+
+def write_index(folder: pathlib.Path) -> None:
+    """Makes the index again, as whoever changed a file would."""
+    files = {name: content for name, content in files_of(folder).items() if name != INDEX}
+    lines = [f"{hashlib.sha256(files[name]).hexdigest()}  {name}\n" for name in sorted(files)]
+    (folder / INDEX).write_text("".join(lines))
+
+
+def try_honest(auction: Auction) -> None:
+    """The record is made once, its index is right for sha256sum too, and only two of its files have tokens."""
+    folder = auction.folder / "record"
+    status, words = made(auction)
+    ensure("deploy/record makes a record", status == 0 and (folder / INDEX).is_file(), words)
+    status, words = made(auction)
+    ensure("deploy/record leaves a record that is there", status == 1 and "is there already" in words, words)
+    expect("what fails of a record", auction.shown(published="record"), {})
+    rows.check(folder)
+    sums = ran("env", "-C", folder, "sha256sum", "--quiet", "--strict", "-c", INDEX)
+    expect("sha256sum of the record", (sums.returncode, sums.stdout + sums.stderr), (0, ""))
+    tokens = [setups.OPERATOR, *(name * 16 for name in BIDDERS)]
+    found = {name for name, text in files_of(folder).items() if any(token.encode() in text for token in tokens)}
+    expect("files of the record with tokens", found, WITH_TOKENS)
+    saved, record = files_of(auction.folder / "saved"), files_of(folder)
+    expect("files that a witness saved, in the record", {name: record.get(name) for name in saved}, saved)
+
+
+def changes(folder: pathlib.Path) -> Iterator[tuple[str, pathlib.Path]]:
+    """Copies of a record, each with one change, and what it is."""
+    copy = folder.with_name("changed")
+    for name, text in sorted(files_of(folder).items()):
+        for kind in ("changed", "removed"):
+            shutil.copytree(folder, copy)
+            if kind == "removed":
+                (copy / name).unlink()
+            else:
+                at = len(text) // 2
+                (copy / name).write_bytes(text[:at] + bytes([text[at] ^ 1]) + text[at + 1 :])
+            yield f"{name} {kind}", copy
+            shutil.rmtree(copy)
+    shutil.copytree(folder, copy)
+    (copy / "more.csv").write_text("round\n")
+    yield "a file added", copy
+    shutil.rmtree(copy)
+
+
+def try_changes(auction: Auction) -> None:
+    """Each change of a file is found by the index, and if that is made again, each change of a table by its content."""
+    folder = auction.folder / "record"
+    for what, copy in changes(folder):
+        name, _, kind = what.partition(" ")
+        without_index = what == f"{INDEX} removed"
+        failed = auction.failed(published=copy.name)
+        ensure(f"{what}: the index fails", without_index or "index" in failed, failed)
+        COUNTS["changes of a record"] += 1
+        if name.endswith(".csv") or name in ("audit.txt", "public_setup.json", "receipts_key.pem"):
+            write_index(copy)
+            failed = auction.failed(published=copy.name)
+            ensure(f"{what}, and the index made again: the tables fail", "tables" in failed, failed)
+
+
+def try_early(auction: Auction) -> None:
+    """Before the end no record is made, unless somebody says so."""
+    folder = auction.folder / "record"
+    status, words = made(auction)
+    ensure("no record before the end", status == 1 and "has not ended" in words and not folder.exists(), words)
+    status, words = made(auction, "--not-ended")
+    ensure("a record of an auction that was given up", status == 0 and folder.is_dir(), words)
+    expect("what fails of it", auction.failed(published="record"), {})
+
+
+def names_in(folder: pathlib.Path) -> int:
+    """How many files and folders are in a folder, which may not be there."""
+    try:
+        return len(os.listdir(folder))
+    except FileNotFoundError:
+        return 0
+
+
+def try_kills(auction: Auction) -> None:
+    """The tool is killed when it has written some of its files, and its record is whole, or not there."""
+    folder = auction.folder / "record"
+    fresh = folder.with_name("record.new")
+    for least in KILLS:
+        shutil.rmtree(folder)
+        shutil.rmtree(fresh, ignore_errors=True)
+        words = [RECORD, auction.setup, auction.journal, auction.folder / "public", folder]
+        child = subprocess.Popen(words, stdout=subprocess.DEVNULL, stderr=subprocess.DEVNULL)
+        while not folder.exists() and names_in(fresh) < least:
+            ensure("deploy/record has not ended without a record", child.poll() is None or folder.exists())
+        child.kill()
+        child.wait()
+        COUNTS["kills of deploy/record"] += 1
+        if not folder.exists():
+            status, words = made(auction)
+            ensure("after a kill deploy/record makes a record", status == 0, words)
+        expect("what fails of a record after a kill", auction.failed(published="record"), {})
+
+
+def try_all(honest: Auction, early: Auction) -> None:
+    """The record of an auction that has ended, and of one that has not."""
+    try_honest(honest)
+    try_changes(honest)
+    try_kills(honest)
+    try_early(early)
