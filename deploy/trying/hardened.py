@@ -106,7 +106,8 @@ def try_networks(place):
 
 
 def try_bidders(place, tokens):
-    """Bidders behind one address do not share a limit."""
+    """Bidders behind one address do not share a limit. What the trials before this one asked is forgotten first."""
+    time.sleep(MORE / A_SECOND)
     texts = [text("GET", "/v1/status", f"authorization: Bearer {tokens[number % len(tokens)]}") for number in range(MORE // 2 * len(tokens))]
     found, _ = statuses(place.outside, texts)
     ensure("bidders behind one address", found == {200: len(texts)}, found)
