@@ -1,4 +1,5 @@
--- The raised price is the least that is high enough, and it is above the start price.
+-- `raise` computes the clock price that IsRaised describes: rounding up to dollars and then to granules gives the least
+-- multiple of the granule that is high enough. It is above the start-of-round price.
 use Rattle.std.proofs.Common.{◌≡◌, ℕ, ◌+◌, ◌*◌, ◌<◌, ◌≤◌, Bool, true, false, Some, None, refl, ap, subst, ◌∙◌, arith}
 use Rattle.std.specs.Prelude.{IfSome, IfNone, nat_le, if◌then◌else◌}
 use Rattle.std.proofs.lemmas.Bool.{leb-false, leb-true, le-leb}
@@ -7,7 +8,7 @@ use Rattle.std.proofs.Math.Nat.{mul-le-mul, mul-le-mul_left}
 use Rattle.clock_money.specs.Price.{rounded_up, IsHighEnough, IsRaised, RaisesToTheLeast, highest_price, raise, raised}
 use Rattle.clock_money.proofs.RoundingLaws.{rounded_up_least}
 
--- a price in whole dollars is high enough from the raised price rounded up to whole dollars on
+-- a whole price is at least over / 100 exactly if it is at least this quotient rounded up
 whole : (over price : ℕ) → over ≤ 100 * price → rounded_up over 100 ≤ price
 whole over price h = omega (arith, h)
 
@@ -28,14 +29,14 @@ raised_is_raised start percent granule some =
     let enough = (rounded_up_least (rounded_up over 100) granule (omega (arith, some))).0 in
     (((rounded_up (rounded_up over 100) granule, refl), high_enough over (raised start percent granule) enough), λ m h. lowest start percent granule m some h)
 
--- it is above the start price
+-- the clock price is above the start-of-round price
 pub above-raised : (start percent granule : ℕ) → 1 ≤ start → 1 ≤ percent → 1 ≤ granule → start < raised start percent granule
 above-raised start percent granule some rise unit =
     let parts : start * (100 + percent) ≡ 100 * start + start * percent = omega arith in
     let more : 1 ≤ start * percent = mul-le-mul some rise in
     omega (arith, parts, more, (raised_is_raised start percent granule unit).0.1)
 
--- what is there is the raised price, and where none is there it is too high
+-- if `raise` gives a price, it is the clock price; if it gives none, every clock price is above the highest price
 some_price : (P : ℕ → Type 0) (price : ℕ) (b : Bool) → P price → IfSome (if b then Some price else None) P
 some_price P price true is = is
 some_price P price false is = tt
@@ -56,7 +57,7 @@ raise_none start percent granule unit =
     (nat_le (raised start percent granule) highest_price) refl
     (λ high price is. omega (arith, high, lowest start percent granule price unit is.0))
 
--- the price that is given is the raised one, and not too high
+-- a price that `raise` gives is the clock price, and at most the highest price
 is_least : (start percent granule price : ℕ) → 1 ≤ granule → raise start percent granule ≡ Some price
     → IsRaised start percent granule price × (price ≤ highest_price)
 is_least start percent granule price unit given =
@@ -64,7 +65,7 @@ is_least start percent granule price unit given =
     subst (λ p. IsRaised start percent granule p × (p ≤ highest_price)) both.1
     (raised_is_raised start percent granule unit, leb-true (raised start percent granule) highest_price both.0)
 
--- there is one least price, and it is given where it is not too high
+-- there is only one least price, and `raise` gives it if it is at most the highest price
 is_given : (start percent granule price : ℕ) → 1 ≤ granule → IsRaised start percent granule price → price ≤ highest_price
     → raise start percent granule ≡ Some price
 is_given start percent granule price unit is high =

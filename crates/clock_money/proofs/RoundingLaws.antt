@@ -1,4 +1,4 @@
--- Rounding up gives the least number that is enough.
+-- A quotient rounded up is the least number whose product with the divisor is enough, and `div_ceil` computes it.
 use Rattle.std.proofs.Common.{◌≡◌, ℕ, ◌+◌, ◌*◌, ◌<◌, ◌≤◌, ⊎_elim, arith}
 use Rattle.std.proofs.Math.Nat.{mul-le-mul_left}
 use Rattle.std.proofs.lemmas.Bool.{cases_lt}
@@ -19,7 +19,7 @@ least n r m h k =
 pub rounded_up_least : (n r : ℕ) → 0 < r → IsLeastWith (λ k. n ≤ r * k) (rounded_up n r)
 rounded_up_least n r h = (enough n r h, λ m k. least n r m h k)
 
--- the quotient that `div_ceil` gives
+-- two least numbers with the same property are equal
 pub div_ceil_rounds_up : (n r : ℕ) → 0 < r → div_ceil n r ≡ rounded_up n r
 div_ceil_rounds_up n r h =
     let bounds = div_ceil_times n r h in

@@ -1,3 +1,4 @@
+-- The two divisions of the body, each rounded up, give `raised`. The clauses follow from the laws of `raise`.
 use Rattle.std.proofs.Common.{◌≡◌, ℕ, ◌+◌, ◌*◌, ◌<◌, ◌∙◌, ap, arith, sym, subst, rules}
 use Rattle.std.specs.Prelude.{IfSome, IfNone}
 use Rattle.clock_money.specs.Price.{rounded_up, raised, IsRaised, highest_price}
@@ -5,7 +6,7 @@ use Rattle.clock_money.proofs.RoundingLaws.{div_ceil_rounds_up}
 use Rattle.clock_money.proofs.Raising.{raise_some, raise_none}
 use Rattle.clock_money.proofs.price.clock_price.Goals as goal
 
--- what the code computes is the raised price
+-- the product that the body computes is `raised`
 same : (c : goal.After-new) → c.args.granule * c.div_ceil.result ≡ raised c.args.start c.args.percent c.args.granule
 same c =
     let whole : c.div_ceil-whole.result ≡ rounded_up (c.args.start * (100 + c.args.percent)) 100 =

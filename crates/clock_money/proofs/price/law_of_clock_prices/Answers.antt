@@ -1,3 +1,4 @@
+-- The law is raises_to_the_least.
 use Rattle.clock_money.proofs.Raising.{raises_to_the_least}
 use Rattle.clock_money.proofs.price.law_of_clock_prices.Goals as goal
 
