@@ -1,0 +1,146 @@
+"""Splits Rattle's sources (.rt), definitions and proofs (.antt), and must-fail edits (.edit) into comments and words.
+
+Code is what is left of a file without comments and layout: its words, with the names that it imports in order.
+"""
+import pathlib
+import re
+from collections.abc import Iterator
+from typing import NamedTuple
+
+RUST = re.compile(
+    r"(?P<comment>//[^\n]*|/\*.*?\*/)"
+    r"|b?r(?P<marks>#*)\".*?\"(?P=marks)"
+    r"|b?\"(?:[^\"\\]|\\.)*\""
+    r"|(?<!\w)b?'(?:[^'\\\n]|\\(?:x[0-9a-fA-F]{2}|u\{[^}]*\}|.))'"
+    r"|'?\w[\w'◌]*"
+    r"|[^\s\w]",
+    re.S,
+)
+ANTT = re.compile(r"(?P<comment>(?<![^\s(){}.;,@\"«»])--[^\n]*)|(?:\"(?:[^\"\\\n]|\\.)*\"|(?!\s)[^\"])", re.S)
+IMPORT = re.compile(r"(?:pub (?:\( \w+ \) )?)?(?:ghost )?(?:unfoldable )?(?:pub )?(?:use|mod) ")
+CLOSERS = (")", "]", "}", ">", "|")
+
+
+class Word(NamedTuple):
+    """A word or a comment of a file, and where it begins."""
+
+    text: str
+    start: int
+    is_comment: bool
+
+
+def rust_words(text: str) -> Iterator[Word]:
+    """The names, texts, and signs of a source, and its comments."""
+    for found in RUST.finditer(text):
+        yield Word(found[0], found.start(), found["comment"] is not None)
+
+
+def antt_words(text: str) -> Iterator[Word]:
+    """What spaces part in definitions and proofs, and the comments. A quoted text is in one word."""
+    end = start = 0
+    for found in ANTT.finditer(text):
+        is_comment = found["comment"] is not None
+        if start < end and (found.start() > end or is_comment):
+            yield Word(text[start:end], start, False)
+            start = found.start()
+        elif start == end:
+            start = found.start()
+        end = found.end()
+        if is_comment:
+            yield Word(found[0], found.start(), True)
+            start = end
+    if start < end:
+        yield Word(text[start:end], start, False)
+
+
+def without_last_commas(words: list[str]) -> list[str]:
+    """The words without each comma before a closing bracket, which layout adds and takes. A tuple of one keeps it."""
+    left: list[str] = []
+    opened: list[tuple[bool, int]] = []
+    for word in words:
+        if word in ("(", "[", "{"):
+            is_call = bool(left) and bool(re.fullmatch(r"[\w'◌]+|[)\]>!]", left[-1]))
+            opened.append((word != "(" or is_call, 0))
+        elif word == "," and opened:
+            opened[-1] = (opened[-1][0], opened[-1][1] + 1)
+        elif word in CLOSERS and left[-1:] == [","] and (not opened or opened[-1][0] or opened[-1][1] > 1):
+            left.pop()
+        if word in (")", "]", "}") and opened:
+            opened.pop()
+        left.append(word)
+    return left
+
+
+def imported(statement: str) -> list[str]:
+    """An import as one line for each name that it brings in."""
+    head, brace, names = statement.partition("{")
+    if not brace:
+        return [statement]
+    inner = names[: names.rindex("}")]
+    if "{" in inner:
+        return [head + "{" + " ".join(sorted(re.split(r"\s*([{},])\s*", inner))) + "}"]
+    return [head + " ".join(name.split()) for name in inner.split(",") if name.strip()]
+
+
+def in_order(statements: list[str]) -> list[str]:
+    """Statements, with each run of imports in order, by name."""
+    ordered: list[str] = []
+    run: list[str] = []
+    for statement in [*statements, ""]:
+        if IMPORT.match(statement):
+            run += imported(statement)
+        else:
+            ordered += [*sorted(run), statement]
+            run = []
+    return ordered[:-1]
+
+
+def rust_code(text: str) -> list[str]:
+    """The code of a source: its words, with its imports in order."""
+    words = without_last_commas([word.text for word in rust_words(text) if not word.is_comment])
+    statements: list[str] = []
+    place = 0
+    while place < len(words):
+        if IMPORT.match(" ".join(words[place : place + 6]) + " ") and ";" in words[place:]:
+            end = words.index(";", place)
+            if "{" not in words[place:end] or words[place:end].count("{") == words[place:end].count("}"):
+                statements.append(" ".join(words[place:end]))
+                place = end + 1
+                continue
+        statements.append(words[place])
+        place += 1
+    return in_order(statements)
+
+
+def antt_code(text: str) -> list[str]:
+    """The code of definitions or proofs: what begins at the left edge, in its words, with the imports in order."""
+    statements: list[str] = []
+    for word in antt_words(text):
+        if word.is_comment:
+            continue
+        if statements and word.start and text[word.start - 1] != "\n":
+            statements[-1] += " " + word.text
+        else:
+            statements.append(word.text)
+    return in_order(statements)
+
+
+def edit_code(text: str) -> list[str]:
+    """The code of a must-fail edit: its lines, each without comments."""
+    code = []
+    for line in text.splitlines():
+        kind, _colon, rest = line.partition(":")
+        if kind in ("old", "new"):
+            code.append(kind + " " + " ".join(word.text for word in rust_words(rest) if not word.is_comment))
+        elif kind == "file":
+            code.append(line)
+    return code
+
+
+KINDS = {".rt": rust_code, ".antt": antt_code, ".edit": edit_code}
+
+
+def code(path: str, text: str) -> list[str] | None:
+    """The code of a file, by the ending of its path. None if the ending is of no language that is read here."""
+    kind = KINDS.get(pathlib.PurePath(path).suffix)
+    return kind(text) if kind else None
