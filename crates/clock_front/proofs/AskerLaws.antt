@@ -1,4 +1,5 @@
--- Whose a token is: in a set-up each token stands once.
+-- Proves that a bidder's token identifies that bidder and no one else, since no token of a set-up occurs twice. By
+-- induction over the bidders.
 use Rattle.std.proofs.Common.{◌≡◌, ℕ, zero, suc, ◌+◌, ◌<◌, Bool, true, false, cond, List, [], ◌∷◌, length, map, get_or, refl, sym, ◌∙◌, ap}
 use Rattle.std.proofs.Common.{arith, add-zero}
 use Rattle.std.specs.Prelude.{Option, Some, None}
@@ -28,7 +29,7 @@ differ a b apart = by (same_bytes a b) refl
 abbrev no_bidder : BidderRow
 no_bidder = record { name = []; token = []; eligibility = 0 }
 
--- the first bidder with a token is whose it is
+-- A token belongs to the first bidder that has it.
 holder_here : (i k : ℕ) (bidders : List BidderRow) (token : List ℕ) → k < length bidders → (get_or bidders k no_bidder).token ≡ token →
     ((j : ℕ) → j < k → (get_or bidders j no_bidder).token ≡ token → ⊥) → holder (bidder_tokens i bidders) token ≡ Bidder (i + k)
 holder_here i k [] token below is first = absurd (omega (arith, below))
@@ -39,7 +40,7 @@ holder_here i (suc k) (bidder ∷ bidders) token below is first =
     ∙ holder_here (suc i) k bidders token (omega (arith, below)) is (λ j h e. first (suc j) (omega (arith, h)) e)
     ∙ ap Bidder (omega arith)
 
--- whoever is found has the token
+-- The bidder that is found for a token has that token.
 pub record Holds (i n : ℕ) (bidders : List BidderRow) (token : List ℕ) : Type 0 where
   pub k : ℕ
   pub number : n ≡ i + k
@@ -62,18 +63,18 @@ module _ (setup : SetupFields) (tokens : HasOwnTokens setup) where
   token_at : (b : ℕ) → b < length setup.bidders → get_or (map (λ (row : BidderRow). row.token) setup.bidders) b [] ≡ (bidder_at setup b).token
   token_at b lt = get_or-map (λ (row : BidderRow). row.token) setup.bidders b no_bidder [] lt
 
-  -- the operator's token is no bidder's
+  -- No bidder has the operator's token.
   operator_apart : (b : ℕ) → b < length setup.bidders → (bidder_at setup b).token ≡ setup.operator → ⊥
   operator_apart b lt e =
       tokens 0 (suc b) [] (omega arith) (omega (arith, lt, length-map setup.bidders (λ (row : BidderRow). row.token))) (sym e ∙ sym (token_at b lt))
 
-  -- no earlier bidder has a bidder's token
+  -- No two bidders have the same token.
   earlier_apart : (b d : ℕ) → b < d → d < length setup.bidders → (bidder_at setup b).token ≡ (bidder_at setup d).token → ⊥
   earlier_apart b d smaller lt e =
       tokens (suc b) (suc d) [] (omega (arith, smaller)) (omega (arith, lt, length-map setup.bidders (λ (row : BidderRow). row.token)))
       (token_at b (omega (arith, smaller, lt)) ∙ e ∙ sym (token_at d lt))
 
-  -- the bidder whose token was sent is the asker
+  -- A request with a bidder's token was sent by that bidder.
   pub asker_own : (b : ℕ) → b < length setup.bidders → (token : Option (List ℕ)) → option_map_or (same_bytes (bidder_at setup b).token) token false ≡ true
       → asker setup token ≡ Bidder b
   asker_own b lt None h = absurd cc
@@ -84,7 +85,7 @@ module _ (setup : SetupFields) (tokens : HasOwnTokens setup) where
       holder_here 0 b setup.bidders token lt mine (λ j h e. earlier_apart j b h lt (e ∙ sym mine)) in
       ap (λ t. cond t Operator (holder (bidder_tokens 0 setup.bidders) token)) operator ∙ found ∙ ap Bidder (omega arith)
 
--- and no one else is that bidder
+-- A request without a bidder's token was not sent by that bidder.
 other_if : (t : Bool) (setup : SetupFields) (b : ℕ) (token : List ℕ) → same_bytes (bidder_at setup b).token token ≡ false →
     cond t Operator (holder (bidder_tokens 0 setup.bidders) token) ≡ Bidder b → ⊥
 other_if true setup b token not_mine e = cc

@@ -1,4 +1,5 @@
--- A closing that was prepared is the closing that was asked for; and what is no command.
+-- Proves that committing a prepared closing does the closing that was asked for, since preparing it changed only
+-- allocated memory. Also that a request which is no command changes nothing.
 use Rattle.std.proofs.Common.{◌≡◌, ℕ, List, Option, Result, Ok, refl, sym, ◌∙◌, ap, subst}
 use Rattle.clock_terms.specs.Limits.{SetupFields}
 use Rattle.clock_terms.specs.declared.increments.Increments.{Increments}
@@ -15,7 +16,7 @@ use Rattle.clock_views.specs.OperatorPages.{closed_value}
 abbrev closing_by : ℕ → Increments → List Tie → SetupFields → List ClosedRound → List (Option (List Bid)) → Result ClosedRound CloseFault
 closing_by round increments ties setup closed sheets = closing_in (record { setup = setup; closed = closed; sheets = sheets; spare = 0 }) round increments ties
 
--- room for further rounds changes no closing
+-- Memory allocated for further rounds does not change any closing.
 same_closing : (old mid : HouseFields) (round : ℕ) (increments : Increments) (ties : List Tie) → IsUnchanged old mid
     → closing_in mid round increments ties ≡ closing_in old round increments ties
 same_closing old mid round increments ties same =
@@ -23,7 +24,7 @@ same_closing old mid round increments ties same =
     ∙ ap (λ closed. closing_by round increments ties old.setup closed mid.sheets) same.closed
     ∙ ap (closing_by round increments ties old.setup old.closed) same.sheets
 
--- a prepared closing is what the closing that was asked for adds
+-- A prepared closing is the round that the closing asked for adds.
 pub closing_fits : (prepared : PreparedClosing) (old mid : HouseFields) (round : ℕ) (increments : Increments) (ties : List Tie)
     → prepared.round ≡ round → prepared.increments ≡ increments → prepared.ties ≡ ties → FitsClosing prepared mid → IsUnchanged old mid
     → closing_in old round increments ties ≡ Ok prepared.closed
@@ -33,7 +34,7 @@ closing_fits prepared old mid round increments ties r i t fits same =
     ∙ ap (closing_in mid round increments) t)
     ∙ fits
 
--- and tells what that tells
+-- The reply by the prepared closing is the reply to the closing that was asked for.
 pub closed_outcome : (prepared : PreparedClosing) (old mid : HouseFields) (round : ℕ) (increments : Increments) (ties : List Tie)
     → prepared.round ≡ round → prepared.increments ≡ increments → prepared.ties ≡ ties → FitsClosing prepared mid → IsUnchanged old mid
     → done (closed_value round prepared.closed.sheet.ended) ≡ close_outcome round (closing_in old round increments ties)
@@ -43,14 +44,14 @@ closed_outcome prepared old mid round increments ties r i t fits same =
 abbrev followed_by : HouseFields → HouseFields → ℕ → Increments → List Tie → Type 0
 followed_by old new round increments ties = IsFollowedBy (close round increments ties) old new
 
--- what stands still and is then followed by a command is followed by it
+-- A step that changes nothing, followed by a command, does that command.
 still_then : (command : Command) (old mid new : HouseFields) → StandsStill old mid → IsFollowedBy command mid new → IsFollowedBy command old new
 still_then command old mid new still followed = record {
   setup = followed.setup ∙ still.setup;
   stands = λ commands stood. followed.stands commands (still.stands commands stood);
 }
 
--- the closing that was made is the one that was asked for
+-- The closing that was committed is the one that was asked for.
 pub closing_followed : (prepared : PreparedClosing) (old mid new : HouseFields) (round : ℕ) (increments : Increments) (ties : List Tie)
     → prepared.round ≡ round → prepared.increments ≡ increments → prepared.ties ≡ ties → StandsStill old mid
     → IsFollowedBy (close prepared.round prepared.increments prepared.ties) mid new → IsFollowedBy (close round increments ties) old new
@@ -59,9 +60,9 @@ closing_followed prepared old mid new round increments ties r i t still followed
     (subst (followed_by mid new round increments) t
     (subst (λ list. followed_by mid new round list prepared.ties) i (subst (λ n. followed_by mid new n prepared.increments prepared.ties) r followed)))
 
--- ---- what is no command
+-- ---- requests that are no commands
 
--- a request that is no command changes nothing
+-- A request that is no command changes nothing.
 pub other_followed : (house : HouseFields) → IsFollowedBy other house house
 other_followed house = record {
   setup = refl;

@@ -1,4 +1,4 @@
--- A piece is taken, and the request answered.
+-- Proves what a hub does with a piece from its two steps: the piece is appended, and then the request is answered.
 use Rattle.std.proofs.Common.{◌≡◌, true, List, ℕ, Option, Some, None, is_some, refl, sym, ◌∙◌, true≢false}
 use Rattle.clock_house.specs.House.{HouseFields}
 use Rattle.clock_http.specs.Replies.{Answer}
@@ -11,12 +11,12 @@ use Rattle.clock_front.specs.declared.hub.Fed.TheVariants.{More, Reply}
 use Rattle.clock_front.specs.Hubs.{HubFields, IsAnswered, IsFed}
 use Rattle.clock_front.specs.inside.Hubs.{hub_of}
 
--- what is some has a text
+-- An option that is some has a value.
 pub some_text : (o : Option (List ℕ)) → is_some o ≡ true → (text : List ℕ) × (o ≡ Some text)
 some_text None is = absurd (true≢false (sym is))
 some_text (Some text) is = (text, refl)
 
--- the piece was taken first, and then the request answered
+-- Appending a piece and then answering the request does what `IsFed` says of both.
 pub fed_and_answered : (house : HouseFields) (old taken : ConnectionFields) (new : HubFields) (conn : Conn) (text : List ℕ) (reply : Answer)
     → IsTaken old taken conn text → IsAnswered (hub_of house taken) new conn text reply → IsAnswered (hub_of house old) new conn text reply
 fed_and_answered house old taken new conn text reply first second = record {
@@ -31,7 +31,7 @@ fed_and_answered house old taken new conn text reply first second = record {
   setup = second.setup;
 }
 
--- a piece was taken
+-- After a piece, every open connection still needs more.
 pub fed_keeps : (old new : HubFields) (conn : Conn) (text : List ℕ) (fed : Fed) → AllNeedMore old.connections → IsFed old new conn text fed
     → AllNeedMore new.connections
 fed_keeps old new conn text More before is =

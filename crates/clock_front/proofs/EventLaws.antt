@@ -1,4 +1,5 @@
--- A run over events goes on by one event.
+-- Proves that taking events one by one gives a run over the requests that they complete. By an invariant that holds
+-- before the first event, after each, and gives the run after the last.
 use Rattle.std.proofs.Common.{◌≡◌, ◌≤◌, ◌<◌, ◌+◌, ℕ, List, [], ◌∷◌, ◌++◌, length, get_or, drop, Option, Some, None, refl, sym, ◌∙◌, ap}
 use Rattle.std.proofs.Common.{subst, arith, append-nil, append_assoc, length-append}
 use Rattle.std.proofs.lemmas.List.{length-set, drop_more, drop_all, map-append}
@@ -22,8 +23,8 @@ use Rattle.clock_front.specs.inside.NumberedHubs.{HasCompleted}
 use Rattle.clock_front.specs.Headline.{IsEventRun}
 use Rattle.clock_front.specs.inside.EventRuns.{kept, numbers_of, numbers_of_requests, texts_of, answers_of}
 
--- a run over events on its way, after so many of them: the requests that are done are answered, and they and those of
--- the other events are all
+-- The invariant after `index` events: the requests complete so far are answered, and together with those that the other
+-- events complete they are all requests.
 pub record IsOnItsWay (setup : SetupFields) (events : List Event) (index : ℕ) (replies : List EventReply)
     (connections : ConnectionFields) (conns : List (Option Conn)) (house : HouseFields) : Type 0 where
   pub numbered : Numbered
@@ -34,7 +35,7 @@ pub record IsOnItsWay (setup : SetupFields) (events : List Event) (index : ℕ) 
   pub numbers : numbers_of replies ≡ numbers_of_requests done
   pub underway : IsUnderWay setup (texts_of done) (answers_of replies) house
 
--- requests and one more, if there is one
+-- The requests, followed by one more if there is one.
 abbrev with_request : List (ℕ × List ℕ) → Option (ℕ × List ℕ) → List (ℕ × List ℕ)
 with_request done None = done
 with_request done (Some request) = done ++ request ∷ []
@@ -51,7 +52,7 @@ no_more_than_one numbered (Finish number) = omega (arith, length-set {A = Option
 one_longer : (before now index : ℕ) → before ≤ index → now ≤ before + 1 → now ≤ index + 1
 one_longer before now index few longer = omega arith
 
--- each reply has the number of its request
+-- After an event, each reply has the number of its request's connection.
 next_numbers : (done : List (ℕ × List ℕ)) (replies : List EventReply) (o : Option (ℕ × List ℕ)) (told : Option EventReply) (house next : HouseFields)
     → HasCompleted o house next told → numbers_of replies ≡ numbers_of_requests done
     → numbers_of (kept replies told) ≡ numbers_of_requests (with_request done o)
@@ -63,7 +64,7 @@ next_numbers done replies (Some request) (Some one) house next is same =
     ∙ ap (λ ns. ns ++ one.number ∷ []) same ∙ ap (λ n. numbers_of_requests done ++ n ∷ []) is.0
     ∙ sym (map-append (λ (r : ℕ × List ℕ). r.0) done (request ∷ []))
 
--- the replies are a run over the texts
+-- After an event, the replies are still a run over the requests.
 next_underway : (setup : SetupFields) (limits : IsSetup setup) (done : List (ℕ × List ℕ)) (replies : List EventReply)
     (o : Option (ℕ × List ℕ)) (told : Option EventReply) (house next : HouseFields)
     → HasCompleted o house next told → IsUnderWay setup (texts_of done) (answers_of replies) house
@@ -79,7 +80,7 @@ next_underway setup limits done replies (Some request) (Some one) house next is 
     (subst (λ (answers : List Answer). IsUnderWay setup (texts_of done ++ request.1 ∷ []) answers next)
     (sym (map-append (λ (r : EventReply). r.reply) replies (one ∷ []))) one_more)
 
--- one more event
+-- The invariant after one more event.
 pub goes_on : (setup : SetupFields) (limits : IsSetup setup) (events : List Event) (index : ℕ) (replies : List EventReply)
     (connections later : ConnectionFields) (conns more : List (Option Conn)) (house next : HouseFields)
     (event : Event) (told : Option EventReply) (before : IsOnItsWay setup events index replies connections conns house)
@@ -100,7 +101,7 @@ goes_on setup limits events index replies connections later conns more house nex
     split : drop index events ≡ event ∷ drop (index + 1) events
     split = drop_more events index event lt ∙ ap (λ (e : Event). e ∷ drop (index + 1) events) (sym at)
 
--- before the first event
+-- The invariant before the first event.
 pub begins : (setup : SetupFields) (events : List Event) (replies : List EventReply) (connections : ConnectionFields)
     (conns : List (Option Conn)) (house : HouseFields)
     → replies ≡ [] → Stands [] connections conns → house.setup ≡ setup → StandsForTexts [] house → IsOnItsWay setup events 0 replies connections conns house
@@ -119,7 +120,7 @@ begins setup events replies connections conns house none stands kept new = recor
   };
 }
 
--- after the last event
+-- The run, from the invariant after the last event.
 pub ends : (setup : SetupFields) (events : List Event) (index : ℕ) (replies : List EventReply) (connections : ConnectionFields)
     (conns : List (Option Conn)) (house : HouseFields)
     → IsOnItsWay setup events index replies connections conns house → length events ≤ index

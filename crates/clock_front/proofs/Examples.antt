@@ -1,4 +1,4 @@
--- The reply of want of memory, computed.
+-- The bytes of the out-of-memory reply, computed.
 use Rattle.std.specs.Prelude.{◌≡◌, ◌++◌, codes, refl}
 use Rattle.std.specs.Fmt.{digits}
 use Rattle.clock_http.specs.declared.code.Code.TheVariants.{Memory}

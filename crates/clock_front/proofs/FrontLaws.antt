@@ -1,4 +1,5 @@
--- What a front stands for, and which texts are refused by constant bytes.
+-- Proves that a house that stands for commands gives the replies that follow from these commands, and that refusals of
+-- a head or a length have constant bytes. By the framing of a request.
 use Rattle.std.proofs.Common.{◌≡◌, true, List, ℕ, Option, None, Ok, Err, Result, refl, sym, ◌∙◌, ap, subst}
 use Rattle.std.specs.Prelude.{option_and_then}
 use Rattle.clock_terms.specs.Limits.{SetupFields}
@@ -25,11 +26,11 @@ use Rattle.clock_front.specs.Outcomes.{Outcome, outcome, answer_of, refused, com
 use Rattle.clock_front.specs.Fronts.{house_after}
 use Rattle.clock_front.proofs.OutcomeLaws.{away_other}
 
--- a text that is refused at its head or at its length is refused by a reply that is always the same
+-- A request that is refused for its head or its length has one of the constant replies.
 pub refused_fixed : (text : List ℕ) (code : Code) → framing text ≡ refusal code → is_fixed code ≡ true
 refused_fixed text code is = refused_by (λ (c : Code). is_fixed c ≡ true) refl refl refl refl refl text code is
 
--- a text that needs more is incomplete
+-- A request that needs more is incomplete.
 pub needs_by_test : (text : List ℕ) → needs_more text ≡ true → framing text ≡ incomplete
 needs_by_test text more = by (framing text) more
   where
@@ -38,19 +39,19 @@ needs_by_test text more = by (framing text) more
     by (refusal code) more = absurd cc
     by (whole head body) more = absurd cc
 
--- ---- what a front stands for
+-- ---- what a house that stands for commands replies
 
 abbrev shown_by : SetupFields → Asker → Ask → List ClosedRound → List (Option (List Bid)) → Outcome
 shown_by setup asker ask closed sheets = outcome (record { setup = setup; closed = closed; sheets = sheets; spare = 0 }) asker ask
 
--- what is told by a house that stands for commands is what the commands have made
+-- A house that stands for commands gives the replies that follow from these commands.
 pub outcome_after : (house : HouseFields) (commands : List Command) (asker : Asker) (ask : Ask) → StandsFor commands house
     → outcome house asker ask ≡ outcome (house_after house.setup commands) asker ask
 outcome_after house commands asker ask stands =
     ap (λ closed. shown_by house.setup asker ask closed house.sheets) stands.closed
     ∙ ap (shown_by house.setup asker ask (history house.setup commands).closed) stands.sheets
 
--- ---- what a text asks for, by its framing
+-- ---- what a request asks for, by its framing
 
 pub whole_request : (text : List ℕ) (head : Head) (body : List ℕ) → whole head body ≡ framing text
     → record { token = head.token; ask = ask_by_route (page_of head.path) head body } ≡ request_of text
@@ -64,17 +65,17 @@ pub ask_by : (text : List ℕ) (f : Framing) → f ≡ framing text → ask_of f
 unfolding request_of
 ask_by text f is = ap ask_of is
 
--- a text that is turned away is told why
+-- A request that is turned away by its bytes or its path gets the refusal with that code.
 pub away_told : (house : HouseFields) (who : Asker) (text : List ℕ) (f : Framing) (code : Code) → f ≡ framing text → ask_of f ≡ turned_away code
     → answer_of (refused (alone code)) ≡ answer_of (outcome house who (request_of text).ask)
 away_told house who text f code is away = ap (λ ask. answer_of (outcome house who ask)) (sym away ∙ ask_by text f is)
 
--- and is no command
+-- Such a request is no command.
 pub away_command : (setup : SetupFields) (who : Asker) (text : List ℕ) (f : Framing) (code : Code) → f ≡ framing text → ask_of f ≡ turned_away code
     → command_of setup who (request_of text).ask ≡ other
 away_command setup who text f code is away = ap (command_of setup who) (sym (ask_by text f is) ∙ away) ∙ away_other setup who code
 
--- what holds of who sends a whole request and what it asks for holds of its text
+-- A fact about the sender of a complete request and what it asks for is a fact about the request's bytes.
 pub of_text : (setup : SetupFields) (text : List ℕ) (P : Asker → Ask → Type 0) (who : Asker) (ask : Ask) (head : Head) (body : List ℕ)
     → who ≡ asker setup head.token → ask ≡ ask_by_route (page_of head.path) head body → whole head body ≡ framing text
     → P who ask → P (asker setup (request_of text).token) (request_of text).ask
@@ -82,13 +83,13 @@ of_text setup text P who ask head body sender asks is holds =
     subst (λ request. P (asker setup request.token) request.ask) (whole_request text head body is)
     (subst (λ a. P (asker setup head.token) a) asks (subst (λ w. P w ask) sender holds))
 
--- the code of the reply to a text that is refused at its head
+-- The code of the reply to a request that is refused for its head or its length.
 pub refused_code : (house : HouseFields) (who : Asker) (text : List ℕ) (code : Code) → framing text ≡ refusal code
     → (answer_of (outcome house who (request_of text).ask)).code ≡ code
 refused_code house who text code is =
     ap (λ ask. (answer_of (outcome house who ask)).code) (sym (ask_by text (refusal code) (sym is)))
 
--- ---- what is known of an answer, said of an equal one
+-- ---- facts about a reply, moved to an equal one
 
 pub told_as : {N : Type 0} (told : Result Answer N) (a b : Answer) → a ≡ b → IfOk told (λ reply. reply ≡ a) → IfOk told (λ reply. reply ≡ b)
 told_as (Ok reply) a b same is = is ∙ same
@@ -102,14 +103,14 @@ pub if_refused : {A N : Type 0} {P : Type 0} (told : Result A N) → P → OnErr
 if_refused (Ok reply) is = tt
 if_refused (Err e) is = is
 
--- the constant bytes are those of the refusal by its code alone
+-- The bytes of a refusal with only a code.
 abbrev pub constant_bytes : Code → List ℕ
 constant_bytes code = reply_bytes code None (refusal_bytes (alone code))
 
 pub constant_reply : (code : Code) → constant_bytes code ≡ (refusal_of code).bytes
 constant_reply code = ap (reply_bytes code None) (sym (refusal_in_bytes (alone code)))
 
--- the reply to a text that needed more when its input ended
+-- The reply to a request that was incomplete when its input ended.
 pub answered_cut_short : (house : HouseFields) (who : Asker) (text : List ℕ) → needs_more text ≡ true
     → answer_of (outcome house who (request_of text).ask) ≡ cut_short
 answered_cut_short house who text is =

@@ -1,4 +1,4 @@
--- Connections by number follow those of the hub.
+-- Proves that the connections by number agree with the connections of the hub after each step of the hub.
 use Rattle.std.proofs.Common.{◌≡◌, ℕ, Bool, cond, List, ◌++◌, set, Option, Some, None, Result, Ok, Err, OnOk, sym, ◌∙◌, ap, subst, true≢false}
 use Rattle.std.specs.Prelude.{is_some, IsSome, option_and_then}
 use Rattle.clock_http.specs.Replies.{Answer}
@@ -10,12 +10,12 @@ use Rattle.clock_connections.proofs.NumberLaws.{taken_stands, gone_stands, stand
 use Rattle.clock_front.specs.declared.hub.Fed.TheVariants.{More, Reply}
 use Rattle.clock_front.specs.Hubs.{HubFields, IsFed, IsAnswered}
 
--- what is told of what was done
+-- A consequence of what holds after success holds after success.
 pub then_ok : {T E : Type 0} {P Q : Type 0} (told : Result T E) → (P → Q) → OnOk told P → OnOk told Q
 then_ok (Ok value) next is = next is
 then_ok (Err e) next is = tt
 
--- after a piece the request needs more
+-- They agree after a piece with which the request is incomplete.
 pub more_stands : (numbered : Numbered) (old new : HubFields) (conns : List (Option Conn)) (number : ℕ) (conn : Conn) (piece : List ℕ) (o : Option (List ℕ))
     → Stands numbered old.connections conns → conn_at conns number ≡ Some conn → IsSome (text_of old.connections conn) → text_at numbered number ≡ o
     → ((text : List ℕ) → text_of old.connections conn ≡ Some text → IsFed old new conn (text ++ piece) More)
@@ -27,7 +27,7 @@ more_stands numbered old new conns number conn piece (Some text) stands at stood
     subst (λ (b : Bool). Stands (set numbered number (cond b (Some (text ++ piece)) None)) new.connections conns) (sym told.0)
     (taken_stands numbered old.connections new.connections conns number conn text (text ++ piece) stands at is told.1)
 
--- after a piece the request was answered
+-- They agree after a piece with which the request was answered.
 pub answered_stands : (numbered : Numbered) (old new : HubFields) (conns : List (Option Conn)) (number : ℕ) (conn : Conn)
     (piece : List ℕ) (reply : Answer) (o : Option (List ℕ))
     → Stands numbered old.connections conns → conn_at conns number ≡ Some conn → IsSome (text_of old.connections conn) → text_at numbered number ≡ o
@@ -40,7 +40,7 @@ answered_stands numbered old new conns number conn piece reply (Some text) stand
     subst (λ (b : Bool). Stands (set numbered number (cond b (Some (text ++ piece)) None)) new.connections conns) (sym told.0)
     (gone_stands numbered old.connections new.connections conns number conn text stands at is told.1.gone)
 
--- after its end the request was answered
+-- They agree after the end of a request, which was answered.
 pub finished_stands : (numbered : Numbered) (old new : HubFields) (conns : List (Option Conn)) (number : ℕ) (conn : Conn) (reply : Answer) (o : Option (List ℕ))
     → Stands numbered old.connections conns → conn_at conns number ≡ Some conn → IsSome (text_of old.connections conn) → text_at numbered number ≡ o
     → ((text : List ℕ) → text_of old.connections conn ≡ Some text → IsAnswered old new conn text reply)

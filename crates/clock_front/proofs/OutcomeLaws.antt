@@ -1,4 +1,4 @@
--- What is told of a closed round, and of none; which requests are no commands.
+-- Proves the reply for a closed round that exists, and that a request turned away by its bytes or path is no command.
 use Rattle.std.proofs.Common.{◌≡◌, Option, Some, None, refl, ap}
 use Rattle.std.specs.Prelude.{option_map}
 use Rattle.serde_json.specs.Data.{Data}
@@ -11,7 +11,7 @@ use Rattle.clock_front.specs.declared.front.askers.Asker.TheVariants.{Nobody, Op
 use Rattle.clock_front.specs.Requests as asked
 use Rattle.clock_front.specs.Outcomes.{done, page_or_no_round, command_of}
 
--- a page of a part of the closed round that is there
+-- The page of a part of a closed round, if that round exists.
 pub found_page : {T : Type 0} (value : T → Data) (part : ClosedRound → T) (closed : Option ClosedRound) (x : T) → Some x ≡ option_map part closed
     → done (value x) ≡ page_or_no_round (option_map (λ round. value (part round)) closed)
 found_page value part None x is = absurd cc

@@ -1,4 +1,4 @@
--- Replies whose pages stand behind a head.
+-- Proves the bytes of a reply whose page was written after space for the head.
 use Rattle.std.proofs.Common.{Option, ◌≡◌, ℕ, List, ◌++◌, drop, replicate, ◌∙◌, ap}
 use Rattle.std.proofs.Math.Seq.{drop-append_seam}
 use Rattle.serde_json.specs.Data.{Data}
@@ -10,7 +10,7 @@ use Rattle.clock_http.specs.Replies.{Answer, reply_bytes}
 use Rattle.clock_front.specs.Outcomes.{with_page}
 use Rattle.clock_front.specs.inside.KeptPage.{head_room}
 
--- a reply whose page stands behind the room for its head
+-- A reply whose page was written after space for the head is the reply with that page.
 pub written_page : (told : Answer) (code : Code) (allowed : Option Page) (text : List ℕ) (value : Data)
     → told ≡ record { code = code; bytes = reply_bytes code allowed (drop head_room text) } → text ≡ replicate head_room 0 ++ compact_text value
     → told ≡ with_page code allowed value
@@ -18,7 +18,7 @@ written_page told code allowed text value is behind =
     let made : List ℕ → Answer = λ page. record { code = code; bytes = reply_bytes code allowed page } in
     is ∙ ap made (ap (drop head_room) behind ∙ drop-append_seam (replicate head_room 0) (compact_text value))
 
--- what a bidder holds, put together
+-- Eligibility and processed demands make up what a bidder has.
 pub held_is : (held : Holding) (eligibility : ℕ) (demands : List ℕ) → eligibility ≡ held.eligibility → demands ≡ held.demands
     → record { eligibility = eligibility; demands = demands } ≡ held
 held_is held eligibility demands e d =

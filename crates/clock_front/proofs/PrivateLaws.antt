@@ -1,4 +1,5 @@
--- What a right answer tells, it tells by the bidder's view alone.
+-- Proves that a right reply to a bidder's own request is private, and so is the size of a failed allocation. Both are
+-- computed from the right outcome, which follows from the bidder's view.
 use Rattle.std.proofs.Common.{◌≡◌, ℕ, List, Result, Ok, Err, ◌∙◌, ap, subst}
 use Rattle.std.specs.Prelude.{IfOk, IfErr}
 use Rattle.clock_terms.specs.Limits.{IsSetup}
@@ -20,7 +21,7 @@ use Rattle.clock_front.proofs.RunLaws.{right}
 use Rattle.clock_front.proofs.AskerLaws.{asker_own}
 use Rattle.clock_front.proofs.TextViews.{told_from_view}
 
--- the right answer to a text is private
+-- The right reply to a bidder's own request is private.
 pub private_reply : (house : HouseFields) (text : List ℕ) (answer : Answer) → IsSetup house.setup
     → answer ≡ answer_of (outcome house (asker house.setup (request_of text).token) (request_of text).ask) → IsPrivateReply text house answer
 private_reply house text answer limits is =
@@ -34,19 +35,19 @@ pub if_private : {N : Type 0} (told : Result Response N) (old new : HouseFields)
 if_private (Ok response) old new text limits is = private_reply old text response.reply limits is.reply
 if_private (Err e) old new text limits is = tt
 
--- ---- what want of memory tells
+-- ---- what running out of memory reveals
 
 pub want_as : {T : Type 0} (told : Result T Unanswered) (P Q : Unanswered → Type 0) → ((why : Unanswered) → P why → Q why) → IfErr told P → IfErr told Q
 want_as (Ok done) P Q goes is = tt
 want_as (Err why) P Q goes is = goes why is
 
--- the room for the refusal of a text that needed more when its input ended
+-- The failed allocation for the refusal of a request that was incomplete when its input ended.
 pub cut_short_want : (house : HouseFields) (text : List ℕ) (why : Unanswered) → incomplete ≡ framing text → why ≡ Room refusal_room → IsWantOf text house why
 cut_short_want house text why is wants =
     let who = asker house.setup (request_of text).token in
     subst (λ ask. WantsRoom who ask (outcome house who ask) why) (ask_by text incomplete is) (λ reading. wants)
 
--- the room that a bidder's own text wants is told by its view
+-- The size of the allocation for a bidder's own request follows from its view.
 private_want : (house : HouseFields) (text : List ℕ) (why : Unanswered) → IsSetup house.setup → IsWantOf text house why → IsPrivateWant text house why
 private_want house text why limits want =
     λ texts bidder stands lt own asks.

@@ -1,4 +1,5 @@
--- What a request of nobody is told, it is told by the public set-up and the sheets of the closed rounds alone.
+-- Proves that the reply to a request with no valid token follows from the public set-up and the round results. By
+-- computing that reply from these only.
 use Rattle.std.proofs.Common.{◌≡◌, ℕ, zero, suc, List, [], ◌∷◌, ◌++◌, map, refl, sym, ◌∙◌, ap}
 use Rattle.std.specs.Prelude.{Option, Some, None, option_map, option_and_then, reverse, slice_get}
 use Rattle.std.proofs.lemmas.List.{map-append}
@@ -22,12 +23,12 @@ use Rattle.clock_front.specs.Outcomes.{Outcome, answer_of, done, refused, not_al
 use Rattle.clock_front.specs.Fronts.{commands_of, house_after, reply}
 use Rattle.clock_front.specs.Views.{IsOfNobody, public_view}
 
--- where the auction stands, by the sheets of its rounds
+-- The state of the auction, from its round results.
 abbrev standing_by : List Product → List RoundSheet → Standing
 standing_by products [] = first_standing products
 standing_by products (last ∷ earlier) = standing_after last
 
--- what a request of nobody is told
+-- The reply to a request with no valid token, from the public set-up and the round results.
 abbrev public_outcome : PublicSetup → List RoundSheet → Ask → Outcome
 public_outcome setup sheets (asked.turned_away why) = refused (alone why)
 public_outcome setup sheets (asked.no_method page) = not_allowed page
@@ -45,7 +46,7 @@ standing_shown : (products : List Product) (closed : List ClosedRound) → stand
 standing_shown products [] = refl
 standing_shown products (last ∷ rounds) = refl
 
--- ---- the sheet of a round
+-- ---- the round results of a round
 
 reversed : (closed : List ClosedRound) → map sheet_of (reverse closed) ≡ reverse (map sheet_of closed)
 reversed [] = refl
@@ -68,7 +69,7 @@ named_sheet : (setup : PublicSetup) (closed : List ClosedRound) (named : Option 
 named_sheet setup closed None = refl
 named_sheet setup closed (Some n) = page_of_sheet setup (round_at n closed) ∙ ap (option_map (sheet_value setup)) (sheet_shown n closed)
 
--- ---- what nobody is told
+-- ---- replies to requests with no valid token
 
 told_of_public : (setup : SetupFields) (commands : List Command) (ask : Ask) →
     outcome (house_after setup commands) Nobody ask ≡ public_outcome (public_setup setup) (map sheet_of (history setup commands).closed) ask
@@ -84,7 +85,7 @@ answered_from_public setup past text none =
     ap (λ who. answer_of (outcome (house_after setup (commands_of setup past)) who (request_of text).ask)) none
     ∙ ap answer_of (told_of_public setup (commands_of setup past) (request_of text).ask)
 
--- where everybody sees the same, a request of nobody is answered alike
+-- If everyone sees the same in two runs, a request with no valid token gets the same reply in both.
 pub told_alike : (one two : SetupFields) (past other_past : List (List ℕ)) (text : List ℕ) → IsOfNobody one text → IsOfNobody two text
     → public_setup one ≡ public_setup two → public_view one past ≡ public_view two other_past → reply one past text ≡ reply two other_past text
 told_alike one two past other_past text none other_none public seen =

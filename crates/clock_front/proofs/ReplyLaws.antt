@@ -1,4 +1,5 @@
--- The response to a request, taken apart, and to a body, put together.
+-- Proves that the response to a sheet or a closing is right, case by case: accepted, refused by the rules, or a body
+-- that could not be read.
 use Rattle.std.proofs.Common.{◌≡◌, ◌≢◌, ℕ, List, Bool, Option, Some, None, Result, Ok, Err, IfOk, OnOk, refl, sym, ap, ◌∙◌, subst}
 use Rattle.clock_terms.specs.declared.increments.Increments.{Increments}
 use Rattle.clock_order.specs.declared.ties.Tie.{Tie}
@@ -25,11 +26,11 @@ use Rattle.clock_front.specs.declared.front.response.Response.{Response}
 use Rattle.clock_front.specs.inside.Roomless.{without_room}
 use Rattle.clock_front.proofs.ChangeLaws.{none_followed, other_followed}
 
--- a house that is left as it is stands for what it stood for
+-- A house that is not changed stands for the same commands.
 pub same_stands : (house : HouseFields) → StandsStill house house
 same_stands house = record { setup = refl; stands = λ commands stood. stood }
 
--- the response to what is no command
+-- The response to a request that is no command is right.
 pub unchanged_right : (who : Asker) (ask : Ask) (house : HouseFields) (response : Response) → response.reply ≡ answer_of (outcome house who ask)
     → response.effect ≡ Nothing → command_of house.setup who ask ≡ command.other → IsRightFor who ask house house response
 unchanged_right who ask house response reply nothing none = record {
@@ -39,7 +40,7 @@ unchanged_right who ask house response reply nothing none = record {
   still = λ changed. same_stands house;
 }
 
--- the reply of a right response
+-- The reply of a right response.
 pub right_reply : {N : Type 0} (told : Result Response N) (old new : HouseFields) (who : Asker) (ask : Ask) → IfOk told (IsRightFor who ask old new)
     → IfOk told (λ response. response.reply ≡ answer_of (outcome old who ask))
 right_reply (Ok response) old new who ask is = is.reply
@@ -47,7 +48,7 @@ right_reply (Err why) old new who ask is = tt
 
 -- ---- sheets
 
--- a sheet that was read, put in force or refused
+-- The response to a sheet that could be read, and became the sheet in force; below, to one that was refused.
 pub sheet_put : (old new : HouseFields) (bidder : ℕ) (sent : Result PutBody BodyFault) (sheet : PutBody) (reply : Answer) → sent ≡ Ok sheet
     → reply ≡ answer_of (put_outcome sheet None) → put_fault_in old bidder sheet.round sheet.bids ≡ None
     → IsFollowedBy (command.put bidder sheet.round sheet.bids) old new
@@ -73,7 +74,7 @@ sheet_refused house bidder sent sheet fault response is told nothing faulty foll
       still = λ changed. same_stands house;
     })
 
--- and one that was not
+-- The response to a body that is not a sheet.
 refused_body : (who : Asker) (ask : Ask) (house : HouseFields) (response : Response) (answer : Answer) → response ≡ record { reply = answer; effect = Nothing }
     → answer ≡ answer_of (outcome house who ask) → command_of house.setup who ask ≡ command.other → IsRightFor who ask house house response
 refused_body who ask house response answer is right none =
@@ -90,7 +91,7 @@ refused_put (Err none) house bidder sent fault err known is = tt
 
 -- ---- closings
 
--- what holds of a closing as its set-up's version reads it
+-- The response to a closing is right, given its body as the version of the set-up reads it.
 record IsClosingResponse (old new : HouseFields) (response : Response) (body : Result CloseBody BodyFault) : Type 0 where
   reply : response.reply ≡ answer_of (close_to (without_room old) body)
   effect : response.effect ≡ effect_in old (close_command body)
@@ -101,7 +102,7 @@ closing_response : (old new : HouseFields) (response : Response) (sent : Result 
     → IsClosingResponse old new response (in_version old.setup.version sent) → IsRightFor Operator (close sent) old new response
 closing_response old new response sent is = record { reply = is.reply; effect = is.effect; followed = is.followed; still = is.still }
 
--- a closing that was read
+-- The response to a closing that could be read, and closed the round; below, to one that was refused.
 pub closing_made : (old new : HouseFields) (sent : Result CloseBody BodyFault) (closing : CloseBody) (closed : ClosedRound) (reply : Answer)
     → in_version old.setup.version sent ≡ Ok closing → closing_in old closing.round closing.increments closing.ties ≡ Ok closed
     → reply ≡ answer_of (close_outcome closing.round (closing_in old closing.round closing.increments closing.ties))
@@ -131,7 +132,7 @@ closing_refused old new sent closing fault response is faulty told nothing follo
       still = λ changed. still;
     }))
 
--- and one that was not
+-- The response to a body that is not a closing.
 pub refused_close : {N : Type 0} (told : Result Response N) (house : HouseFields) (sent : Result CloseBody BodyFault) (fault : BodyFault)
     → (fault ≢ NoMemory → in_version house.setup.version sent ≡ Err fault) → OnOk told (fault ≢ NoMemory)
     → IfOk told (λ response. response ≡ record { reply = answer_of (refused (alone (body_code fault))); effect = Nothing })

@@ -1,4 +1,5 @@
--- A run goes on by one text, and each right reply is private, or public.
+-- Proves that answering requests one by one gives a run, by an invariant with the requests that were not left out. Each
+-- right reply is private, or public, by the laws of isolation.
 use Rattle.std.proofs.Common.{◌≡◌, ℕ, List, [], ◌∷◌, ◌++◌, refl, ◌∙◌, ap, subst, inl, inr}
 use Rattle.clock_terms.specs.Limits.{SetupFields, IsSetup}
 use Rattle.clock_http.specs.Replies.{Answer}
@@ -8,7 +9,7 @@ use Rattle.clock_front.specs.Headline.{IsRight, Runs}
 use Rattle.clock_front.proofs.PublicLaws.{told_alike}
 use Rattle.clock_front.proofs.TextViews.{answered_from_view, isolated}
 
--- a right reply is private, or public
+-- A right reply is private to its bidder, and public without a valid token.
 pub right : (setup : SetupFields) (limits : IsSetup setup) (past : List (List ℕ)) (text : List ℕ) (one : Answer)
     → one ≡ reply setup past text → IsRight setup past text one
 right setup limits past text one is = record {
@@ -21,7 +22,7 @@ right setup limits past text one is = record {
   public = λ none other other_past other_none same seen. is ∙ told_alike setup other past other_past text none other_none same seen;
 }
 
--- the next text was replied to, or it found no memory
+-- A run with one more request at its end, which was answered or left out.
 goes_on : (setup : SetupFields) (past texts : List (List ℕ)) (answers : List Answer) (end next : List (List ℕ)) (text : List ℕ) (one : Answer) →
     Runs setup past texts answers end → Runs setup end (text ∷ []) (one ∷ []) next →
     Runs setup past (texts ++ text ∷ []) (answers ++ one ∷ []) next
@@ -34,14 +35,14 @@ goes_on setup past (t ∷ texts) (a ∷ answers) end next text one runs is =
       | inr replied ↦ inr (replied.0, goes_on setup (t ∷ past) texts answers end next text one replied.1 is)
     ]
 
--- a run on its way: the front has the set-up and stands for the texts that were replied to
+-- The invariant of a run: the front has the set-up, and stands for the requests that were not left out.
 pub record IsUnderWay (setup : SetupFields) (texts : List (List ℕ)) (answers : List Answer) (front : HouseFields) : Type 0 where
   pub end : List (List ℕ)
   pub kept : front.setup ≡ setup
   pub runs : Runs setup [] texts answers end
   pub stands : StandsForTexts end front
 
--- one more text is answered
+-- The invariant after one more request.
 pub step : (setup : SetupFields) (limits : IsSetup setup) (texts : List (List ℕ)) (answers : List Answer) (front next : HouseFields)
     (text : List ℕ) (one : Answer) →
     IsUnderWay setup texts answers front → next.setup ≡ front.setup → AnswersText text one front next →

@@ -1,4 +1,4 @@
--- How a stream is served, and what that has made of a front.
+-- Proves what serving a stream did, from what was read and what the front answered.
 use Rattle.std.proofs.Common.{◌≡◌, ◌⊎◌, ℕ, List, [], ◌∷◌, inl, inr, sym, ◌∙◌, subst, arith}
 use Rattle.clock_device.specs.Told.{Reading}
 use Rattle.clock_connections.specs.Arrivals.{HasArrived, HasNoRoom}
@@ -9,7 +9,7 @@ use Rattle.clock_front.specs.Private.{IsPrivateReply}
 use Rattle.clock_http.specs.Replies.{Answer}
 use Rattle.clock_front.specs.Streamed.{HasServed, IsAnswerTo}
 
--- the text that was read is answered
+-- The request that was read is answered.
 pub answer_read : (reading : Reading) (text : List ℕ) (told answer : Answer) (old new mid : HouseFields) → answer ≡ told → mid ≡ new
     → HasArrived reading text → AnswersText text told old new → (IsStruckOut text told ⊎ IsPrivateReply text old told)
     → IsAnswerTo reading answer old mid
@@ -17,12 +17,12 @@ answer_read reading text told answer old new mid is same arrived answers private
     subst (λ (one : Answer). IsAnswerTo reading one old mid) (sym is)
     (subst (λ (house : HouseFields). IsAnswerTo reading told old house) (sym same) (inl (text, arrived, answers, private)))
 
--- there was no memory for it
+-- Out of memory to read a request.
 pub answer_unread : (reading : Reading) (told answer : Answer) (old mid : HouseFields) → answer ≡ told → mid ≡ old → HasNoRoom reading
     → told ≡ no_memory → IsAnswerTo reading answer old mid
 answer_unread reading told answer old mid is same room none = inr (room, is ∙ none, same)
 
--- a text was answered
+-- After a reply, the front stands for at most one more request.
 pub served_one : (text : List ℕ) (answer : Answer) (old new : HouseFields) → AnswersText text answer old new
     → (texts : List (List ℕ)) → StandsForTexts texts old → HasServed 1 texts new
 served_one text answer old new answers texts stands =
@@ -31,6 +31,6 @@ served_one text answer old new answers texts stands =
       | inr struck ↦ ([], omega arith, struck.1)
     ]
 
--- no text was answered
+-- Without a reply, the front stands for the same requests.
 pub served_none : (most : ℕ) (house : HouseFields) (texts : List (List ℕ)) → StandsForTexts texts house → HasServed most texts house
 served_none most house texts stands = ([], omega arith, stands)

@@ -1,4 +1,5 @@
--- What a bidder knows in the whole run is what its view of the texts tells it.
+-- Proves isolation: the reply to a bidder's own request follows from its view. By showing that the view of requests has
+-- the same sheets and closings as the view of their commands, from which all that the bidder knows follows.
 use Rattle.std.proofs.Common.{◌≡◌, ◌≢◌, ℕ, ◌<◌, Bool, true, false, cond, List, [], ◌∷◌, ◌++◌, length, refl, sym, ◌∙◌, ap, arith, eqb}
 use Rattle.std.proofs.Common.{eq-eqb, append-nil, append_assoc, zero-add}
 use Rattle.std.specs.Prelude.{Option, Some, None, option_map, option_and_then, slice_index_or, Result, Ok, Err}
@@ -38,7 +39,7 @@ use Rattle.clock_front.specs.inside.Knowledge.{Knowledge, known_from, known_outc
 use Rattle.clock_front.specs.inside.Isolation.{IsAnsweredFromView, IsIsolated}
 use Rattle.clock_front.proofs.AskerLaws.{asker_own, asker_other}
 
--- a view of joined parts
+-- The sheets and closings of two views joined are those of each, joined.
 typed_view-append : (front back : List SeenText) → typed_view (front ++ back) ≡ typed_view front ++ typed_view back
 typed_view-append [] back = refl
 typed_view-append (own text ∷ front) back =
@@ -46,7 +47,7 @@ typed_view-append (own text ∷ front) back =
     ∙ sym (append_assoc (sheet_put (request_of text).ask) (typed_view front) (typed_view back))
 typed_view-append (seen_close sheet slip ∷ front) back = ap (λ rest. typed.accepted_close sheet slip ∷ rest) (typed_view-append front back)
 
--- an own request is seen as the sheet that it puts
+-- An own request is seen as the sheet that it submits.
 own_put_seen : (setup : SetupFields) (b : ℕ) (auction : Auction) (round : ℕ) (sent : PutBody) →
     seen_of setup b auction (command.put b sent.round sent.bids) ≡ own_put sent.round sent.bids ∷ []
 own_put_seen setup b auction round sent = ap (λ t. cond t (own_put sent.round sent.bids ∷ []) []) (eq-eqb b b refl)
@@ -56,7 +57,7 @@ own_seen : (setup : SetupFields) (b : ℕ) (auction : Auction) (asked : Ask) →
 own_seen setup b auction (ask.put (Ok sent)) = own_put_seen setup b auction 0 sent
 own_seen setup b auction _ = refl
 
--- of what others do the accepted closings are seen, and nothing else
+-- Of others' commands the accepted closings are seen, and nothing else.
 closing_seen_again : (b : ℕ) (closing : Result ClosedRound CloseFault) → typed_view (closings_of (seen_closing b closing)) ≡ seen_closing b closing
 closing_seen_again b (Ok round) = refl
 closing_seen_again b (Err fault) = refl
@@ -80,7 +81,7 @@ other_seen setup b auction (who.Bidder d) (ask.put (Ok sent)) not_b =
 other_seen setup b auction who.Operator (ask.close sent) not_b = closing_seen_of setup b auction (in_version setup.version sent)
 other_seen setup b auction _ _ not_b = refl
 
--- the sheets and closings in a view of texts are what is seen of their commands
+-- What is seen of one request has the same sheets and closings as what is seen of its command.
 text_seen : (setup : SetupFields) (b : ℕ) (tokens : HasOwnTokens setup) → b < length setup.bidders
     → (past : List (List ℕ)) (text : List ℕ) (mine : Bool) → is_own (bidder_at setup b) text ≡ mine →
     typed_view (cond mine (own text ∷ []) (closings_of (seen_of setup b (history setup (commands_of setup past)) (text_command setup text))))
@@ -102,7 +103,7 @@ typed_view-text_view setup b tokens lt (text ∷ past) =
     ∙ ap (λ front. front ++ typed_view (text_view setup b past)) (text_seen setup b tokens lt past text (is_own (bidder_at setup b) text) refl)
     ∙ ap (λ rest. seen_of setup b (history setup (commands_of setup past)) (text_command setup text) ++ rest) (typed_view-text_view setup b tokens lt past)
 
--- ---- a reply depends on what is known of the round that is asked for, and of no other
+-- ---- a reply depends on what is known of the round asked for, and of no other round
 abbrev Rounds : Type 0
 Rounds = ℕ → Option (RoundSheet × Slip)
 
@@ -129,9 +130,9 @@ module _ (setup : PublicSetup) (row : Bidder) (standing_now : Standing) (held : 
   same_rounds (ask.put (Ok body)) = refl
   same_rounds _ = refl
 
--- ---- what a bidder is told in the whole run
+-- ---- the reply to a bidder, by what it knows after all commands
 module _ (setup : SetupFields) (b : ℕ) (lt : b < length setup.bidders) (commands : List Command) where
-  -- what it knows after the whole list
+  -- What the bidder knows after all commands.
   abbrev pub known_in : Knowledge
   known_in = record {
     standing = standing setup.products (history setup commands).closed;
@@ -176,7 +177,7 @@ module _ (setup : SetupFields) (b : ℕ) (lt : b < length setup.bidders) (comman
   told_of_known (ask.put (Ok body)) = refl
   told_of_known _ = refl
 
-  -- what is known in the run is what the view tells
+  -- The reply follows from the view of the commands.
   pub told_of_view : (asked : Ask) →
       outcome (house_after setup commands) (who.Bidder b) asked
       ≡ known_outcome (public_setup setup) (bidder_at setup b) (known_from (public_setup setup) (bidder_at setup b) (view_of setup b commands)) asked
@@ -204,16 +205,16 @@ module _ (setup : SetupFields) (b : ℕ) (lt : b < length setup.bidders) (comman
       ∙ same_rounds public row (seen_standing public view) (seen_holding public row view) (seen_in_force public row view) known_in.rounds
       (λ n. seen_round n view) is.rounds asked
 
--- what is told by what the view tells is told by the view
+-- The reply computed from what a view makes known is the reply computed from the view.
 told_by_known : (setup : PublicSetup) (row : Bidder) (view : List Seen) (asked : Ask) →
     known_outcome setup row (known_from setup row view) asked ≡ bidder_outcome setup row view asked
 unfolding known_outcome bidder_outcome
 told_by_known setup row view (ask.put (Ok body)) = refl
 told_by_known setup row view _ = refl
 
--- ---- the headline
+-- ---- isolation
 
--- what is told of an own request is told by the view
+-- The reply to an own request follows from the view.
 pub told_from_view : (setup : SetupFields) (b : ℕ) (past : List (List ℕ)) (text : List ℕ) → HasOwnTokens setup → b < length setup.bidders
     → is_own (bidder_at setup b) text ≡ true
     → outcome (house_after setup (commands_of setup past)) (asker setup (request_of text).token) (request_of text).ask

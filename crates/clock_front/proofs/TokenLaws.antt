@@ -1,4 +1,5 @@
--- Tables of tokens.
+-- Proves that the hash table of tokens finds whose a token is. By what adding an entry and looking one up do to its
+-- list of entries.
 use Rattle.std.proofs.Common.{◌≡◌, ℕ, ◌+◌, ◌≤◌, suc, Bool, true, false, cond, List, [], ◌∷◌, length, Vec, Option, Some, None}
 use Rattle.std.proofs.Common.{refl, sym, ◌∙◌, ap, arith}
 use Rattle.std.specs.Prelude.{nat_eq, unwrap_or}
@@ -21,11 +22,11 @@ Entries = List (Vec ℕ Global × Asker)
 abbrev same_key : Vec ℕ Global → Vec ℕ Global → Bool
 same_key a b = pointwise nat_eq a.items b.items
 
--- equal keys are the same to a query
+-- Equal tokens in the table are equal to any token that is looked up.
 same_query : (other a b : List ℕ) → pointwise nat_eq a b ≡ true → same_bytes other a ≡ same_bytes other b
 same_query other a b e = ap (same_bytes other) ((bytes_decides a b).0 e)
 
--- a token that is added is found, and the others as before
+-- A token that is added is found, and all others are found as before.
 pub found-insert : (entries : Entries) (key : Vec ℕ Global) (asker : Asker) (other : List ℕ)
     → found (insert_entry same_key entries key asker) other ≡ cond (same_bytes other key.items) asker (found entries other)
 found-insert [] key asker other = refl
@@ -56,7 +57,7 @@ found-insert (entry ∷ entries) key asker other = by (same_key key entry.0) ref
         (bytes_decides key.items entry.0.items).1 (sym ((bytes_decides other key.items).0 a) ∙ (bytes_decides other entry.0.items).0 b) in
         let bad : true ≡ false = sym same ∙ e in cc)))
 
--- a look-up by a query
+-- What a look-up in the table returns.
 pub found-lookup : (entries : Entries) (token : List ℕ) → unwrap_or (lookup (λ key. pointwise nat_eq token key.items) entries) Nobody ≡ found entries token
 found-lookup [] token = refl
 found-lookup (entry ∷ entries) token = by (same_bytes token entry.0.items) (found-lookup entries token)
@@ -66,7 +67,7 @@ found-lookup (entry ∷ entries) token = by (same_bytes token entry.0.items) (fo
     by true later = refl
     by false later = later
 
--- ---- a bidder that asks is one of the set-up's
+-- ---- a sender who is a bidder is one of the set-up
 
 fewer : (n m : ℕ) (asker : Asker) → n ≤ m → IsKnown n asker → IsKnown m asker
 fewer n m Nobody le is = tt
@@ -90,7 +91,7 @@ asker_known setup (Some token) =
     picked (length setup.bidders) (same_bytes token setup.operator) Operator (holder (bidder_tokens 0 setup.bidders) token) tt
     (fewer (0 + length setup.bidders) (length setup.bidders) (holder (bidder_tokens 0 setup.bidders) token) (omega arith) (bidder_known 0 setup.bidders token))
 
--- who asks is told by whatever tells of each token whose it is
+-- Two look-ups that agree on every token agree on who sent a request.
 pub asker_same : (f g : List ℕ → Asker) → ((token : List ℕ) → f token ≡ g token) → (token : Option (List ℕ)) → asker_by f token ≡ asker_by g token
 asker_same f g same None = refl
 asker_same f g same (Some token) = same token

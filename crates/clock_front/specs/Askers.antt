@@ -1,8 +1,8 @@
--- Whose a token is.
---     bidder_tokens i bidders      each bidder's token, with whose it is
---     holder entries token      whose a token is by such a list
---     asker setup token      who asks with a token, or with none
---     HasOwnTokens setup      no two may ask with the same token
+-- Who sent a request, by the token in its head.
+--     bidder_tokens i bidders      each bidder's token with the bidder; the first is bidder i
+--     holder entries token      whose a token is, by such a list
+--     asker setup token      who sent a request with this token, or with none
+--     HasOwnTokens setup      no token of the set-up occurs twice
 use Rattle.std.specs.Prelude.{ℕ, suc, List, [], ◌∷◌, map, if◌then◌else◌, Option, Some, None}
 use Rattle.clock_terms.specs.declared.setup.Bidder.{Bidder as BidderRow}
 use Rattle.clock_terms.specs.Limits.{SetupFields, AreDistinct}
@@ -10,21 +10,23 @@ use Rattle.clock_http.specs.Heads.{same_bytes}
 use Rattle.clock_front.specs.declared.front.askers.Asker.{Asker}
 use Rattle.clock_front.specs.declared.front.askers.Asker.TheVariants.{Nobody, Operator, Bidder}
 
--- the bidders' tokens, numbered from i
+-- Each bidder's token, paired with the bidder. The first is bidder number i.
 abbrev pub bidder_tokens : ℕ → List BidderRow → List (List ℕ × Asker)
 bidder_tokens i [] = []
 bidder_tokens i (bidder ∷ bidders) = (bidder.token, Bidder i) ∷ bidder_tokens (suc i) bidders
 
--- who has the token, byte for byte
+-- Whose a token is, by a list of tokens and owners. Tokens are compared byte for byte.
 abbrev pub holder : List (List ℕ × Asker) → List ℕ → Asker
 holder [] token = Nobody
 holder (entry ∷ entries) token = if same_bytes token entry.0 then entry.1 else holder entries token
 
--- who asks with a token, or with none: the operator's token is looked for first, and then each bidder's
+-- Who sent a request with this token, or with none: the operator, a bidder, or no one of the
+-- set-up. The operator's token is compared first, then each bidder's.
 abbrev pub asker : SetupFields → Option (List ℕ) → Asker
 asker setup None = Nobody
 asker setup (Some token) = holder ((setup.operator, Operator) ∷ bidder_tokens 0 setup.bidders) token
 
--- no two may ask with the same token, as in every set-up that is read
+-- The operator and all bidders have different tokens. Every set-up that was read from a document
+-- does.
 abbrev pub HasOwnTokens : SetupFields → Type 0
 HasOwnTokens setup = AreDistinct (setup.operator ∷ map (λ bidder. bidder.token) setup.bidders)

@@ -1,8 +1,8 @@
--- What a request changes in the auction, and how a front responds to it.
---     effect_in house command      what a command changes as the house stands
---     effect setup texts text      what a text changes after others
---     IsRightFor who ask old new response      the right reply and effect, and what is asked for is done
---     RespondsTo text response old new      the right response to a text, or no memory and nothing changed
+-- What a request changes in the auction, and what a front returns for it.
+--     effect_in house command      what a command changes in the current state of the house
+--     effect setup texts text      what a request changes after the requests `texts`
+--     IsRightFor who ask old new response      the right reply and effect, and the house did it
+--     RespondsTo text response old new      that, or the out-of-memory reply and no change
 use Rattle.std.specs.Prelude.{◌≡◌, ◌⊎◌, ℕ, List, Option, Some, None, Result, Ok, Err}
 use Rattle.clock_terms.specs.Limits.{SetupFields}
 use Rattle.clock_closing.specs.declared.closed_round.ClosedRound.{ClosedRound}
@@ -19,39 +19,45 @@ use Rattle.clock_front.specs.declared.front.response.Effect.{Effect}
 use Rattle.clock_front.specs.declared.front.response.Effect.TheVariants.{Nothing, Sheet, Closing}
 use Rattle.clock_front.specs.declared.front.response.Response.{Response}
 
--- a sheet without a fault is put in force
+-- A sheet without a fault becomes the bidder's sheet in force. A sheet with a fault changes
+-- nothing.
 abbrev pub put_effect : Option PutFault → Effect
 put_effect None = Sheet
 put_effect (Some fault) = Nothing
 
--- a closing without a fault closes the round that it names
+-- A closing without a fault closes the round that it names. A closing with a fault changes nothing.
 abbrev pub close_effect : ℕ → Result ClosedRound CloseFault → Effect
 close_effect round (Ok closed) = Closing round
 close_effect round (Err fault) = Nothing
 
--- what a command changes as the house stands: nothing if it is neither a sheet nor a closing
+-- What a command changes in the current state of the house. Only sheets and closings change
+-- anything.
 abbrev pub effect_in : HouseFields → Command → Effect
 effect_in house (put bidder round bids) = put_effect (put_fault_in house bidder round bids)
 effect_in house (close round increments ties) = close_effect round (closing_in house round increments ties)
 effect_in house other = Nothing
 
--- what a text changes after others, of which the newest comes first
+-- What a request changes after other requests, listed newest first.
 abbrev pub effect : SetupFields → List (List ℕ) → List ℕ → Effect
 effect setup texts text = effect_in (house_after setup (commands_of setup texts)) (text_command setup text)
 
--- the right reply and effect; the house is followed by what is asked for, and if that changes nothing, by nothing
+-- The response to what a sender asks for is right. Its reply and its effect are those that follow
+-- from the old house. The new house stands for the commands of the old one and then this command. If
+-- the effect is `Nothing`, it stands for the commands of the old one.
 pub record IsRightFor (who : Asker) (ask : Ask) (old new : HouseFields) (response : Response) : Type 0 where
   pub reply : response.reply ≡ answer_of (outcome old who ask)
   pub effect : response.effect ≡ effect_in old (command_of old.setup who ask)
   pub followed : IsFollowedBy (command_of old.setup who ask) old new
   pub still : response.effect ≡ Nothing → StandsStill old new
 
--- the same of a text, by who sent it and what it asks for
+-- The response to the bytes of a request is right: their token says who sent it, the rest what it
+-- asks for.
 abbrev pub IsRightResponse : List ℕ → HouseFields → HouseFields → Response → Type 0
 IsRightResponse text old new response =
     IsRightFor (asker old.setup (request_of text).token) (request_of text).ask old new response
 
--- the right response as the house stands; or there was no memory, and the house stands for what it stood for
+-- The response to a request is right; or it is the out-of-memory reply, and the house stands for
+-- the same commands as before.
 abbrev pub RespondsTo : List ℕ → Response → HouseFields → HouseFields → Type 0
 RespondsTo text response old new =
     IsRightResponse text old new response

@@ -1,15 +1,13 @@
--- What a front stands for, and what it answers. The newest text stands first.
---     commands_of setup texts      the commands that texts are
---     house_after setup commands      the auction that commands have made, as a house shows it
---     reply setup texts text      the answer to a text after others
---     StandsForTexts texts house      the house stands for the commands of the texts
---     right_answer house text      the answer to a text as the house stands
---     IsCutShort reply      the reply to a text that needed more, or that of want of memory
---     IsStruckOut text reply      the reply of want of memory, to a text that needs some
---     IsDoneBy text reply old new      the right reply, and the text's command was done, or there was no memory and
---         nothing changed, whatever the house stood for
---     AnswersText text reply old new      a text is answered by what is right, or there was no memory and it did
---         nothing
+-- What a front stands for, and what it replies. Lists of requests have the newest first.
+--     commands_of setup texts      the commands that requests are
+--     house_after setup commands      the auction after these commands, as a house shows it
+--     reply setup texts text      the reply to a request after the requests `texts`
+--     StandsForTexts texts house      the house stands for the commands of these requests
+--     right_answer house text      the reply to a request, by the current state of the house
+--     IsCutShort reply      the reply to an incomplete request, or the out-of-memory reply
+--     IsStruckOut text reply      the out-of-memory reply, to a request that needs memory
+--     IsDoneBy text reply old new      right reply and command done, or out of memory and no change
+--     AnswersText text reply old new      that, for every list the house stands for
 use Rattle.std.specs.Prelude.{◌≡◌, ◌⊎◌, ℕ, List, ◌∷◌, map}
 use Rattle.clock_terms.specs.Limits.{SetupFields}
 use Rattle.clock_house.specs.Command.{Command}
@@ -23,14 +21,16 @@ use Rattle.clock_front.specs.Requests.{request_of}
 use Rattle.clock_front.specs.Askers.{asker}
 use Rattle.clock_front.specs.Outcomes.{answer_of, outcome, command_of}
 
--- the command that a text is
+-- The command that a request is: a sheet of its sender, a closing, or neither.
 abbrev pub text_command : SetupFields → List ℕ → Command
 text_command setup text = command_of setup (asker setup (request_of text).token) (request_of text).ask
 
+-- The commands that requests are, in the same order.
 abbrev pub commands_of : SetupFields → List (List ℕ) → List Command
 commands_of setup texts = map (text_command setup) texts
 
--- the closed rounds and the sheets in force that commands have made
+-- The auction that commands have made, as a house shows it: the closed rounds, and each bidder's
+-- sheet in force.
 abbrev pub house_after : SetupFields → List Command → HouseFields
 house_after setup commands = record {
   setup = setup;
@@ -39,35 +39,40 @@ house_after setup commands = record {
   spare = 0;
 }
 
--- the answer to a text after others
+-- The one right reply to a request that comes after the requests `texts`. It is computed: by the
+-- state of the auction after them, by the request's token, and by what it asks for.
 abbrev pub reply : SetupFields → List (List ℕ) → List ℕ → Answer
 reply setup texts text =
     answer_of (outcome (house_after setup (commands_of setup texts)) (asker setup (request_of text).token) (request_of text).ask)
 
--- the house stands for the commands of the texts
+-- All that the house shows follows from these requests: it stands for their commands.
 abbrev pub StandsForTexts : List (List ℕ) → HouseFields → Type 0
 StandsForTexts texts house = StandsFor (commands_of house.setup texts) house
 
--- the answer to a text as the house stands
+-- The right reply to a request, by the current state of the house.
 abbrev pub right_answer : HouseFields → List ℕ → Answer
 right_answer house text = answer_of (outcome house (asker house.setup (request_of text).token) (request_of text).ask)
 
--- the reply to a text that still needed more when its input ended, or there was no memory for it
+-- The reply to a request that was incomplete when its input ended: `cut_short`, or out of memory.
 abbrev pub IsCutShort : Answer → Type 0
 IsCutShort answer = (answer ≡ cut_short) ⊎ (answer ≡ no_memory)
 
--- the reply of want of memory, to a text that needs some: one that is refused at its head or at its length needs none
+-- The request was answered out of memory, and did need memory. A request that is refused for its
+-- head or for its length needs none.
 pub record IsStruckOut (text : List ℕ) (answer : Answer) : Type 0 where
   pub is : answer ≡ no_memory
   pub needs : (code : Code) → framing text ≡ refusal code → ⊥
 
--- the right reply as the house stands, to which the text's command is added; or no memory, and it stands as it did
+-- The reply is right, and the house then stands for the request's command after those before; or
+-- the request was answered out of memory, and the house stands for the same commands as before.
 abbrev pub IsDoneBy : List ℕ → Answer → HouseFields → HouseFields → Type 0
 IsDoneBy text answer old new =
     ((answer ≡ right_answer old text) × IsFollowedBy (text_command old.setup text) old new)
     ⊎ (IsStruckOut text answer × StandsStill old new)
 
--- the right reply, and the front stands for the texts and this one; or that of want of memory, and it stands for them
+-- For every list of requests that the house stands for: the reply is the right one after them, and
+-- then the house stands for this request too; or the request was answered out of memory, and the
+-- house stands for the list as before.
 abbrev pub AnswersText : List ℕ → Answer → HouseFields → HouseFields → Type 0
 AnswersText text answer old new = (texts : List (List ℕ)) → StandsForTexts texts old
     → ((answer ≡ reply old.setup texts text) × StandsForTexts (text ∷ texts) new)

@@ -1,25 +1,30 @@
--- The headline: what is proved of a whole run of request texts, and of a run of pieces over connections.
--- In plain words: in a run each reply is the right one after the texts before it. And it is private: the reply to a
--- bidder's own request is the answer to what this bidder sees, and every other run, of another set-up and with other
--- rivals, in which a bidder with an equal row sees the same gives the same bytes. Whoever has no token of the set-up is
--- told what is public: to a request with none, every other run with the same public set-up and the same sheets of
--- closed rounds gives the same bytes, whatever bids they came from. At the end the auction is sound.
--- This is not vacuous: `reply` is a function that is computed, so exactly one reply is right, and `answer` has the
--- public set-up, the bidder's row, its view and its text as its only arguments; no rival occurs among them. What a view
--- holds is to be read with care: own requests, and of what others do only accepted closings, each as the round's sheet
--- and the bidder's own slip (Views). The operator sees all, so of the replies to its requests is said only that they
--- are right. It does not speak of time, of tokens on the wire, of what rivals tell each other, nor of requests that
--- found no memory.
+-- The headline: what is proved of a whole run, a list of requests and the replies to them.
+--
+-- Right: each reply is the right one after the requests before it. `reply` is computed, so exactly
+-- one reply is right.
+--
+-- Private: the reply to a bidder's own request is computed by `answer` from the public set-up, the
+-- bidder's row, its view, and the request. No rival occurs among these. So every other run, with
+-- another set-up and other rivals, gives the same bytes if a bidder with an equal row sees the same
+-- there. The view has the bidder's own requests, and of each accepted closing the round results and
+-- its bidder results. Read its definition with care (`text_view`).
+--
+-- Public: any other run gives the same bytes to a request with no valid token, if the public set-up
+-- and the round results are the same, whatever bids led to them.
+--
+-- Sound: at the end the auction has the properties of `IsSound`.
+--
+-- Outside the headline: time, tokens on the wire, what rivals say to each other, and requests that
+-- were answered out of memory. The operator may see everything, so replies to its requests are only
+-- proved to be right.
+--
 --     SeesTheSame one two ..      a bidder sees the same in two runs
---     IsPrivate setup bidder past text one      a reply depends on what the bidder sees alone
---     IsPublic setup past text one      a reply depends on what everybody sees alone
---     IsRight setup past text one      a reply is the right one, private to each bidder whose own request it answers,
---         and public where the request is of nobody
---     Runs setup past texts answers end      each reply is the right one, or there was no memory and the text is struck
---         out
---     IsRun setup texts answers      what a run from the beginning answers, and what it has made of the auction
---     IsEventRun setup events replies      the requests of the events are run, and each reply has the number of its
---         request
+--     IsPrivate setup bidder past text one      the reply follows from what the bidder sees
+--     IsPublic setup past text one      the reply follows from what everyone sees
+--     IsRight setup past text one      the reply is right; private, or public without a token
+--     Runs setup past texts answers end      each reply is right, or its request is left out
+--     IsRun setup texts answers      these are the replies to a run from the beginning; it is sound
+--     IsEventRun setup events replies      a run of requests that arrive in pieces
 use Rattle.std.specs.Prelude.{◌≡◌, ◌<◌, ◌⊎◌, ℕ, true, List, [], ◌∷◌, length, map}
 use Rattle.clock_terms.specs.Limits.{SetupFields, public_setup}
 use Rattle.clock_house.specs.History.{history, bidder_at}
@@ -32,30 +37,35 @@ use Rattle.clock_front.specs.Fronts.{reply, commands_of, IsStruckOut}
 use Rattle.clock_front.specs.Views.{is_own, text_view, answer, IsOfNobody, public_view}
 use Rattle.clock_connections.specs.Pieces.{requests_of}
 
--- a bidder sees the same in two runs, of which the set-ups may differ in all but the public part and its row
+-- A bidder sees the same in two runs: the public set-up, its own row, and its view are equal. Its
+-- number, the rivals, and their number may differ.
 pub record SeesTheSame (one two : SetupFields) (bidder other_number : ℕ) (past other_past : List (List ℕ)) : Type 0 where
   pub public : public_setup one ≡ public_setup two
   pub row : bidder_at one bidder ≡ bidder_at two other_number
   pub view : text_view one bidder past ≡ text_view two other_number other_past
 
--- an own request's reply is the answer to the bidder's view; every other run in which a bidder sees the same gives it
+-- The reply to a bidder's own request is computed from what the bidder sees, without any rival. It
+-- is also the reply in every other run in which a bidder sees the same.
 pub record IsPrivate (setup : SetupFields) (bidder : ℕ) (past : List (List ℕ)) (text : List ℕ) (one : Answer) : Type 0 where
   pub from_view : one ≡ answer (public_setup setup) (bidder_at setup bidder) (text_view setup bidder past) text
   pub elsewhere : (other : SetupFields) (other_number : ℕ) (other_past : List (List ℕ)) → HasOwnTokens other → other_number < length other.bidders
       → SeesTheSame setup other bidder other_number past other_past → one ≡ reply other other_past text
 
--- every other run in which everybody sees the same gives the reply too, if the request is of nobody there as well
+-- The reply is also the reply in every other run in which everyone sees the same, if the request
+-- has no valid token there either.
 abbrev pub IsPublic : SetupFields → List (List ℕ) → List ℕ → Answer → Type 0
 IsPublic setup past text one = (other : SetupFields) (other_past : List (List ℕ)) → IsOfNobody other text
     → public_setup setup ≡ public_setup other → public_view setup past ≡ public_view other other_past → one ≡ reply other other_past text
 
--- the right reply after the past, private to each bidder whose own request it answers, and public if that is nobody's
+-- The reply is the right one after the requests of the past. If the request is a bidder's own, it
+-- is private to that bidder. If the request has no valid token, it is public.
 pub record IsRight (setup : SetupFields) (past : List (List ℕ)) (text : List ℕ) (one : Answer) : Type 0 where
   pub is : one ≡ reply setup past text
   pub private : (bidder : ℕ) → bidder < length setup.bidders → is_own (bidder_at setup bidder) text ≡ true → IsPrivate setup bidder past text one
   pub public : IsOfNobody setup text → IsPublic setup past text one
 
--- each text is struck out for want of memory or has the right reply; at the end stand those replied to, newest first
+-- Each request has the right reply, or was answered out of memory and is left out of the run. `end`
+-- lists the requests that were not left out, newest first.
 abbrev pub Runs : SetupFields → List (List ℕ) → List (List ℕ) → List Answer → List (List ℕ) → Type 0
 Runs setup past [] [] end = end ≡ past
 Runs setup past [] (one ∷ answers) end = ⊥
@@ -64,13 +74,15 @@ Runs setup past (text ∷ texts) (one ∷ answers) end =
     (IsStruckOut text one × Runs setup past texts answers end)
     ⊎ (IsRight setup past text one × Runs setup (text ∷ past) texts answers end)
 
--- the replies to the texts from the beginning on, and the auction that those replied to have made, which is sound
+-- A run from the beginning of an auction: each reply is right, or its request is left out. The
+-- auction that the other requests have made is sound.
 pub record IsRun (setup : SetupFields) (texts : List (List ℕ)) (answers : List Answer) : Type 0 where
   pub end : List (List ℕ)
   pub runs : Runs setup [] texts answers end
   pub sound : IsSound setup (history setup (commands_of setup end))
 
--- a run over the texts of the requests that the events complete, in that order, each with its connection's number
+-- A run of the requests that arrive in pieces over connections, in the order in which they become
+-- complete. Each reply has the number of its connection.
 pub record IsEventRun (setup : SetupFields) (events : List Event) (replies : List EventReply) : Type 0 where
   pub numbers : map (λ one. one.number) replies ≡ map (λ request. request.0) (requests_of events)
   pub run : IsRun setup (map (λ request. request.1) (requests_of events)) (map (λ one. one.reply) replies)

@@ -1,7 +1,7 @@
--- What contracts see of a hub, and what its calls leave.
---     IsFed old new conn text fed      what a piece has led to with which the text is this one
---     IsFedBy old new conn piece fed      what a piece has led to
---     IsAnswered old new conn text reply      the request of a connection was answered, and the connection is gone
+-- What contracts see of a hub, and what its calls do.
+--     IsFed old new conn text fed      what a piece led to, if the bytes are now `text`
+--     IsFedBy old new conn piece fed      what a piece led to
+--     IsAnswered old new conn text reply      a connection's request was answered, and it is gone
 --     IsFeedFault known, IsFinishFault known      when each refusal comes
 use Rattle.std.specs.Prelude.{◌≡◌, ◌⊎◌, ◌++◌, ℕ, true, false, List, Option, None, Some, IsSome}
 use Rattle.clock_house.specs.House.{HouseFields}
@@ -16,34 +16,36 @@ use Rattle.clock_front.specs.Private.{IsPrivateReply}
 use Rattle.clock_front.specs.declared.hub.Fed.{Fed}
 use Rattle.clock_front.specs.declared.hub.Fed.TheVariants.{More, Reply}
 
--- the house of the front, and the connections
+-- In contracts, a hub is the house of its front, and its open connections.
 pub record HubFields : Type 0 where
   pub house : HouseFields
   pub connections : ConnectionFields
 
--- a connection's text was answered, rightly and privately to the bidder whose own it is, or it was struck out
+-- The request of a connection was answered, and the connection is gone. The reply is right, and
+-- private to the bidder who sent the request; or it is the out-of-memory reply.
 pub record IsAnswered (old new : HubFields) (conn : Conn) (text : List ℕ) (reply : Answer) : Type 0 where
   pub gone : IsGone old.connections new.connections conn
   pub answered : AnswersText text reply old.house new.house
   pub private : IsStruckOut text reply ⊎ IsPrivateReply text old.house reply
   pub setup : new.house.setup ≡ old.house.setup
 
--- the text of a connection has become this one: it needs more and stands, or it was answered
+-- A connection's bytes are now `text`. If they are less than a request, the connection waits for
+-- more, and the house is unchanged. Otherwise the request was answered.
 abbrev pub IsFed : HubFields → HubFields → Conn → List ℕ → Fed → Type 0
 IsFed old new conn text More = (needs_more text ≡ true) × IsTaken old.connections new.connections conn text × (new.house ≡ old.house)
 IsFed old new conn text (Reply reply) = (needs_more text ≡ false) × IsAnswered old new conn text reply
 
--- the same of the piece that is added to the text of a connection
+-- What a piece led to, which is appended to the bytes of its connection.
 abbrev pub IsFedBy : HubFields → HubFields → Conn → List ℕ → Fed → Type 0
 IsFedBy old new conn piece fed = (text : List ℕ) → text_of old.connections conn ≡ Some text → IsFed old new conn (text ++ piece) fed
 
--- why no piece was taken
+-- Why a piece was refused: out of memory on an open connection, or the connection is not open.
 abbrev pub IsFeedFault : Option (List ℕ) → HubFault → Type 0
 IsFeedFault known Full = ⊥
 IsFeedFault known NoMemory = IsSome known
 IsFeedFault known Unknown = known ≡ None
 
--- why no request was ended
+-- Why the end of a request was refused: the connection is not open.
 abbrev pub IsFinishFault : Option (List ℕ) → HubFault → Type 0
 IsFinishFault known Full = ⊥
 IsFinishFault known NoMemory = ⊥

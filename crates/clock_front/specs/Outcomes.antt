@@ -1,8 +1,8 @@
--- What an asker is told, as the auction stands, and which command its request is.
---     Outcome      a page, a refusal, or that the page is for other methods
+-- The reply that the rules give to each request, and the command that a request is.
+--     Outcome      a page, a refusal, or a refusal of the method
 --     answer_of outcome      its code and its bytes
---     to_bidder asker told, to_operator asker told      a page of bidders, or of the operator, told to an asker
---     outcome house asker ask      what the asker is told
+--     to_bidder asker page, to_operator asker page      a page only for bidders, or the operator
+--     outcome house asker ask      the reply to a sender who asks for this
 --     command_of setup asker ask      the command that the request is
 use Rattle.std.specs.Prelude.{ℕ, List, length, Option, Some, None, option_map, option_and_then, Result, Ok, Err, slice_index_or}
 use Rattle.serde_json.specs.Data.{Data}
@@ -35,35 +35,37 @@ use Rattle.clock_http.specs.Replies.{Answer, reply_bytes}
 use Rattle.clock_front.specs.Requests.{Ask}
 use Rattle.clock_front.specs.Requests as asked
 
--- a page, a refusal, or that a page is for other methods
+-- A page, a refusal, or a refusal because the page does not have this method.
 pub data Outcome : Type 0 where
   done : Data → Outcome
   refused : Shown → Outcome
   not_allowed : Page → Outcome
 
--- an answer with a page
+-- A reply with a page as its body. `allowed` is the page whose methods the head lists, if any.
 abbrev pub with_page : Code → Option Page → Data → Answer
 with_page code allowed value = record { code = code; bytes = reply_bytes code allowed (compact_text value) }
 
--- its code and bytes
+-- The code and the bytes of a reply.
 abbrev pub answer_of : Outcome → Answer
 answer_of (done value) = with_page code.Done None value
 answer_of (refused shown) = with_page shown.code None (refusal_value shown)
 answer_of (not_allowed page) = with_page code.Method (Some page) (refusal_value (alone code.Method))
 
--- a page of bidders: without a token it is asked for, and the operator's is of another role
+-- A page for bidders. A request without a valid token is refused for its token, the operator's for
+-- its role.
 abbrev pub to_bidder : Asker → (ℕ → Outcome) → Outcome
 to_bidder Nobody told = refused (alone code.Token)
 to_bidder Operator told = refused (alone code.Role)
 to_bidder (Bidder bidder) told = told bidder
 
--- a page of the operator, in the same way
+-- A page for the operator. A request without a valid token is refused for its token, a bidder's for
+-- its role.
 abbrev pub to_operator : Asker → Outcome → Outcome
 to_operator Nobody told = refused (alone code.Token)
 to_operator (Bidder bidder) told = refused (alone code.Role)
 to_operator Operator told = told
 
--- a fault of a body
+-- The code that refuses a body: not JSON, JSON of another shape, or out of memory.
 abbrev pub body_code : BodyFault → Code
 body_code NotJson = code.BadJson
 body_code Shape = code.Shape
@@ -71,37 +73,42 @@ body_code NoMemory = code.Memory
 
 -- ---- pages of one round
 
--- the closed round that a segment of a path names
+-- The closed round whose number is the last part of a path, as a decimal number.
 abbrev pub round_in : HouseFields → List ℕ → Option ClosedRound
 round_in house segment = option_and_then (λ n. round_at n house.closed) (plain_number segment)
 
+-- The page of a round, or the refusal `no_round` if that round is not closed.
 abbrev pub page_or_no_round : Option Data → Outcome
 page_or_no_round None = refused (alone code.NoRound)
 page_or_no_round (Some value) = done value
 
--- ---- what is told of a change
+-- ---- replies to changes
 
--- a sheet is accepted, or its first fault is told
+-- The reply to a sheet: accepted, with its round and number of bids, or refused for its first
+-- fault.
 abbrev pub put_outcome : PutBody → Option PutFault → Outcome
 put_outcome body None = done (accepted_value body.round (length body.bids))
 put_outcome body (Some fault) = refused (shown_put fault)
 
--- a round is closed, or the first fault is told
+-- The reply to a closing: the round is closed, or it is refused for the first fault.
 abbrev pub close_outcome : ℕ → Result ClosedRound CloseFault → Outcome
 close_outcome round (Ok closed) = done (closed_value round closed.sheet.ended)
 close_outcome round (Err fault) = refused (shown_close fault)
 
+-- The reply to a sheet of a bidder. A body that is not a sheet is refused for that.
 abbrev pub put_to : HouseFields → ℕ → Result PutBody BodyFault → Outcome
 put_to house bidder (Err fault) = refused (alone (body_code fault))
 put_to house bidder (Ok body) = put_outcome body (put_fault_in house bidder body.round body.bids)
 
+-- The reply to a closing of the operator. A body that is not a closing is refused for that.
 abbrev pub close_to : HouseFields → Result CloseBody BodyFault → Outcome
 close_to house (Err fault) = refused (alone (body_code fault))
 close_to house (Ok body) = close_outcome body.round (closing_in house body.round body.increments body.ties)
 
--- ---- what an asker is told
+-- ---- the reply to each request
 
--- pages of anyone take no notice of the token
+-- The reply to a sender who asks for this, by the house. Pages for everyone do not depend on the
+-- sender.
 abbrev pub told : HouseFields → Asker → Ask → Outcome
 told house asker (asked.turned_away why) = refused (alone why)
 told house asker (asked.no_method page) = not_allowed page
@@ -118,22 +125,26 @@ told house asker (asked.slip segment) =
 told house asker (asked.close body) = to_operator asker (close_to house (in_version house.setup.version body))
 told house asker asked.results = to_operator asker (done (results_value house))
 
--- what an asker is told: the room that a house has for further rounds shows nowhere
+-- The reply to a sender who asks for this, by the current state of the house. It does not depend on
+-- how much memory the house has allocated for further rounds.
 abbrev pub outcome : HouseFields → Asker → Ask → Outcome
 outcome house asker ask =
     told (record { setup = house.setup; closed = house.closed; sheets = house.sheets; spare = 0 }) asker ask
 
 -- ---- the command that a request is
 
+-- A bidder's sheet as a command. A body that is not a sheet is no command.
 abbrev pub put_command : ℕ → Result PutBody BodyFault → Command
 put_command bidder (Err fault) = command.other
 put_command bidder (Ok body) = command.put bidder body.round body.bids
 
+-- The operator's closing as a command. A body that is not a closing is no command.
 abbrev pub close_command : Result CloseBody BodyFault → Command
 close_command (Err fault) = command.other
 close_command (Ok body) = command.close body.round body.increments body.ties
 
--- a sheet of a bidder or a closing of the operator; every other request changes nothing
+-- The command that a request is: a bidder's sheet, or the operator's closing. Every other request
+-- changes nothing.
 abbrev pub command_of : SetupFields → Asker → Ask → Command
 command_of setup (Bidder bidder) (asked.put body) = put_command bidder body
 command_of setup Operator (asked.close body) = close_command (in_version setup.version body)

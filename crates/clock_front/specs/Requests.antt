@@ -1,7 +1,7 @@
--- What a text asks for, whoever sent it and whatever stands.
---     Ask      what is asked for
---     ask_of framing      what a framed text asks for; one that needs more at its end was cut short
---     request_of text      the token of a text and what it asks for
+-- What the bytes of a request ask for, whoever sent them and whatever the state of the auction.
+--     Ask      what a request asks for
+--     ask_of framing      what a request asks for, once its bytes are split into head and body
+--     request_of text      the token of a request, and what it asks for
 use Rattle.std.specs.Prelude.{ℕ, List, if◌then◌else◌, Option, Some, None, option_and_then, Result, codes}
 use Rattle.clock_http.specs.declared.code.Code.{Code}
 use Rattle.clock_http.specs.declared.code.Code.TheVariants.{CutShort, NoPage}
@@ -16,7 +16,9 @@ use Rattle.clock_bodies.specs.declared.put_body.PutBody.{PutBody}
 use Rattle.clock_bodies.specs.declared.close_body.CloseBody.{CloseBody}
 use Rattle.clock_bodies.specs.declared.body.BodyFault.{BodyFault}
 
--- refused by its framing or path; not by this method; a page; a sheet or closing, judged only if its sender may send it
+-- What a request asks for: a refusal, for its bytes or its path, or for its method; a page; or a
+-- change, which is a bidder's sheet (`put`) or a closing. The body of a change is read here, but a
+-- fault of it is reported only to a sender who may make that change.
 pub data Ask : Type 0 where
   turned_away : Code → Ask
   no_method : Page → Ask
@@ -30,11 +32,12 @@ pub data Ask : Type 0 where
   close : Result CloseBody BodyFault → Ask
   results : Ask
 
+-- A request: its token, if its head has one, and what it asks for.
 pub record Request : Type 0 where
   pub token : Option (List ℕ)
   pub ask : Ask
 
--- what is asked of a page by one of its methods
+-- What a request asks for, if its path names this page and the page has its method.
 abbrev pub ask_of_page : Page → Head → List ℕ → Ask
 ask_of_page Status head body = status
 ask_of_page Products head body = products
@@ -45,16 +48,18 @@ ask_of_page Slip head body = slip (last_segment head.path)
 ask_of_page Close head body = close (close_body body)
 ask_of_page Results head body = results
 
+-- What a request asks for, by the page that its path names, if any.
 abbrev pub ask_by_route : Option Page → Head → List ℕ → Ask
 ask_by_route None head body = turned_away NoPage
 ask_by_route (Some page) head body = if has_method page head.method then ask_of_page page head body else no_method page
 
--- what a text asks for; one that still needs more at its end was cut short
+-- What a request asks for. If its input ended before it was complete, it is refused as cut short.
 abbrev pub ask_of : Framing → Ask
 ask_of incomplete = turned_away CutShort
 ask_of (refusal code) = turned_away code
 ask_of (whole head body) = ask_by_route (page_of head.path) head body
 
--- the token stands in the head, also where the body was refused or cut short
+-- The token of a request and what it asks for. The token is read from the head, even if the body is
+-- refused or cut short.
 unfoldable pub request_of : List ℕ → Request
 request_of text = record { token = option_and_then (λ head. head.token) (head_in text); ask = ask_of (framing text) }

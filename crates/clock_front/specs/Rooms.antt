@@ -1,9 +1,10 @@
--- What want of memory may tell. Room for the page of a reply is taken by a call that sees how much alone, and how much
--- is a function of what the asker is told: so that there is none tells of the system's memory.
---     asks_for_page asker ask      the request changes nothing, whatever stands in the house
---     reply_room ask outcome      how much room the page of its reply is given
---     IsWantOf text house why      a text that asks for a page alone is not answered only where just so much was wanted
---     IsPrivateWant text house why      and for a bidder's own request that is a function of its view
+-- What running out of memory may reveal. The page of a reply is allocated by one call that gets
+-- only the page's size, and that size follows from the reply. So its failure reveals only the state
+-- of the system's memory.
+--     asks_for_page asker ask      the request can only be answered by a page, without a change
+--     reply_room ask outcome      how many bytes are allocated for the page of the reply
+--     IsWantOf text house why      a request for a page fails only if this allocation failed
+--     IsPrivateWant text house why      for a bidder's own request, its size follows from the view
 use Rattle.std.specs.Prelude.{◌≡◌, ◌<◌, ℕ, Bool, true, false, List, length}
 use Rattle.serde_json.specs.Data.{Data}
 use Rattle.serde_json.specs.Written.{compact_text}
@@ -22,19 +23,19 @@ use Rattle.clock_front.specs.Views.{is_own, text_view, typed_view, bidder_outcom
 use Rattle.clock_front.specs.declared.front.replies.Unanswered.{Unanswered}
 use Rattle.clock_front.specs.declared.front.replies.Unanswered.TheVariants.{Room}
 
--- who asks is no bidder
+-- The sender is not a bidder.
 abbrev pub is_no_bidder : Asker → Bool
 is_no_bidder Nobody = true
 is_no_bidder Operator = true
 is_no_bidder (Bidder bidder) = false
 
--- who asks is not the operator
+-- The sender is not the operator.
 abbrev pub is_no_operator : Asker → Bool
 is_no_operator Nobody = true
 is_no_operator Operator = false
 is_no_operator (Bidder bidder) = true
 
--- every request asks for a page alone but a bidder's sheet and the operator's closing
+-- The request asks for no change: it is neither a bidder's sheet nor the operator's closing.
 abbrev pub asks_for_page : Asker → Ask → Bool
 asks_for_page who (asked.turned_away why) = true
 asks_for_page who (asked.no_method page) = true
@@ -48,32 +49,36 @@ asks_for_page who (asked.slip segment) = true
 asks_for_page who (asked.close body) = is_no_operator who
 asks_for_page who asked.results = true
 
--- the page of products is kept as text, and is given what this takes
+-- How many bytes are allocated for a page. The page of products is stored as text, so its exact
+-- length is known; for any other page it is a bound on its length.
 abbrev pub page_room : Ask → Data → ℕ
 page_room asked.products value = length (compact_text value)
 page_room ask value = most_text value
 
--- what the page of any refusal may take: that of `headed_refusal` of clock_views
+-- How many bytes are allocated for the page of a refusal.
 abbrev pub refusal_room : ℕ
 refusal_room = 132
 
--- the room for the page of an outcome
+-- How many bytes are allocated for the page of a reply.
 abbrev pub reply_room : Ask → Outcome → ℕ
 reply_room ask (done value) = page_room ask value
 reply_room ask (refused shown) = refusal_room
 reply_room ask (not_allowed page) = refusal_room
 
--- a request for a page alone is unanswered only where just the room was wanted that the right reply's page is given
+-- If the request asks for no change, it is out of memory only because the allocation for the page
+-- of the right reply failed.
 abbrev pub WantsRoom : Asker → Ask → Outcome → Unanswered → Type 0
 WantsRoom who ask right why = asks_for_page who ask ≡ true → why ≡ Room (reply_room ask right)
 
--- the same of a text, by what its sender is told as the house stands
+-- Why a request is out of memory, by its right reply in the current state of the house.
 abbrev pub IsWantOf : List ℕ → HouseFields → Unanswered → Type 0
 IsWantOf text house why =
     WantsRoom (asker house.setup (request_of text).token) (request_of text).ask
     (outcome house (asker house.setup (request_of text).token) (request_of text).ask) why
 
--- and for a bidder's own text by what its view tells, in which no rival occurs, whichever texts the house stands for
+-- For a bidder's own request: the size of the failed allocation is computed from the public set-up,
+-- the bidder's row, and its view, after every list of requests that the house stands for. No rival
+-- occurs among these.
 abbrev pub IsPrivateWant : List ℕ → HouseFields → Unanswered → Type 0
 IsPrivateWant text house why = (texts : List (List ℕ)) (bidder : ℕ) → StandsForTexts texts house → bidder < length house.setup.bidders
     → is_own (bidder_at house.setup bidder) text ≡ true

@@ -28,10 +28,10 @@ pub use response::{Effect, Response};
 use std::alloc::Global;
 use std::marker::Model;
 
-/// An auction house that is asked by texts of HTTP.
+/// An auction that answers HTTP requests.
 ///
-/// Contracts see its house. A front *stands for* the list of texts that it has answered, but for those that found no
-/// memory: its house stands for the commands that they are.
+/// In contracts, a front is its house. It *stands for* the list of requests that it has answered,
+/// without those that it answered out of memory: its house stands for the commands that they are.
 #[derive(Drop)]
 pub struct Front<P> {
     alloc: Global,
@@ -39,7 +39,8 @@ pub struct Front<P> {
     kept: Kept,
 }
 
-/// What is kept beside the house, which never changes: whose each token is, the routes, and the page of products.
+/// The parts of a front that never change: whose each token is, the routes, and the page of
+/// products.
 #[derive(Drop)]
 struct Kept {
     tokens: Tokens,
@@ -47,7 +48,7 @@ struct Kept {
     products: Text,
 }
 
-/// What a front of a set-up keeps beside its house.
+/// Builds the constant parts of a front from a set-up.
 fn what_is_kept(alloc: Global, setup: &Setup) -> Result<Kept, NoMemory>
     ensures { IfOk result (λ kept. IsTableOf setup.now kept.tokens.entries × IsProductsPage setup.now kept.products) }
 {
@@ -67,7 +68,7 @@ impl<P> Model for Front<P> {
 }
 
 impl<P: Processor> Front<P> {
-    /// A front before its first text: it stands for the empty list.
+    /// Creates a front that has answered no request. It stands for the empty list.
     pub fn new(alloc: Global, setup: Setup, processor: P) -> Result<Front<P>, NoMemory>
         ensures setup { IfOk result (λ front. front.setup ≡ setup) }
         ensures stands { IfOk result (StandsForTexts []) }
@@ -77,9 +78,12 @@ impl<P: Processor> Front<P> {
         Ok(Front { alloc, house, kept })
     }
 
-    /// Responds to a text that is framed so. Without memory it returns what was refused, and nothing has changed. A text
-    /// that asks for a page alone then wanted room for that page, of a size that follows from the right reply: so for a
-    /// bidder's own text it follows from its view.
+    /// Answers a request that `framing` has split into head and body, after which the input has
+    /// ended.
+    ///
+    /// Errors: out of memory, and then nothing has changed. If the request asks for no change, the
+    /// error has the number of bytes that could not be allocated for its page. That number follows
+    /// from the right reply, so for a bidder's own request it follows from its view.
     pub fn try_answer(&mut self, framing: Framing<'_>) -> Result<Response, Unanswered>
         requires { (text : List ℕ) × IsFramed text framing }
         ensures response { (text : List ℕ) → IsFramed text framing.entry
@@ -106,8 +110,8 @@ impl<P: Processor> Front<P> {
         }
     }
 
-    /// Responds to a text that is framed so, after which the input has ended: the reply is that of [`Front::answer`],
-    /// and the effect says what the text changed. Head and body need not stand together.
+    /// Answers a request like [`Front::answer`], and returns with the reply what the request
+    /// changed. Head and body need not be next to each other in memory.
     pub fn respond(&mut self, framing: Framing<'_>) -> Response
         requires { (text : List ℕ) × IsFramed text framing }
         ensures response { (text : List ℕ) → IsFramed text framing.entry
@@ -125,8 +129,8 @@ impl<P: Processor> Front<P> {
         }
     }
 
-    /// The reply to a text that is framed so, after which the input has ended. It is that of [`Front::answer`]; head
-    /// and body need not stand together.
+    /// Answers a request like [`Front::answer`]. Head and body need not be next to each other in
+    /// memory.
     pub fn answer_framed(&mut self, framing: Framing<'_>) -> Reply
         requires { (text : List ℕ) × IsFramed text framing }
         ensures answered { (text : List ℕ) → IsFramed text framing.entry → AnswersText text result self.old self.new }
@@ -140,10 +144,11 @@ impl<P: Processor> Front<P> {
         self.respond(framing).reply
     }
 
-    /// The reply to a text, after which the input has ended: a request, less than one, or none at all.
+    /// Answers a request after which the input has ended. `text` may be incomplete or empty.
     ///
-    /// Where there is no memory the reply is that of [`Code::Memory`], and nothing has changed; a text that is refused
-    /// at its head or at its length needs none. The page of a change is built before the change is made.
+    /// The reply may be that of [`Code::Memory`], and then nothing has changed. A request that is
+    /// refused for its head or its length needs no memory. The page of a change is built before the
+    /// change is made, so that no accepted change is left without its reply.
     pub fn answer(&mut self, text: &[u8]) -> Reply
         ensures answered { AnswersText text.now result self.old self.new }
         ensures done { IsDoneBy text.now result self.old self.new }
@@ -154,7 +159,7 @@ impl<P: Processor> Front<P> {
         self.answer_framed(frame(text))
     }
 
-    /// The house that is asked.
+    /// The house of this auction.
     pub fn house(&self) -> &House<P>
         ensures { result.now ≡ self.now }
     {

@@ -12,19 +12,20 @@ use clock_processor::Processor;
 use std::alloc::Global;
 use std::marker::Model;
 
-/// What a piece has led to.
+/// What a piece of a request led to.
 #[derive(Drop)]
 pub enum Fed {
-    /// The request needs more, and its connection stands.
+    /// The request is incomplete, and its connection is still open.
     More,
     /// The request was answered, and its connection is gone.
     Reply(Reply),
 }
 
-/// A front whose requests come in pieces over connections that stand at once.
+/// A front whose requests arrive in pieces, over up to 256 connections at once.
 ///
-/// Contracts see the house of the front, and the connections: each that stands with the bytes that have come over it. A
-/// connection is for one request. It is gone with the reply, also with one of want of memory.
+/// In contracts, a hub is the house of its front, and its open connections with the bytes that came
+/// over each. A connection carries one request, and is gone with its reply, even if that is out of
+/// memory.
 #[derive(Drop)]
 pub struct Hub<P> {
     front: Front<P>,
@@ -39,7 +40,7 @@ impl<P> Model for Hub<P> {
     ghost invariant = { λ h. AllNeedMore h.connections };
 }
 
-/// Answers the request of a connection that stands, which is gone with it.
+/// Answers the request of a connection, and removes the connection. Requires an open connection.
 #[inline(never)]
 fn complete<P: Processor>(front: &mut Front<P>, connections: &mut Connections, conn: Conn) -> Reply
     requires { IsSome (text_of connections.old conn) }
@@ -53,7 +54,7 @@ fn complete<P: Processor>(front: &mut Front<P>, connections: &mut Connections, c
 }
 
 impl<P: Processor> Hub<P> {
-    /// A hub with no connection. It takes no memory.
+    /// Creates a hub without connections. Allocates nothing.
     pub fn new(alloc: Global, front: Front<P>) -> Hub<P>
         ensures { result ≡ record { house = front; connections = record { slots = []; next = 0 } } }
     {
@@ -63,8 +64,10 @@ impl<P: Processor> Hub<P> {
         }
     }
 
-    /// A new connection, which was never given before. It is refused as full where 256 connections stand, or where so
-    /// many were made that there is no further serial number.
+    /// Opens a connection, whose handle no earlier connection had.
+    ///
+    /// Errors, in this order: `Full`, if 256 connections are open or all serial numbers are used
+    /// up; `NoMemory`. After an error nothing has changed.
     pub fn connect(&mut self) -> Result<Conn, HubFault>
         ensures connected { IfOk result (IsConnected self.old.connections self.new.connections) }
         ensures front { self.new.house ≡ self.old.house }
@@ -74,7 +77,8 @@ impl<P: Processor> Hub<P> {
         self.connections.connect()
     }
 
-    /// Takes a piece of the request of a connection that stands, or nothing of it.
+    /// Appends a piece to the request of a connection, and answers it if it is now complete.
+    /// Requires an open connection. After an error nothing has changed.
     #[inline(always)]
     fn feed_on(&mut self, conn: Conn, piece: &[u8]) -> Result<Fed, NoMemory>
         requires { IsSome (text_of self.old.connections conn) }
@@ -87,8 +91,9 @@ impl<P: Processor> Hub<P> {
         Ok(Fed::Reply(complete(&mut self.front, &mut self.connections, conn)))
     }
 
-    /// The same of a piece that is not one byte. It stands apart, so that what a single byte costs stays small. A piece
-    /// with the whole body of a request of which the head alone has come is answered as it stands, and not kept.
+    /// Like `feed_on`, but for a piece that is not one byte. If the head has come and the piece is
+    /// the whole body, the request is answered without a copy of that piece. This is a function of
+    /// its own so that [`Hub::feed`] stays cheap for single bytes.
     #[inline(never)]
     fn feed_piece(&mut self, conn: Conn, piece: &[u8]) -> Result<Fed, NoMemory>
         requires { IsSome (text_of self.old.connections conn) }
@@ -103,8 +108,11 @@ impl<P: Processor> Hub<P> {
         self.feed_on(conn, piece)
     }
 
-    /// Takes a piece of a request: it needs more, or its reply is told, as [`Front::answer`] gives it. Where there is
-    /// no memory the connection stands with the bytes that it had, and the piece can be fed again.
+    /// Appends a piece to the request of a connection, and answers it like [`Front::answer`] if it
+    /// is now complete.
+    ///
+    /// Errors, in this order: `Unknown`, if the connection is not open; `NoMemory`. After an error
+    /// nothing has changed, and the piece can be fed again.
     #[inline(always)]
     pub fn feed(&mut self, conn: Conn, piece: &[u8]) -> Result<Fed, HubFault>
         ensures fed { IfOk result (IsFedBy self.old self.new conn piece.now) }
@@ -121,7 +129,10 @@ impl<P: Processor> Hub<P> {
         })
     }
 
-    /// The reply to a request whose input has ended: it was cut short, since a request that is complete was answered.
+    /// Ends the input of a connection, and returns the reply: its request was cut short, or it
+    /// would have been answered before.
+    ///
+    /// Errors: `Unknown`, if the connection is not open.
     pub fn finish(&mut self, conn: Conn) -> Result<Reply, HubFault>
         ensures answered { (text : List ℕ) → text_of self.old.connections conn ≡ Some text
             → IfOk result (IsAnswered self.old self.new conn text) }
@@ -136,7 +147,7 @@ impl<P: Processor> Hub<P> {
         Ok(complete(&mut self.front, &mut self.connections, conn))
     }
 
-    /// The front that answers.
+    /// The front of this hub.
     pub fn front(&self) -> &Front<P>
         ensures { result.now ≡ self.now.house }
     {

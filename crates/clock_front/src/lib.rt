@@ -1,9 +1,9 @@
-//! An auction that answers requests: whose a request is, what it does, and the bytes of its reply.
+//! An auction that answers requests: who sent each, what it changes, and the bytes of its reply.
 //!
-//! [`Front::answer`] replies to one text and [`run`] to a list of them, as the auction stands after the texts before.
-//! [`Hub`] takes requests that come in pieces over connections that stand at once, and [`run_events`] a whole list of
-//! such pieces. [`serve_stream`] reads one request out of a source, as far as it is needed, and writes its reply to a
-//! sink. Where a request ends is a matter of its bytes alone, and of clock_http.
+//! [`Front::answer`] answers one request, and [`run`] a list of them. [`Hub`] takes requests that
+//! arrive in pieces over several connections at once, and [`run_events`] takes a list of such
+//! pieces. [`serve_stream`] reads one request from a source, and writes the reply to a sink.
+//! clock_http decides where a request ends, by its bytes only.
 #![tactic(auto)]
 
 mod front;

@@ -15,17 +15,17 @@ use std::alloc::Global;
 /// Replies in the order of their requests.
 pub type Replies = Items<Reply>;
 
-/// The reply to the request of the connection of a number.
+/// A reply, with the number of its connection.
 #[derive(Drop)]
 pub struct EventReply {
     pub number: u64,
     pub reply: Reply,
 }
 
-/// Replies in the order in which their requests were complete.
+/// Replies in the order in which their requests became complete.
 pub type EventReplies = Items<EventReply>;
 
-/// Answers texts in turn by a front that has answered none.
+/// Answers requests in order. Requires a front that has answered none.
 fn answer_each<P: Processor>(
     alloc: Global,
     front: &mut Front<P>,
@@ -42,12 +42,15 @@ fn answer_each<P: Processor>(
     Ok(replies)
 }
 
-/// Answers request texts in turn, each by what those before it have made of the auction: one reply for each, in order.
+/// Answers the requests of an auction in order: one reply for each.
 ///
-/// A reply of want of memory has done nothing, and its text is struck out. Every other reply is the right one; to a
-/// bidder's own request it is a function of the public set-up, the bidder's row and what the bidder sees of the run, so
-/// that every other run in which a bidder sees the same gives it the same bytes. To a request with no token, or with
-/// one that nobody has, it is a function of the public set-up and the sheets of the closed rounds.
+/// Each reply is the right one after the requests before it, or it is out of memory, and then its
+/// request has changed nothing. The reply to a bidder's own request is computed from the public
+/// set-up, the bidder's row, and its view. So it has the same bytes in every other run in which the
+/// bidder sees the same. The reply to a request with no valid token is computed from the public
+/// set-up and the round results.
+///
+/// Errors: out of memory for the front or for the list of replies.
 pub fn run<P: Processor>(
     alloc: Global,
     setup: Setup,
@@ -58,12 +61,12 @@ pub fn run<P: Processor>(
 {
     let mut front = Front::new(alloc, setup, processor)?;
     let replies = answer_each(alloc, &mut front, texts);
-    // let go by a call: at the end of the scope it would be proved part by part
+    // `drop` here keeps the proof small: at the end of the scope it would be proved field by field.
     drop(front);
     replies
 }
 
-/// Takes events in turn by a hub over which nothing has come.
+/// Takes events in order. Requires a hub that has taken none.
 fn take_each<P: Processor>(
     alloc: Global,
     hub: &mut NumberedHub<P>,
@@ -83,9 +86,11 @@ fn take_each<P: Processor>(
     Ok(replies)
 }
 
-/// Answers the requests that come in pieces over connections, in the order in which they are complete, as [`run`]
-/// answers their texts. There is no memory where a connection, a piece or a list found none; a request that finds none
-/// while it is answered has a reply that says so.
+/// Answers requests that arrive in pieces over connections, in the order in which they become
+/// complete. Each is answered as [`run`] answers it.
+///
+/// Errors: out of memory for a connection, a piece, or the list of replies. A request that is out
+/// of memory while it is answered has a reply that says so.
 pub fn run_events<P: Processor>(
     alloc: Global,
     setup: Setup,
@@ -103,7 +108,7 @@ pub fn run_events<P: Processor>(
     replies
 }
 
-/// A hub whose connections are numbered from 0 as they are asked for.
+/// A hub whose connections are numbered from 0 in the order in which they were opened or refused.
 #[derive(Drop)]
 struct NumberedHub<P> {
     hub: Hub<P>,
@@ -111,14 +116,14 @@ struct NumberedHub<P> {
 }
 
 impl<P: Processor> NumberedHub<P> {
-    /// The connection of a number, where it was made.
+    /// The connection of this number, if it was opened.
     fn conn(&self, number: u64) -> Option<Conn>
         ensures { result ≡ conn_at self.now.conns number }
     {
         *self.conns.as_slice().get(number as usize)?
     }
 
-    /// Takes an event, and tells the reply to the request that it completes.
+    /// Takes an event, and returns the reply to the request that it completes, if any.
     fn take_event(&mut self, event: &Event) -> Result<Option<EventReply>, NoMemory>
         requires { length self.old.conns < most_serials }
         ensures stands { (numbered : Numbered) → Stands numbered self.old.hub.connections self.old.conns

@@ -13,11 +13,11 @@ use thiserror::Error;
 
 /// Why a stream was not served.
 ///
-/// `Read`: a read failed, or 2,000,000 reads were made and the request was not whole. Nothing was answered and nothing
+/// `Read`: a read failed, or 2,000,000 reads did not bring a whole request. Nothing was answered or
 /// written.
 ///
-/// `Write`: a write failed, was interrupted or took no byte. The request took effect as its code says, and a front of
-/// its reply may have been written.
+/// `Write`: a write failed, was interrupted, or wrote no byte. The request took effect as the code
+/// says, and a prefix of its reply may have been written.
 #[derive(Clone, Copy, Debug, PartialEq, Eq, Error)]
 pub enum StreamFault {
     #[error("the request could not be read")]
@@ -26,11 +26,11 @@ pub enum StreamFault {
     Write(Code),
 }
 
-/// Reads one request, answers it, and writes its reply. What the request did is told by the code of the reply.
+/// Reads one request, answers it, and writes the reply. The code says what the request did.
 ///
-/// No read is made once the bytes read decide what the request is, and 2,000,000 reads are made at most; an interrupted
-/// read is tried again. Where the input ends, the bytes that came are answered as they stand: [`Code::CutShort`]. Where
-/// there is no memory for them the reply is that of [`Code::Memory`], and nothing has changed.
+/// Reads stop when the bytes decide what the request is. An interrupted read is repeated, and there
+/// are at most 2,000,000 reads. If the input ends before, the reply is [`Code::CutShort`]. If there
+/// is no memory for the bytes, it is that of [`Code::Memory`], and nothing has changed.
 pub fn serve_stream<P: Processor, R: Source, W: Sink>(
     alloc: Global,
     front: &mut Front<P>,

@@ -1,9 +1,9 @@
--- That an asking bidder is one of the set-up's.
+-- That a sender who is a bidder is one of the set-up.
 use Rattle.std.specs.Prelude.{ℕ, ◌<◌}
 use Rattle.clock_front.specs.declared.front.askers.Asker.{Asker}
 use Rattle.clock_front.specs.declared.front.askers.Asker.TheVariants.{Nobody, Operator, Bidder}
 
--- a bidder that asks is one of so many
+-- If the sender is a bidder, its number is below `count`.
 abbrev pub IsKnown : ℕ → Asker → Type 0
 IsKnown count Nobody = Unit {0}
 IsKnown count Operator = Unit {0}

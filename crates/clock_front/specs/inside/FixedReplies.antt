@@ -1,6 +1,6 @@
--- Which replies are held ready.
---     refusal_of code      the reply that refuses a request by a code alone, whatever it asks for
---     is_fixed code      those of a text that is refused at its head or at its length, and that of want of memory
+-- Which replies have constant bytes.
+--     refusal_of code      the reply that refuses a request with only a code
+--     is_fixed code      a refusal for the head or the length of a request, or out of memory
 use Rattle.std.specs.Prelude.{Bool, true, false}
 use Rattle.clock_views.specs.Refusals.{alone}
 use Rattle.clock_http.specs.Replies.{Answer}
@@ -8,11 +8,11 @@ use Rattle.clock_http.specs.declared.code.Code.{Code}
 use Rattle.clock_http.specs.declared.code.Code.TheVariants.{BadHead, BadLength, LongBody, LongHead, Coding, Memory}
 use Rattle.clock_front.specs.Outcomes.{refused, answer_of}
 
--- the reply that refuses a request by a code alone
+-- The reply that refuses a request with only a code, and no details.
 abbrev pub refusal_of : Code → Answer
 refusal_of code = answer_of (refused (alone code))
 
--- the replies with these codes are always the same, and take no memory
+-- The replies with these codes have constant bytes, and need no memory.
 abbrev pub is_fixed : Code → Bool
 is_fixed LongHead = true
 is_fixed BadHead = true

@@ -1,9 +1,9 @@
--- What a table of tokens finds.
---     listed entries      the table's entries as a list of tokens and askers
---     tokens_of setup      the operator's token and each bidder's, with whose they are
---     found entries token      whose a token is by the table
---     asker_by of token      who asks with a token, or with none, where a function tells whose it is
---     IsTableOf setup entries      the table tells of each token whose it is
+-- What the hash table of tokens finds.
+--     listed entries      the table's entries, as a list of tokens and their owners
+--     tokens_of setup      the operator's token and each bidder's, with their owners
+--     found entries token      whose a token is, by the table
+--     asker_by of token      who sent a request with this token, or with none, by a look-up `of`
+--     IsTableOf setup entries      the table finds the owner of every token of the set-up
 use Rattle.std.specs.Prelude.{◌≡◌, ℕ, List, ◌∷◌, map, Option, Some, None, Vec}
 use Rattle.std.specs.declared.alloc.Global.{Global}
 use Rattle.clock_terms.specs.Limits.{SetupFields}
@@ -11,23 +11,23 @@ use Rattle.clock_front.specs.Askers.{bidder_tokens, holder}
 use Rattle.clock_front.specs.declared.front.askers.Asker.{Asker}
 use Rattle.clock_front.specs.declared.front.askers.Asker.TheVariants.{Nobody, Operator}
 
--- the bytes of an entry's key, and whose they are
+-- The table's entries, as a list of tokens and their owners.
 abbrev pub listed : List (Vec ℕ Global × Asker) → List (List ℕ × Asker)
 listed entries = map (λ entry. (entry.0.items, entry.1)) entries
 
--- whose a token is
+-- Whose a token is, by the table.
 abbrev pub found : List (Vec ℕ Global × Asker) → List ℕ → Asker
 found entries token = holder (listed entries) token
 
--- the operator's token and each bidder's, with whose they are
+-- The operator's token and each bidder's, with their owners.
 abbrev pub tokens_of : SetupFields → List (List ℕ × Asker)
 tokens_of setup = (setup.operator, Operator) ∷ bidder_tokens 0 setup.bidders
 
--- who asks, where a token tells whose it is
+-- Who sent a request with this token, or with none, by a look-up `of`.
 abbrev pub asker_by : (List ℕ → Asker) → Option (List ℕ) → Asker
 asker_by of None = Nobody
 asker_by of (Some token) = of token
 
--- the table tells of each token whose it is
+-- The table finds for every token the owner that the set-up gives it, or no one.
 abbrev pub IsTableOf : SetupFields → List (Vec ℕ Global × Asker) → Type 0
 IsTableOf setup entries = (token : List ℕ) → found entries token ≡ holder (tokens_of setup) token

@@ -1,6 +1,6 @@
--- Isolation as two laws over the definitions, by which the privacy of each reply is proved.
---     IsAnsweredFromView      the reply to an own request is the answer to the bidder's view
---     IsIsolated      where a bidder sees the same, it is answered alike
+-- Two laws about the definitions, from which the privacy of each reply is proved.
+--     IsAnsweredFromView      the right reply to an own request is the one computed from the view
+--     IsIsolated      a bidder who sees the same gets the same reply
 use Rattle.std.specs.Prelude.{◌≡◌, ◌<◌, ℕ, true, List, length}
 use Rattle.clock_terms.specs.Limits.{SetupFields, public_setup}
 use Rattle.clock_house.specs.History.{bidder_at}
@@ -9,13 +9,13 @@ use Rattle.clock_front.specs.Fronts.{reply}
 use Rattle.clock_front.specs.Views.{is_own, text_view, answer}
 use Rattle.clock_front.specs.Headline.{SeesTheSame}
 
--- the reply to an own request is the answer to the bidder's view; in an answer's arguments no rival occurs
+-- The right reply to an own request is the one computed from the bidder's view, without any rival.
 abbrev pub IsAnsweredFromView : Type 0
 IsAnsweredFromView = (setup : SetupFields) (bidder : ℕ) (past : List (List ℕ)) (text : List ℕ)
     → HasOwnTokens setup → bidder < length setup.bidders → is_own (bidder_at setup bidder) text ≡ true
     → reply setup past text ≡ answer (public_setup setup) (bidder_at setup bidder) (text_view setup bidder past) text
 
--- and then it is answered alike
+-- If a bidder sees the same in two runs, the right reply to its request is the same in both.
 abbrev pub IsIsolated : Type 0
 IsIsolated = (one two : SetupFields) (bidder other_number : ℕ) (past other_past : List (List ℕ)) (text : List ℕ)
     → HasOwnTokens one → HasOwnTokens two → bidder < length one.bidders → other_number < length two.bidders

@@ -1,7 +1,7 @@
--- What a bidder knows of the auction by its view, and what it is told by that.
+-- All that a bidder knows of the auction from its view, and the reply computed from that.
 --     Knowledge      what a bidder knows
---     known_from setup row view      what it knows by its view
---     known_outcome setup row known ask      what it is told
+--     known_from setup row view      what it knows from its view
+--     known_outcome setup row known ask      the reply to it
 use Rattle.std.specs.Prelude.{ℕ, List, Option, option_map, option_and_then, Ok, Err}
 use Rattle.clock_terms.specs.declared.setup.Bidder.{Bidder}
 use Rattle.clock_terms.specs.Limits.{PublicSetup}
@@ -20,15 +20,15 @@ use Rattle.clock_front.specs.Requests.{Ask}
 use Rattle.clock_front.specs.Requests as asked
 use Rattle.clock_front.specs.Outcomes.{Outcome, done, refused, not_allowed, body_code, page_or_no_round, put_outcome}
 
--- where the auction stands, what the bidder holds, its sheet in force, and of each closed round the sheet and its own
--- slip
+-- What a bidder knows: the state of the auction, its eligibility and processed demands, its sheet
+-- in force, and of each closed round the round results and its bidder results.
 pub record Knowledge : Type 0 where
   pub standing : Standing
   pub holding : Holding
   pub in_force : Option (List Bid)
   pub rounds : ℕ → Option (RoundSheet × Slip)
 
--- what a bidder knows by its view
+-- What a bidder knows from its view.
 abbrev pub known_from : PublicSetup → Bidder → List Seen → Knowledge
 known_from setup row view = record {
   standing = seen_standing setup view;
@@ -37,11 +37,12 @@ known_from setup row view = record {
   rounds = λ n. seen_round n view;
 }
 
--- the closed round that a segment of a path names
+-- The closed round whose number is the last part of a path.
 abbrev pub known_round : Knowledge → List ℕ → Option (RoundSheet × Slip)
 known_round known segment = option_and_then known.rounds (plain_number segment)
 
--- pages of everyone and its own, and the answers to its sheets; the operator's pages are not for it
+-- The reply to a bidder, from what it knows: the pages for everyone, its own pages, and the replies
+-- to its sheets. The operator's pages are refused.
 unfoldable pub known_outcome : PublicSetup → Bidder → Knowledge → Ask → Outcome
 known_outcome setup row known (asked.turned_away why) = refused (alone why)
 known_outcome setup row known (asked.no_method page) = not_allowed page

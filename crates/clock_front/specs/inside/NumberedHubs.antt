@@ -1,11 +1,12 @@
 -- A hub whose connections have numbers.
---     HasCompleted request old new told      the request that an event completes is answered
+--     HasCompleted request old new reply      the request that an event completes was answered
 use Rattle.std.specs.Prelude.{◌≡◌, ℕ, List, Option, Some, None}
 use Rattle.clock_house.specs.House.{HouseFields}
 use Rattle.clock_front.specs.Fronts.{AnswersText}
 use Rattle.clock_front.specs.declared.runs.EventReply.{EventReply}
 
--- a request, if an event completes one, is answered under its number; otherwise the house is as it was
+-- If an event completes a request, it is answered, and the reply has the number of its connection.
+-- Otherwise there is no reply, and the house is unchanged.
 abbrev pub HasCompleted : Option (ℕ × List ℕ) → HouseFields → HouseFields → Option EventReply → Type 0
 HasCompleted None old new None = new ≡ old
 HasCompleted None old new (Some one) = ⊥

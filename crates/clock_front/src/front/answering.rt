@@ -1,4 +1,5 @@
-//! The reply to a request, by the page that it names and by who asks. The page of a change is built before the change.
+//! The reply to a request, by its page and its sender. The page of a change is built before the
+//! change.
 
 ghost use Rattle.std.specs.Prelude.{◌≡◌, ◌≢◌, ◌<◌, Ok, Err, length, IfOk, IfErr, OnOk, OnErr};
 ghost use Rattle.clock_http.specs.{Routes.{page_of}, Shown.{shown_head}};
@@ -26,7 +27,7 @@ use clock_terms::Setup;
 use clock_views::{Refusal, headed_accepted, headed_closed};
 use std::alloc::Global;
 
-/// Refuses a body for its fault, unless that is `NoMemory`.
+/// Refuses a body for its fault. If the fault is `NoMemory`, this is an error.
 fn refused_body(alloc: Global, fault: BodyFault) -> Result<Response, NoMemory>
     ensures response { IfOk result (λ response. response ≡ record {
       reply = answer_of (refused (alone (body_code fault)));
@@ -41,7 +42,7 @@ fn refused_body(alloc: Global, fault: BodyFault) -> Result<Response, NoMemory>
     }
 }
 
-/// Puts the sheet that a body means in force, or tells the first fault.
+/// Submits the sheet in a body, or refuses it for its first fault. Requires a bidder of the set-up.
 fn put_sheet<P: Processor>(
     alloc: Global,
     house: &mut House<P>,
@@ -71,7 +72,8 @@ fn put_sheet<P: Processor>(
     }
 }
 
-/// The closing that a body means under a set-up, or its first fault.
+/// Reads the closing in a body, by the version of the set-up. In version 1 a closing has one increment
+/// for all products, in later versions one for each.
 fn closing_of(alloc: Global, setup: &Setup, body: &[u8]) -> Result<CloseBody, BodyFault>
     ensures ok { IfOk result (λ closing. in_version setup.now.version (close_body body.now) ≡ Ok closing) }
     ensures err { IfErr result (λ fault. fault ≢ BodyFault.NoMemory
@@ -85,7 +87,7 @@ fn closing_of(alloc: Global, setup: &Setup, body: &[u8]) -> Result<CloseBody, Bo
     }
 }
 
-/// Closes the round by a body, or tells the first fault.
+/// Closes the round as a body says, or refuses it for its first fault.
 fn close_round<P: Processor>(
     alloc: Global,
     house: &mut House<P>,
@@ -115,7 +117,9 @@ fn close_round<P: Processor>(
     }
 }
 
-/// Responds to a request: shows a page, makes a change, or refuses it.
+/// Answers a request: with a page, with a change, or with a refusal. Refusals, in this order: no
+/// such page, no such method on this page, no valid token, another role, then what the page itself
+/// refuses.
 pub(crate) fn answer_request<P: Processor>(
     alloc: Global,
     house: &mut House<P>,

@@ -1,4 +1,4 @@
-//! Who asks, by the token of a request.
+//! Who sent a request, by its token.
 ghost use Rattle.std.specs.Prelude.{◌≡◌, ℕ, List, length, IfOk, OnOk, if◌then◌else◌};
 ghost use Rattle.clock_terms.specs.Limits.{SetupFields};
 ghost use Rattle.clock_http.specs.{Shown.{shown_bytes}, Heads.{same_bytes}};
@@ -9,21 +9,21 @@ use clock_terms::Setup;
 use indexmap::IndexMap;
 use std::alloc::Global;
 
-/// Who asks.
+/// The sender of a request.
 #[derive(Clone, Copy)]
 pub(crate) enum Asker {
-    /// Nobody that the set-up knows.
+    /// No one whom the set-up names.
     Nobody,
     /// The operator.
     Operator,
-    /// The bidder of this number.
+    /// The bidder of this number, from 0 in the order of the set-up.
     Bidder(u32),
 }
 
-/// Whose each token is. A token is looked up by hash, in a time that does not grow with the number of bidders.
+/// Whose each token is. The time of a look-up does not grow with the number of bidders.
 pub(crate) type Tokens = IndexMap<Vec<u8>, Asker>;
 
-/// Adds a token, which is found before those that were added.
+/// Adds a token with its owner. It replaces an equal token.
 fn add(alloc: Global, tokens: &mut Tokens, token: &[u8], asker: Asker) -> Result<(), NoMemory>
     ensures { OnOk result ((other : List ℕ) → found tokens.new.entries other
         ≡ (if same_bytes other token.now then asker else found tokens.old.entries other)) }
@@ -32,7 +32,8 @@ fn add(alloc: Global, tokens: &mut Tokens, token: &[u8], asker: Asker) -> Result
     Ok(())
 }
 
-/// The tokens of a set-up.
+/// The tokens of a set-up with their owners. The operator's token is added last, as the rules look
+/// for it first.
 pub(crate) fn tokens_of(alloc: Global, setup: &Setup) -> Result<Tokens, NoMemory>
     ensures { IfOk result (λ tokens. IsTableOf setup.now tokens.entries) }
 {
@@ -52,7 +53,7 @@ pub(crate) fn tokens_of(alloc: Global, setup: &Setup) -> Result<Tokens, NoMemory
     Ok(tokens)
 }
 
-/// Who asks with a token, or with none. It takes no memory.
+/// Returns who sent a request with this token, or with none. Allocates nothing.
 pub(crate) fn asker_of(tokens: &Tokens, token: Option<&[u8]>) -> Asker
     ensures shown { (setup : SetupFields) → IsTableOf setup tokens.now.entries → result
         ≡ asker_with setup (shown_bytes token.entry) }

@@ -1,5 +1,5 @@
-//! Replies that tell of the auction and change nothing; those that are always the same, and take no memory; and why
-//! there is none.
+//! Replies that show the auction without a change, replies with constant bytes, and why a request
+//! got no other reply than out of memory.
 
 ghost use Rattle.std.specs.Prelude.{◌≡◌, ◌<◌, length, IfOk, IfErr, IsTrue};
 ghost use Rattle.clock_terms.specs.Limits.{SetupFields, public_setup};
@@ -20,12 +20,12 @@ use clock_views::{
 };
 use std::alloc::Global;
 
-/// Why a text gets no other reply than that of want of memory.
+/// Why a request is answered out of memory.
 #[derive(Debug, Drop)]
 pub enum Unanswered {
-    /// It changes nothing, and room for the page of its reply was asked for and refused.
+    /// It asks for no change, and the page of its reply could not be allocated.
     Room(NoRoom),
-    /// It asks for a change, and memory was refused on the way to that.
+    /// It asks for a change, and an allocation failed before that.
     Change,
 }
 
@@ -45,7 +45,7 @@ impl From<NoMemory> for Unanswered {
     }
 }
 
-/// The reply that refuses by a code alone. It takes no memory.
+/// Refuses a request with only a code. Requires a code whose reply is constant. Allocates nothing.
 pub(crate) fn fixed_reply(code: Code) -> Reply
     requires { IsTrue (is_fixed code) }
     ensures { result ≡ refusal_of code }
@@ -68,14 +68,14 @@ pub(crate) fn fixed_reply(code: Code) -> Reply
     Reply::constant(code, bytes)
 }
 
-/// The reply where there was no memory. It takes none.
+/// The out-of-memory reply. Allocates nothing.
 pub fn no_memory_reply() -> Reply
     ensures { result ≡ no_memory }
 {
     fixed_reply(Code::Memory)
 }
 
-/// A refusal; of a method that a page has not, with that page.
+/// Refuses a request. If the method is refused, `page` is the page whose methods the head lists.
 pub(crate) fn refusal(alloc: Global, why: Refusal, page: Option<Page>) -> Result<Reply, NoRoom>
     ensures { IsPageIn (with_page why.code page (refusal_value why)) refusal_room result }
 {
@@ -83,7 +83,7 @@ pub(crate) fn refusal(alloc: Global, why: Refusal, page: Option<Page>) -> Result
     Ok(Reply::written(why.code, page, text))
 }
 
-/// Where the auction stands.
+/// The page of the auction's status, for everyone.
 pub(crate) fn status<P>(alloc: Global, house: &House<P>) -> Result<Reply, NoRoom>
     ensures { IsTold house.now who.Nobody asked.status result }
 {
@@ -91,7 +91,7 @@ pub(crate) fn status<P>(alloc: Global, house: &House<P>) -> Result<Reply, NoRoom
     Ok(Reply::written(Code::Done, None, text))
 }
 
-/// What is auctioned: a page that is at hand, since it never changes.
+/// The page of products, for everyone, copied from `page`: it never changes.
 pub(crate) fn products(alloc: Global, page: &[u8]) -> Result<Reply, NoRoom>
     ensures reply { IfOk result (λ reply. (setup : SetupFields) → IsProductsPage setup page.now
         → reply ≡ answer_of (done (products_value (public_setup setup)))) }
@@ -102,7 +102,8 @@ pub(crate) fn products(alloc: Global, page: &[u8]) -> Result<Reply, NoRoom>
     Ok(Reply::written(Code::Done, None, text.into_items()))
 }
 
-/// The sheet of the round that a segment names.
+/// The round results of the round whose number `segment` is, for everyone. If it is not closed, a
+/// refusal.
 pub(crate) fn sheet<P>(alloc: Global, house: &House<P>, segment: &[u8]) -> Result<Reply, NoRoom>
     ensures { IsTold house.now who.Nobody (asked.sheet segment.now) result }
 {
@@ -116,7 +117,7 @@ pub(crate) fn sheet<P>(alloc: Global, house: &House<P>, segment: &[u8]) -> Resul
     Ok(Reply::written(Code::Done, None, text))
 }
 
-/// What a bidder holds.
+/// A bidder's account. Requires a bidder of the set-up.
 pub(crate) fn account<P>(alloc: Global, house: &House<P>, bidder: u32) -> Result<Reply, NoRoom>
     requires { bidder < length house.now.setup.bidders }
     ensures { IsTold house.now (who.Bidder bidder) asked.account result }
@@ -126,7 +127,7 @@ pub(crate) fn account<P>(alloc: Global, house: &House<P>, bidder: u32) -> Result
     Ok(Reply::written(Code::Done, None, text))
 }
 
-/// A bidder's sheet of bids in force.
+/// A bidder's sheet in force. Requires a bidder of the set-up.
 pub(crate) fn bids<P>(alloc: Global, house: &House<P>, bidder: u32) -> Result<Reply, NoRoom>
     requires { bidder < length house.now.setup.bidders }
     ensures { IsTold house.now (who.Bidder bidder) asked.bids result }
@@ -135,7 +136,8 @@ pub(crate) fn bids<P>(alloc: Global, house: &House<P>, bidder: u32) -> Result<Re
     Ok(Reply::written(Code::Done, None, text))
 }
 
-/// A bidder's results of the round that a segment names.
+/// A bidder's results of the round whose number `segment` is. If it is not closed, a refusal.
+/// Requires a bidder of the set-up.
 pub(crate) fn slip<P>(
     alloc: Global,
     house: &House<P>,
@@ -155,7 +157,7 @@ pub(crate) fn slip<P>(
     Ok(Reply::written(Code::Done, None, text))
 }
 
-/// What all bidders hold.
+/// The processed demands of all bidders, for the operator.
 #[tactic(auto, unfolding(clock_views::specs::OperatorPages::results_value))]
 pub(crate) fn results<P>(alloc: Global, house: &House<P>) -> Result<Reply, NoRoom>
     ensures { IsTold house.now who.Operator asked.results result }

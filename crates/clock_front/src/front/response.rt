@@ -2,7 +2,8 @@ ghost use Rattle.std.specs.Prelude.{◌≡◌};
 
 use clock_http::Reply;
 
-/// What a request changed in the auction: nothing, a bidder's sheet in force, or the round of a number, which it closed.
+/// What a request changed in the auction: nothing, its bidder's sheet in force, or the round of
+/// this number, which it closed.
 #[derive(Clone, Copy, Debug, PartialEq, Eq)]
 pub enum Effect {
     Nothing,

@@ -2,7 +2,7 @@ use Rattle.std.proofs.Common.{rules}
 use Rattle.clock_front.proofs.ReplyLaws.{unchanged_right}
 use Rattle.clock_front.proofs.front.answering.answer_request.Goals as goal
 
--- what asks for no change is the command that changes nothing
+-- A request that asks for no change is the command that changes nothing.
 pub returns-in_default-clause-done : goal.returns-in_default-clause-done
 returns-in_default-clause-done g c = unchanged_right _ _ c.args.house.now _ (search rules) (search rules) (search rules)
 

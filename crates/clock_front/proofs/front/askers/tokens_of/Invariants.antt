@@ -3,7 +3,7 @@ use Rattle.clock_front.specs.Askers.{holder, bidder_tokens}
 use Rattle.clock_front.specs.inside.HeldTokens.{found}
 use Rattle.clock_front.proofs.front.askers.tokens_of.Given as goal
 
--- the tokens of the bidders from this number on are there
+-- The table has the tokens of all bidders from this number on.
 abbrev pub invariant-loop-number : goal.invariant-loop-number
 invariant-loop-number l = record {
   within : l.number ≤ length l.setup.bidders;

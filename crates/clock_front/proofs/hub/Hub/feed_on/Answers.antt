@@ -26,7 +26,7 @@ returns-clause-fed g c = λ text is.
           (c.complete.ensures.answered joined taken.stands),
     )
 
--- more is awaited, or the request was answered
+-- All open connections still need more, whether the request waits or was answered.
 pub invariant_of-self-then-branch : goal.invariant_of-self-then-branch
 invariant_of-self-then-branch g c =
     let old = c.self.inside.connections in
