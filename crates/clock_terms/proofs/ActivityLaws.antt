@@ -1,4 +1,4 @@
--- What a row of demands takes, where one of them changes, and the eligibility that an activity supports.
+-- How activity changes with one demand, and that an activity supports exactly one eligibility.
 use Rattle.std.proofs.Common.{◌≡◌, ℕ, zero, suc, ◌+◌, ◌*◌, ◌<◌, ◌≤◌, List, [], ◌∷◌, length, arith, get_or, set, subst}
 use Rattle.std.specs.Prelude.{zip}
 use Rattle.std.proofs.lemmas.List.Sums.{sum_by-cons}
@@ -7,7 +7,7 @@ use Rattle.clock_terms.specs.Limits.{units_of}
 use Rattle.clock_money.proofs.RoundingLaws.{rounded_up_least}
 use Rattle.clock_terms.specs.Eligibility.{activity, IsSupported, SupportsTheLeast, supported_eligibility}
 
--- the activity of a row in which one demand changes
+-- replacing one demand changes activity by its units times the difference
 pub activity-set : (products : List Product) (row : List ℕ) (p v : ℕ) → p < length products → p < length row →
     activity products (set row p v) + units_of products p * get_or row p 0 ≡ activity products row + units_of products p * v
 activity-set [] row p v a b = absurd (omega (arith, a))
@@ -26,12 +26,12 @@ activity-set (x ∷ products) (y ∷ row) (suc p) v a b =
       sum_by-cons (λ (line : Product × ℕ). line.0.units * line.1) (x, y) (zip products (set row p v)),
     )
 
--- one demand takes no more than all do
+-- one demand's bidding units are at most the activity of the row
 pub demand_taken : (products : List Product) (row : List ℕ) (p : ℕ) → p < length products → p < length row →
     units_of products p * get_or row p 0 ≤ activity products row
 demand_taken products row p a b = omega (arith, activity-set products row p 0 a b)
 
--- the eligibility that is computed is the least that the activity supports, and there is only one
+-- the computed eligibility is the least that supports the activity; two least numbers are equal
 pub supports_the_least : SupportsTheLeast
 supports_the_least used requirement eligibility some =
     let least = rounded_up_least (100 * used) requirement (omega (arith, some)) in (

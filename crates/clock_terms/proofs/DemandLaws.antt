@@ -1,4 +1,4 @@
--- Laws of grids of demands and their totals.
+-- Laws of grids and of aggregate demand: one changed demand changes only its product's total, by the difference.
 use Rattle.std.proofs.Common.{◌≡◌, ℕ, ◌+◌, ◌-◌, ◌*◌, ◌<◌, ◌≤◌, ◌≢◌, List, [], ◌∷◌, length, get_or, set, replicate}
 use Rattle.std.proofs.Common.{zip, zero, suc, All, refl, sym, ap, ◌∙◌, subst, arith, ⊎_elim}
 use Rattle.std.proofs.lemmas.List.{length-set, get_or_default, get_or-set_same}
@@ -12,32 +12,32 @@ use Rattle.clock_terms.specs.Eligibility.{activity}
 use Rattle.clock_terms.specs.Demands.{total_of, demand_at, row_of, with_demand}
 use Rattle.clock_terms.specs.inside.Demands.{IsKeptGrid}
 
--- a demand is at most a product's whole supply
+-- a demand is at most the largest supply
 demand_small : (row : List ℕ) (p : ℕ) → All (λ demand. demand ≤ most_supply) row → get_or row p 0 ≤ most_supply
 demand_small row p small = ⊎_elim (λ h. small p 0 h) (λ (h : length row ≤ p). rw (get_or_past row p 0 h) (omega arith)) (cases_lt p (length row))
 
--- a total is at most a thousand for each bidder
+-- a total is at most a thousand blocks for each bidder
 pub total_small : (grid : List (List ℕ)) (p : ℕ) → All (λ row. All (λ demand. demand ≤ most_supply) row) grid → total_of grid p ≤ length grid * most_supply
 total_small grid p small = sum_by-le (λ row. get_or row p 0) most_supply grid (λ k d h. demand_small (get_or grid k d) p (small k d h))
 
--- a demand is part of its total
+-- a demand is at most its product's total
 pub demand-le-total : (grid : List (List ℕ)) (b p : ℕ) → b < length grid → demand_at grid b p ≤ total_of grid p
 demand-le-total grid b p h = get_or-le-sum_by (λ row. get_or row p 0) grid b [] h
 
--- changing a demand changes its product's total by the difference
+-- replacing a demand changes its product's total by the difference
 pub total-with_demand_same : (grid : List (List ℕ)) (b p v : ℕ) → b < length grid → p < length (row_of grid b)
     → total_of (with_demand grid b p v) p + demand_at grid b p ≡ total_of grid p + v
 total-with_demand_same grid b p v h k =
     sum_by-set (λ row. get_or row p 0) grid b (set (row_of grid b) p v) [] h ∙ ap (λ n. total_of grid p + n) (get_or-set_same (row_of grid b) p v 0 k)
 
--- and no other product's
+-- and changes no other product's total
 pub total-with_demand_other : (grid : List (List ℕ)) (b p v q : ℕ) → b < length grid → q ≢ p → total_of (with_demand grid b p v) q ≡ total_of grid q
 total-with_demand_other grid b p v q h differ =
     let e = sum_by-set (λ row. get_or row q 0) grid b (set (row_of grid b) p v) [] h in
     let f = get_or-set_other (row_of grid b) p q v 0 differ in
     omega (arith, e, f)
 
--- what the type of grids keeps, after a change of one demand
+-- the invariant of `Grid` after one demand and its total changed
 pub kept_with_demand : (grid : List (List ℕ)) (totals : List ℕ) (b p v n : ℕ) → IsKeptGrid grid totals → b < length grid → p < length totals → v ≤ most_supply
     → n + demand_at grid b p ≡ total_of grid p + v → IsKeptGrid (with_demand grid b p v) (set totals p n)
 kept_with_demand grid totals b p v n kept h k low is =
@@ -68,7 +68,7 @@ in_totals grid totals p kept wide =
     let same : length (get_or grid 0 []) ≡ length totals = kept.small.same_length 0 [] kept.has_bidder in
     omega arith
 
--- a total, less one demand and with another in its place
+-- the total that `Grid::change` computes: the old total, less the old demand, plus the new one
 pub total_after : (grid : List (List ℕ)) (totals : List ℕ) (b p v : ℕ) → IsKeptGrid grid totals → b < length grid → v ≤ most_supply
     → ((total_of grid p - demand_at grid b p) + v + demand_at grid b p ≡ total_of grid p + v)
     × ((total_of grid p - demand_at grid b p) + v ≤ (most_bidders + 1) * most_supply)
@@ -78,7 +78,7 @@ total_after grid totals b p v kept h low =
     let few : length grid ≤ most_bidders = kept.small.bidder_count in
     (omega arith, omega arith)
 
--- who demands nothing has no activity
+-- if every demand is 0, activity is 0
 pub activity_zeros : (products : List Product) (n : ℕ) → activity products (replicate n 0) ≡ 0
 activity_zeros [] n = refl
 activity_zeros (product ∷ products) zero = refl
@@ -86,14 +86,14 @@ activity_zeros (product ∷ products) (suc n) =
     let rest : activity products (replicate n 0) ≡ 0 = activity_zeros products n in
     sum_by-cons (λ line. line.0.units * line.1) (product, 0) (zip products (replicate n 0)) ∙ omega (arith, rest)
 
--- demanding nothing is within every cap
+-- a row of demands of 0 is within every cap
 pub zeros_row : (products : List Product) → IsRow products (replicate (length products) 0)
 zeros_row products = record {
   each = length-replicate {A = ℕ} (length products) 0;
   capped = λ product h. rw (get_or-replicate {A = ℕ} (length products) product 0 0 (omega (arith, length-replicate {A = ℕ} (length products) 0))) (omega arith);
 }
 
--- what the type of grids keeps, of rows of a set-up and their totals
+-- the invariant of `Grid`, for rows of a set-up and their totals
 module _ (products : List Product) (rows : List (List ℕ)) (are : All (IsRow products) rows) where
   pub rows_each : All (λ row. length row ≡ length products) rows
   rows_each = All-weaker (IsRow products) (λ row. length row ≡ length products) (λ row is. is.each) rows are

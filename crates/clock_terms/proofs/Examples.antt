@@ -1,8 +1,7 @@
--- Small set-ups and requests, on which the rules are computed as examples, and the rules on eligibility, grids and
--- prices computed on them.
---     one_product, two_products, granules_and_increments, activity_limit      the set-ups, over first_version
+-- Small set-ups and requests for examples here and in higher crates, and an example of the rule on eligibility.
+--     one_product, two_products, granules_and_increments, activity_limit      the set-ups, built by first_version
 --     two_blocks name, four_blocks name, bidder_named letter eligibility      their products and bidders
---     request kind bidder product place amount price      a change of a round whose prices are from 100 to 110
+--     request kind bidder product place amount price      a request in a round whose prices are from 100 to 110
 use Rattle.std.specs.Prelude.{◌≡◌, ℕ, ◌-◌, List, [], ◌∷◌, codes, replicate, refl}
 use Rattle.clock_terms.specs.declared.setup.Product.{Product}
 use Rattle.clock_terms.specs.declared.setup.Bidder.{Bidder}
@@ -13,11 +12,11 @@ use Rattle.clock_terms.specs.Eligibility.{activity, next_eligibility}
 use Rattle.clock_terms.specs.Demands.{no_demands, with_demand, total_of}
 use Rattle.clock_terms.specs.Prices.{opening_prices}
 
--- a product of two blocks of one unit each, opening at 100
+-- a product of two blocks of one bidding unit each, with an opening price of 100
 abbrev pub two_blocks : List ℕ → Product
 two_blocks name = record { name = name; units = 1; supply = 2; cap = 2; opening = 100; granule = 1 }
 
--- a bidder whose token is sixteen times one letter
+-- a bidder whose token is one letter, 16 times
 abbrev pub bidder_named : ℕ → ℕ → Bidder
 bidder_named letter eligibility = record { name = letter ∷ []; token = replicate 16 letter; eligibility = eligibility }
 
@@ -32,27 +31,27 @@ first_version requirement products bidders = record {
   bidders = bidders;
 }
 
--- one product A, and the bidders X and Y of eligibility 10
+-- one product A, and bidders X and Y with an eligibility of 10
 abbrev pub one_product : SetupFields
 one_product = first_version 95 (two_blocks (codes "A") ∷ []) (bidder_named 88 10 ∷ bidder_named 89 10 ∷ [])
 
--- two products A and B, and the bidders X, Y and Z of eligibility 2, 2 and 1
+-- two products A and B, and bidders X, Y, and Z with eligibilities of 2, 2, and 1
 abbrev pub two_products : SetupFields
 two_products =
     first_version 100 (two_blocks (codes "A") ∷ two_blocks (codes "B") ∷ []) (bidder_named 88 2 ∷ bidder_named 89 2 ∷ bidder_named 90 1 ∷ [])
 
--- the same in version 2, where the clock prices of A are multiples of 25
+-- like two_products, but of version 2: the clock prices of A are multiples of 25
 abbrev pub granules_and_increments : SetupFields
 granules_and_increments = record two_products {
   version = 2;
   products = record (two_blocks (codes "A")) { granule = 25 } ∷ two_blocks (codes "B") ∷ [];
 }
 
--- four blocks of two units each
+-- a product of four blocks of two bidding units each
 abbrev pub four_blocks : List ℕ → Product
 four_blocks name = record { name = name; units = 2; supply = 4; cap = 4; opening = 100; granule = 1 }
 
--- two products A and B, and the bidders X and Z of eligibility 8, who may ask for 10 from round 2 on
+-- two products A and B, and bidders X and Z with an eligibility of 8, who may request an activity of 10 from round 2
 abbrev pub activity_limit : SetupFields
 activity_limit = record two_products {
   version = 2;
@@ -61,7 +60,7 @@ activity_limit = record two_products {
   bidders = bidder_named 88 8 ∷ bidder_named 90 8 ∷ [];
 }
 
--- a change of a round from 100 to 110
+-- a request in a round with prices from 100 to 110
 abbrev pub request : Kind → ℕ → ℕ → ℕ → ℕ → ℕ → Change
 request kind bidder product place amount price = record {
   bidder = bidder;
@@ -73,7 +72,7 @@ request kind bidder product place amount price = record {
   point = record { above = price - 100; span = 10 };
 }
 
--- 95 percent of 95 is 90.25, and of 94 is 89.3
+-- 95 percent of 95 is 90.25, which covers an activity of 90; 95 percent of 94 is 89.3, which does not
 eligibility_is_rounded_up : next_eligibility 100 90 95 ≡ 95
 eligibility_is_rounded_up = refl
 

@@ -1,4 +1,5 @@
--- Laws of demands that are kept for the products that are held.
+-- Laws of rows as lists of entries: what an entry at an index says of the demand for its product, and what replacing,
+-- inserting, or removing an entry changes. Most are by induction over the entries, whose products rise.
 use Rattle.std.proofs.Common.{◌≡◌, ◌≢◌, ℕ, ◌+◌, ◌<◌, ◌≤◌, ◌==◌, zero, suc, List, [], ◌∷◌, ◌++◌, length, drop, get_or, set, insert, remove, replicate, if◌then◌else◌, refl, sym, ap, subst, ◌∙◌, ⊎_elim, ne_eqb, eq-eqb, arith}
 use Rattle.std.proofs.lemmas.Bool.{cases_eq}
 use Rattle.std.proofs.lemmas.List.{drop_more, drop_all, ext_get_or, length-set, length-replicate, get_or-replicate, get_or-set_same, get_or-set_other}
@@ -9,17 +10,17 @@ use Rattle.clock_terms.specs.declared.held_list.HeldDemand.{HeldDemand}
 use Rattle.clock_terms.specs.HeldDemands.{demand_for, demands_of, next_of}
 use Rattle.clock_terms.specs.inside.Rows.{AreHeld, IsStored, StandsAt}
 
--- what is held of the product that comes first
+-- the demand for the product of the first entry
 at_first : (one : HeldDemand) (held : List HeldDemand) (product : ℕ) → one.product ≡ product → demand_for (one ∷ held) product ≡ one.demand
 unfolding demand_for
 at_first one held product same = ap (λ test. if test then one.demand else demand_for held product) (eq-eqb one.product product same)
 
--- of another one
+-- the demand for another product is in the entries after the first
 behind : (one : HeldDemand) (held : List HeldDemand) (product : ℕ) → one.product ≢ product → demand_for (one ∷ held) product ≡ demand_for held product
 unfolding demand_for
 behind one held product other = ap (λ test. if test then one.demand else demand_for held product) (ne_eqb one.product product other)
 
--- of one that stands behind smaller ones
+-- the demand for a product is in its entry at index `place`, if all entries before are for lower products
 pub found : (held : List HeldDemand) (product place : ℕ) (other : HeldDemand) → AllWithin (λ one. one.product < product) held 0 place
     → place < length held → (get_or held place other).product ≡ product → demand_for held product ≡ (get_or held place other).demand
 found [] product place other smaller within here = absurd (omega (arith, within))
@@ -28,7 +29,7 @@ found (one ∷ held) product (suc place) other smaller within here =
     behind one held product (λ same. omega (arith, same, smaller 0 other (omega arith) (omega arith)))
     ∙ found held product place other (λ k d low high. smaller (suc k) d (omega arith) (omega (arith, high))) (omega (arith, within)) here
 
--- nothing is held of products below the first
+-- a product below the first entry's has a demand of 0
 pub none_before : (from : ℕ) (held : List HeldDemand) (count product : ℕ) → AreHeld from held count → product < from → demand_for held product ≡ 0
 unfolding AreHeld demand_for
 none_before from [] count product are below = refl
@@ -36,7 +37,7 @@ none_before from (one ∷ held) count product are below =
     behind one held product (λ same. omega (arith, same, are.0, below))
     ∙ none_before (one.product + 1) held count product are.3 (omega (arith, are.0, below))
 
--- nor of one behind smaller ones, where a greater one or none comes next
+-- so has a product between two entries that follow each other
 pub missing : (from : ℕ) (held : List HeldDemand) (count product place : ℕ) (other : HeldDemand) → AreHeld from held count
     → AllWithin (λ one. one.product < product) held 0 place → (place < length held → product < (get_or held place other).product)
     → demand_for held product ≡ 0
@@ -50,13 +51,13 @@ missing from (one ∷ held) count product (suc place) other are smaller next =
     ∙ missing (one.product + 1) held count product place other are.3 (λ k d low high. smaller (suc k) d (omega arith) (omega (arith, high)))
     (λ within. next (omega (arith, within)))
 
--- there are no more of them than products
+-- there are no more entries than products
 pub counted : (from : ℕ) (held : List HeldDemand) (count : ℕ) → AreHeld from held count → from + length held ≤ count
 unfolding AreHeld
 counted from [] count are = omega (arith, are)
 counted from (one ∷ held) count are = omega (arith, are.0, counted (one.product + 1) held count are.3)
 
--- none is above a thousand
+-- no demand is above a thousand
 pub small : (from : ℕ) (held : List HeldDemand) (count product : ℕ) → AreHeld from held count → demand_for held product ≤ most_supply
 unfolding AreHeld demand_for
 small from [] count product are = omega arith
@@ -66,7 +67,7 @@ small from (one ∷ held) count product are =
     (λ other. omega (arith, behind one held product other, small (one.product + 1) held count product are.3))
     (cases_eq one.product product)
 
--- none is above a thousand where it stands
+-- no entry has a demand above a thousand
 pub small_at : (from : ℕ) (held : List HeldDemand) (count place : ℕ) (d : HeldDemand) → AreHeld from held count → place < length held
     → (get_or held place d).demand ≤ most_supply
 unfolding AreHeld
@@ -74,7 +75,7 @@ small_at from [] count place d are within = absurd (omega (arith, within))
 small_at from (one ∷ held) count zero d are within = are.2
 small_at from (one ∷ held) count (suc place) d are within = small_at (one.product + 1) held count place d are.3 (omega (arith, within))
 
--- the first is from there on
+-- no entry is for a product below `from`
 first_least : (from : ℕ) (held : List HeldDemand) (count place : ℕ) (d : HeldDemand) → AreHeld from held count → place < length held
     → from ≤ (get_or held place d).product
 unfolding AreHeld
@@ -83,7 +84,7 @@ first_least from (one ∷ held) count zero d are within = are.0
 first_least from (one ∷ held) count (suc place) d are within =
     omega (arith, are.0, first_least (one.product + 1) held count place d are.3 (omega (arith, within)))
 
--- they rise
+-- of two entries, the later is for the higher product
 pub rising : (from : ℕ) (held : List HeldDemand) (count k place : ℕ) (d e : HeldDemand) → AreHeld from held count → k < place → place < length held
     → (get_or held k d).product < (get_or held place e).product
 unfolding AreHeld
@@ -94,7 +95,7 @@ rising from (one ∷ held) count zero (suc place) d e are before within =
 rising from (one ∷ held) count (suc k) (suc place) d e are before within =
     rising (one.product + 1) held count k place d e are.3 (omega (arith, before)) (omega (arith, within))
 
--- a product that is found at a place stands there
+-- if the entry at index `place` is for the product, all entries before are for lower ones
 pub stands : (held : List HeldDemand) (count product place : ℕ) → AreHeld 0 held count
     → (place < length held) × ((d : HeldDemand) → (get_or held place d).product ≡ product) → StandsAt held product place
 stands held count product place are here = (
@@ -103,7 +104,7 @@ stands held count product place are here = (
   here.1,
 )
 
--- each is of some blocks and below the count
+-- each entry has a positive demand, and a product below `count`
 pub held_at : (from : ℕ) (held : List HeldDemand) (count place : ℕ) (d : HeldDemand) → AreHeld from held count → place < length held
     → (0 < (get_or held place d).demand) × ((get_or held place d).product < count)
 unfolding AreHeld
@@ -111,35 +112,35 @@ held_at from [] count place d are within = absurd (omega (arith, within))
 held_at from (one ∷ held) count zero d are within = (are.1, omega (arith, counted (one.product + 1) held count are.3))
 held_at from (one ∷ held) count (suc place) d are within = held_at (one.product + 1) held count place d are.3 (omega (arith, within))
 
--- the demand in a row of so many products
+-- the demand for a product in a row of `count` products
 pub shown : (count : ℕ) (held : List HeldDemand) (product d : ℕ) → product < count → get_or (demands_of count held) product d ≡ demand_for held product
 shown count held product d within = get_or-map-range_with_len (demand_for held) 0 count product product d within (omega arith)
 
 pub length-demands : (count : ℕ) (held : List HeldDemand) → length (demands_of count held) ≡ count
 length-demands count held = length-map-range_with_len (demand_for held) 0 count
 
--- a product of a row is below its count
+-- a product of a row is below its `count`
 pub below_count : (count : ℕ) (held : List HeldDemand) (row : List ℕ) (product : ℕ) → demands_of count held ≡ row → product < length row → product < count
 below_count count held row product is within = omega (arith, ap (λ (list : List ℕ). length list) is, length-demands count held, within)
 
--- the demand that is kept is the one in the row
+-- the demand in the entries is the one in the row
 pub kept_demand : (count : ℕ) (held : List HeldDemand) (row : List ℕ) (product : ℕ) → demands_of count held ≡ row → product < length row
     → demand_for held product ≡ get_or row product 0
 kept_demand count held row product is within =
     sym (shown count held product 0 (below_count count held row product is within)) ∙ ap (λ (list : List ℕ). get_or list product 0) is
 
--- and so is one that is read of what is kept
+-- so is a demand that was read from the entries
 pub read_demand : (count : ℕ) (held seen : List HeldDemand) (row : List ℕ) (product demand : ℕ) → demands_of count held ≡ row → product < length row
     → seen ≡ held → demand ≡ demand_for seen product → demand ≡ get_or row product 0
 read_demand count held seen row product demand is within same read =
     read ∙ ap (λ (list : List HeldDemand). demand_for list product) same ∙ kept_demand count held row product is within
 
--- nothing is in order
+-- an empty list of entries is in order
 pub order_none : (held : List HeldDemand) (count : ℕ) → held ≡ [] → AreHeld 0 held count
 unfolding AreHeld
 order_none held count none = subst (λ (list : List HeldDemand). AreHeld 0 list count) (sym none) (omega arith)
 
--- where nothing is held each demand is 0
+-- without entries each demand is 0
 pub none_held : (count : ℕ) → demands_of count [] ≡ replicate count 0
 unfolding demand_for
 none_held count =
@@ -148,24 +149,24 @@ none_held count =
     let inside : k < count = omega (arith, below, length-demands count []) in
     shown count [] k 0 inside ∙ sym (get_or-replicate count k 0 0 inside))
 
--- ---- walks
+-- ---- iterators
 
--- a walk that has not ended gives what stands next
+-- an iterator that has not ended gives the product of the next entry
 pub next_at : (count : ℕ) (held : List HeldDemand) (given : ℕ) (d : HeldDemand) → given < length held
     → next_of count (drop given held) ≡ (get_or held given d).product
 next_at count held given d within = ap (λ left. next_of count left) (drop_more held given d within)
 
--- one that has ended gives none
+-- one that has ended gives the number of products
 pub next_none : (count : ℕ) (held : List HeldDemand) (given : ℕ) → length held ≤ given → next_of count (drop given held) ≡ count
 next_none count held given past = ap (λ left. next_of count left) (drop_all given held past)
 
--- the first is below the count, where there is one
+-- the next product is at most the number of products
 pub most_next : (count : ℕ) (held : List HeldDemand) → AreHeld 0 held count → next_of count held ≤ count
 unfolding AreHeld
 most_next count [] are = omega arith
 most_next count (one ∷ held) are = omega (arith, counted (one.product + 1) held count are.3)
 
--- nothing is held of a product behind those that were given and before the next one
+-- a product between the entries that were visited and the next one has a demand of 0
 pub gap : (count : ℕ) (held : List HeldDemand) (given product : ℕ) → AreHeld 0 held count → AllWithin (λ one. one.product < product) held 0 given
     → product < next_of count (drop given held) → demand_for held product ≡ 0
 gap count held given product are smaller below =
@@ -173,7 +174,7 @@ gap count held given product are smaller below =
     missing 0 held count product given none are smaller
     (λ within. omega (arith, below, next_at count held given none within))
 
--- so each demand of a row is 0 that stands before the first that is held
+-- so each demand of a row before the first entry's product is 0
 pub none_first : (count : ℕ) (held : List HeldDemand) (demands : List ℕ) (first : ℕ) → AreHeld 0 held count → demands_of count held ≡ demands
     → first ≡ next_of count held → AllWithin (λ demand. demand ≡ 0) demands 0 first
 none_first count held demands first are is same k d low high =
@@ -183,7 +184,7 @@ none_first count held demands first are is same k d low high =
 
 -- ---- one demand changed
 
--- what is stored behind a smaller product
+-- a change after an entry for a lower product
 stored_behind : (first : HeldDemand) (held after : List HeldDemand) (product demand : ℕ) → first.product < product → IsStored held after product demand
     → IsStored (first ∷ held) (first ∷ after) product demand
 stored_behind first held after product demand smaller stored other =
@@ -196,7 +197,7 @@ stored_behind first held after product demand smaller stored other =
     ∙ ap (λ (rest : ℕ). if product == other then demand else rest) (sym (behind first held other elsewhere)))
     (cases_eq first.product other)
 
--- where it was first
+-- the first entry replaced
 stored_first : (one first : HeldDemand) (held : List HeldDemand) → first.product ≡ one.product → IsStored (first ∷ held) (one ∷ held) one.product one.demand
 stored_first one first held same other =
     ⊎_elim
@@ -207,7 +208,7 @@ stored_first one first held same other =
     ∙ sym (ap (λ test. if test then one.demand else demand_for (first ∷ held) other) (ne_eqb one.product other elsewhere)))
     (cases_eq one.product other)
 
--- set at its place
+-- the entry at index `place` replaced
 pub stored_set : (held : List HeldDemand) (place : ℕ) (one : HeldDemand) → AllWithin (λ other. other.product < one.product) held 0 place
     → place < length held → (get_or held place one).product ≡ one.product → IsStored held (set held place one) one.product one.demand
 stored_set [] place one smaller within same = absurd (omega (arith, within))
@@ -216,7 +217,7 @@ stored_set (first ∷ held) (suc place) one smaller within same =
     stored_behind first held (set held place one) one.product one.demand (smaller 0 one (omega arith) (omega arith))
     (stored_set held place one (λ k d low high. smaller (suc k) d (omega arith) (omega (arith, high))) (omega (arith, within)) same)
 
--- put in at its place
+-- an entry inserted at index `place`
 pub stored_insert : (held : List HeldDemand) (place : ℕ) (one : HeldDemand) → AllWithin (λ other. other.product < one.product) held 0 place
     → place ≤ length held → IsStored held (insert held place one) one.product one.demand
 unfolding demand_for
@@ -226,7 +227,7 @@ stored_insert (first ∷ held) (suc place) one smaller within other =
     stored_behind first held (insert held place one) one.product one.demand (smaller 0 one (omega arith) (omega arith))
     (stored_insert held place one (λ k d low high. smaller (suc k) d (omega arith) (omega (arith, high))) (omega (arith, within))) other
 
--- taken out at its place
+-- the entry at index `place` removed
 pub stored_remove : (from : ℕ) (held : List HeldDemand) (count place product : ℕ) (d : HeldDemand) → AreHeld from held count
     → AllWithin (λ other. other.product < product) held 0 place → place < length held → (get_or held place d).product ≡ product
     → IsStored held (remove held place) product 0
@@ -246,7 +247,7 @@ stored_remove from (first ∷ held) count (suc place) product d are smaller with
     (stored_remove (first.product + 1) held count place product d are.3 (λ k e low high. smaller (suc k) e (omega arith) (omega (arith, high)))
     (omega (arith, within)) same) other
 
--- one demand changed in a row of so many products
+-- the row after one of its demands changed
 pub updated : (count : ℕ) (held after : List HeldDemand) (product demand : ℕ) → IsStored held after product demand → product < count
     → demands_of count after ≡ set (demands_of count held) product demand
 updated count held after product demand stored within =
@@ -267,7 +268,7 @@ updated count held after product demand stored within =
     ∙ sym (get_or-set_other row product other demand 0 (λ (same : other ≡ product). elsewhere (sym same))))
     (cases_eq product other))
 
--- where nothing is held, none is stored without a change
+-- storing a demand of 0 for a product without an entry changes nothing
 pub stored_none : (held : List HeldDemand) (product : ℕ) → demand_for held product ≡ 0 → IsStored held held product 0
 stored_none held product none other =
     ⊎_elim
@@ -276,9 +277,9 @@ stored_none held product none other =
     (λ (elsewhere : product ≢ other). sym (ap (λ test. if test then 0 else demand_for held other) (ne_eqb product other elsewhere)))
     (cases_eq product other)
 
--- ---- the order of what is held is kept
+-- ---- changes leave the entries in order
 
--- from a lower product on too
+-- entries with products from `from` on also have products from a lower number on
 held_lower : (from low : ℕ) (held : List HeldDemand) (count : ℕ) → AreHeld from held count → low ≤ from → AreHeld low held count
 unfolding AreHeld
 held_lower from low [] count are below = omega (arith, are, below)
@@ -316,7 +317,7 @@ held_remove from (first ∷ held) count zero are within = held_lower (first.prod
 held_remove from (first ∷ held) count (suc place) are within =
     (are.0, are.1, are.2, held_remove (first.product + 1) held count place are.3 (omega (arith, within)))
 
--- ---- one more behind all that is held
+-- ---- one more entry at the end
 
 pub held_push : (from : ℕ) (held : List HeldDemand) (count : ℕ) (one : HeldDemand) → AreHeld from held count → count ≤ one.product → 0 < one.demand
     → one.demand ≤ most_supply → AreHeld from (held ++ one ∷ []) (one.product + 1)
@@ -324,13 +325,13 @@ unfolding AreHeld
 held_push from [] count one are behind some few = (omega (arith, are, behind), some, few, omega arith)
 held_push from (first ∷ held) count one are behind some few = (are.0, are.1, are.2, held_push (first.product + 1) held count one are.3 behind some few)
 
--- the same of more products
+-- entries with products below `count` also have products below a higher number
 pub held_more : (from : ℕ) (held : List HeldDemand) (count more : ℕ) → AreHeld from held count → count ≤ more → AreHeld from held more
 unfolding AreHeld
 held_more from [] count more are order = omega (arith, are, order)
 held_more from (one ∷ held) count more are order = (are.0, are.1, are.2, held_more (one.product + 1) held count more are.3 order)
 
--- of a product behind all nothing is held
+-- a product above all entries' has a demand of 0
 pub none_behind : (from : ℕ) (held : List HeldDemand) (count product : ℕ) → AreHeld from held count → count ≤ product → demand_for held product ≡ 0
 unfolding AreHeld demand_for
 none_behind from [] count product are past = refl
@@ -338,7 +339,7 @@ none_behind from (one ∷ held) count product are past =
     behind one held product (λ same. omega (arith, same, past, counted (one.product + 1) held count are.3))
     ∙ none_behind (one.product + 1) held count product are.3 past
 
--- the others are as before
+-- an entry added at the end changes no other product's demand
 pub push_other : (held : List HeldDemand) (one : HeldDemand) (product : ℕ) → one.product ≢ product
     → demand_for (held ++ one ∷ []) product ≡ demand_for held product
 unfolding demand_for

@@ -1,4 +1,4 @@
--- What increments say of each product, and where the two forms say the same.
+-- What valid increments say of each product, and that a single increment is the same as a list that repeats it.
 use Rattle.std.proofs.Common.{◌≡◌, ℕ, ◌<◌, ◌&&◌, Bool, true, false, length, replicate, slice_index_or, zero, suc, refl, ap, ◌∙◌, arith}
 use Rattle.std.specs.List.{list_all}
 use Rattle.std.proofs.lemmas.Bool.{and_parts, eqb-true, eq-eqb}
@@ -10,18 +10,18 @@ use Rattle.clock_terms.specs.Limits.{least_increment, most_increment}
 use Rattle.clock_terms.specs.Increments.{increment_at, HasIncrement, IsIncrement, is_increment, AreIncrements, are_increments}
 use Rattle.clock_terms.proofs.WithinLaws.{within_of_test}
 
--- there is an increment for each of the products
+-- each product has an increment
 pub increment_there : (count : ℕ) (increments : Increments) (product : ℕ) → AreIncrements count increments → product < count → HasIncrement increments product
 increment_there count (Single increment) product are within = tt
 increment_there count (PerProduct increments) product are within = omega (arith, are.0, within)
 
--- and it is 1 to 50 percent
+-- each product's increment is 1 to 50 percent
 pub increment_within : (count : ℕ) (increments : Increments) (product : ℕ) → AreIncrements count increments → product < count
     → IsIncrement (increment_at increments product)
 increment_within count (Single increment) product are within = are
 increment_within count (PerProduct increments) product are within = are.1 product 0 (omega (arith, are.0, within))
 
--- the test of increments tells what they are
+-- increments that pass the test are valid
 pub increments_of_test : (count : ℕ) (increments : Increments) → are_increments count increments ≡ true → AreIncrements count increments
 increments_of_test count (Single increment) h = within_of_test least_increment most_increment increment h
 increments_of_test count (PerProduct increments) h =
@@ -29,7 +29,7 @@ increments_of_test count (PerProduct increments) h =
     let each = AllPass-from_list_all is_increment increments parts.1 in
     (eqb-true (length increments) count parts.0, λ k d within. within_of_test least_increment most_increment (slice_index_or increments k d) (each k d within))
 
--- one increment says of each product what a list of the same increment for each product says
+-- a single increment gives each product the same percentage as a list that repeats it
 pub one_for_each : (count increment product : ℕ) → product < count
     → increment_at (PerProduct (replicate count increment)) product ≡ increment_at (Single increment) product
 one_for_each count increment product within = get_or-replicate count product increment 0 within
@@ -46,7 +46,7 @@ all_the_same increment (suc more) = ap (λ rest. is_increment increment && rest)
     and_same true = refl
     and_same false = refl
 
--- and the one is refused exactly where that list is
+-- the test refuses a single increment exactly if it refuses that list
 pub one_as_each : (increment more : ℕ) → are_increments (suc more) (PerProduct (replicate (suc more) increment)) ≡ are_increments (suc more) (Single increment)
 one_as_each increment more =
     ap (λ same. same && list_all is_increment (replicate (suc more) increment))

@@ -1,4 +1,5 @@
--- Where a search for a product begins: where nothing is held, in a row that is read, and after a change.
+-- The starts of groups, where a search for a product begins: they are right in an empty row, when a row is read, and
+-- after an entry is inserted or removed, which moves the starts of all later groups by one.
 use Rattle.std.proofs.Common.{◌≡◌, ℕ, ◌+◌, ◌-◌, ◌*◌, ◌/◌, ◌<◌, ◌≤◌, List, [], length, get_or, insert, remove, replicate, ap, sym, subst, ◌∙◌, ⊎_elim, arith}
 use Rattle.std.proofs.lemmas.Bool.{cases_lt, cases_eq}
 use Rattle.std.proofs.lemmas.List.{get_or_default, get_or-replicate, length-replicate}
@@ -9,7 +10,7 @@ use Rattle.clock_terms.specs.HeldDemands.{demands_of}
 use Rattle.clock_terms.specs.inside.Rows.{AreHeld, AreStarts, IsFirstFrom, IsKeptRow, IsStart, StandsAt, WouldStandAt, group_size}
 use Rattle.clock_terms.proofs.HeldLaws.{below_count, rising}
 
--- where nothing is held each search begins at the front
+-- without entries each group starts at index 0
 pub starts_none : (held : List HeldDemand) (starts : List ℕ) (count : ℕ) → held ≡ [] → starts ≡ replicate count 0 → AreStarts held starts
 starts_none held starts count empty zeros = λ group within.
     let none : get_or starts group 0 ≡ 0 =
@@ -19,7 +20,7 @@ starts_none held starts count empty zeros = λ group within.
       λ d inside. absurd (omega (arith, inside, ap (λ (list : List HeldDemand). length list) empty)),
     )
 
--- a product of a row is looked for from the start of its group, as it is read
+-- the start of a product's group, as it is read from the row, is a start for the product
 pub start_read : (count : ℕ) (held seen : List HeldDemand) (starts : List ℕ) (capacity : ℕ) (row : List ℕ) (product start : ℕ)
     → IsKeptRow count held starts capacity → demands_of count held ≡ row → product < length row → seen ≡ held
     → start ≡ get_or starts (product / group_size) start → IsStart seen product start
@@ -31,16 +32,16 @@ start_read count held seen starts capacity row product start kept is within same
     subst (λ (list : List HeldDemand). IsStart list product start) (sym same)
     (omega (arith, whole, first.0.0), λ k d low high. omega (arith, first.0.1 k d low (omega (arith, whole, high))))
 
--- ---- a demand is put in
+-- ---- an entry is inserted
 
--- what stands behind the place
+-- entries after index `place` move up by one
 behind_insert : (held : List HeldDemand) (one d : HeldDemand) (place k : ℕ) → place ≤ length held → place < k
     → get_or (insert held place one) k d ≡ get_or held (k - 1) d
 behind_insert held one d place k within above =
     let next : k ≡ (k - 1) + 1 = omega (arith, above) in
     ap (λ (n : ℕ). get_or (insert held place one) n d) next ∙ get_or-insert_above held place one d (k - 1) (omega (arith, above)) within
 
--- the products before one are still before it, with a smaller one put in among them
+-- the entries before a later start are still for lower products, with the new one among them
 smaller_insert : (held : List HeldDemand) (one : HeldDemand) (place product start k : ℕ) (d : HeldDemand) → place ≤ length held → one.product < product
     → IsStart held product start → k < start + 1 → place ≤ start → (get_or (insert held place one) k d).product < product
 smaller_insert held one place product start k d within smaller is high before =
@@ -57,7 +58,7 @@ smaller_insert held one place product start k d within smaller is high before =
     (cases_eq place k))
     (cases_lt k place)
 
--- it moves the start of a group behind it
+-- inserting an entry moves the start of a later group up by one
 pub start_moved : (held : List HeldDemand) (one : HeldDemand) (place product start : ℕ) → WouldStandAt held one.product place → one.product < product
     → IsFirstFrom held product start → IsFirstFrom (insert held place one) product (start + 1)
 start_moved held one place product start would smaller first =
@@ -73,7 +74,7 @@ start_moved held one place product start would smaller first =
           subst (λ (o : HeldDemand). product ≤ o.product) (sym (get_or-insert_above held place one d start before within)) (first.1 d (omega (arith, inside, size))),
     )
 
--- and leaves that of its own group and of those before
+-- and leaves the start of its own group and of earlier ones
 pub start_stays : (held : List HeldDemand) (one : HeldDemand) (place product start : ℕ) → WouldStandAt held one.product place → product ≤ one.product
     → IsFirstFrom held product start → IsFirstFrom (insert held place one) product start
 start_stays held one place product start would smaller first =
@@ -100,9 +101,9 @@ start_stays held one place product start would smaller first =
           (cases_lt start place),
     )
 
--- ---- a demand is taken out
+-- ---- an entry is removed
 
--- a group behind it begins behind its place
+-- a later group starts after the removed entry
 pub start_behind : (held : List HeldDemand) (place product taken start : ℕ) → StandsAt held taken place → taken < product
     → IsFirstFrom held product start → place < start
 start_behind held place product taken start stands smaller first =
@@ -118,7 +119,7 @@ start_behind held place product taken start stands smaller first =
     (cases_eq start place))
     (cases_lt place start)
 
--- and moves with those in front of it
+-- so its start moves down by one
 pub start_moved_back : (held : List HeldDemand) (place product taken start : ℕ) → StandsAt held taken place → taken < product
     → IsFirstFrom held product start → IsFirstFrom (remove held place) product (start - 1)
 start_moved_back held place product taken start stands smaller first =
@@ -143,7 +144,7 @@ start_moved_back held place product taken start stands smaller first =
           subst (λ (o : HeldDemand). product ≤ o.product) (sym moved) (first.1 d (omega (arith, inside, size, behind))),
     )
 
--- that of its own group and of those before stays
+-- the start of its own group and of earlier ones does not move
 pub start_stays_behind : (held : List HeldDemand) (count place product taken start : ℕ) → AreHeld 0 held count → StandsAt held taken place → product ≤ taken
     → IsFirstFrom held product start → IsFirstFrom (remove held place) product start
 start_stays_behind held count place product taken start are stands smaller first =
@@ -173,7 +174,7 @@ start_stays_behind held count place product taken start are stands smaller first
 
 -- ---- the starts of all groups
 
--- each start is moved behind the group of the demand that is put in
+-- after an entry is inserted, the starts of all later groups are moved
 pub starts_put : (held after : List HeldDemand) (one : HeldDemand) (place : ℕ) (starts moved : List ℕ) → after ≡ insert held place one
     → WouldStandAt held one.product place → AreStarts held starts → length moved ≡ length starts
     → ((group : ℕ) → group < one.product / group_size + 1 → get_or moved group 0 ≡ get_or starts group 0)
@@ -191,13 +192,13 @@ starts_put held after one place starts moved put would are each stay move group 
     (start_moved held one place (group * group_size) (get_or starts group 0) would (omega (arith, behind)) first))
     (cases_lt group (one.product / group_size + 1)))
 
--- behind the group of the demand that is taken out, there is one before each start
+-- the start of a later group than the removed entry's is at least 1
 pub some_before : (held : List HeldDemand) (place taken : ℕ) (starts : List ℕ) (group : ℕ) → StandsAt held taken place → AreStarts held starts
     → group < length starts → taken / group_size + 1 ≤ group → 1 ≤ get_or starts group 0
 some_before held place taken starts group stands are within behind =
     omega (arith, start_behind held place (group * group_size) taken (get_or starts group 0) stands (omega (arith, behind)) (are group within))
 
--- and each of these starts is moved
+-- after an entry is removed, the starts of all later groups are moved
 pub starts_taken : (held after : List HeldDemand) (count place taken : ℕ) (starts moved : List ℕ) → after ≡ remove held place → AreHeld 0 held count
     → StandsAt held taken place → AreStarts held starts → length moved ≡ length starts
     → ((group : ℕ) → group < taken / group_size + 1 → get_or moved group 0 ≡ get_or starts group 0)

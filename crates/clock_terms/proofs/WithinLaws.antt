@@ -1,9 +1,9 @@
--- The test of a range passes exactly where a number is in it.
+-- The test of a range passes exactly for the numbers in it.
 use Rattle.std.proofs.Common.{◌≡◌, ℕ, ◌&&◌, Bool, true, false, nat_le}
 use Rattle.std.proofs.lemmas.Bool.{and_parts, leb-true, le-leb}
 use Rattle.clock_terms.specs.Limits.{IsWithin, is_within}
 
--- two tests that pass pass together
+-- if two tests pass, their conjunction passes
 pub both_true : (first second : Bool) → first ≡ true → second ≡ true → (first && second) ≡ true
 both_true true second h k = k
 both_true false second h k = cc

@@ -1,4 +1,5 @@
--- Demands that are 0 are passed over.
+-- Skipping products with a demand of 0 changes neither activity nor totals. So a loop over the positive demands of a
+-- row computes the same as one over all products.
 use Rattle.std.proofs.Common.{◌≡◌, ◌≢◌, ℕ, zero, suc, ◌+◌, ◌*◌, ◌<◌, ◌≤◌, ◌-◌, List, [], ◌∷◌, length, drop, get_or, set, refl, ap, sym, subst, ◌∙◌, arith, All, ⊎_elim, inl, inr}
 use Rattle.std.specs.Prelude.{zip}
 use Rattle.std.proofs.lemmas.Bool.{cases_lt, cases_order}
@@ -10,12 +11,12 @@ use Rattle.clock_terms.specs.declared.setup.Product.{Product}
 use Rattle.clock_terms.specs.Limits.{no_product, IsProduct, IsRow}
 use Rattle.clock_terms.specs.Eligibility.{activity}
 
--- no demands take no units
+-- without demands, activity is 0
 no_numbers : (products : List Product) → activity products [] ≡ 0
 no_numbers [] = refl
 no_numbers (product ∷ products) = refl
 
--- the activity of the demands behind some that are 0 is the activity of all
+-- skipping demands of 0 at the start of a row leaves its activity as it is
 activity-behind : (n : ℕ) (products : List Product) (row : List ℕ) → ((k : ℕ) → k < n → get_or row k 0 ≡ 0)
     → activity (drop n products) (drop n row) ≡ activity products row
 activity-behind zero products row none = refl
@@ -29,11 +30,11 @@ activity-behind (suc n) (product ∷ products) (demand ∷ row) none =
       ap (λ n. product.units * n) (none 0 (omega arith)),
     )
 
--- behind a row there are no demands
+-- after the end of a row, activity is 0
 activity-end : (products : List Product) (row : List ℕ) (from : ℕ) → length row ≤ from → activity (drop from products) (drop from row) ≡ 0
 activity-end products row from past = ap (λ list. activity (drop from products) list) (drop_all from row past) ∙ no_numbers (drop from products)
 
--- the same from one place of the row to a later one
+-- skipping demands of 0 anywhere in a row leaves the activity from there on as it is
 pub activity-passed : (products : List Product) (row : List ℕ) (from to : ℕ) → from ≤ to → AllWithin (λ demand. demand ≡ 0) row from to
     → activity (drop to products) (drop to row) ≡ activity (drop from products) (drop from row)
 activity-passed products row from to order none =
@@ -45,7 +46,7 @@ activity-passed products row from to order none =
     ∙ activity-behind count (drop from products) (drop from row)
     (λ k below. get_or-drop from row k 0 ∙ none (from + k) 0 (omega arith) (omega (arith, below, is)))
 
--- where no demand is held from a place on, nothing is taken from there on
+-- if all demands from `from` on are 0, the activity from there on is 0
 pub activity-none : (products : List Product) (row : List ℕ) (from : ℕ) → AllWithin (λ demand. demand ≡ 0) row from (length row)
     → activity (drop from products) (drop from row) ≡ 0
 activity-none products row from none =
@@ -55,7 +56,7 @@ activity-none products row from none =
     sym (activity-passed products row from (length row) order none) ∙ activity-end products row (length row) (omega arith))
     (cases_lt (length row) from)
 
--- a product that is held, and those behind it up to the next one that is
+-- a product with positive demand, and the products after it up to the next one
 module _ (products : List Product) (row : List ℕ) (place : ℕ) (one : Product) (held : place < length row) (each : length row ≡ length products) where
   activity-at : activity (drop place products) (drop place row)
       ≡ (get_or products place one).units * get_or row place 0 + activity (drop (place + 1) products) (drop (place + 1) row)
@@ -83,8 +84,8 @@ module _ (products : List Product) (row : List ℕ) (place : ℕ) (one : Product
       let taken : (get_or products place one).units * get_or row place 0 ≤ 1000000000 = mul-le _ _ 1000000 1000 units few in
       rw read (omega (arith, before, order, taken))
 
--- where the demands of a row up to a place are added to totals, one more that is held, with those behind it that are
--- not
+-- totals of a row's demands up to one index, after the next positive demand was added and the demands of 0 after it
+-- were skipped
 module _ (initial totals after row : List ℕ) (from place next demand value : ℕ) (order : from ≤ place) (behind : place < next)
     (same : length totals ≡ length initial) (read : demand ≡ get_or row place 0) (passed : AllWithin (λ demand. demand ≡ 0) row from place)
     (ahead : (product : ℕ) → from ≤ product → get_or totals product 0 ≡ get_or initial product 0)

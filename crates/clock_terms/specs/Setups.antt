@@ -1,9 +1,9 @@
--- What contracts see of a set-up.
---     fields_of setup      all that it holds
+-- In contracts, a set-up is the values of its fields.
+--     fields_of setup      these values
 use Rattle.clock_terms.specs.Limits.{SetupFields}
 use Rattle.clock_terms.specs.declared.setup.Setup.TheInside.{Inside}
 
--- all that a set-up holds
+-- the values of a set-up's fields
 abbrev pub fields_of : Inside → SetupFields
 fields_of setup = record {
   version = setup.version;

@@ -4,17 +4,18 @@ ghost use Rattle.clock_terms.specs.{Demands.{changed_demand}, Limits.{most_suppl
 use clock_device::Items;
 use clock_money::Point;
 
-/// Which way a change goes.
+/// The direction of a request to change demand.
 #[derive(Clone, Copy, Debug, PartialEq, Eq)]
 pub enum Kind {
-    /// The demand is to rise.
+    /// To increase demand.
     Increase,
-    /// The demand is to fall.
+    /// To reduce demand.
     Reduction,
 }
 
 impl Kind {
-    /// What a demand becomes by so many blocks of such a change. It is at most 1,000 blocks.
+    /// Returns `demand` after `amount` blocks of such a change. Requires a result of at most 1,000
+    /// blocks; a reduction by more than the demand gives 0.
     pub(crate) fn after(self, demand: u64, amount: u64) -> u64
         requires { changed_demand self demand amount ≤ most_supply }
         ensures { result ≡ changed_demand self demand amount }
@@ -26,24 +27,24 @@ impl Kind {
     }
 }
 
-/// A request to change a bidder's demand for a product.
+/// A request to change a bidder's demand for a product. One bid of a sheet makes one request.
 #[derive(Clone, Copy, Debug, PartialEq, Eq)]
 pub struct Change {
     /// The bidder's number in the set-up, from 0.
     pub bidder: u32,
     /// The product's number in the set-up, from 0.
     pub product: u32,
-    /// The number of the bid in the sheet's chain for the product, from 0.
+    /// The index of the bid in the sheet's chain for the product, from 0.
     pub place: u32,
-    /// Whether the demand is to rise or to fall.
+    /// Whether to increase or to reduce demand.
     pub kind: Kind,
-    /// In blocks.
+    /// The number of blocks.
     pub amount: u64,
-    /// In whole dollars.
+    /// The price of the bid, in whole dollars.
     pub price: u64,
-    /// How far the price stands from the start price to the clock price.
+    /// How far the price is from the start-of-round price to the clock price.
     pub point: Point,
 }
 
-/// Changes in order.
+/// A list of requests to change demand.
 pub type Changes = Items<Change>;

@@ -5,9 +5,11 @@ ghost use Rattle.clock_terms.specs.Limits.{IsProduct, IsRow, least_requirement, 
 use crate::row::Row;
 use crate::setup::{Product, Setup};
 
-/// The eligibility after a round, in bidding units: the smaller of the eligibility held and the least whole number of
-/// which the required percentage is at least the activity. Held is at most 10^12, the activity at most held, the
-/// requirement 50 to 100 percent (the FCC's procedures for Auction 105; rounding up is an own rule).
+/// Returns the eligibility after a round, in bidding units: the smaller of `held`, the eligibility
+/// before it, and the least whole number whose `requirement` percent is at least `activity`.
+///
+/// Requires an eligibility of at most 10^12, an activity of at most that eligibility, and a
+/// requirement of 50 to 100 percent. The rule is the FCC's for Auction 105; rounding up is our own.
 pub fn next_eligibility(held: u64, activity: u64, requirement: u64) -> u64
     requires activity { activity ≤ held }
     requires held { held ≤ most_eligibility }
@@ -20,14 +22,17 @@ pub fn next_eligibility(held: u64, activity: u64, requirement: u64) -> u64
     held.min((100 * activity + (requirement - 1)) / requirement)
 }
 
-/// The eligibility that an activity supports is the least whole number of which the required percentage is at least the
-/// activity. It does nothing when it runs: a caller is handed the law.
+/// Gives its caller a law: the eligibility that an activity supports is the least whole number
+/// whose required percentage is at least the activity. Does nothing when it runs.
 pub fn law_of_eligibility()
     ensures { eligibility.SupportsTheLeast }
 {}
 
-/// The bidding units that a row of demands takes: the sum of units times demand, over the products of which a block is
-/// held. There is one demand for each product, at most its cap. It takes no memory.
+/// Returns the activity of a row of demands, in bidding units: the sum of units times demand over
+/// all products.
+///
+/// Requires one demand for each product, none above its cap. Visits only positive demands.
+/// Allocates nothing.
 pub fn units_held(products: &[Product], row: &Row) -> u64
     requires limits { All IsProduct products.now }
     requires product_count { length products.now ≤ most_products }
@@ -43,8 +48,10 @@ pub fn units_held(products: &[Product], row: &Row) -> u64
     total
 }
 
-/// The bidding units that demands take, as they stand in a document: the sum of units times demand. There is one demand
-/// for each product, at most its cap. It takes no memory.
+/// Returns the activity of demands as a document lists them, in bidding units: the sum of units
+/// times demand.
+///
+/// Requires one demand for each product, none above its cap. Allocates nothing.
 pub fn activity(setup: &Setup, demands: &[u64]) -> u64
     requires { IsRow setup.now.products demands.now }
     ensures { result ≡ eligibility.activity setup.now.products demands.now }

@@ -10,11 +10,14 @@ use clock_device::{Items, NoMemory};
 use std::alloc::Global;
 use std::marker::Model;
 
-/// Numbers of blocks or of bidding units: one for each product, each bidder or each change.
+/// A list of blocks or bidding units: one number for each product, bidder, or request.
 pub type Amounts = Items<u64>;
 
-/// A row of demands for each bidder, and in it the demand in blocks for each product. Contracts see the list of rows,
-/// and nothing of how it is kept. No demand is above 1,000 blocks. The total of each product stands beside the rows.
+/// The demands of an auction: a row for each bidder, and in it the demand for each product, in
+/// blocks, at most 1,000.
+///
+/// In contracts, a grid is the list of its rows. It also stores the aggregate demand for each
+/// product.
 #[derive(Drop)]
 pub struct Grid {
     rows: Vec<Row>,
@@ -29,7 +32,8 @@ impl Model for Grid {
     ghost invariant = { λ a. IsKeptGrid a.rows.items a.totals };
 }
 
-/// Adds a row to the totals of some rows.
+/// Adds each demand of `row` to the total of its product. Requires a total for each product, and
+/// totals small enough that none overflows.
 fn add_row(totals: &mut Amounts, row: &Row)
     requires each { length row.now ≡ length totals.old }
     requires small { All (λ total. total ≤ most_bidders * most_supply) totals.old }
@@ -44,8 +48,8 @@ fn add_row(totals: &mut Amounts, row: &Row)
 }
 
 impl Grid {
-    /// The grid of these rows, which are taken over: one for each bidder of a set-up, and in each a demand for each
-    /// product, none above its cap.
+    /// Makes a grid of `rows`, which it moves. Requires a row for each bidder of the set-up, and in
+    /// each a demand for each product, none above its cap. May return `NoMemory`.
     pub fn of_rows(alloc: Global, setup: &Setup, rows: Vec<Row>) -> Result<Grid, NoMemory>
         requires bidders { length rows.items ≡ length setup.now.bidders }
         requires rows { All (IsRow setup.now.products) rows.items }
@@ -58,7 +62,7 @@ impl Grid {
         Ok(Grid { rows, totals })
     }
 
-    /// The grid of a set-up in which nobody demands anything.
+    /// Returns the grid of a set-up in which every demand is 0. May return `NoMemory`.
     pub fn zero(alloc: Global, setup: &Setup) -> Result<Grid, NoMemory>
         ensures { IfOk result (λ grid. grid ≡ no_demands (length setup.now.bidders) (length setup.now.products)) }
     {
@@ -70,14 +74,15 @@ impl Grid {
         Grid::of_rows(alloc, setup, rows)
     }
 
-    /// An equal grid.
+    /// Returns an equal grid. May return `NoMemory`.
     pub fn copy(&self, alloc: Global) -> Result<Grid, NoMemory>
         ensures { IfOk result (λ copy. copy ≡ self.now) }
     {
         self.copy_over(alloc, None)
     }
 
-    /// An equal grid, in the memory of an old one as far as that reaches.
+    /// Like [`Grid::copy`], but reuses the memory of `old` as far as it suffices. May return
+    /// `NoMemory`.
     pub fn copy_over(&self, alloc: Global, old: Option<Grid>) -> Result<Grid, NoMemory>
         ensures { IfOk result (λ copy. copy ≡ self.now) }
     {
@@ -90,7 +95,8 @@ impl Grid {
         Ok(Grid { rows, totals })
     }
 
-    /// A bidder's demand for a product, in blocks. Bidder and product are those of the grid.
+    /// Returns a bidder's demand for a product, in blocks. Requires a bidder and a product of the
+    /// grid.
     pub fn get(&self, bidder: usize, product: usize) -> u64
         requires bidder { bidder < length self.now }
         requires product { All (λ row. product < length row) self.now }
@@ -99,7 +105,7 @@ impl Grid {
         self.rows[bidder].get(product)
     }
 
-    /// A bidder's demands, one for each product. The bidder is one of the grid's.
+    /// Returns a bidder's demands, one for each product. Requires a bidder of the grid.
     pub fn row(&self, bidder: usize) -> &Row
         requires { bidder < length self.now }
         ensures { result.now ≡ row_of self.now bidder }
@@ -107,8 +113,8 @@ impl Grid {
         &self.rows[bidder]
     }
 
-    /// The demand for a product over all bidders, in blocks. It is one read, no walk over the bidders. The product is
-    /// one of the grid's.
+    /// Returns the aggregate demand for a product, in blocks. Requires a product of the grid. Takes
+    /// constant time: the grid stores all totals.
     pub fn total(&self, product: usize) -> u64
         requires { All (λ row. product < length row) self.now }
         ensures { result ≡ total_of self.now product }
@@ -116,8 +122,8 @@ impl Grid {
         self.totals[product]
     }
 
-    /// Changes one demand, and no other. Bidder and product are those of the grid, and the demand is at most 1,000
-    /// blocks.
+    /// Sets one demand, and changes no other. Requires a bidder and a product of the grid, and a
+    /// demand of at most 1,000 blocks. Allocates nothing.
     pub fn set(&mut self, bidder: usize, product: usize, demand: u64)
         requires bidder { bidder < length self.old }
         requires product { All (λ row. product < length row) self.old }
@@ -132,8 +138,8 @@ impl Grid {
         }
     }
 
-    /// Raises or reduces one demand by so many blocks, and changes no other. Bidder and product are those of the grid,
-    /// and the demand becomes at most 1,000 blocks.
+    /// Increases or reduces one demand by `amount` blocks, and changes no other. Requires a bidder
+    /// and a product of the grid, and a new demand of at most 1,000 blocks. Allocates nothing.
     pub fn change(&mut self, bidder: usize, product: usize, kind: Kind, amount: u64)
         requires bidder { bidder < length self.old }
         requires product { All (λ row. product < length row) self.old }

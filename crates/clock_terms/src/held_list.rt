@@ -2,17 +2,20 @@ ghost use Rattle.std.specs.Prelude.{◌≡◌, ℕ, ◌≤◌, ◌<◌, slice_in
 ghost use Rattle.clock_terms.specs.{HeldDemands.{demand_for, demands_of}, Limits.{most_products, most_supply}};
 ghost use Rattle.clock_terms.specs.inside.Rows.{AreHeld, AreStarts, IsStart, IsStored, StandsAt, WouldStandAt};
 
-/// How many products a group has. A search for a product begins where those of its group begin.
+/// The number of products in a group. A search for a product starts at the first entry of its
+/// group.
 pub(crate) const GROUP_SIZE: usize = 16;
 
-/// What a bidder demands of a product of which it holds a block.
+/// An entry of a row: a product, and a positive demand for it in blocks.
 #[derive(Clone, Copy, Default)]
 pub(crate) struct HeldDemand {
     pub(crate) product: u16,
     pub(crate) demand: u16,
 }
 
-/// The first of some demands, by their places from one on, for a product that is not below one, or how many there are.
+/// Returns the index of the first entry at or after `from` whose product is at least `product`, or
+/// the number of entries if there is none. Requires that all entries before `from` are for lower
+/// products.
 fn first_from(held: &[HeldDemand], from: usize, product: usize) -> usize
     requires { IsStart held.now product from }
     ensures start { IsStart held.now product result }
@@ -26,7 +29,7 @@ fn first_from(held: &[HeldDemand], from: usize, product: usize) -> usize
     held.len()
 }
 
-/// Whether a demand for a product stands at a place.
+/// Whether the entry at index `place` is there and is for `product`.
 #[inline(always)]
 pub(crate) fn is_at(held: &[HeldDemand], place: usize, product: usize) -> bool
     ensures { IsTrue result → (place < length held.now)
@@ -36,8 +39,13 @@ pub(crate) fn is_at(held: &[HeldDemand], place: usize, product: usize) -> bool
         .is_some_and(|one| one.product as usize == product)
 }
 
-/// Where the demand for a product stands, or else where it would stand, looked for from the start of its group, or of all.
-/// Where all products of the group are held, it stands as far behind the start as the product behind the group's first.
+/// Finds the entry for `product`: `Ok` with its index, or `Err` with the index at which it would be
+/// inserted.
+///
+/// Requires entries by rising product, and that all before index `start` are for lower products:
+/// `start` is the start of the product's group, or 0. Tries one guess before it searches: if all
+/// products of the group have entries, the index is `start` plus the product's position in its
+/// group.
 pub(crate) fn place_in_group(
     held: &[HeldDemand],
     start: usize,
@@ -60,7 +68,7 @@ pub(crate) fn place_in_group(
     }
 }
 
-/// The demand for a product whose place was looked for.
+/// Returns the demand for `product`, in blocks, whose entry was searched with the result `place`.
 pub(crate) fn demand_at(held: &[HeldDemand], place: Result<usize, usize>, product: usize) -> u64
     requires held { (count : ℕ) × AreHeld 0 held.now count }
     requires stands { IfOk place (λ place. StandsAt held.now product place) }
@@ -74,7 +82,8 @@ pub(crate) fn demand_at(held: &[HeldDemand], place: Result<usize, usize>, produc
     }
 }
 
-/// Puts in a demand at its place.
+/// Inserts an entry at index `place`, and moves the starts of all later groups up by one. Requires
+/// that `place` is where its product would be, and capacity for one more entry. Allocates nothing.
 fn put_in(held: &mut Vec<HeldDemand>, starts: &mut Vec<u16>, place: usize, one: HeldDemand)
     requires place { WouldStandAt held.old.items one.product place }
     requires starts { AreStarts held.old.items starts.old.items }
@@ -92,7 +101,8 @@ fn put_in(held: &mut Vec<HeldDemand>, starts: &mut Vec<u16>, place: usize, one: 
     }
 }
 
-/// Takes out the demand for a product, at its place.
+/// Removes the entry for `product` at index `place`, and moves the starts of all later groups down
+/// by one.
 fn take_out(held: &mut Vec<HeldDemand>, starts: &mut Vec<u16>, place: usize, product: usize)
     requires order { (count : ℕ) × AreHeld 0 held.old.items count }
     requires place { StandsAt held.old.items product place }
@@ -109,7 +119,8 @@ fn take_out(held: &mut Vec<HeldDemand>, starts: &mut Vec<u16>, place: usize, pro
     }
 }
 
-/// Stores a demand whose product was looked for. One of no block is not kept.
+/// Stores a demand whose product was searched with the result `place`: replaces, inserts, or
+/// removes an entry. A demand of 0 has no entry. Allocates nothing.
 pub(crate) fn store(
     held: &mut Vec<HeldDemand>,
     starts: &mut Vec<u16>,
@@ -136,8 +147,11 @@ pub(crate) fn store(
     }
 }
 
-/// Writes the demands of which a block is held, of those for the products from the first on, and tells how many. Each is
-/// written at the next place in any case, since a jump past those that are not held is mostly guessed wrong.
+/// Writes the positive demands of `demands`, whose products count from 0, to the start of `room`,
+/// and returns their number.
+///
+/// Writes every demand to the next index, and advances only past positive ones: a branch around the
+/// write would often be mispredicted.
 pub(crate) fn write_held(room: &mut [HeldDemand], demands: &[u64]) -> usize
     requires room { length room.old ≡ length demands.now }
     requires few { length demands.now ≤ most_products }
@@ -160,7 +174,7 @@ pub(crate) fn write_held(room: &mut [HeldDemand], demands: &[u64]) -> usize
     kept
 }
 
-/// Finds for each group where to look for its products.
+/// Finds for each group the index at which its entries start.
 pub(crate) fn find_starts(starts: &mut Vec<u16>, held: &[HeldDemand])
     requires order { (count : ℕ) × AreHeld 0 held.now count × (count ≤ most_products) }
     requires few { length starts.old.items ≤ most_products }

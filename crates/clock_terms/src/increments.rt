@@ -5,18 +5,19 @@ use crate::grid::Amounts;
 use crate::limits::is_within;
 use clock_money::{LEAST_INCREMENT, MOST_INCREMENT};
 
-/// By how many percent a closing raises prices. It takes both forms, whatever the version of the set-up.
+/// The increments of a closing, in percent. A closing may use either form, whatever the version of
+/// the set-up.
 #[derive(Drop)]
 pub enum Increments {
-    /// The same for all products.
+    /// One increment for all products.
     Single(u64),
-    /// One for each product, in the order of the products' numbers.
+    /// An increment for each product, in the order of the products' numbers.
     PerProduct(Amounts),
 }
 
 impl Increments {
-    /// The increment of a product, in percent. Where there is one for each product, the product is one of them. It
-    /// takes no memory.
+    /// Returns the increment of a product, in percent. In a list for each product, requires one of
+    /// its products. Allocates nothing.
     pub fn at(&self, product: usize) -> u64
         requires { HasIncrement self.now product }
         ensures { result ≡ increment_at self.now product }
@@ -27,8 +28,8 @@ impl Increments {
         }
     }
 
-    /// Whether these are increments for so many products: each is 1 to 50 percent, and in a list there is one for each
-    /// product.
+    /// Whether these increments fit a set-up with `products` products: each is 1 to 50 percent, and
+    /// a list has one for each product.
     pub fn are_within(&self, products: usize) -> bool
         ensures { result ≡ are_increments products self.now }
     {

@@ -1,5 +1,5 @@
-//! What an auction is set up with, as values: its limits, products and bidders, prices, increments, demands and
-//! eligibility, and the changes of demand that are asked for.
+//! The values of an auction: a set-up with its limits, products, and bidders; prices, increments,
+//! demands, and eligibility; and requests to change demand.
 #![tactic(auto)]
 
 mod change;

@@ -1,8 +1,8 @@
-//! The limits of an auction by their names, each with the number that the definitions give it.
+//! The limits of a set-up by name. Each has the value of its definition in `specs/Limits`.
 ghost use Rattle.std.specs.Prelude.{◌≡◌};
 ghost use Rattle.clock_terms.specs.Limits as limits;
 
-/// The latest version of the set-up document, the first of which is 1.
+/// The latest version of a set-up document. The first is 1.
 pub const LATEST_VERSION: u64 = 2;
 
 /// The most products of a set-up.
@@ -17,25 +17,25 @@ pub const MOST_UNITS: u64 = 1_000_000;
 /// The most blocks of a product.
 pub const MOST_SUPPLY: u64 = 1000;
 
-/// The most bidding units of an eligibility.
+/// The highest eligibility, in bidding units.
 pub const MOST_ELIGIBILITY: u64 = 1_000_000_000_000;
 
-/// The least percentage of its eligibility that a bidder must use to keep it.
+/// The least activity requirement, in percent of eligibility.
 pub const LEAST_REQUIREMENT: u64 = 50;
 
-/// The most percent of its eligibility that a bidder must use to keep it.
+/// The highest activity requirement, in percent of eligibility.
 pub const MOST_REQUIREMENT: u64 = 100;
 
-/// The least limit on the activity that a sheet asks for, in percent of the eligibility.
+/// The least activity limit, in percent of eligibility.
 pub const LEAST_LIMIT: u64 = 100;
 
-/// The highest limit on the activity that a sheet asks for, in percent of the eligibility.
+/// The highest activity limit, in percent of eligibility.
 pub const MOST_LIMIT: u64 = 140;
 
-/// The limit of a set-up of version 1, in percent.
+/// The activity limit of a set-up of version 1, in percent.
 pub const FIRST_LIMIT: u64 = 100;
 
-/// The granule of each product of a set-up of version 1, in dollars.
+/// The granule of each product in a set-up of version 1, in dollars.
 pub const FIRST_GRANULE: u64 = 1;
 
 /// The most characters of a name.
@@ -47,7 +47,7 @@ pub const SHORTEST_TOKEN: u64 = 16;
 /// The most characters of a token.
 pub const LONGEST_TOKEN: u64 = 64;
 
-/// Whether a number is from low to high.
+/// Whether `number` is from `low` to `high`, both included.
 pub fn is_within(low: u64, high: u64, number: u64) -> bool
     ensures { result ≡ limits.is_within low high number }
 {

@@ -6,21 +6,24 @@ use clock_device::{Items, NoMemory};
 use clock_money::Price;
 use std::alloc::Global;
 
-/// The start price and the clock price of a product in a round: bids are made from the one to the other.
+/// The start-of-round price and the clock price of a product in a round. Bid prices are from the
+/// one to the other.
 #[derive(Clone, Copy, Debug)]
 pub struct PricePair {
-    /// In whole dollars; in round 1 the opening price, later the price posted the round before.
+    /// In whole dollars: in round 1 the opening price, later the posted price of the round before.
     pub start: Price,
-    /// In whole dollars; in round 1 the opening price, later the start price raised by the increment.
+    /// In whole dollars: in round 1 the opening price, later the start-of-round price plus the
+    /// increment, rounded up.
     pub clock: Price,
 }
 
 /// The prices of a round: a pair for each product, in the order of the products' numbers.
 pub type Prices = Items<PricePair>;
 
-/// Gives [`Prices`] the call `Prices::opening`.
+/// Adds the call `Prices::opening` to [`Prices`].
 pub trait OpeningPrices {
-    /// The prices of the first round: of each product, start and clock price are its opening price.
+    /// Returns the prices of round 1: start-of-round price and clock price of each product are its
+    /// opening price. May return `NoMemory`.
     fn opening(alloc: Global, setup: &Setup) -> Result<Prices, NoMemory>
         ensures { IfOk result (λ prices. prices ≡ opening_prices setup.now.products) };
 }

@@ -13,12 +13,12 @@ use clock_device::NoMemory;
 use std::alloc::Global;
 use std::marker::Model;
 
-/// A bidder's demands, one for each product, in blocks. None is above 1,000. Contracts see the list of the demands, and
-/// nothing of how it is kept.
+/// A bidder's demands, one for each product, in blocks, each at most 1,000. In contracts, a row is
+/// the list of its demands.
 ///
-/// Most bidders hold few of the products. So those demands alone are kept of which a block is held, by rising product,
-/// and for each group of 16 products the place from which on to look for them. There is room for a demand for each
-/// product, so that one can be changed without more memory.
+/// Most bidders have demand for few products. So a row stores only the positive demands, by rising
+/// product, and for each group of 16 products the index at which their entries start. It has
+/// capacity for all products, so that a change allocates nothing.
 #[derive(Drop)]
 pub struct Row {
     count: usize,
@@ -35,7 +35,8 @@ impl Model for Row {
 }
 
 impl Row {
-    /// So many demands, each of which is 0. There are no more than products in a set-up.
+    /// Returns a row of `products` demands of 0. Requires at most the products of a set-up. May
+    /// return `NoMemory`.
     pub fn zeros(alloc: Global, products: usize) -> Result<Row, NoMemory>
         requires { products ≤ most_products }
         ensures { IfOk result (λ row. row ≡ replicate products 0) }
@@ -47,7 +48,8 @@ impl Row {
         })
     }
 
-    /// These demands, one for each product of a set-up, none above its cap.
+    /// Returns a row with these demands. Requires one for each product of the set-up, none above
+    /// its cap. May return `NoMemory`.
     pub fn of(alloc: Global, setup: &Setup, demands: &[u64]) -> Result<Row, NoMemory>
         requires { IsRow setup.now.products demands.now }
         ensures { IfOk result (λ row. row ≡ demands.now) }
@@ -55,7 +57,8 @@ impl Row {
         let count = setup.products.len();
         let mut room = vec![in alloc; HeldDemand::default(); count]?;
         let kept = write_held(&mut room, demands);
-        // new memory: what no demand is written to is never touched
+        // A second allocation with the capacity of all products: what is never written is never
+        // touched.
         let mut held = Vec::with_capacity(alloc, count)?;
         held.extend_from_slice(&room[..kept])?;
         let mut starts = vec![in alloc; 0; count / GROUP_SIZE + 1]?;
@@ -67,7 +70,8 @@ impl Row {
         })
     }
 
-    /// An equal row, in the memory of an old one as far as that reaches.
+    /// Returns an equal row, and reuses the memory of `old` as far as it suffices. May return
+    /// `NoMemory`.
     pub(crate) fn copy_over(&self, alloc: Global, old: Option<Row>) -> Result<Row, NoMemory>
         ensures { IfOk result (λ copy. copy ≡ self.now) }
     {
@@ -87,7 +91,7 @@ impl Row {
         })
     }
 
-    /// How many demands there are.
+    /// Returns the number of demands, one for each product.
     pub fn len(&self) -> usize
         ensures is { result ≡ length self.now }
         ensures few { result ≤ most_products }
@@ -95,7 +99,7 @@ impl Row {
         self.count
     }
 
-    /// The demand for a product, in blocks. The product is one of the row's.
+    /// Returns the demand for a product, in blocks. Requires a product of the row.
     pub fn get(&self, product: usize) -> u64
         requires { product < length self.now }
         ensures is { result ≡ slice_index self.now product }
@@ -104,8 +108,8 @@ impl Row {
         self.find(&mut 0, product)
     }
 
-    /// The same, looked for first where the last one was found and behind that, as for one product after another. The
-    /// place is any number, 0 at first.
+    /// Like [`Row::get`], but looks first at index `near`, where the previous search ended, and at
+    /// the next index. Fast for products in rising order. `near` may be any number; start with 0.
     #[inline(always)]
     pub fn get_near(&self, near: &mut usize, product: usize) -> u64
         requires { product < length self.now }
@@ -124,7 +128,8 @@ impl Row {
         self.find(near, product)
     }
 
-    /// The same, looked for from the start of its group.
+    /// Like [`Row::get`], but searches only from the start of the product's group, and stores in
+    /// `near` where it ended.
     #[inline(never)]
     fn find(&self, near: &mut usize, product: usize) -> u64
         requires { product < length self.now }
@@ -138,8 +143,9 @@ impl Row {
         demand_at(held, place, product)
     }
 
-    /// Raises or reduces the demand for a product by so many blocks, changes no other, and tells what it was. The product
-    /// is one of the row's, and the demand becomes at most 1,000 blocks.
+    /// Increases or reduces the demand for a product by `amount` blocks, and returns the demand
+    /// before. Changes no other. Requires a product of the row, and a new demand of at most 1,000
+    /// blocks. Allocates nothing.
     pub(crate) fn change(&mut self, product: usize, kind: Kind, amount: u64) -> u64
         requires product { product < length self.old }
         requires small { changed_demand kind (slice_index self.old product) amount ≤ most_supply }
@@ -157,7 +163,7 @@ impl Row {
         before
     }
 
-    /// The demands as a closed round keeps them.
+    /// Returns a packed copy of the demands, for a closed round. May return `NoMemory`.
     pub fn kept(&self, alloc: Global) -> Result<KeptRow, NoMemory>
         ensures { IfOk result (λ kept. kept ≡ self.now) }
     {
@@ -167,7 +173,7 @@ impl Row {
         })
     }
 
-    /// The products of which a block is held.
+    /// Returns an iterator over the products with positive demand.
     #[inline(always)]
     pub fn held(&self) -> HeldProducts<'_>
         ensures row { result.demands ≡ self.now }
@@ -177,8 +183,9 @@ impl Row {
     }
 }
 
-/// A bidder's demands as a closed round keeps them: they are not changed any more, so there is room for those that are
-/// held alone. Contracts see the list of the demands, one for each product.
+/// A bidder's demands after a closed round, packed. They never change again, so memory is allocated
+/// only for the positive ones. In contracts, a packed row is the list of its demands, one for each
+/// product.
 #[derive(Drop)]
 pub struct KeptRow {
     count: usize,
@@ -194,7 +201,7 @@ impl Model for KeptRow {
 }
 
 impl KeptRow {
-    /// How many demands there are.
+    /// Returns the number of demands, one for each product.
     pub fn len(&self) -> usize
         ensures is { result ≡ length self.now }
         ensures few { result ≤ most_products }
@@ -202,8 +209,8 @@ impl KeptRow {
         self.count
     }
 
-    /// The demand for a product, in blocks. The product is one of the row's. Who wants many of them goes over those
-    /// that are held.
+    /// Returns the demand for a product, in blocks. Requires a product of the row. Searches from
+    /// the start of the row; to read many demands, use [`KeptRow::held`].
     pub fn get(&self, product: usize) -> u64
         requires { product < length self.now }
         ensures { result ≡ slice_index self.now product }
@@ -212,7 +219,7 @@ impl KeptRow {
         demand_at(held, place_in_group(held, 0, product), product)
     }
 
-    /// The products of which a block is held.
+    /// Returns an iterator over the products with positive demand.
     #[inline(always)]
     pub fn held(&self) -> HeldProducts<'_>
         ensures row { result.demands ≡ self.now }
@@ -222,17 +229,17 @@ impl KeptRow {
     }
 }
 
-/// A product of which a block is held.
+/// A product with positive demand.
 #[derive(Clone, Copy)]
 pub struct Held {
     /// The product's number in the set-up, from 0.
     pub product: usize,
-    /// In blocks: at least 1, and at most 1,000.
+    /// The demand, from 1 to 1,000 blocks.
     pub demand: u64,
 }
 
-/// The products of which a row holds a block, by rising number. Contracts see the row's demands and the place from
-/// which on it has not looked.
+/// An iterator over the positive demands of a row, by rising product. In contracts, it is the row's
+/// demands and a product: the demands from this product on are still to be visited.
 #[derive(Drop)]
 pub struct HeldProducts<'a> {
     count: usize,
@@ -252,7 +259,8 @@ impl<'a> Model for HeldProducts<'a> {
 }
 
 impl<'a> HeldProducts<'a> {
-    /// A walk over demands that are held, in order, of so many products.
+    /// Starts an iterator over the entries `held` of a row with `count` products. Requires entries
+    /// by rising product.
     #[inline(always)]
     fn of(count: usize, held: &'a [HeldDemand]) -> HeldProducts<'a>
         requires { IsKeptWalk count held.now 0 }
@@ -265,14 +273,15 @@ impl<'a> HeldProducts<'a> {
         }
     }
 
-    /// How many products the row has.
+    /// Returns the number of products of the row.
     pub fn products(&self) -> usize
         ensures { result ≡ length self.now.demands }
     {
         self.count
     }
 
-    /// The least product that is held and was not yet given, with the demand for it; None where no further one is held.
+    /// Returns the next product with positive demand, by rising number, and that demand. `None` if
+    /// there is no further one.
     #[inline(always)]
     pub fn next(&mut self) -> Option<Held>
         ensures row { self.new.demands ≡ self.old.demands }

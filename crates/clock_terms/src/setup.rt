@@ -5,31 +5,32 @@ use clock_money::Price;
 use std::alloc::Global;
 use std::marker::Model;
 
-/// A product: generic blocks of one kind, which bidders want in numbers and not one by one.
+/// A product: generic blocks that are all alike, so that bidders ask for a number of them.
 #[derive(Clone, Drop)]
 pub struct Product {
-    /// 1 to 32 ASCII letters, digits, dashes and underscores; no other product has this name.
+    /// 1 to 32 ASCII letters, digits, dashes, and underscores. No other product has this name.
     pub name: Text,
     /// The bidding units of one block, 1 to 1,000,000.
     pub units: u64,
-    /// How many blocks there are, 1 to 1,000.
+    /// The number of blocks, 1 to 1,000.
     pub supply: u64,
-    /// How many blocks one bidder may demand, from 1 to the supply.
+    /// The most blocks that one bidder may ask for, from 1 to the supply.
     pub cap: u64,
-    /// The price of a block in the first round.
+    /// The price of a block in round 1.
     pub opening: Price,
-    /// Clock prices from round 2 on are whole multiples of this, 1 to 1,000,000 dollars; in version 1 it is 1.
+    /// The granule, 1 to 1,000,000 dollars: clock prices from round 2 on are multiples of it. In
+    /// version 1 it is 1.
     pub granule: u64,
 }
 
-/// A bidder, and its eligibility before the first round.
+/// A bidder, and its eligibility before round 1.
 #[derive(Clone, Drop)]
 pub struct Bidder {
-    /// 1 to 32 ASCII letters, digits, dashes and underscores; no other bidder has this name.
+    /// 1 to 32 ASCII letters, digits, dashes, and underscores. No other bidder has this name.
     pub name: Text,
-    /// 16 to 64 ASCII letters and digits; neither another bidder nor the operator has this token.
+    /// 16 to 64 ASCII letters and digits. No other bidder has this token, nor has the operator.
     pub token: Text,
-    /// How many bidding units the bidder's demands may take in the first round, up to 10^12.
+    /// The most bidding units that the bidder may demand in round 1, up to 10^12.
     pub eligibility: u64,
 }
 
@@ -39,24 +40,26 @@ pub type Products = Items<Product>;
 /// Bidders in the order of their numbers, from 0.
 pub type Bidders = Items<Bidder>;
 
-/// What an auction is set up with. The type keeps the limits of each part, so every set-up that a function is
-/// given is within them: 1 to 4,096 products and 1 to 512 bidders with distinct names and tokens. The limits are
-/// this auction's own; the parts are those of an ascending clock auction of generic blocks as the FCC's
-/// procedures for Auction 105 have it.
+/// The set-up of an auction. Every value of this type is within the limits: each part has its own,
+/// there are 1 to 4,096 products and 1 to 512 bidders, and no two products or bidders share a name,
+/// or bidders a token.
+///
+/// The limits are our own. The parts are those of an ascending clock auction of generic blocks in
+/// the FCC's procedures for Auction 105.
 #[derive(Clone, Drop)]
 pub struct Setup {
     /// The version of the document that the set-up was read from, 1 or 2.
     pub version: u64,
-    /// How many percent of its eligibility a bidder's sheet may ask to use from round 2 on, 100 to 140; in version 1
-    /// it is 100.
+    /// The activity limit: from round 2, the most requested activity of a sheet, 100 to 140 percent
+    /// of eligibility. In version 1 it is 100.
     pub limit: u64,
-    /// The activity requirement, 50 to 100 percent of a bidder's eligibility.
+    /// The activity requirement, 50 to 100 percent of eligibility.
     pub requirement: u64,
     /// The operator's token, 16 to 64 ASCII letters and digits.
     pub operator: Text,
-    /// At least one, in the order of their numbers from 0.
+    /// The products, at least one, numbered from 0 in this order.
     pub products: Products,
-    /// At least one, in the order of their numbers from 0.
+    /// The bidders, at least one, numbered from 0 in this order.
     pub bidders: Bidders,
 }
 
@@ -73,7 +76,8 @@ impl Model for Setup {
 }
 
 impl Setup {
-    /// An equal set-up with lists of its own, whose memory comes from where that of this one does.
+    /// Returns an equal set-up. Its memory comes from the allocator of this one. May return
+    /// `NoMemory`.
     pub fn copy(&self, _alloc: Global) -> Result<Setup, NoMemory>
         ensures { IfOk result (λ copy. copy ≡ self.now) }
     {

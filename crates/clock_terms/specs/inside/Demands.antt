@@ -1,17 +1,18 @@
--- What the type of grids keeps.
---     IsSmallGrid, IsKeptGrid      what the type of grids keeps
+-- The invariant of the type `Grid`.
+--     IsSmallGrid products grid      rows of equal length, within the limits of a set-up
+--     IsKeptGrid grid totals      such a grid, with the aggregate demand for each product
 use Rattle.std.specs.Prelude.{◌≡◌, ℕ, ◌≤◌, ◌<◌, List, length, slice_index, All}
 use Rattle.clock_terms.specs.Limits.{most_products, most_bidders, most_supply}
 use Rattle.clock_terms.specs.Demands.{total_of}
 
--- no demand is above a thousand, and there are no more rows and columns than a set-up allows
+-- no more rows and columns than a set-up allows, and no demand above a thousand
 pub record IsSmallGrid (products : ℕ) (grid : List (List ℕ)) : Type 0 where
   pub product_count : products ≤ most_products
   pub bidder_count : length grid ≤ most_bidders
   pub same_length : All (λ row. length row ≡ products) grid
   pub small : All (λ row. All (λ demand. demand ≤ most_supply) row) grid
 
--- a grid with each product's total beside it
+-- a grid of at least one row, with the aggregate demand for each product
 pub record IsKeptGrid (grid : List (List ℕ)) (totals : List ℕ) : Type 0 where
   pub small : IsSmallGrid (length totals) grid
   pub has_bidder : 1 ≤ length grid

@@ -1,3 +1,4 @@
+-- The minimum in the body is the one in the definition.
 use Rattle.clock_terms.proofs.eligibility.next_eligibility.Goals as goal
 
 pub returns-clause-exact : goal.returns-clause-exact

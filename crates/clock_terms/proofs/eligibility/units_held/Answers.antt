@@ -1,3 +1,4 @@
+-- The loop visits only positive demands: the demands of 0 between them add nothing.
 use Rattle.std.proofs.Common.{◌≡◌, ◌+◌, ◌<◌, List, ℕ, length, min, get_or, ap, subst, ◌∙◌, arith}
 use Rattle.std.specs.List.{AllWithin}
 use Rattle.clock_terms.proofs.Zeros.{activity-passed, activity-none, so_far_more, small_more}

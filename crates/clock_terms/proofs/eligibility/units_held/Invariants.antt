@@ -2,7 +2,7 @@ use Rattle.std.proofs.Common.{◌≡◌, ◌+◌, ◌*◌, ◌-◌, ◌≤◌, m
 use Rattle.clock_terms.specs.Eligibility.{activity}
 use Rattle.clock_terms.proofs.eligibility.units_held.Given as goal
 
--- what is taken so far and what the rest takes are what all take, and a bound
+-- the activity so far plus the activity of the rest is the activity of the row; the sum so far is bounded
 abbrev pub invariant-held : goal.invariant-held
 invariant-held l = record {
   row : l.held.demands ≡ l.row;

@@ -1,3 +1,4 @@
+-- One step of the loop: the next positive demand is added, and the demands of 0 before it need no addition.
 use Rattle.std.proofs.Common.{◌≡◌, ◌+◌, ◌∙◌, ℕ, List, length, ap, subst, get_or}
 use Rattle.std.proofs.lemmas.List.{length-set}
 use Rattle.std.specs.List.{AllWithin}

@@ -2,7 +2,7 @@ use Rattle.std.proofs.Common.{◌≡◌, ℕ, ◌+◌, ◌-◌, ◌<◌, ◌≤�
 use Rattle.std.specs.Prelude.{slice_index}
 use Rattle.clock_terms.proofs.grid.add_row.Given as goal
 
--- the demands so far are added, and no others
+-- the demands of the products so far are added, and no others
 abbrev pub invariant-held : goal.invariant-held
 invariant-held l = record {
   row : l.held.demands ≡ l.row;

@@ -1,10 +1,11 @@
+-- The entry at the index that was found has the product's demand; a product without an entry has a demand of 0.
 use Rattle.std.proofs.Common.{IfOk, IfErr, sym, subst}
 use Rattle.clock_terms.specs.declared.held_list.HeldDemand.{HeldDemand}
 use Rattle.clock_terms.specs.inside.Rows.{StandsAt, WouldStandAt}
 use Rattle.clock_terms.proofs.HeldLaws.{found, missing, small_at}
 use Rattle.clock_terms.proofs.held_list.demand_at.Goals as goal
 
--- as it stands in the goals
+-- the default entry, in the form of the goals
 abbrev none : HeldDemand
 none = record { product = 0; demand = 0 }
 

@@ -1,3 +1,4 @@
+-- A start is at most the number of entries, so it fits into 16 bits.
 use Rattle.std.proofs.Common.{arith}
 use Rattle.clock_terms.proofs.HeldLaws.{counted}
 use Rattle.clock_terms.proofs.held_list.find_starts.Goals as goal

@@ -3,7 +3,7 @@ use Rattle.std.specs.Prelude.{slice_index}
 use Rattle.clock_terms.specs.inside.Rows.{IsFirstFrom, IsStart, group_size}
 use Rattle.clock_terms.proofs.held_list.find_starts.Given as goal
 
--- the places so far are found, and no product of the next group stands before the last one
+-- the starts so far are right, and all entries before the last one are for products below the next group
 abbrev pub invariant-loop-group : goal.invariant-loop-group
 invariant-loop-group l = record {
   kept : length l.starts.items ≡ length l.initial.starts.items;

@@ -1,3 +1,4 @@
+-- If the guess finds the product's entry, all entries before it are for lower products, since products rise.
 use Rattle.std.proofs.Common.{◌+◌, ◌%◌}
 use Rattle.clock_terms.specs.inside.Rows.{group_size}
 use Rattle.clock_terms.proofs.HeldLaws.{stands}

@@ -1,3 +1,4 @@
+-- The loop moves the start of each later group up by one, as an inserted entry requires.
 use Rattle.std.proofs.Common.{◌≡◌, insert, arith, rules}
 use Rattle.clock_terms.proofs.StartLaws.{starts_put}
 use Rattle.clock_terms.proofs.held_list.put_in.Goals as goal

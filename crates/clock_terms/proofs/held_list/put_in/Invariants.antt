@@ -2,7 +2,7 @@ use Rattle.std.proofs.Common.{◌≡◌, ℕ, ◌+◌, ◌<◌, ◌≤◌, lengt
 use Rattle.std.specs.Prelude.{slice_index}
 use Rattle.clock_terms.proofs.held_list.put_in.Given as goal
 
--- the places so far are moved, and those before and behind are as they were
+-- the starts of the groups so far are moved, and all others are unchanged
 abbrev pub invariant-loop-group : goal.invariant-loop-group
 invariant-loop-group l = record {
   kept : length l.starts.items ≡ length l.initial.starts.items;

@@ -1,3 +1,5 @@
+-- Each of the four cases (replace, remove, insert, nothing) leaves the entries in order, changes only this product's
+-- demand, and leaves the starts of groups right.
 use Rattle.std.proofs.Common.{◌≡◌, ◌<◌, ◌≤◌, ℕ, List, Result, Ok, Err, IfOk, IfErr, length, insert, sym, subst, arith}
 use Rattle.std.proofs.lemmas.List.Edits.{length-insert}
 use Rattle.clock_terms.specs.declared.held_list.HeldDemand.{HeldDemand}
@@ -6,27 +8,27 @@ use Rattle.clock_terms.specs.Limits.{most_supply}
 use Rattle.clock_terms.proofs.HeldLaws.{missing, counted, held_set, held_insert, held_remove, stored_none, stored_set, stored_insert, stored_remove}
 use Rattle.clock_terms.proofs.held_list.store.Goals as goal
 
--- as it stands in the goals
+-- the default entry, in the form of the goals
 abbrev none : HeldDemand
 none = record { product = 0; demand = 0 }
 
--- where a product was found
+-- the search found the product's entry
 standing : (held : List HeldDemand) (product : ℕ) {found : Result ℕ ℕ} {place : ℕ} → found ≡ Ok place → IfOk found (StandsAt held product)
     → StandsAt held product place
 standing held product same stands = subst (λ found. IfOk found (StandsAt held product)) same stands
 
--- and where it was missed
+-- the search found no entry
 lacking : (held : List HeldDemand) (product : ℕ) {found : Result ℕ ℕ} {place : ℕ} → found ≡ Err place → IfErr found (WouldStandAt held product)
     → WouldStandAt held product place
 lacking held product same lacks = subst (λ found. IfErr found (WouldStandAt held product)) same lacks
 
--- what is held with a demand put in is in order
+-- the entries are in order after one is inserted
 put : (count : ℕ) (held : List HeldDemand) (one : HeldDemand) (place : ℕ) → AreHeld 0 held count → WouldStandAt held one.product place
     → one.product < count → 0 < one.demand → one.demand ≤ most_supply → AreHeld 0 (insert held place one) count
 put count held one place are lacks within some few =
     held_insert 0 held count place one are (omega arith) within some few lacks.0.1 lacks.0.0 (λ inside. lacks.1 one inside)
 
--- so there was room for it
+-- so before it there was capacity for one more
 room : (count : ℕ) (held : List HeldDemand) (one : HeldDemand) (place : ℕ) → AreHeld 0 held count × (one.product < count) → WouldStandAt held one.product place
     → 0 < one.demand → one.demand ≤ most_supply → length held < count
 room count held one place are lacks some few =

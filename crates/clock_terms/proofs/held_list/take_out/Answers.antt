@@ -1,3 +1,4 @@
+-- The loop moves the start of each later group down by one. None is 0, since the removed entry is before it.
 use Rattle.std.proofs.Common.{◌≡◌, get_or, ◌∙◌, arith}
 use Rattle.std.proofs.lemmas.List.{get_or_default}
 use Rattle.clock_terms.proofs.StartLaws.{some_before, starts_taken}

@@ -1,3 +1,4 @@
+-- One step of the loop writes the next demand after the entries so far, and counts it only if it is positive.
 use Rattle.std.proofs.Common.{◌≡◌, ℕ, ◌+◌, ◌<◌, ◌≤◌, ◌∙◌, List, length, take, set, get_or, refl, sym, ap, subst, ⊎_elim, arith}
 use Rattle.std.proofs.lemmas.Bool.{cases_lt}
 use Rattle.std.proofs.lemmas.List.{ext_get_or, length-set, take-set, take_more_set}
@@ -9,7 +10,8 @@ use Rattle.clock_terms.proofs.HeldLaws.{held_more, held_push, length-demands, no
 use Rattle.clock_terms.proofs.held_list.write_held.Goals as goal
 use Rattle.clock_terms.proofs.held_list.write_held.Goals.{then-demand-gt0, else-demand-gt0}
 
--- where a demand was written behind so many, the first ones are in order, and tell it and those before
+-- after a demand was written to index `kept`: the first `next` entries are in order, and have this demand and those
+-- before
 record IsWritten (room : List HeldDemand) (kept product demand next : ℕ) : Type 0 where
   count : next ≤ kept + 1
   order : AreHeld 0 (take next (set room kept (record { product = product; demand = demand }))) (product + 1)
@@ -17,7 +19,7 @@ record IsWritten (room : List HeldDemand) (kept product demand next : ℕ) : Typ
   others : (other : ℕ) → other < product
       → demand_for (take next (set room kept (record { product = product; demand = demand }))) other ≡ demand_for (take kept room) other
 
--- some blocks are kept
+-- a positive demand is one more entry
 some : (room : List HeldDemand) (kept product demand : ℕ) → kept < length room → AreHeld 0 (take kept room) product → 0 < demand
     → demand ≤ most_supply → IsWritten room kept product demand (kept + 1)
 some room kept product demand within are more few =
@@ -32,7 +34,7 @@ some room kept product demand within are more few =
           ap (λ (list : List HeldDemand). demand_for list other) grown ∙ push_other (take kept room) one other (λ same. omega (arith, same, below));
     }
 
--- and none is not
+-- a demand of 0 is no entry
 none : (room : List HeldDemand) (kept product demand : ℕ) → AreHeld 0 (take kept room) product → demand ≤ 0
     → IsWritten room kept product demand kept
 none room kept product demand are nothing =

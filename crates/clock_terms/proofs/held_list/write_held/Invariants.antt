@@ -4,7 +4,7 @@ use Rattle.clock_terms.specs.HeldDemands.{demand_for}
 use Rattle.clock_terms.specs.inside.Rows.{AreHeld}
 use Rattle.clock_terms.proofs.held_list.write_held.Given as goal
 
--- of the products so far those of which a block is held are there
+-- the entries so far are the positive demands of the products so far
 abbrev pub invariant-loop-product : goal.invariant-loop-product
 invariant-loop-product l = record {
   few : l.kept ≤ l.product;

@@ -1,3 +1,5 @@
+-- The new total is the old one, less the demand before, plus the demand after. It fits, and the grid's invariant
+-- remains.
 use Rattle.std.proofs.Common.{ℕ, ◌≡◌, ◌<◌, ◌≤◌, ◌∙◌, [], length, All, ap, sym, arith}
 use Rattle.std.proofs.lemmas.List.{get_or_default}
 use Rattle.clock_terms.specs.Demands.{row_of, total_of, demand_at, changed_demand}

@@ -1,3 +1,5 @@
+-- The totals of the first rows are at most a thousand blocks for each bidder. At the end they are the totals of all
+-- rows.
 use Rattle.std.proofs.Common.{◌≤◌, List, ℕ, All, length, take, ap, sym, subst, ◌∙◌, arith}
 use Rattle.std.proofs.lemmas.List.{length-take-le, get_or_default, take_all}
 use Rattle.std.proofs.lemmas.List.Elements.{All-take}

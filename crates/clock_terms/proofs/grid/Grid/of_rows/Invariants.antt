@@ -3,7 +3,7 @@ use Rattle.std.specs.Prelude.{slice_index}
 use Rattle.clock_terms.specs.Demands.{total_of}
 use Rattle.clock_terms.proofs.grid.Grid.of_rows.Given as goal
 
--- the totals of the rows so far
+-- the totals are those of the rows so far
 abbrev pub invariant-loop-row : goal.invariant-loop-row
 invariant-loop-row l = record {
   each : length l.totals ≡ length l.setup.products;

@@ -1,3 +1,4 @@
+-- By the invariant of `Grid`, the stored total is the aggregate demand.
 use Rattle.std.proofs.Common.{◌<◌, ◌∙◌, List, ℕ, All, length, ap, get_or}
 use Rattle.clock_terms.specs.Demands.{total_of}
 use Rattle.clock_terms.proofs.DemandLaws.{in_totals}

@@ -1,3 +1,4 @@
+-- The next entry has the demand for its product. Since products rise, all demands between two entries are 0.
 use Rattle.std.proofs.Common.{◌≡◌, ◌<◌, ◌≤◌, ◌+◌, ℕ, List, length, drop, get_or, refl, ap, subst, sym, ◌∙◌, ⊎_elim, arith}
 use Rattle.std.specs.Option.{option_map, unwrap_or}
 use Rattle.std.proofs.lemmas.Bool.{cases_lt}
@@ -11,13 +12,13 @@ use Rattle.clock_terms.specs.inside.Rows.{IsKeptWalk}
 use Rattle.clock_terms.proofs.HeldLaws.{shown, length-demands, found, rising, held_at, small_at, next_at, next_none, gap}
 use Rattle.clock_terms.proofs.row.HeldProducts.next.Goals as goal
 
--- what a walk gives next is the demand for its product
+-- the next entry has the demand for its product
 is_demand : (count : ℕ) (held : List HeldDemand) (given : ℕ) (d : HeldDemand) → IsKeptWalk count held given → given < length held
     → (get_or held given d).demand ≡ demand_for held (get_or held given d).product
 is_demand count held given d kept more =
     sym (found held (get_or held given d).product given d (λ k e low high. rising 0 held count k given e d kept.0 high more) more refl)
 
--- what it gives after that is above it
+-- the entry after it is for a higher product
 above : (count : ℕ) (held : List HeldDemand) (given : ℕ) (d : HeldDemand) → IsKeptWalk count held given → given < length held
     → (get_or held given d).product < next_of count (drop (given + 1) held)
 above count held given d kept more =
@@ -28,7 +29,7 @@ above count held given d kept more =
     omega (arith, next_none count held (given + 1) ends, (held_at 0 held count given d kept.0 more).1))
     (cases_lt (given + 1) (length held))
 
--- and is no greater than the count
+-- the next product is at most the number of products
 most : (count : ℕ) (held : List HeldDemand) (given : ℕ) → IsKeptWalk count held given → next_of count (drop given held) ≤ count
 most count held given kept =
     let no_one : HeldDemand = record { product = 0; demand = 0 } in
@@ -38,7 +39,7 @@ most count held given kept =
     (λ (ends : length held ≤ given). omega (arith, next_none count held given ends))
     (cases_lt given (length held))
 
--- nothing is held of the products between
+-- the demands between two entries are 0
 between : (count : ℕ) (held : List HeldDemand) (given : ℕ) (d : HeldDemand) (product e : ℕ) → IsKeptWalk count held given → given < length held
     → (get_or held given d).product < product → product < next_of count (drop (given + 1) held) → get_or (demands_of count held) product e ≡ 0
 between count held given d product e kept more low high =

@@ -1,3 +1,4 @@
+-- The row that contracts see has `count` demands.
 use Rattle.std.proofs.Common.{length, ap, sym, ◌∙◌}
 use Rattle.clock_terms.proofs.HeldLaws.{length-demands}
 use Rattle.clock_terms.proofs.row.HeldProducts.products.Goals as goal

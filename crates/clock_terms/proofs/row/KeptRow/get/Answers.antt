@@ -1,3 +1,4 @@
+-- The demand in the entries is the one in the row that contracts see.
 use Rattle.std.proofs.Common.{List, ap, ◌∙◌}
 use Rattle.clock_terms.specs.declared.held_list.HeldDemand.{HeldDemand}
 use Rattle.clock_terms.specs.HeldDemands.{demand_for}

@@ -1,3 +1,5 @@
+-- The search, the demand before, and the stored demand, each read from the entries, are the ones of the row that
+-- contracts see. The invariant of `Row` remains.
 use Rattle.std.proofs.Common.{ℕ, List, set, vec_capacity, ap, ◌∙◌, arith}
 use Rattle.clock_terms.specs.Demands.{changed_demand}
 use Rattle.clock_terms.proofs.HeldLaws.{below_count, read_demand, updated}

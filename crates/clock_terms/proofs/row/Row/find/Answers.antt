@@ -1,3 +1,4 @@
+-- The product's group has a start, and the demand found from there is the one of the row that contracts see.
 use Rattle.std.proofs.Common.{vec_capacity, arith}
 use Rattle.clock_terms.proofs.HeldLaws.{below_count, read_demand}
 use Rattle.clock_terms.proofs.StartLaws.{start_read}

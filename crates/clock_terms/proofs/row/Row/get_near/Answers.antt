@@ -1,3 +1,4 @@
+-- An entry for the product, at whatever index, has its demand, since no two entries are for one product.
 use Rattle.std.proofs.Common.{◌≡◌, ◌+◌, ◌<◌, ◌%◌, ℕ, List, length, get_or, ap, sym, subst, ◌∙◌, arith}
 use Rattle.clock_terms.specs.declared.held_list.HeldDemand.{HeldDemand}
 use Rattle.clock_terms.specs.HeldDemands.{demands_of}
@@ -5,11 +6,11 @@ use Rattle.clock_terms.specs.inside.Rows.{AreHeld}
 use Rattle.clock_terms.proofs.HeldLaws.{found, kept_demand, rising, small_at}
 use Rattle.clock_terms.proofs.row.Row.get_near.Goals as goal
 
--- as it stands in the goals
+-- the default entry, in the form of the goals
 abbrev none : HeldDemand
 none = record { product = 0; demand = 0 }
 
--- what stands for a product anywhere is the demand for it
+-- an entry for a product has the row's demand for it
 at_place : (count : ℕ) (held : List HeldDemand) (row : List ℕ) (product place : ℕ) → AreHeld 0 held count → demands_of count held ≡ row → product < length row
     → place < length held → (get_or held place none).product ≡ product → (get_or held place none).demand ≡ get_or row product 0
 at_place count held row product place are is within inside here =

@@ -1,3 +1,4 @@
+-- All demands before the first entry's product are 0.
 use Rattle.std.proofs.Common.{List, ap, ◌∙◌}
 use Rattle.clock_terms.specs.declared.held_list.HeldDemand.{HeldDemand}
 use Rattle.clock_terms.specs.HeldDemands.{next_of}

@@ -1,3 +1,4 @@
+-- The row that contracts see has `count` demands.
 use Rattle.std.proofs.Common.{List, ℕ, length, ap, sym, ◌∙◌}
 use Rattle.clock_terms.proofs.HeldLaws.{length-demands}
 use Rattle.clock_terms.proofs.row.Row.len.Goals as goal

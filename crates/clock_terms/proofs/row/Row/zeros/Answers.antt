@@ -1,3 +1,4 @@
+-- Without entries each demand is 0 and each group starts at index 0.
 use Rattle.std.proofs.Common.{◌≡◌, ◌+◌, ◌/◌, ℕ, List, length, replicate, ap, ◌∙◌, arith, rules}
 use Rattle.std.proofs.lemmas.List.{length-replicate}
 use Rattle.clock_terms.specs.declared.held_list.HeldDemand.{HeldDemand}
