@@ -70,9 +70,9 @@ IsDoneBy text answer old new =
     ((answer ≡ right_answer old text) × IsFollowedBy (text_command old.setup text) old new)
     ⊎ (IsStruckOut text answer × StandsStill old new)
 
--- For every list of requests that the house stands for: the reply is the right one after them, and
--- then the house stands for this request too; or the request was answered out of memory, and the
--- house stands for the list as before.
+-- What a reply means for every list of requests that the house stands for. Either it is the right
+-- reply after them, and then the house stands for this request too. Or the request was answered out
+-- of memory, and the house stands for the list as before.
 abbrev pub AnswersText : List ℕ → Answer → HouseFields → HouseFields → Type 0
 AnswersText text answer old new = (texts : List (List ℕ)) → StandsForTexts texts old
     → ((answer ≡ reply old.setup texts text) × StandsForTexts (text ∷ texts) new)

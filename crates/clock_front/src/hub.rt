@@ -147,7 +147,7 @@ impl<P: Processor> Hub<P> {
         Ok(complete(&mut self.front, &mut self.connections, conn))
     }
 
-    /// The front of this hub.
+    /// The front that answers the requests.
     pub fn front(&self) -> &Front<P>
         ensures { result.now ≡ self.now.house }
     {

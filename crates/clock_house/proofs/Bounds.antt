@@ -1,4 +1,4 @@
--- How many rounds there can be.
+-- Proves the bound on the number of rounds: each round raises the sum of the prices, and that sum is bounded.
 use Rattle.std.proofs.Common.{ℕ, zero, suc, ◌*◌, ◌≤◌, List, arith, length}
 use Rattle.std.specs.Prelude.{sum_by}
 use Rattle.std.proofs.lemmas.List.Sums.{sum_by-le}
@@ -13,7 +13,7 @@ by_round zero bound = omega arith
 by_round (suc zero) bound = omega arith
 by_round (suc (suc n)) bound = bound (omega arith)
 
--- the rounds are bounded by the sum of the highest prices
+-- The number of the current round is bounded by the sum of the highest prices.
 pub round_bounded : (products : List Product) (now : Standing) → length products ≤ most_products → HasSoundPrices products now → now.round ≤ most_rounds
 round_bounded products now few priced =
     let starts : sum_by (λ (pair : PricePair). pair.start) now.prices ≤ length now.prices * 1000000000000 =

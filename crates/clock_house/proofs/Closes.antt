@@ -1,4 +1,5 @@
--- What a closing does to the commands that a house stands for.
+-- Proves what a closing does to the commands that a house stands for, case by case: accepted, refused, or out of
+-- memory.
 use Rattle.std.proofs.Common.{◌≡◌, ◌≢◌, ℕ, List, ◌∷◌, Bool, true, false, length, refl, ap, sym, subst, ◌∙◌}
 use Rattle.std.specs.Prelude.{Option, Some, None, Result, Ok, Err, ◌↔◌, IsNone, IsTrue, IfSome, IfOk, IfErr, map, unwrap_or}
 use Rattle.clock_terms.specs.declared.prices.PricePair.{PricePair}
@@ -27,7 +28,7 @@ use Rattle.clock_house.proofs.Kept.{stands_open}
 
 module _ (house : HouseFields) (round : ℕ) (increments : Increments) (ties : List Tie) (commands : List Command)
     (stands : StandsFor commands house) where
-  -- the closing by the commands is that by the house
+  -- The closing by the history of the commands is the closing by the house.
   pub closing_same : closing_of house.setup (history house.setup commands) round increments ties ≡ closing_in house round increments ties
   closing_same = ap (λ (now : OpenRound). closing (public_setup house.setup) now round increments ties) (sym (stands_open house commands stands))
 
@@ -38,7 +39,7 @@ module _ (house : HouseFields) (round : ℕ) (increments : Increments) (ties : L
   sheets_with answer =
       for_each_bidder house.setup (sheet_in_force house.setup (after_closing (history house.setup commands) (close round increments ties) answer))
 
-  -- an accepted closing adds its round, and no sheet is in force
+  -- An accepted closing adds its round, and no sheet is in force.
   pub close-accepted : (done : ClosedRound) (closed : List ClosedRound) (sheets : List (Option (List Bid))) (spare : ℕ) →
       closing_in house round increments ties ≡ Ok done →
       closed ≡ done ∷ house.closed → sheets ≡ for_each_bidder house.setup (λ bidder. None) →
@@ -48,14 +49,14 @@ module _ (house : HouseFields) (round : ℕ) (increments : Increments) (ties : L
     sheets = none ∙ sym (ap sheets_with (closing_same ∙ e));
   }
 
-  -- a refused one changes nothing
+  -- A refused closing changes nothing.
   pub close-refused : (fault : CloseFault) → closing_in house round increments ties ≡ Err fault → StandsFor (close round increments ties ∷ commands) house
   close-refused fault e = record {
     closed = stands.closed ∙ sym (ap closed_with (closing_same ∙ e));
     sheets = stands.sheets ∙ sym (ap sheets_with (closing_same ∙ e));
   }
 
--- a refused closing is one more command
+-- After a refused closing, the house stands for one more command.
 pub close-followed : (house : HouseFields) (round : ℕ) (increments : Increments) (ties : List Tie) (fault : CloseFault) →
     closing_in house round increments ties ≡ Err fault →
     IsFollowedBy (close round increments ties) house house
@@ -64,20 +65,20 @@ close-followed house round increments ties fault e = record {
   stands = λ commands stands. close-refused house round increments ties commands stands fault e;
 }
 
--- an accepted closing of an equal house
+-- An equal house accepts the same closing.
 pub fits_like : (like house : HouseFields) (prepared : PreparedClosing) → house ≡ like → FitsClosing prepared house →
     closing_in like prepared.round prepared.increments prepared.ties ≡ Ok prepared.closed
 fits_like like house prepared same fits =
     subst (λ (one : HouseFields). closing_in one prepared.round prepared.increments prepared.ties ≡ Ok prepared.closed) same fits
 
--- room for further rounds is no matter of the commands
+-- A house stands for its commands whatever memory it has for further rounds.
 pub stands_unchanged : (old new : HouseFields) (commands : List Command) → IsUnchanged old new → StandsFor commands old → StandsFor commands new
 stands_unchanged old new commands same stands = record {
   closed = same.closed ∙ stands.closed ∙ ap (λ (setup : SetupFields). (history setup commands).closed) (sym same.setup);
   sheets = same.sheets ∙ stands.sheets ∙ ap (λ (setup : SetupFields). for_each_bidder setup (sheet_in_force setup (history setup commands))) (sym same.setup);
 }
 
--- the round of an accepted closing is the current one
+-- An accepted closing is of the current round.
 pub closed_number : (house : HouseFields) (round : ℕ) (increments : Increments) (ties : List Tie) (done : ClosedRound) →
     closing_in house round increments ties ≡ Ok done →
     ((standing_in house).ended ≡ false) × (done.sheet.round ≡ (standing_in house).round)
@@ -86,7 +87,7 @@ closed_number house round increments ties done e =
     closing_passed (public_setup house.setup) (open_round_in house) round increments ties done e in
     (is.going, ap (λ (one : ClosedRound). one.sheet.round) is.made)
 
--- an accepted closing has a slip for each bidder
+-- An accepted closing has results for each bidder.
 pub closed_slips : (house : HouseFields) (round : ℕ) (increments : Increments) (ties : List Tie) (done : ClosedRound) →
     closing_in house round increments ties ≡ Ok done → length done.slips ≡ length house.setup.bidders
 closed_slips house round increments ties done e =
@@ -94,13 +95,13 @@ closed_slips house round increments ties done e =
     closing_passed (public_setup house.setup) (open_round_in house) round increments ties done e in
     ap (λ (one : ClosedRound). length one.slips) is.made ∙ length-map-range_with_len _ 0 _ ∙ in-many house
 
--- the prices that are kept for the next round are those that the lines show
+-- The prices stored for the next round are those of the round results.
 pub taken_prices : (next : Option (List PricePair)) (old : List PricePair) (lines : List Line) (ended : Bool) → ended ≡ false → (IsNone next ↔ IsTrue ended) →
     IfSome next (λ list. list ≡ map next_pair lines) → unwrap_or next old ≡ map next_pair lines
 taken_prices None old lines ended going end shown = let bad : ended ≡ true = end.0 refl in let same : false ≡ true = sym going ∙ bad in cc
 taken_prices (Some list) old lines ended going end shown = shown
 
--- what a closing goes by is the same where all but the room is
+-- A closing does not depend on the memory for further rounds.
 closing_unchanged : (old new : HouseFields) → IsUnchanged old new → (round : ℕ) (increments : Increments) (ties : List Tie) →
     closing_in new round increments ties ≡ closing_in old round increments ties
 closing_unchanged old new same round increments ties =
@@ -110,22 +111,22 @@ closing_unchanged old new same round increments ties =
     ∙ ap (λ (closed : List ClosedRound). by old.setup closed new.sheets) same.closed
     ∙ ap (by old.setup old.closed) same.sheets
 
--- where the auction stands is the same where all but the room is
+-- Nor does the state of the auction.
 pub standing_unchanged : (old new : HouseFields) → IsUnchanged old new → standing_in new ≡ standing_in old
 standing_unchanged old new same =
     ap (λ (setup : SetupFields). standing setup.products new.closed) same.setup ∙ ap (standing old.setup.products) same.closed
 
--- what a house stood for it stands for with other room
+-- Houses that differ only in this memory stand for the same commands.
 pub still_unchanged : (old new : HouseFields) → IsUnchanged old new → StandsStill old new
 still_unchanged old new same = record { setup = same.setup; stands = λ commands stands. stands_unchanged old new commands same stands }
 
--- a prepared closing answers as a closing does
+-- The result of preparing a closing is the result of the closing.
 pub answers-close : (closing : Result ClosedRound CloseFault) (result : Result PreparedClosing CloseFault) → Answers closing result →
     AnswersClose closing result
 answers-close closing (Ok prepared) is = rw is refl
 answers-close closing (Err fault) is = is
 
--- a prepared closing fits the house that answered it
+-- A closing fits the house that prepared it.
 pub fits-asked : (house : HouseFields) (round : ℕ) (increments : Increments) (ties : List Tie) (result : Result PreparedClosing CloseFault) →
     Answers (closing_in house round increments ties) result →
     IfOk result (λ prepared. (prepared.round ≡ round) × (prepared.increments ≡ increments) × (prepared.ties ≡ ties)) →
@@ -137,7 +138,7 @@ fits-asked house round increments ties (Ok prepared) is asked =
     ∙ is
 fits-asked house round increments ties (Err fault) is asked = tt
 
--- the answer of a house in which room was taken, to a closing of the current round
+-- The result of preparing a closing of the current round, in a house that has just allocated memory for it.
 module _ (old new : HouseFields) (same : IsUnchanged old new) (round : ℕ) (increments : Increments) (ties : List Tie)
     (current : round ≡ (standing_in old).round) (result : Result PreparedClosing CloseFault)
     (round_now : OpenRoundFields) (is_now : round_now ≡ record { setup = new.setup; before = open_round_in new })
@@ -158,7 +159,7 @@ module _ (old new : HouseFields) (same : IsUnchanged old new) (round : ℕ) (inc
   answers-history = λ commands stands. subst (λ (closing : Result ClosedRound CloseFault). Answers closing result)
       (sym (closing_same old round increments ties commands stands)) answers-old
 
-  -- a refused closing is one more command
+  -- After a refused closing, the house stands for one more command.
   refused_by : (result : Result PreparedClosing CloseFault) → Answers (closing_in new round increments ties) result →
       IfErr result (λ told. told ≢ close_faults.NoMemory → IsFollowedBy (close round increments ties) old new)
   refused_by (Ok prepared) is = tt
@@ -170,7 +171,7 @@ module _ (old new : HouseFields) (same : IsUnchanged old new) (round : ℕ) (inc
   pub refused-followed : IfErr result (λ told. told ≢ close_faults.NoMemory → IsFollowedBy (close round increments ties) old new)
   refused-followed = refused_by result answers-new
 
--- a closing that is prepared and then made
+-- A closing that is prepared and then committed.
 module _ (old mid new : HouseFields) (round : ℕ) (increments : Increments) (ties : List Tie) (prepared : PreparedClosing)
     (asked : (prepared.round ≡ round) × (prepared.increments ≡ increments) × (prepared.ties ≡ ties)) where
   asked_closing : FitsClosing prepared mid → IsUnchanged old mid → closing_in old round increments ties ≡ Ok prepared.closed

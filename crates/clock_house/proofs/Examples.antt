@@ -1,4 +1,4 @@
--- Whole closings, computed from lists of commands.
+-- Whole rounds, computed from lists of commands.
 use Rattle.std.specs.Prelude.{◌≡◌, ℕ, List, [], ◌∷◌, Bool, true, false, Option, Some, None, Err, refl, reverse, map, codes}
 use Rattle.clock_terms.specs.declared.increments.Increments.{Increments}
 use Rattle.clock_terms.specs.declared.increments.Increments.TheVariants.{Single, PerProduct}
@@ -24,7 +24,7 @@ bid product quantity price = record { product = product; quantity = quantity; pr
 abbrev tie : ℕ → ℕ → ℕ → Tie
 tie bidder product number = record { bidder = bidder; product = product; number = number }
 
--- the commands in the order in which they come
+-- The auction after commands in the order in which they come.
 abbrev run : SetupFields → List Command → Auction
 run setup commands = history setup (reverse commands)
 
@@ -35,7 +35,8 @@ abbrev newest : List ClosedRound → ClosedRound
 newest [] = no_round
 newest (round ∷ rounds) = round
 
--- the newest sheet as in a report: number, end, and lines of start, clock, posted, demand and next
+-- The newest round results, as in a report: the number, whether it is the last, and a line of start, clock, posted,
+-- demand, and next for each product.
 abbrev line : ℕ → ℕ → ℕ → Option ℕ → Option ℕ → Line
 line start clock posted demand next = record { start = start; clock = clock; posted = posted; demand = demand; next = next }
 
@@ -46,7 +47,7 @@ abbrev Newest : Auction → ℕ → Bool → List Line → List (List ℕ) → L
 Newest auction round ended lines demands eligibilities =
     shown (newest auction.closed) ≡ (record { round = round; ended = ended; lines = lines }, demands, eligibilities)
 
--- in round 1 X asks for 2 and Y for 1
+-- In round 1, X bids for 2 blocks and Y for 1.
 abbrev first_round : List Command
 first_round = put 0 1 (bid 0 2 100 ∷ []) ∷ put 1 1 (bid 0 1 100 ∷ []) ∷ close 1 (Single 10) [] ∷ []
 
@@ -77,7 +78,7 @@ lower_bidder_first : Newest (run one_product (append first_round (put 0 2 (bid 0
     (line 100 110 104 None None ∷ []) ((1 ∷ []) ∷ (1 ∷ []) ∷ []) (2 ∷ 2 ∷ [])
 lower_bidder_first = refl
 
--- X asks for 2 of B, Y for 2 of A, Z for 1 of B
+-- X bids for 2 of B, Y for 2 of A, Z for 1 of B.
 abbrev first_of_two : List Command
 first_of_two = put 0 1 (bid 1 2 100 ∷ []) ∷ put 1 1 (bid 0 2 100 ∷ []) ∷ put 2 1 (bid 1 1 100 ∷ []) ∷ close 1 (Single 10) [] ∷ []
 
@@ -112,7 +113,7 @@ no_sheets = refl
 second_close : closing_of one_product (run one_product (close 1 (Single 10) [] ∷ [])) 1 (Single 10) [] ≡ Err close_faults.Ended
 second_close = refl
 
--- the typed refusals
+-- Refused sheets and closings.
 sheet_for_another_round : put_fault (public_setup one_product) (standing one_product.products (run one_product first_round).closed)
     (holding one_product (run one_product first_round).closed 0) 1 (bid 0 2 110 ∷ []) ≡ Some (put_faults.WrongRound 2)
 sheet_for_another_round = refl
@@ -137,7 +138,7 @@ refused_closing_keeps_sheets = refl
 no_limit_at_the_end : (newest (run at_highest (append (high 1) (close 1 (Single 1) [] ∷ []))).closed).sheet.ended ≡ true
 no_limit_at_the_end = refl
 
--- X wants two blocks up to 120 and 115, Y one block up to 130
+-- In round 3, X asks to give up one block at 115 and one at 120, and Y maintains its demand.
 third_round : Newest (run one_product (append first_round (put 0 2 (bid 0 2 110 ∷ []) ∷ put 1 2 (bid 0 1 110 ∷ []) ∷ close 2 (Single 10) []
     ∷ put 0 3 (bid 0 1 115 ∷ bid 0 0 120 ∷ []) ∷ put 1 3 (bid 0 1 121 ∷ []) ∷ close 3 (Single 10) [] ∷ []))) 3 true
     (line 110 121 115 None None ∷ []) ((1 ∷ []) ∷ (1 ∷ []) ∷ []) (2 ∷ 2 ∷ [])
@@ -153,14 +154,14 @@ increment_of_0 = refl
 increment_of_51 : closing_of one_product (run one_product []) 1 (Single 51) [] ≡ Err close_faults.Increment
 increment_of_51 = refl
 
--- a sheet put twice is replaced, and an empty sheet is accepted
+-- A later sheet replaces an earlier one, and an empty sheet is accepted.
 later_sheet_replaces : sheet_in_force one_product (run one_product (put 0 1 (bid 0 2 100 ∷ []) ∷ put 0 1 (bid 0 1 100 ∷ []) ∷ [])) 0 ≡ Some (bid 0 1 100 ∷ [])
 later_sheet_replaces = refl
 
 empty_sheet_is_in_force : sheet_in_force one_product (run one_product (put 0 1 (bid 0 2 100 ∷ []) ∷ put 0 1 [] ∷ [])) 0 ≡ Some []
 empty_sheet_is_in_force = refl
 
--- version 2: each product has its increment, and the clock price of A is a multiple of 25
+-- Version 2: each product has its own increment, and clock prices of A are multiples of 25.
 abbrev first_of_granules : Increments → List Command
 first_of_granules increments =
     put 0 1 (bid 1 2 100 ∷ []) ∷ put 1 1 (bid 0 2 100 ∷ []) ∷ put 2 1 (bid 1 1 100 ∷ []) ∷ close 1 increments [] ∷ []
@@ -177,7 +178,7 @@ an_increment_of_51_among_others : closing_of granules_and_increments (run granul
     ≡ Err close_faults.Increment
 an_increment_of_51_among_others = refl
 
--- the activity limit: in round 1 the eligibility of 8, in round 2 a sheet may ask for 10
+-- The activity limit: requested activity may be 8 in round 1, the eligibility, and 10 in round 2.
 abbrev judged : SetupFields → List Command → ℕ → ℕ → List Bid → Option PutFault
 judged setup commands bidder round bids =
     put_fault (public_setup setup) (standing setup.products (run setup commands).closed) (holding setup (run setup commands).closed bidder) round bids
@@ -205,7 +206,7 @@ without_a_limit_above_the_eligibility : judged (record activity_limit { limit = 
     ≡ Some (put_faults.Bid OverActivity)
 without_a_limit_above_the_eligibility = refl
 
--- the reduction is applied by 1, and the increase by 1 of 2, so that the activity stays within the eligibility
+-- The reduction is applied by 1 block, and the increase by 1 of 2, as the eligibility pays for no more.
 processed_activity_within_the_eligibility : Newest (run activity_limit (append first_of_limit
     (put 0 2 (bid 0 3 104 ∷ bid 1 2 106 ∷ []) ∷ put 1 2 (bid 0 4 110 ∷ []) ∷ close 2 tens [] ∷ []))) 2 false
     (line 100 110 110 (Some 7) (Some 121) ∷ line 100 110 100 None (Some 110) ∷ []) ((3 ∷ 1 ∷ []) ∷ (4 ∷ 0 ∷ []) ∷ []) (8 ∷ 8 ∷ [])

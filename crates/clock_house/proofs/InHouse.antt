@@ -1,4 +1,4 @@
--- What a closing goes by, as the house keeps it.
+-- Proves that the input of a closing is what the house has stored, entry by entry.
 use Rattle.std.proofs.Common.{◌≡◌, ℕ, ◌<◌, List, [], Bool, false, ap, sym, ◌∙◌, arith, get_or, length}
 use Rattle.std.proofs.lemmas.List.{length-map, get_or-map}
 use Rattle.std.proofs.lemmas.List.FromFn.{length-map-range_with_len, get_or-map-range_with_len}
@@ -16,14 +16,14 @@ abbrev nothing : Holding
 nothing = record { eligibility = 0; demands = [] }
 
 module _ (house : HouseFields) where
-  -- a holding for each bidder
+  -- There is a holding for each bidder.
   pub in-many : length (open_round_in house).holdings ≡ length house.setup.bidders
   in-many = length-map-range_with_len (holding_in house) 0 (length house.setup.bidders)
 
   in-held : (bidder : ℕ) → bidder < length house.setup.bidders → holding_at (open_round_in house).holdings bidder ≡ holding_in house bidder
   in-held bidder lt = get_or-map-range_with_len (holding_in house) 0 (length house.setup.bidders) bidder bidder nothing lt (omega arith)
 
-  -- the list of the eligibilities, and what stands there of a bidder
+  -- The stored eligibilities, and a bidder's entry in them.
   module _ (eligibilities : List ℕ) (are : eligibilities ≡ eligibilities_of (open_round_in house)) where
     pub many_eligibilities : length eligibilities ≡ length house.setup.bidders
     many_eligibilities = ap length are ∙ length-map (open_round_in house).holdings (λ (held : Holding). held.eligibility) ∙ in-many
@@ -34,7 +34,7 @@ module _ (house : HouseFields) where
         ∙ get_or-map (λ (held : Holding). held.eligibility) (open_round_in house).holdings bidder nothing 0 (omega (arith, lt, in-many))
         ∙ ap (λ (held : Holding). held.eligibility) (in-held bidder lt)
 
-  -- the same of the demands
+  -- The stored demands, and a bidder's row in them.
   module _ (demands : List (List ℕ)) (are : demands ≡ grid_of (open_round_in house)) where
     pub many_demands : length demands ≡ length house.setup.bidders
     many_demands = ap length are ∙ length-map (open_round_in house).holdings (λ (held : Holding). held.demands) ∙ in-many
@@ -45,7 +45,7 @@ module _ (house : HouseFields) where
         ∙ get_or-map (λ (held : Holding). held.demands) (open_round_in house).holdings bidder nothing [] (omega (arith, lt, in-many))
         ∙ ap (λ (held : Holding). held.demands) (in-held bidder lt)
 
-  -- where the auction goes on, its parts are the round that a closing goes by
+  -- If the auction has not ended, the stored parts are the input of a closing.
   pub open_is : (ended : Bool) (round : ℕ) (prices : List PricePair) (eligibilities : List ℕ) (demands : List (List ℕ)) → ended ≡ false →
       ended ≡ (standing_in house).ended → round ≡ (standing_in house).round → prices ≡ (standing_in house).prices →
       eligibilities ≡ eligibilities_of (open_round_in house) → demands ≡ grid_of (open_round_in house) →

@@ -1,4 +1,4 @@
--- What a house that stands for a list of commands keeps.
+-- Proves the invariant of a house from the laws of the history, since the house stands for a list of commands.
 use Rattle.std.proofs.Common.{◌≡◌, ℕ, zero, suc, List, [], ◌∷◌, Bool, false, length, ap, sym, subst, ◌∙◌, All}
 use Rattle.std.specs.Prelude.{Option, Some, reverse}
 use Rattle.std.proofs.lemmas.Option.{none-some, slice_get_within, get_or_from_slice_get}
@@ -19,15 +19,15 @@ use Rattle.clock_house.proofs.Sound.{sound, open_sound}
 use Rattle.clock_house.proofs.Numbers.{numbered, round-closed, first_prices, reverse_cons}
 
 module _ (house : HouseFields) (commands : List Command) (stands : StandsFor commands house) where
-  -- its closed rounds are numbered
+  -- Its closed rounds are numbered from 1.
   pub stands_numbered : AreNumbered (length house.setup.bidders) (length house.setup.products) house.closed
   stands_numbered = subst (AreNumbered (length house.setup.bidders) (length house.setup.products)) (sym stands.closed) (numbered house.setup commands)
 
-  -- it keeps a sheet or none for each bidder
+  -- It stores a sheet or none for each bidder.
   pub stands_sheets : length house.sheets ≡ length house.setup.bidders
   stands_sheets = ap length stands.sheets ∙ length-map-range_with_len _ 0 (length house.setup.bidders)
 
-  -- what a closing goes by is that of the commands
+  -- The input of its next closing is that of the commands.
   pub stands_open : open_round_in house ≡ open_round house.setup (history house.setup commands)
   stands_open =
       let at = λ (closed : List ClosedRound) (sheets : List (Option (List Bid))). let round : OpenRound = record {
@@ -43,13 +43,13 @@ All-reverse P (x ∷ xs) all =
     subst (All P) (sym (reverse_cons x xs))
     (All-append P (reverse xs) (x ∷ []) (All-reverse P xs (All-tail P x xs all)) (All-cons P x [] (All-head P x xs all) (All-nil P)))
 
--- what all closed rounds have, the round of a number has
+-- A property of all closed rounds is one of the round with a number.
 found_all : (P : ClosedRound → Type 0) (n : ℕ) (closed : List ClosedRound) (one : ClosedRound) → All P closed → round_at n closed ≡ Some one → P one
 found_all P zero closed one all e = absurd (none-some one e)
 found_all P (suc k) closed one all e =
     subst P (get_or_from_slice_get (reverse closed) k one one e) (All-reverse P closed all k one (slice_get_within (reverse closed) k one e))
 
--- a slip for each bidder, and a line for each product
+-- A closed round has results for each bidder, and a line for each product.
 abbrev IsWhole : ℕ → ℕ → ClosedRound → Type 0
 IsWhole bidders products one = (length one.slips ≡ bidders) × (length one.sheet.lines ≡ products)
 
@@ -57,13 +57,13 @@ all_whole : (bidders products : ℕ) (closed : List ClosedRound) → AreNumbered
 all_whole bidders products [] all = All-nil (IsWhole bidders products)
 all_whole bidders products (round ∷ rounds) all = All-cons (IsWhole bidders products) round rounds (all.1, all.2) (all_whole bidders products rounds all.3)
 
--- a closed round has a slip for each bidder and a line for each product
+-- So has the round with a number.
 pub numbered_whole : (bidders products n : ℕ) (closed : List ClosedRound) (one : ClosedRound) → AreNumbered bidders products closed →
     round_at n closed ≡ Some one →
     (length one.slips ≡ bidders) × (length one.sheet.lines ≡ products)
 numbered_whole bidders products n closed one all e = found_all (IsWhole bidders products) n closed one (all_whole bidders products closed all) e
 
--- a house that stands for a list of commands is in order
+-- The auction of a house that stands for a list of commands is sound.
 module _ (house : HouseFields) (limits : IsSetup house.setup) (commands : List Command) (stands : StandsFor commands house) where
   pub stands_sound : IsSound house.setup (record { closed = house.closed; since = (history house.setup commands).since })
   stands_sound =
@@ -77,12 +77,12 @@ module _ (house : HouseFields) (limits : IsSetup house.setup) (commands : List C
       (open_sound house.setup limits (history house.setup commands) (sound house.setup limits commands)
       (ap (λ (closed : List ClosedRound). (standing house.setup.products closed).ended) (sym stands.closed) ∙ going))
 
-  -- the first round is at the opening prices
+  -- The first round has the opening prices.
   stands_opening : (standing_in house).ended ≡ false → (standing_in house).round ≡ 1 → (standing_in house).prices ≡ opening_prices house.setup.products
   stands_opening going first =
       first_prices house.setup house.closed (round-closed house.setup house.closed (stands_numbered house commands stands) going) first
 
-  -- where the auction goes on, the house has an open round
+  -- If the auction has not ended, the house has an open round.
   pub stands_open_round : (standing_in house).ended ≡ false → IsOpenRound (record { setup = house.setup; before = open_round_in house })
   stands_open_round going = record {
     holdings = length-map-range_with_len (holding_in house) 0 (length house.setup.bidders);
@@ -91,7 +91,7 @@ module _ (house : HouseFields) (limits : IsSetup house.setup) (commands : List C
     opening = stands_opening going;
   }
 
--- a house keeps the same with other room for further rounds
+-- The invariant of a house does not depend on its memory for further rounds.
 pub kept_in_room : (house : HouseFields) (spare : ℕ) (ended : Bool) (round : ℕ) (prices : List PricePair) (eligibilities : List ℕ) (demands : List (List ℕ)) →
     IsKept house ended round prices eligibilities demands →
     IsKept (record { setup = house.setup; closed = house.closed; sheets = house.sheets; spare = spare }) ended round prices eligibilities demands

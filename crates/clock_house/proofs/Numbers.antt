@@ -1,4 +1,5 @@
--- Closed rounds are numbered from 1 on, and each has a slip for each bidder and a line for each product.
+-- Proves that closed rounds are numbered from 1, and are complete: each closing adds the current round, one higher than
+-- the last.
 use Rattle.std.proofs.Common.{◌≡◌, ℕ, suc, ◌+◌, List, [], ◌∷◌, ◌++◌, false, cond, length, refl, ap, ◌∙◌, arith}
 use Rattle.std.specs.Prelude.{Result, Ok, Err, reverse}
 use Rattle.std.proofs.lemmas.List.FromFn.{length-map-range_with_len}
@@ -14,13 +15,13 @@ use Rattle.clock_house.specs.Laws.{AreNumbered}
 use Rattle.clock_closing.proofs.Closings.{IsClosing, closing_passed}
 
 module _ (setup : SetupFields) where
-  -- while the auction goes on, the current round is one more than the number of closed rounds
+  -- Before the end, the current round is one more than the number of closed rounds.
   pub round-closed : (closed : List ClosedRound) → AreNumbered (length setup.bidders) (length setup.products) closed →
       (standing setup.products closed).ended ≡ false → (standing setup.products closed).round ≡ suc (length closed)
   round-closed [] all going = refl
   round-closed (last ∷ rounds) all going = ap (λ ended. cond ended last.sheet.round (last.sheet.round + 1)) going ∙ omega (arith, all.0)
 
-  -- in the first round the prices are those before it
+  -- The prices of round 1 are the opening prices.
   pub first_prices : (closed : List ClosedRound) → (standing setup.products closed).round ≡ suc (length closed) → (standing setup.products closed).round ≡ 1 →
       (standing setup.products closed).prices ≡ (standing setup.products []).prices
   first_prices [] number one = refl
@@ -43,7 +44,7 @@ module _ (setup : SetupFields) where
       )
   numbered_closing auction round increments ties (Err fault) e all = all
 
-  -- so it is after every list of commands
+  -- After every list of commands, the closed rounds are numbered from 1.
   pub numbered : (commands : List Command) → AreNumbered (length setup.bidders) (length setup.products) (history setup commands).closed
   numbered [] = tt
   numbered (put author round bids ∷ earlier) = numbered earlier

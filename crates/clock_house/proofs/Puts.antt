@@ -1,4 +1,5 @@
--- What putting a sheet does to the commands that a house stands for.
+-- Proves what submitting a sheet does to the commands that a house stands for: the sheet is in force, or nothing
+-- changes.
 use Rattle.std.proofs.Common.{◌≡◌, ℕ, ◌<◌, inl, inr, List, ◌∷◌, Bool, true, false, ◌&&◌, ◌==◌, not, refl}
 use Rattle.std.proofs.Common.{ap, sym, subst, ◌∙◌, arith, get_or, set, length, eq-eqb, ne_eqb}
 use Rattle.std.specs.Prelude.{◌≢◌, Option, Some, None, Result, Ok, Err, IfOk, IfErr, is_none}
@@ -19,7 +20,7 @@ use Rattle.clock_house.specs.House.{HouseFields, StandsFor, IsFollowedBy, Answer
 use Rattle.clock_house.specs.Prepared.{PreparedSheet, FitsSheet}
 use Rattle.clock_house.proofs.Steps.{in_force-accepted, in_force-skipped}
 
--- a prepared sheet that a house accepts, by the fields of both
+-- A prepared sheet that a house accepts, by equal parts of both.
 pub fits_inside : (prepared inside : PreparedSheet) (house held : HouseFields) → inside ≡ prepared → held ≡ house → FitsSheet prepared house
     → FitsSheet inside held
 fits_inside prepared inside house held p h fits =
@@ -34,14 +35,14 @@ other_by true good e = let bad : true ≡ false = e in cc
 other_by false good e = refl
 
 module _ (house : HouseFields) (bidder round : ℕ) (bids : List Bid) (commands : List Command) (stands : StandsFor commands house) where
-  -- the fault by the commands is that by the house
+  -- The fault of the sheet by the history of the commands is its fault by the house.
   fault_same : put_fault (public_setup house.setup) (standing house.setup.products (history house.setup commands).closed)
       (holding house.setup (history house.setup commands).closed bidder) round bids ≡ put_fault_in house bidder round bids
   fault_same =
       ap (λ (closed : List ClosedRound). put_fault (public_setup house.setup) (standing house.setup.products closed)
       (holding house.setup closed bidder) round bids) (sym stands.closed)
 
-  -- the sheet in force that the house keeps
+  -- The sheet in force that the house has for a bidder is the one by the commands.
   pub sheet_at : (who : ℕ) → who < length house.setup.bidders → get_or house.sheets who None ≡ sheet_in_force house.setup (history house.setup commands) who
   sheet_at who lt =
       ap (λ (sheets : List (Option (List Bid))). get_or sheets who None) stands.sheets
@@ -50,7 +51,7 @@ module _ (house : HouseFields) (bidder round : ℕ) (bids : List Bid) (commands 
   many : length house.sheets ≡ length house.setup.bidders
   many = ap length stands.sheets ∙ length-map-range_with_len (sheet_in_force house.setup (history house.setup commands)) 0 (length house.setup.bidders)
 
-  -- of another bidder, or refused, it is no accepted sheet
+  -- A sheet that is refused is not an accepted sheet of any bidder.
   refused : (fault : PutFault) → put_fault_in house bidder round bids ≡ Some fault → (who : ℕ) →
       (bidder == who) && is_none (put_fault (public_setup house.setup) (standing house.setup.products (history house.setup commands).closed)
       (holding house.setup (history house.setup commands).closed who) round bids) ≡ false
@@ -62,7 +63,7 @@ module _ (house : HouseFields) (bidder round : ℕ) (bids : List Bid) (commands 
         | inr differ ↦ other_by (bidder == who) (is_none (judged who)) (ne_eqb bidder who differ)
       ]
 
-  -- a refused sheet changes nothing
+  -- A refused sheet changes nothing.
   pub put-refused : (fault : PutFault) → put_fault_in house bidder round bids ≡ Some fault → StandsFor (put bidder round bids ∷ commands) house
   put-refused fault e = record {
     closed = stands.closed;
@@ -90,7 +91,7 @@ module _ (house : HouseFields) (bidder round : ℕ) (bids : List Bid) (commands 
             (holding house.setup (history house.setup commands).closed who) round bids)) (ne_eqb bidder who (λ e. differ (sym e)))))
       ]
 
-  -- a sheet that is put is in force, and the others stay
+  -- An accepted sheet is in force, and the other bidders' sheets are unchanged.
   pub put-accepted : bidder < length house.setup.bidders → put_fault_in house bidder round bids ≡ None →
       StandsFor (put bidder round bids ∷ commands) (with_sheet house bidder bids)
   put-accepted lt e = record {
@@ -100,7 +101,7 @@ module _ (house : HouseFields) (bidder round : ℕ) (bids : List Bid) (commands 
         (length-set house.sheets bidder (Some bids) ∙ many) (accepted_at lt e);
   }
 
--- the first fault of a sheet, test after test
+-- The first fault of a sheet, check by check.
 module _ (house : HouseFields) (bidder round : ℕ) (bids : List Bid) where
   abbrev by_tests : Bool → Bool → Option PutFault
   by_tests ended current = first_fault (
@@ -117,9 +118,9 @@ module _ (house : HouseFields) (bidder round : ℕ) (bids : List Bid) where
   put-other going other =
       ap (λ end. by_tests end (round == (standing_in house).round)) going ∙ ap (by_tests false) (ne_eqb round (standing_in house).round other)
 
--- the answer of a house that judges a sheet
+-- The result of a house that checks a sheet.
 module _ (house : HouseFields) (bidder round : ℕ) (bids : List Bid) where
-  -- it accepts the sheet that it answers with
+  -- The house accepts the sheet that it returns.
   pub fits-judged : (result : Result PreparedSheet PutFault) → bidder < length house.setup.bidders →
       AnswersPut (put_fault_in house bidder round bids) result →
       IfOk result (λ prepared. prepared ≡ record { bidder = bidder; round = round; bids = bids }) →
@@ -128,7 +129,7 @@ module _ (house : HouseFields) (bidder round : ℕ) (bids : List Bid) where
       subst (λ (one : PreparedSheet). FitsSheet one house) (sym asked) (record { known = known; good = is })
   fits-judged (Err fault) known is asked = tt
 
-  -- a refused sheet is one more command
+  -- After a refused sheet, the house stands for one more command.
   pub judged-followed : (result : Result PreparedSheet PutFault) → AnswersPut (put_fault_in house bidder round bids) result →
       IfErr result (λ told. told ≢ put_faults.NoMemory → IsFollowedBy (put bidder round bids) house house)
   judged-followed (Ok prepared) is = tt

@@ -1,4 +1,4 @@
--- What a house is for a bidder is what the bidder's view shows.
+-- Proves that what a house shows a bidder follows from the bidder's view, since the house stands for commands.
 use Rattle.std.proofs.Common.{◌≡◌, ℕ, ◌<◌, List, [], refl, ap, subst, ◌∙◌, length}
 use Rattle.std.specs.Prelude.{Option, Some, None, Result, option_map, slice_index_or}
 use Rattle.clock_terms.specs.Limits.{public_setup}
@@ -33,7 +33,7 @@ module _ (house : HouseFields) (bidder : ℕ) (commands : List Command) (stands 
       slice_index_or house.sheets bidder None ≡ seen_in_force (public_setup house.setup) (bidder_at house.setup bidder) (view_of house.setup bidder commands)
   in_force_seen known = sheet_at house bidder 0 [] commands stands bidder known ∙ (seen house.setup bidder commands).in_force
 
-  -- the sheet and the slip of a closed round
+  -- The round results and bidder results of a closed round follow from the view.
   both_seen : (n : ℕ) → option_map (shown_to bidder) (round_at n house.closed) ≡ seen_round n (view_of house.setup bidder commands)
   both_seen n = ap (λ (closed : List ClosedRound). option_map (shown_to bidder) (round_at n closed)) stands.closed ∙ (seen house.setup bidder commands).rounds n
 
@@ -55,7 +55,7 @@ module _ (house : HouseFields) (bidder : ℕ) (commands : List Command) (stands 
       ≡ option_map (λ seen. seen.1) (seen_round n (view_of house.setup bidder commands))
   slip_seen n = slip_part (round_at n house.closed) ∙ ap (option_map (λ (seen : RoundSheet × Slip). seen.1)) (both_seen n)
 
--- a sheet that is answered as the house judges it is answered as the view says
+-- The answer to a sheet by the house is the answer by the bidder's view.
 pub answers-by_view : {T : Type 0} (house : HouseFields) (bidder round : ℕ) (bids : List Bid) (result : Result T PutFault) →
     AnswersPut (put_fault_in house bidder round bids) result → AnswersByView house bidder round bids result
 answers-by_view house bidder round bids result is = λ commands stands.

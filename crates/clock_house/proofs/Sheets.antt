@@ -1,4 +1,4 @@
--- Sheets in force: each is good, and what a command does to them.
+-- Proves that each sheet in force passes the checks of the rules, since only such sheets are accepted.
 use Rattle.std.proofs.Common.{◌≡◌, ℕ, List, [], ◌∷◌, ◌==◌, ◌&&◌, Bool, true, false, cond, not, refl, ap, sym, ◌∙◌}
 use Rattle.std.specs.Prelude.{Option, Some, None, is_none, slice_get, filter_map}
 use Rattle.std.specs.List.{cons_option}
@@ -22,7 +22,7 @@ judged false false round fault e = absurd (none-some _ (sym e))
 judged false true round None e = refl
 judged false true round (Some fault) e = absurd (none-some _ (sym e))
 
--- a sheet that may be put is good
+-- A sheet that may be submitted passes the checks.
 pub good_of_put : (setup : PublicSetup) (now : Standing) (held : Holding) (round : ℕ) (bids : List Bid) → put_fault setup now held round bids ≡ None →
     IsGoodSheet setup now.round now.prices held bids
 good_of_put setup now held round bids e =
@@ -54,7 +54,7 @@ module _ (setup : PublicSetup) (now : Standing) (held : Holding) (bidder : ℕ) 
   accepted_good (close round increments ties) one e = absurd (none-some _ e)
   accepted_good other one e = absurd (none-some _ e)
 
-  -- the first accepted sheet is good
+  -- The last accepted sheet passes the checks.
   pub first_accepted_good : (since : List Command) (bids : List Bid) → slice_get (filter_map (accepted_bids setup now held bidder) since) 0 ≡ Some bids →
       IsGoodSheet setup now.round now.prices held bids
   first_accepted_good [] bids e = absurd (none-some _ e)

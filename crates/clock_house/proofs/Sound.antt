@@ -1,4 +1,5 @@
--- After every list of commands the auction is in order.
+-- Proves that after every list of commands the auction is sound. By induction over the commands: each closing leaves
+-- bidders within their limits, prices in order, and full products full.
 use Rattle.std.proofs.Common.{◌≡◌, ℕ, zero, suc, ◌+◌, ◌<◌, ◌≤◌, List, [], ◌∷◌, false, cond, refl, ap, sym, subst, ◌∙◌, arith, get_or, length, All}
 use Rattle.std.specs.Prelude.{Option, Some, None, Result, Ok, Err, map, unwrap_or}
 use Rattle.std.specs.List.{range_with_len, AllPairs}
@@ -39,14 +40,14 @@ use Rattle.clock_closing.proofs.Eligible.{next_eligibility_within}
 use Rattle.clock_house.proofs.Bounds.{round_bounded}
 use Rattle.clock_closing.proofs.RoundResults.{result_within, result_posted, result_risen, result_supplied, priced_next}
 
--- a pair of each later element with the first, and all pairs of the later ones
+-- All pairs of a list: the first element with each later one, and all pairs of the later ones.
 AllPairs-cons : {A : Type 0} (R : A → A → Type 0) (x : A) (xs : List A) → All (R x) xs → AllPairs R xs → AllPairs R (x ∷ xs)
 AllPairs-cons R x xs first rest zero zero d before within = absurd (omega (arith, before))
 AllPairs-cons R x xs first rest zero (suc j) d before within = first j d (omega (arith, within))
 AllPairs-cons R x xs first rest (suc i) zero d before within = absurd (omega (arith, before))
 AllPairs-cons R x xs first rest (suc i) (suc j) d before within = rest i j d (omega (arith, before)) (omega (arith, within))
 
--- what was sold out after each earlier round stays so
+-- If the newest round leaves full what the round before did, it leaves full what any earlier round did.
 supplied_all : (products : List Product) (done : ClosedRound) (closed : List ClosedRound) → AllPairs (StaysSupplied products) closed →
     ((last : ClosedRound) (rounds : List ClosedRound) → closed ≡ last ∷ rounds → StaysSupplied products done last) → All (StaysSupplied products done) closed
 supplied_all products done [] pairs next k d lt = absurd (omega (arith, lt))
@@ -55,7 +56,7 @@ supplied_all products done (last ∷ rounds) pairs next (suc k) d lt =
     λ product sold. next last rounds refl product (pairs 0 (suc k) d (omega arith) lt product sold)
 
 module _ (setup : SetupFields) (limits : IsSetup setup) where
-  -- before the first round
+  -- Before the first round, each bidder is within its limits.
   pub first_held : (bidder : ℕ) → bidder < length setup.bidders → IsWithinLimits setup.products (first_holding setup.products (bidder_at setup bidder))
   first_held bidder lt = record {
     row = zeros_row setup.products;
@@ -93,7 +94,7 @@ module _ (setup : SetupFields) (limits : IsSetup setup) where
         ap (λ sheet. unwrap_or sheet []) (get_or-map-range_with_len (sheet_in_force setup auction) 0 (length setup.bidders) bidder bidder None lt
         (omega arith))
 
-    -- a sheet in force is good, and so is none
+    -- Each bidder's sheet in force, or none, passes the checks.
     good_or_none : (bidder : ℕ) (sheet : Option (List Bid)) → sheet_in_force setup auction bidder ≡ sheet →
         IsGoodSheet (public_setup setup) (standing setup.products auction.closed).round (standing setup.products auction.closed).prices
         (holding setup auction.closed bidder) (unwrap_or sheet [])
@@ -103,7 +104,7 @@ module _ (setup : SetupFields) (limits : IsSetup setup) where
     good_or_none bidder (Some bids) e =
         first_accepted_good (public_setup setup) (standing setup.products auction.closed) (holding setup auction.closed bidder) bidder auction.since bids e
 
-    -- an auction that goes on has an open round in order
+    -- If the auction has not ended, the input of a closing is sound.
     pub open_sound : (standing setup.products auction.closed).ended ≡ false → IsOpen (public_setup setup) (open_round setup auction)
     open_sound going = record {
       limits = limits.products;
@@ -121,11 +122,11 @@ module _ (setup : SetupFields) (limits : IsSetup setup) where
           (good_or_none bidder (sheet_in_force setup auction bidder) refl));
     }
 
-    -- the current round is one more than the number of closed rounds
+    -- Before the end, the current round is one more than the number of closed rounds.
     pub round_is : (standing setup.products auction.closed).ended ≡ false → (standing setup.products auction.closed).round ≡ suc (length auction.closed)
     round_is going = round-closed setup auction.closed sound.numbered going
 
-    -- the demands before a later round are those on the slips of the round before
+    -- The demands before a later round are those in the bidder results of the round before.
     before_later : (closed : List ClosedRound) (last : ClosedRound) (rounds : List ClosedRound) → closed ≡ last ∷ rounds →
         length last.slips ≡ length setup.bidders →
         map (λ (held : Holding). held.demands) (map (holding setup closed) (range_with_len 0 (length setup.bidders))) ≡ grid_after last
@@ -157,7 +158,7 @@ module _ (setup : SetupFields) (limits : IsSetup setup) where
       rows_many : length (round_result setup.products (open_round setup auction) ties).grid ≡ length setup.bidders
       rows_many = within.bidders ∙ length-map (open_round setup auction).holdings _ ∙ many
 
-      -- the slip of a bidder
+      -- The results of a bidder.
       slip_is : (bidder : ℕ) → bidder < length setup.bidders →
           slip_of bidder done ≡ slip_after (public_setup setup) (standing setup.products auction.closed).round
           (holding setup auction.closed bidder).eligibility (row_of (round_result setup.products (open_round setup auction) ties).grid bidder)
@@ -169,7 +170,7 @@ module _ (setup : SetupFields) (limits : IsSetup setup) where
           ∙ ap (λ (held : Holding). slip_after (public_setup setup) (standing setup.products auction.closed).round held.eligibility
           (row_of (round_result setup.products (open_round setup auction) ties).grid bidder)) (held_at bidder lt)
 
-      -- each bidder stays within its limits
+      -- Each bidder stays within its limits.
       pub held_next : (bidder : ℕ) → bidder < length setup.bidders → IsWithinLimits setup.products (holding_after (slip_of bidder done))
       held_next bidder lt =
           let row : List ℕ = row_of (round_result setup.products (open_round setup auction) ties).grid bidder in
@@ -187,7 +188,7 @@ module _ (setup : SetupFields) (limits : IsSetup setup) where
           subst (λ (slip : Slip). IsWithinLimits setup.products (holding_after slip)) (sym (slip_is bidder lt))
           (record { row = within.rows bidder [] (omega (arith, lt, rows_many)); within = kept.0; most = omega (arith, kept.1, before.most) })
 
-      -- and so do the prices
+      -- The prices stay in order.
       pub priced_after : done.sheet.ended ≡ false → HasSoundPrices setup.products (standing setup.products (done ∷ auction.closed))
       priced_after going =
           let result : RoundResult = round_result setup.products (open_round setup auction) ties in
@@ -205,7 +206,7 @@ module _ (setup : SetupFields) (limits : IsSetup setup) where
           (λ later. result_risen (public_setup setup) (open_round setup auction) here ties some_round increments later goes_on)
           (standing setup.products (done ∷ auction.closed)) number (ap (λ (one : ClosedRound). map next_pair one.sheet.lines) is.made) some_round
 
-      -- the demands on the slips are the round's grid
+      -- The demands in the bidder results are those of bid processing.
       grid_is : grid_after done ≡ (round_result setup.products (open_round setup auction) ties).grid
       grid_is =
           ap grid_after is.made
@@ -214,7 +215,7 @@ module _ (setup : SetupFields) (limits : IsSetup setup) where
           (bidder_numbers (open_round setup auction))
           ∙ map-get_or (round_result setup.products (open_round setup auction) ties).grid (length (open_round setup auction).holdings) [] (rows_many ∙ sym many)
 
-      -- in a later round nothing that was sold out comes free
+      -- In a later round, a product that was full before stays full.
       supplied_next : (last : ClosedRound) (rounds : List ClosedRound) → auction.closed ≡ last ∷ rounds → StaysSupplied setup.products done last
       supplied_next last rounds e product sold =
           let later : 2 ≤ (standing setup.products auction.closed).round = omega (arith, round_is is.going, ap length e) in
@@ -227,7 +228,7 @@ module _ (setup : SetupFields) (limits : IsSetup setup) where
           )) in
           omega (arith, kept, ap (λ (grid : List (List ℕ)). total_of grid product) grid_is)
 
-      -- the auction after the closing is in order
+      -- The auction after the closing is sound.
       pub sound_next : AreNumbered (length setup.bidders) (length setup.products) (done ∷ auction.closed) →
           IsSound setup (record { closed = done ∷ auction.closed; since = [] })
       sound_next all = record {
@@ -244,7 +245,7 @@ module _ (setup : SetupFields) (limits : IsSetup setup) where
         );
       }
 
-  -- nothing is closed yet
+  -- An auction without closed rounds is sound.
   first_sound : IsSound setup (record { closed = []; since = [] })
   first_sound = record {
     numbered = tt;
@@ -254,7 +255,7 @@ module _ (setup : SetupFields) (limits : IsSetup setup) where
     count = omega arith;
   }
 
-  -- commands that close nothing
+  -- A command that closes no round leaves the auction sound.
   same_closed : (old new : Auction) → new.closed ≡ old.closed → IsSound setup old → IsSound setup new
   same_closed old new same sound =
       let P = λ (closed : List ClosedRound). IsSound setup (record { closed = closed; since = new.since }) in
@@ -269,7 +270,7 @@ module _ (setup : SetupFields) (limits : IsSetup setup) where
   after_closing_sound auction round increments ties (Err fault) e all sound =
       same_closed auction (after_closing auction (close round increments ties) (Err fault)) refl sound
 
-  -- the auction is in order after every list of commands
+  -- The auction is sound after every list of commands.
   pub sound : (commands : List Command) → IsSound setup (history setup commands)
   sound [] = first_sound
   sound (put author round bids ∷ earlier) = same_closed (history setup earlier) (history setup (put author round bids ∷ earlier)) refl (sound earlier)

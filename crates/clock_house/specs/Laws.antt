@@ -1,7 +1,7 @@
 -- What holds after every list of commands.
---     AreNumbered bidders products closed      the closed rounds are numbered from 1 on
---     StaysSupplied products later earlier      a product's total, once at supply, never falls below it
---     IsSound setup auction      all of these, bidders within their limits, and prices in order
+--     AreNumbered bidders products closed      the closed rounds are numbered from 1
+--     StaysSupplied products later earlier      aggregate demand, once at supply, stays there
+--     IsSound setup auction      both, bidders within their limits, sound prices, bounded rounds
 use Rattle.std.specs.Prelude.{◌≡◌, ℕ, suc, ◌+◌, ◌*◌, ◌<◌, ◌≤◌, List, [], ◌∷◌, false, length}
 use Rattle.std.specs.List.{AllPairs}
 use Rattle.clock_money.specs.Price.{highest_price}
@@ -12,23 +12,28 @@ pub use Rattle.clock_closing.specs.OpenRound.{IsWithinLimits, HasSoundPrices, Is
 use Rattle.clock_closing.specs.Results.{demands_of}
 use Rattle.clock_house.specs.History.{ClosedRound, Auction, standing, holding}
 
--- the most rounds that an auction can have: one for each dollar of the highest prices together, and two
+-- The most rounds that an auction can have. Each round from 2 raises some price by a dollar at
+-- least, and no price can exceed the highest one.
 abbrev pub most_rounds : ℕ
 most_rounds = most_products * highest_price + 2
 
--- closed rounds, the newest first, are numbered down to 1, each with a slip for each bidder and a line for each product
+-- The closed rounds, newest first, are numbered without a gap from 1. Each has results for each
+-- bidder, and a line for each product.
 abbrev pub AreNumbered : ℕ → ℕ → List ClosedRound → Type 0
 AreNumbered bidders products [] = Unit {0}
 AreNumbered bidders products (round ∷ rounds) =
     (round.sheet.round ≡ suc (length rounds)) × (length round.slips ≡ bidders) × (length round.sheet.lines ≡ products) × AreNumbered bidders products rounds
 
--- a product whose total was at supply after the earlier round is at supply after the later one
+-- If a product's aggregate demand is at least its supply after the earlier round, it is after the
+-- later one.
 abbrev pub StaysSupplied : List Product → ClosedRound → ClosedRound → Type 0
 StaysSupplied products later earlier =
     (product : ℕ) → supply_of products product ≤ total_of (demands_of earlier.slips) product
     → supply_of products product ≤ total_of (demands_of later.slips) product
 
--- rounds in order, bidders within limits, prices in order, no product sold out comes free again, and bounded rounds
+-- Rounds are numbered from 1. Each bidder is within its caps and its eligibility. If the auction
+-- has not ended, its prices are in order. A product that was once fully demanded stays so. The
+-- number of rounds is bounded.
 pub record IsSound (setup : SetupFields) (auction : Auction) : Type 0 where
   pub numbered : AreNumbered (length setup.bidders) (length setup.products) auction.closed
   pub within : (bidder : ℕ) → bidder < length setup.bidders → IsWithinLimits setup.products (holding setup auction.closed bidder)

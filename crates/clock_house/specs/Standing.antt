@@ -1,8 +1,8 @@
--- What a sheet is judged by: where the auction stands, which everyone knows, and what the bidder holds, which is its
--- own.
---     first_standing products, first_holding products row      before the first round
---     standing_after sheet, holding_after slip      after a closed round
---     put_fault setup standing holding round bids      the first fault of a sheet put for a round
+-- What a sheet is checked against: the state of the auction, which everyone knows, and the bidder's
+-- eligibility and processed demands, which only the bidder knows.
+--     first_standing products, first_holding products row      both before the first round
+--     standing_after sheet, holding_after slip      both after a closed round
+--     put_fault setup standing holding round bids      the first fault of a sheet for a round
 use Rattle.std.specs.Prelude.{ℕ, ◌+◌, List, ◌∷◌, false, not, ◌==◌, if◌then◌else◌, Option, map}
 use Rattle.clock_terms.specs.declared.setup.Product.{Product}
 use Rattle.clock_terms.specs.Prices.{opening_prices}
@@ -18,11 +18,12 @@ use Rattle.clock_closing.specs.Faults.{fault_check}
 use Rattle.clock_house.specs.declared.fault.PutFault.{PutFault}
 use Rattle.clock_house.specs.declared.fault.PutFault.TheVariants as put_faults
 
--- the first round is at the opening prices
+-- Round 1 has the opening prices.
 abbrev pub first_standing : List Product → Standing
 first_standing products = record { ended = false; round = 1; prices = opening_prices products }
 
--- the next round is at the prices that the sheet leaves; at the end the round stays the last one
+-- After a round with these results, the next round has the posted prices as start-of-round prices,
+-- and the next clock prices. If the auction has ended, the current round stays the last one.
 abbrev pub standing_after : RoundSheet → Standing
 standing_after sheet = record {
   ended = sheet.ended;
@@ -30,7 +31,8 @@ standing_after sheet = record {
   prices = map next_pair sheet.lines;
 }
 
--- the auction has ended, the round is not the current one, or the bids have a fault
+-- The first fault of a sheet: the auction has ended, it is for another round than the current one,
+-- or its bids have a fault.
 abbrev pub put_fault : PublicSetup → Standing → Holding → ℕ → List Bid → Option PutFault
 put_fault setup standing holding round bids = first_fault ((put_faults.Ended, not standing.ended)
     ∷ (put_faults.WrongRound standing.round, round == standing.round)

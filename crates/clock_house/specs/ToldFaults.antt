@@ -1,11 +1,11 @@
--- Which refusal of the house a fault of a lower part becomes. Want of memory stays want of memory.
---     told_of_bid fault      the refusal that is told
+-- Which fault of a submission a fault of its bids becomes. Out of memory stays out of memory.
+--     told_of_bid fault      the fault that the house returns
 use Rattle.clock_bids.specs.declared.sheet.BidFault.{BidFault}
 use Rattle.clock_bids.specs.declared.sheet.BidFault.TheVariants as bid_faults
 use Rattle.clock_house.specs.declared.fault.PutFault.{PutFault}
 use Rattle.clock_house.specs.declared.fault.PutFault.TheVariants as put_faults
 
--- a fault of the bids
+-- The fault that the house returns for a fault of the bids.
 abbrev pub told_of_bid : BidFault → PutFault
 told_of_bid bid_faults.NoMemory = put_faults.NoMemory
 told_of_bid fault = put_faults.Bid fault

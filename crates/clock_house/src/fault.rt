@@ -6,14 +6,14 @@ use clock_bids::BidFault;
 use clock_device::NoMemory;
 use thiserror::Error;
 
-/// Why a sheet is not put in force: the first of these that applies, but for want of memory, which
-/// may come at any point.
+/// Why a sheet is refused: the first of these that applies. `NoMemory` may replace any of them.
 ///
 /// - `Ended`: the auction has ended.
-/// - `WrongRound`: the sheet is for another round than the current one, which is told.
+/// - `WrongRound`: the sheet is not for the current round, whose number is given.
 /// - `Bid`: the bids have this fault.
-/// - `NoMemory`: there was no memory.
-// They are described here, since `rt plant` takes a comment above a case for its name.
+/// - `NoMemory`: out of memory.
+// The cases are described above the enum because `rt plant` takes a comment above a case for its
+// name.
 #[derive(Clone, Copy, Debug, PartialEq, Eq, Error)]
 pub enum PutFault {
     #[error("the auction has ended")]

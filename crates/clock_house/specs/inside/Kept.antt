@@ -1,6 +1,5 @@
--- What a house keeps inside, beside what contracts see of it.
---     IsKept house ended round prices eligibilities demands      the kept end, round, prices and what is held are those of
---         the closed rounds
+-- What a house stores in addition to what contracts see of it.
+--     IsKept house ended round prices eligibilities demands      it agrees with the closed rounds
 use Rattle.std.specs.Prelude.{◌≡◌, ℕ, List, Bool, false}
 use Rattle.clock_terms.specs.declared.prices.PricePair.{PricePair}
 use Rattle.clock_terms.specs.Limits.{IsSetup}
@@ -9,8 +8,8 @@ use Rattle.clock_house.specs.Command.{Command}
 use Rattle.clock_house.specs.House.{HouseFields, StandsFor, standing_in}
 use Rattle.clock_house.specs.inside.OpenRounds.{open_round_in}
 
--- a house of a set-up stands for some list of commands, and what it keeps for quick reading is what its closed rounds
--- say; at the end there are no prices
+-- The house stands for some list of commands. What it stores for quick reading is what its closed
+-- rounds say. After the end, the stored prices mean nothing.
 pub record IsKept (house : HouseFields) (ended : Bool) (round : ℕ) (prices : List PricePair) (eligibilities : List ℕ) (demands : List (List ℕ)) : Type 0 where
   pub limits : IsSetup house.setup
   pub commands : List Command

@@ -4,7 +4,7 @@ use Rattle.std.specs.List.{range_with_len}
 use Rattle.clock_terms.specs.declared.setup.Bidder.{Bidder}
 use Rattle.clock_house.proofs.house.opening.Given as goal
 
--- the eligibilities of the bidders so far and no sheets of theirs, and room for the others
+-- The lists have the eligibilities of the bidders so far, no sheets, and capacity for the others.
 abbrev pub invariant-loop-bidder : goal.invariant-loop-bidder
 invariant-loop-bidder l = record {
   eligibilities : l.eligibilities.items ≡ map (λ (bidder : Bidder). bidder.eligibility) (take l.bidder-index l.bidders);

@@ -22,7 +22,7 @@ returns-clause-answer g c = c.in_ok-prepared.ensures.answer
 pub returns-clause-history : goal.returns-clause-history
 returns-clause-history g c = λ commands stands. answers-close _ (Ok c.in_ok-prepared.prepared) (c.in_ok-prepared.ensures.history commands stands)
 
--- a refusal is that of the closing that was prepared
+-- The error of a closing is that of preparing it.
 pub returns-in_err-prepared-clause-answer : goal.returns-in_err-prepared-clause-answer
 returns-in_err-prepared-clause-answer g c =
     let told = err_from_is_err_and c.from_residual.result c.from_residual.ensures.1 in

@@ -25,7 +25,7 @@ at_most : (test : Bool) (more : ℕ) → more ≡ from_bool test → more ≤ 1
 at_most true more is = let one : more ≡ 1 = is in omega (arith, one)
 at_most false more is = let none : more ≡ 0 = is in omega (arith, none)
 
--- the current round after a closed one
+-- The number of the current round after a closing.
 next_number : (ended : Bool) (round more : ℕ) → more ≡ from_bool (not ended) → round + more ≡ (if ended then round else round + 1)
 next_number true round more is = let none : more ≡ 0 = is in omega (arith, none)
 next_number false round more is = let one : more ≡ 1 = is in omega (arith, one)
@@ -66,7 +66,7 @@ take_slips-requires-clause-sheets g c =
 pub unwrap-requires : goal.unwrap-requires
 unwrap-requires g c = c.push.ensures.succeeds (omega (arith, (rw (← c.self.view_is) at c.requires.room)))
 
--- the closed round stands before the others, the newest first
+-- The closed round comes first in the list that has the newest first.
 is_added : (before after : List ClosedRound) (pushed : Bool) (made closed : ClosedRound) → pushed ≡ true →
     after ≡ (if pushed then before ++ made ∷ [] else before) → made ≡ closed → reverse after ≡ closed ∷ reverse before
 is_added before after pushed made closed done is same =

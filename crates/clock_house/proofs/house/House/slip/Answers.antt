@@ -7,7 +7,7 @@ use Rattle.clock_house.proofs.Kept.{stands_numbered, numbered_whole}
 use Rattle.clock_house.proofs.Seen.{slip_seen}
 use Rattle.clock_house.proofs.house.House.slip.Goals as goal
 
--- the slip that is read at a bidder's place is the bidder's
+-- The results at a bidder's index are the bidder's.
 own_slip : (closed : ClosedRound) (bidder : ℕ) (slips : List Slip) (slip : Slip) → slips ≡ closed.slips → bidder < length slips →
     slip ≡ get_or slips bidder slip → slip ≡ slip_of bidder closed
 own_slip closed bidder slips slip same in_range is =
