@@ -1,4 +1,5 @@
--- A set-up whose checks all pass is within the limits that the type of set-ups keeps.
+-- The checks of a set-up refuse exactly what is outside its limits: if all pass, the set-up is within them, and the
+-- other way round. The first fault of all checks is the first fault of the first part that has one.
 use Rattle.std.proofs.Common.{◌≡◌, ℕ, ◌+◌, Bool, true, false, not, ◌||◌, List, [], ◌∷◌, ◌++◌, length, map, All, Option, Some, None, refl, ◌∙◌, Ok, codes}
 use Rattle.std.specs.List.{list_any, list_all, IsDistinct, AllByRecursion}
 use Rattle.std.specs.Str.{bytes_eq}
@@ -31,13 +32,13 @@ use Rattle.clock_setup.specs.inside.SetupDocument.{head_checks, counted_checks, 
 abbrev pub Passing : {F : Type 0} → List (F × Bool) → Type 0
 Passing checks = AllByRecursion (λ check. check.1 ≡ true) checks
 
--- where no check fails, every check passes
+-- if there is no first fault, every check passes
 pub passing : {F : Type 0} (checks : List (F × Bool)) → first_fault checks ≡ None → Passing checks
 passing [] h = tt
 passing ((fault, true) ∷ checks) h = (refl, passing checks h)
 passing ((fault, false) ∷ checks) h = cc
 
--- where no item's checks fail, each item is as its checks say
+-- if no item has a fault, each item has the property that its checks test
 pub each_passes : {X F : Type 0} (checks : ℕ → X → List (F × Bool)) (P : X → Type 0) → ((i : ℕ) (x : X) → Passing (checks i x) → P x)
     → (i : ℕ) (items : List X) → first_fault (in_turn checks i items) ≡ None → AllByRecursion P items
 each_passes checks P means i [] h = tt
@@ -55,12 +56,12 @@ token_of_test text h =
     let both = and_parts (is_within shortest_token longest_token (length text)) (list_all is_letter_or_digit text) h in
     (within_of_test shortest_token longest_token (length text) both.0, AllPass-from_list_all is_letter_or_digit text both.1)
 
--- a text that does not pass, before texts of which none passes
+-- a text that fails a test, followed by texts that all fail it
 none_more : (b found : Bool) (test : List ℕ → Bool) (texts : List (List ℕ)) (P : Type 0) → (not found ≡ true → P) → not (b || found) ≡ true → (b ≡ false) × P
 none_more true found test texts P rest h = cc
 none_more false found test texts P rest h = (refl, rest h)
 
--- no text of a list passes
+-- no text of a list passes a test
 none_passes : (test : List ℕ → Bool) (texts : List (List ℕ)) → not (list_any test texts) ≡ true → AllByRecursion (λ text. test text ≡ false) texts
 none_passes test [] h = tt
 none_passes test (text ∷ texts) h = none_more (test text) (list_any test texts) test texts _ (none_passes test texts) h
@@ -95,12 +96,12 @@ bidder_of_checks i bidder pass = record {
 }
 
 module _ {A : Type 0} (fault : SetupFault) (most : ℕ) (checks : ℕ → A → List (SetupFault × Bool)) (items : List A) where
-  -- where the count of a list is within its limits, its items decide
+  -- if the number of items is within its limits, the items decide the first fault
   pub counted : (first : Option SetupFault) → is_within 1 most (length items) ≡ true → first_fault (in_turn checks 0 items) ≡ first
       → first_fault (counted_checks fault most checks items) ≡ first
   counted first within is = rw within is
 
-  -- and where it is not, the count is the fault
+  -- if it is not, it is the first fault
   pub uncounted : is_within 1 most (length items) ≡ false → first_fault (counted_checks fault most checks items) ≡ Some fault
   uncounted without = rw without refl
 
@@ -123,7 +124,7 @@ bidders_of_checks : (bidders : List Bidder) → first_fault (bidders_checks bidd
 unfolding bidders_checks
 bidders_of_checks bidders h = of_counted (Range Bidders) most_bidders bidder_checks bidders IsBidder bidder_of_checks h
 
--- a set-up of a known version of which every check passes
+-- a set-up of version 1 or 2 whose checks all pass is within the limits
 pub setup_within : (setup : SetupFields) → IsWithin 1 latest_version setup.version → (setup.version ≡ 1 → IsOfFirstVersion setup)
     → first_fault (head_checks setup) ≡ None → first_fault (products_checks setup.products) ≡ None → first_fault (bidders_checks setup.bidders) ≡ None
     → first_fault (distinct_checks setup) ≡ None → IsSetup setup
@@ -154,17 +155,17 @@ checks_are : (setup : SetupFields) → first_fault (setup_checks setup)
 unfolding setup_checks head_checks products_checks bidders_checks distinct_checks
 checks_are setup = refl
 
--- the first fault of a set-up, where it is one of its head
+-- a fault of the values before the products is the first fault of the set-up
 pub head_first : (setup : SetupFields) (fault : SetupFault) → first_fault (head_checks setup) ≡ Some fault → first_fault (setup_checks setup) ≡ Some fault
 head_first setup fault head = checks_are setup ∙ failed (head_checks setup) _ fault head
 
--- where it is one of the products
+-- if those pass, the first fault of the products is
 pub products_first : (setup : SetupFields) (fault : SetupFault) → first_fault (head_checks setup) ≡ None
     → first_fault (products_checks setup.products) ≡ Some fault → first_fault (setup_checks setup) ≡ Some fault
 products_first setup fault head products =
     checks_are setup ∙ passed (head_checks setup) _ head ∙ failed (products_checks setup.products) _ fault products
 
--- where it is one of the bidders
+-- if the products pass too, the first fault of the bidders is
 pub bidders_first : (setup : SetupFields) (fault : SetupFault) → first_fault (head_checks setup) ≡ None
     → first_fault (products_checks setup.products) ≡ None → first_fault (bidders_checks setup.bidders) ≡ Some fault
     → first_fault (setup_checks setup) ≡ Some fault
@@ -172,7 +173,7 @@ bidders_first setup fault head products bidders =
     checks_are setup ∙ passed (head_checks setup) _ head ∙ passed (products_checks setup.products) _ products
     ∙ failed (bidders_checks setup.bidders) _ fault bidders
 
--- behind those the names and tokens decide
+-- if the bidders pass too, names and tokens decide
 pub distinct_decide : (setup : SetupFields) (first : Option SetupFault) → first_fault (head_checks setup) ≡ None
     → first_fault (products_checks setup.products) ≡ None → first_fault (bidders_checks setup.bidders) ≡ None
     → first_fault (distinct_checks setup) ≡ first → first_fault (setup_checks setup) ≡ first
@@ -180,7 +181,7 @@ distinct_decide setup first head products bidders is =
     checks_are setup ∙ passed (head_checks setup) _ head ∙ passed (products_checks setup.products) _ products
     ∙ passed (bidders_checks setup.bidders) _ bidders ∙ is
 
--- ---- the other way: what is within the limits passes every check
+-- ---- the other way round: a set-up within the limits passes every check
 
 test_of_name : (text : List ℕ) → IsName text → is_name text ≡ true
 test_of_name text h =
@@ -249,7 +250,7 @@ checks_of_setup setup h =
     ∙ rw (test_of_within 1 most_bidders (length setup.bidders) h.bidder_count)
     (passed (in_turn bidder_checks 0 setup.bidders) _ bidders ∙ rw (names, tokens) refl))
 
--- a document of the right shape whose set-up is within the limits means that set-up
+-- a document of the right shape whose set-up is within the limits means this set-up
 pub accepted : (value : Data) (setup : SetupFields) → number_at (codes "version") value ≡ Some setup.version → fields_of value ≡ Some setup
     → IsSetup setup → setup_of value ≡ Ok setup
 unfolding setup_of

@@ -1,4 +1,5 @@
--- Laws of the checks of an opening document.
+-- Laws of the checks of an opening document: which fault is the first, and what is known if there is none. The checks
+-- of a list of demands or of bidders follow item by item.
 use Rattle.std.proofs.Common.{◌≡◌, ℕ, ◌+◌, ◌*◌, ◌<◌, ◌≤◌, All, ◌==◌, Bool, true, false, nat_le, if◌then◌else◌, List, [], ◌∷◌, length, get_or, drop}
 use Rattle.std.proofs.Common.{zip, Option, Some, None, Ok, Err, refl, sym, ap, ◌∙◌, subst, arith}
 use Rattle.std.specs.List.{list_all, AllPass}
@@ -23,18 +24,18 @@ use Rattle.clock_setup.specs.OpeningShape.{OpeningParts, parts_of}
 use Rattle.clock_setup.specs.OpeningDocument.{has_counts, demand_checks, row_checks, opening_checks, opening_with, opening_of}
 use Rattle.clock_terms.proofs.FaultLaws.{passed, failed, turn_passed, turn_failed, turn_none}
 
--- a pair of two lists
+-- an item of two lists paired
 pub zip_at : {A B : Type 0} (ks : List A) (vs : List B) (i : ℕ) (a : A) (b : B) → i < length ks → i < length vs → a ≡ get_or ks i a → b ≡ get_or vs i b
     → (a, b) ≡ get_or (zip ks vs) i (a, b)
 zip_at ks vs i a b h k first second =
     ap (λ x. (x, b)) first ∙ ap (λ y. (get_or ks i a, y)) second ∙ sym (get_or-zip ks vs i (a, b) h k)
 
--- a row, where the rows are read as a slice
+-- a row that is read from a slice
 pub row_at : {slice : List (List ℕ)} (rows : List (List ℕ)) (number : ℕ) (row : List ℕ) → slice ≡ rows → number < length rows → row ≡ get_or slice number row
     → row ≡ get_or rows number []
 row_at rows number row same within is = is ∙ ap (λ (list : List (List ℕ)). get_or list number row) same ∙ get_or_default rows number row [] within
 
--- a bidder with its row, where the bidders are read as a slice
+-- a bidder with its row, if the bidders are read from a slice
 pub row_line : {slice : List Bidder} (bidders : List Bidder) (rows : List (List ℕ)) (number : ℕ) (bidder : Bidder) (row : List ℕ) → slice ≡ bidders
     → number < length slice → length rows ≡ length bidders → bidder ≡ get_or slice number bidder → row ≡ get_or rows number []
     → ((bidder, row) ≡ get_or (zip bidders rows) number (bidder, row)) × (number < length (zip bidders rows))
@@ -56,13 +57,13 @@ line_at products row i d same h =
 line_within : (products : List Product) (row : List ℕ) (i : ℕ) → length row ≡ length products → i < length row → i < length (zip products row)
 line_within products row i same h = omega (arith, length-zip products row)
 
--- what is found of one demand
+-- the first fault of one demand
 pub one_demand : (number i : ℕ) (p : Product) (demand : ℕ) (b : Bool) → nat_le demand p.cap ≡ b
     → first_fault (demand_checks number i (p, demand)) ≡ (if b then None else Some (Demand number i))
 unfolding demand_checks
 one_demand number i p demand b is = rw is refl
 
--- a demand above its cap
+-- a demand above its cap is the first fault of those left
 pub demand_failed : (number : ℕ) (products : List Product) (row : List ℕ) (i : ℕ) (d : Product) → length row ≡ length products → i < length row
     → (get_or products i d).cap < get_or row i 0
     → first_fault (in_turn (demand_checks number) i (drop i (zip products row))) ≡ Some (Demand number i)
@@ -71,7 +72,7 @@ demand_failed number products row i d same h above =
     (line_within products row i same h) (line_at products row i d same h)
     (one_demand number i (get_or products i d) (get_or row i 0) false (lt-leb (get_or row i 0) (get_or products i d).cap above))
 
--- a demand within its cap
+-- a demand within its cap leaves the first fault to those after it
 pub demand_passed : (number : ℕ) (products : List Product) (row : List ℕ) (i : ℕ) (d : Product) → length row ≡ length products → i < length row
     → get_or row i 0 ≤ (get_or products i d).cap
     → first_fault (in_turn (demand_checks number) i (drop i (zip products row)))
@@ -95,7 +96,7 @@ no_demands : (products : List Product) → activity products [] ≡ 0
 no_demands [] = refl
 no_demands (product ∷ products) = refl
 
--- the units that a product takes, and what those behind it take
+-- the activity of one product, and of those after it
 pub activity-at : (products : List Product) (row : List ℕ) (place : ℕ) (one : Product) → place < length row → length row ≡ length products
     → activity (drop place products) (drop place row)
     ≡ (get_or products place one).units * get_or row place 0 + activity (drop (place + 1) products) (drop (place + 1) row)
@@ -105,12 +106,12 @@ activity-at products row place one held each =
     ∙ sum_by-cons (λ (line : Product × ℕ). line.0.units * line.1) (get_or products place one, get_or row place 0)
     (zip (drop (place + 1) products) (drop (place + 1) row))
 
--- behind the row nothing is taken
+-- after the end of the row, activity is 0
 pub activity-end : (products : List Product) (row : List ℕ) (place : ℕ) → length row ≤ place → activity (drop place products) (drop place row) ≡ 0
 activity-end products row place past =
     ap (λ list. activity (drop place products) list) (drop_all place row past) ∙ no_demands (drop place products)
 
--- a demand within its cap takes few units
+-- the bidding units of a demand within its cap are bounded
 pub units_small : (products : List Product) (row : List ℕ) (place : ℕ) (one : Product) → place < length row → length row ≡ length products
     → All IsProduct products → get_or row place 0 ≤ (get_or products place one).cap
     → (get_or products place one).units * get_or row place 0 ≤ 1000000000
@@ -120,19 +121,19 @@ units_small products row place one held each limits within =
     let units : (get_or products place one).units ≤ 1000000 = omega (arith, good.units.1) in
     mul-le _ _ 1000000 1000 units demand
 
--- a row, where the products are read as a slice
+-- a row, if the products are read from a slice
 module _ {slice products : List Product} (same : slice ≡ products) (number : ℕ) (bidder : Bidder) (row : List ℕ) where
   demands_first : {first : Option OpeningFault} → first_fault (in_turn (demand_checks number) 0 (zip slice row)) ≡ first
       → first_fault (in_turn (demand_checks number) 0 (zip products row)) ≡ first
   demands_first is = ap (λ (list : List Product). first_fault (in_turn (demand_checks number) 0 (zip list row))) (sym same) ∙ is
 
-  -- its demands fail
+  -- a fault of its demands is the row's
   pub row_failed : (fault : OpeningFault) → first_fault (in_turn (demand_checks number) 0 (zip slice row)) ≡ Some fault
       → first_fault (row_checks products number (bidder, row)) ≡ Some fault
   unfolding row_checks
   row_failed fault h = failed (in_turn (demand_checks number) 0 (zip products row)) _ fault (demands_first h)
 
-  -- its activity fails
+  -- if its demands pass and its activity is too high, that is the row's
   pub row_above : (units : ℕ) → first_fault (in_turn (demand_checks number) 0 (zip slice row)) ≡ None → units ≡ activity slice row
       → bidder.eligibility < units → first_fault (row_checks products number (bidder, row)) ≡ Some (Activity number)
   unfolding row_checks
@@ -141,7 +142,7 @@ module _ {slice products : List Product} (same : slice ≡ products) (number : �
       passed (in_turn (demand_checks number) 0 (zip products row)) _ (demands_first h)
       ∙ ap (λ (b : Bool). first_fault ((Activity number, b) ∷ [])) (lt-leb (activity products row) bidder.eligibility (omega (arith, all, above)))
 
-  -- it passes
+  -- otherwise the row has no fault
   pub row_passed : (units : ℕ) → first_fault (in_turn (demand_checks number) 0 (zip slice row)) ≡ None → units ≡ activity slice row
       → units ≤ bidder.eligibility → first_fault (row_checks products number (bidder, row)) ≡ None
   unfolding row_checks
@@ -155,7 +156,7 @@ module _ {slice products : List Product} (same : slice ≡ products) (number : �
 same_of_test : (a b : ℕ) → (a == b) ≡ true → a ≡ b
 same_of_test a b h = grind (arith, nat_tests)
 
--- rows in the right counts are a grid
+-- rows whose number and lengths fit the set-up are a grid
 pub grid_of_counts : (setup : SetupFields) (demands : List (List ℕ)) → has_counts setup demands ≡ true
     → IsGrid (length setup.bidders) (length setup.products) demands
 grid_of_counts setup demands h =
@@ -164,37 +165,37 @@ grid_of_counts setup demands h =
     (λ row. length row == length setup.products) demands both.1 in
     (same_of_test _ _ both.0, λ k d lt. same_of_test _ _ (each k d lt))
 
--- a document whose parts and set-up are known is judged by its other checks
+-- a document with known parts and set-up is decided by the checks after the set-up
 pub opening_at : (value : Data) (parts : OpeningParts) (setup : SetupFields) → parts_of value ≡ Some parts → setup_of parts.setup ≡ Ok setup
     → opening_of value ≡ opening_with setup parts.demands parts.increment
 unfolding opening_of
 opening_at value parts setup read held = rw (read, held) refl
 
--- a document of another shape
+-- a document of another shape has the fault `Shape`
 pub opening_shape : (value : Data) → parts_of value ≡ None → opening_of value ≡ Err Shape
 unfolding opening_of
 opening_shape value none = rw none refl
 
 module _ (setup : SetupFields) (demands : List (List ℕ)) (increment : ℕ) where
-  -- rows that do not fit the set-up
+  -- rows that do not fit the set-up have the fault `Shape`
   pub counts_refused : has_counts setup demands ≡ false → opening_with setup demands increment ≡ Err Shape
   unfolding opening_checks
   counts_refused counts = rw counts refl
 
-  -- behind counts that fit, the first fault of the rows
+  -- if rows fit, the first fault of a bidder is the document's
   pub rows_refused : (fault : OpeningFault) → has_counts setup demands ≡ true
       → first_fault (in_turn (row_checks setup.products) 0 (zip setup.bidders demands)) ≡ Some fault → opening_with setup demands increment ≡ Err fault
   unfolding opening_checks
   rows_refused fault counts rows = rw (counts, failed (in_turn (row_checks setup.products) 0 (zip setup.bidders demands)) _ fault rows) refl
 
-  -- behind rows that pass, the increment
+  -- if no bidder has a fault, an increment outside its limits is the document's
   pub increment_refused : has_counts setup demands ≡ true → first_fault (in_turn (row_checks setup.products) 0 (zip setup.bidders demands)) ≡ None
       → is_within least_increment most_increment increment ≡ false → opening_with setup demands increment ≡ Err Increment
   unfolding opening_checks
   increment_refused counts rows outside =
       rw (counts, passed (in_turn (row_checks setup.products) 0 (zip setup.bidders demands)) _ rows, outside) refl
 
-  -- a set-up is opened where each check passes
+  -- if every check passes, the document means the opening
   pub opened : (grid : List (List ℕ)) → grid ≡ demands → has_counts setup demands ≡ true
       → first_fault (in_turn (row_checks setup.products) 0 (zip setup.bidders demands)) ≡ None
       → is_within least_increment most_increment increment ≡ true

@@ -1,4 +1,5 @@
--- What the value of a set-up means as a document.
+-- A document that was read by bytes has the JSON value of its set-up, and this value means the set-up: each key gives
+-- its value back, and the limits decide the rest.
 use Rattle.std.proofs.Common.{◌≡◌, ℕ, ◌⊎◌, inl, inr, Bool, true, false, ◌==◌, List, [], ◌∷◌, map, All, Option, Some, None, Result, Ok, Err, IfOk}
 use Rattle.std.proofs.Common.{IfErr, codes, refl, sym, ap, ◌∙◌, subst}
 use Rattle.std.specs.Prelude.{⊤, if◌then◌else◌}
@@ -21,13 +22,13 @@ use Rattle.clock_setup.specs.SetupDocument.{setup_checks, setup_of, document_set
 use Rattle.clock_json.proofs.JsonLaws.{json_value}
 use Rattle.clock_setup.specs.SetupData.{added, product_data, products_data, bidder_data, bidders_data, setup_fields, setup_data}
 
--- products of a version, where it is that of the next one
+-- products so far, of the version of the next one or none, are products of that version
 pub of_common_version : (so_far next : ℕ) (products : List Product) → (so_far ≡ 0 → products ≡ []) → (so_far ≡ 0) ⊎ (so_far ≡ next)
     → map (product_data so_far) products ≡ map (product_data next) products
 of_common_version so_far next products empty (inl none) = ap (map (product_data so_far)) (empty none) ∙ sym (ap (map (product_data next)) (empty none))
 of_common_version so_far next products empty (inr same) = ap (λ v. map (product_data v) products) same
 
--- their granules are one dollar, where the next one's version is the first
+-- if the next product is of version 1, all granules so far are one dollar
 pub of_first_version : (so_far next : ℕ) (products : List Product) → (so_far ≡ 0 → products ≡ [])
     → (so_far ≡ 1 → All (λ product. product.granule ≡ first_granule) products)
     → (so_far ≡ 0) ⊎ (so_far ≡ next) → next ≡ 1 → All (λ product. product.granule ≡ first_granule) products
@@ -35,7 +36,7 @@ of_first_version so_far next products empty granules (inl none) one =
     subst (All (λ (product : Product). product.granule ≡ first_granule)) (sym (empty none)) (All-nil (λ (product : Product). product.granule ≡ first_granule))
 of_first_version so_far next products empty granules (inr same) one = granules (same ∙ one)
 
--- a list of items each of which means something
+-- a list of items, if each item's value means the item
 pub each_of : {A : Type 0} (meaning : Data → Option A) (data_of : A → Data) (P : A → Type 0) → ((x : A) → P x → meaning (data_of x) ≡ Some x)
     → (xs : List A) → All P xs → each meaning (items_of (map data_of xs)) ≡ Some xs
 each_of meaning data_of P means [] h = refl
@@ -84,7 +85,7 @@ setup_at : (setup : SetupFields) (first : Bool) → (setup.version == 1) ≡ fir
 setup_at setup true is h = ap (λ b. fields_of (object_of setup (if b then None else Some setup.limit))) is ∙ first_setup setup is (h refl)
 setup_at setup false is h = ap (λ b. fields_of (object_of setup (if b then None else Some setup.limit))) is ∙ later_setup setup is
 
--- the value of a set-up means this set-up
+-- the value of a set-up has the shape of this set-up
 pub setup_is : (setup : SetupFields) → (setup.version ≡ 1 → IsOfFirstVersion setup) → fields_of (setup_data setup) ≡ Some setup
 setup_is setup first = setup_at setup (setup.version == 1) refl (λ is. first (eqb-true setup.version 1 is))
 
@@ -92,7 +93,7 @@ version_in : (setup : SetupFields) (limit : Option ℕ) → number_at (codes "ve
 version_in setup None = refl
 version_in setup (Some limit) = refl
 
--- the value of a set-up of a known version is judged by the limits alone
+-- for a set-up of version 1 or 2, only the limits decide what its value means
 pub setup_judged : (setup : SetupFields) → IsWithin 1 latest_version setup.version → (setup.version ≡ 1 → IsOfFirstVersion setup)
     → setup_of (setup_data setup) ≡ unless (first_fault (setup_checks setup)) setup
 unfolding setup_of
@@ -100,20 +101,20 @@ setup_judged setup within first =
     let version : number_at (codes "version") (setup_data setup) ≡ Some setup.version = version_in setup (added setup.version setup.limit) in
     rw (version, test_of_within 1 latest_version setup.version within, setup_is setup first) refl
 
--- and so is a document that is this value
+-- and what a document with this value means
 pub document_is : (bytes : List ℕ) (setup : SetupFields) → IsUtf8 bytes → read bytes ≡ Some (setup_data setup)
     → document_setup bytes ≡ setup_of (setup_data setup)
 unfolding document_setup
 document_is bytes setup text is = rw (json_value bytes (setup_data setup) text is) refl
 
--- a set-up with no fault is what the value means
+-- if a check of the limits returns a set-up, the value means it
 pub judged_ok : (answer : Result SetupFields SetupFault) (setup : SetupFields) (result : Result SetupFields SetupFault)
     → answer ≡ unless (first_fault (setup_checks setup)) setup → IfOk result (λ same. same ≡ setup) → IfOk result (λ _. first_fault (setup_checks setup) ≡ None)
     → IfOk result (λ known. answer ≡ Ok known)
 judged_ok answer setup (Err fault) is same none = tt
 judged_ok answer setup (Ok known) is same none = is ∙ ap (λ fault. unless fault setup) none ∙ ap Ok (sym same)
 
--- its first fault is what the value is refused for
+-- if it returns a first fault, the value is refused for this fault
 pub judged_err : (answer : Result SetupFields SetupFault) (setup : SetupFields) (result : Result SetupFields SetupFault)
     → answer ≡ unless (first_fault (setup_checks setup)) setup → IfErr result (IsFirstFault NoMemory (first_fault (setup_checks setup)))
     → IfErr result (IsRefusal NoMemory answer)

@@ -1,4 +1,5 @@
--- What the value of an opening means as a document.
+-- A document that was read by bytes has the JSON value of its opening. Since its set-up was accepted, only the checks
+-- after the set-up decide what it means.
 use Rattle.std.proofs.Common.{◌≡◌, ℕ, List, map, Some, refl}
 use Rattle.std.specs.Prelude.{⊤}
 use Rattle.std.specs.Str.{IsUtf8}
@@ -31,7 +32,7 @@ parts_are : (setup : Data) (demands : List (List ℕ)) (increment : ℕ)
 unfolding parts_of
 parts_are setup demands increment = rw (rows_are demands) refl
 
--- a document that is the value of an opening is judged by what is looked at behind its set-up
+-- a document with the value of an opening is decided by the checks after the set-up
 pub opening_read : (bytes : List ℕ) (found : HeldSetup × List (List ℕ) × ℕ) → IsUtf8 bytes → read bytes ≡ Some (scanned_data found)
     → document_opening bytes ≡ opening_with found.0.setup found.1 found.2
 unfolding document_opening

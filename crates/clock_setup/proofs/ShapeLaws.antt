@@ -1,4 +1,5 @@
--- What is known of a set-up that a value of JSON has the shape of.
+-- What follows for a set-up whose document has the right shape: its version is the number under "version", and a set-up
+-- of version 1 has the values of version 1.
 use Rattle.std.proofs.Common.{◌≡◌, ℕ, Bool, true, false, List, ◌∷◌, All, Option, Some, None, codes, refl, sym, ap, ◌∙◌, subst}
 use Rattle.std.specs.Prelude.{if◌then◌else◌, option_and_then}
 use Rattle.std.proofs.lemmas.List.Elements.{All-nil, All-cons}
@@ -14,12 +15,12 @@ if_some : {A : Type 0} (b : Bool) (x y : A) → (if b then Some x else None) ≡
 if_some true x y h = cc
 if_some false x y h = absurd (cc)
 
--- what version 1 adds for its documents
+-- in version 1, a number that version 2 added has its fixed value
 first_added : (version n in_first : ℕ) (key : List ℕ) (value : Data) → version ≡ 1 → added_number version in_first key value ≡ Some n → n ≡ in_first
 first_added version n in_first key value one h =
     if_some true n in_first (sym h ∙ ap (λ v. added_number v in_first key value) one)
 
--- the granule of a product that all its members make
+-- the granule of a product that was read from all its members
 granule_at : (name : Option (List ℕ)) (units supply cap opening granule : Option ℕ) (count : Bool) (product : Product)
     → (name >>= λ name. (units >>= λ units. (supply >>= λ supply. (cap >>= λ cap. (opening >>= λ opening. (granule >>= λ granule.
     if count then Some (record { name = name; units = units; supply = supply; cap = cap; opening = opening; granule = granule }) else None))))))
@@ -59,7 +60,7 @@ first_granules version (item value items) products one h =
         subst AreFirst (if_some true _ _ h)
         (All-cons (λ (product : Product). product.granule ≡ first_granule) product others (one_is product refl) (others_are others refl))
 
--- what members make a set-up of a known version
+-- the version, limit, and products of a set-up that was read from all its members
 members_at : (version : ℕ) (limit requirement : Option ℕ) (operator : Option (List ℕ)) (products : Option (List Product)) (bidders : Option (List Bidder))
     (count : Bool) (setup : SetupFields)
     → (limit >>= λ limit. (requirement >>= λ requirement. (operator >>= λ operator. (products >>= λ products. (bidders >>= λ bidders.
@@ -75,11 +76,11 @@ members_at version (Some limit) (Some requirement) (Some operator) (Some product
     let is = if_some count _ setup h in
     (ap (λ (s : SetupFields). s.version) is, ap (λ (s : SetupFields). Some s.limit) is, ap (λ (s : SetupFields). Some s.products) is)
 
--- the products of a value
+-- the products that a value has under "products"
 abbrev products_in : Data → ℕ → Option (List Product)
 products_in value version = option_and_then (each (product_of version)) (items_at (codes "products") value)
 
--- its version, its limit and its products
+-- the version, limit, and products of a document of the right shape
 shape_at : (value : Data) (setup : SetupFields) (number : Option ℕ) → number_at (codes "version") value ≡ number → fields_of value ≡ Some setup
     → (number ≡ Some setup.version) × (added_number setup.version first_limit (codes "limit") value ≡ Some setup.limit)
     × (products_in value setup.version ≡ Some setup.products)
@@ -103,7 +104,7 @@ listed : (version : ℕ) (items : Option Items) (products : List Product) → ve
 listed version None products one h = absurd (cc)
 listed version (Some items) products one h = first_granules version items products one h
 
--- in version 1 it is of the first version
+-- in version 1 it has the values of version 1
 pub of_first_version : (value : Data) (setup : SetupFields) → fields_of value ≡ Some setup → setup.version ≡ 1 → IsOfFirstVersion setup
 of_first_version value setup h first =
     let shape = shape_at value setup (number_at (codes "version") value) refl h in
@@ -112,7 +113,7 @@ of_first_version value setup h first =
       granules = listed setup.version (items_at (codes "products") value) setup.products first shape.2;
     }
 
--- and is known where that number is
+-- if that number is 1 or 2, so is its version
 pub known_version : (value : Data) (setup : SetupFields) (version : ℕ) → fields_of value ≡ Some setup → number_at (codes "version") value ≡ Some version
     → is_within 1 latest_version version ≡ true → IsWithin 1 latest_version setup.version
 known_version value setup version shape read within =

@@ -1,4 +1,5 @@
--- Laws of an opening whose demands were shortened: a demand that was stands above its cap before and behind it.
+-- Reading demands as 16-bit numbers changes no result: a demand that is changed is above its cap before and after, and
+-- so gives the same first fault.
 use Rattle.std.proofs.Common.{◌≡◌, ℕ, ◌+◌, ◌<◌, ◌≤◌, ◌⊎◌, inl, inr, ⊎_elim, Bool, true, false, All, List, [], ◌∷◌, ◌++◌, length, map}
 use Rattle.std.proofs.Common.{zip, Option, Some, None, Result, Ok, Err, IfOk, refl, sym, ap, ◌∙◌, subst, arith}
 use Rattle.std.specs.Prelude.{⊤, codes, option_and_then, option_map}
@@ -28,18 +29,18 @@ use Rattle.clock_setup.proofs.OpeningLaws.{one_demand, grid_of_counts, counts_re
 abbrev BothFail : {F : Type 0} → List (F × Bool) → List (F × Bool) → Type 0
 BothFail {F} first second = (fault : F) × (first_fault first ≡ Some fault) × (first_fault second ≡ Some fault)
 
--- and so they have behind other checks
+-- so they have after the same other checks
 behind : {F : Type 0} (checks first second : List (F × Bool)) → BothFail first second → BothFail (checks ++ first) (checks ++ second)
 behind [] first second both = both
 behind ((fault, true) ∷ checks) first second both = behind checks first second both
 behind ((fault, false) ∷ checks) first second both = (fault, refl, refl)
 
--- and before other checks
+-- and before any other checks
 before : {F : Type 0} (first second more others : List (F × Bool)) → BothFail first second → BothFail (first ++ more) (second ++ others)
 before first second more others both = (both.0, failed first more both.0 both.1, failed second others both.0 both.2)
 
 module _ {K X F : Type 0} (checks : ℕ → K × X → List (F × Bool)) (change : X → X) (P : K → Type 0) (Q : X → Type 0) where
-  -- where an item is changed only if its checks fail before and behind it, so is a list of items
+  -- if an item changes only when it fails before and after the change, so does a list of items
   each_kept : ((i : ℕ) (key : K) (item : X) → P key → Q item → (change item ≡ item) ⊎ BothFail (checks i (key, change item)) (checks i (key, item)))
       → (i : ℕ) (keys : List K) (items : List X) → length items ≡ length keys → AllByRecursion P keys → AllByRecursion Q items
       → (map change items ≡ items) ⊎ BothFail (in_turn checks i (zip keys (map change items))) (in_turn checks i (zip keys items))
@@ -58,7 +59,7 @@ module _ {K X F : Type 0} (checks : ℕ → K × X → List (F × Bool)) (change
       inr (before (checks i (key, change item)) (checks i (key, item)) _ _ fails))
       (one i key item keys_are.0 items_are.0)
 
--- a demand that is changed is above its cap
+-- a demand that changes is above its cap before and after
 demand_kept : (number i : ℕ) (product : Product) (demand : ℕ) → IsProduct product → ⊤
     → (shortened demand ≡ demand) ⊎ BothFail (demand_checks number i (product, shortened demand)) (demand_checks number i (product, demand))
 demand_kept number i product demand limits any =
@@ -72,7 +73,7 @@ demand_kept number i product demand limits any =
     (λ (within : demand ≤ product.cap). inl (omega (arith, within, limits.cap.1, limits.supply.1)))
     (cases_lt product.cap demand)
 
--- a row that is changed has a demand above its cap
+-- a row that changes has a fault before and after
 row_kept : (products : List Product) → All IsProduct products → (number : ℕ) (bidder : Bidder) (row : List ℕ) → ⊤ → length row ≡ length products
     → (map shortened row ≡ row) ⊎ BothFail (row_checks products number (bidder, map shortened row)) (row_checks products number (bidder, row))
 unfolding row_checks
@@ -81,7 +82,7 @@ row_kept products limits number bidder row any same =
     (each_kept (demand_checks number) shortened IsProduct (λ _. ⊤) (demand_kept number) 0 products row same
     (recursion_from_All IsProduct products limits) (recursion_from_All (λ _. ⊤) row (λ k d lt. tt)))
 
--- a set-up within its limits is opened alike with demands that were shortened
+-- a set-up within its limits gives the same result with demands as 16-bit numbers
 module _ (setup : SetupFields) (demands : List (List ℕ)) (increment : ℕ) (limits : All IsProduct setup.products) where
   counts_same : has_counts setup (map (map shortened) demands) ≡ has_counts setup demands
   counts_same = simp (length-map, list_all-map)
@@ -99,13 +100,13 @@ module _ (setup : SetupFields) (demands : List (List ℕ)) (increment : ℕ) (li
   opening_shortened : opening_with setup (map (map shortened) demands) increment ≡ opening_with setup demands increment
   opening_shortened = by_counts (has_counts setup demands) refl
 
--- the rows before they were shortened
+-- the rows before they were read as 16-bit numbers
 full_rows : (rows : Option (List (List ℕ))) (short : List (List ℕ)) → option_map (map (map shortened)) rows ≡ Some short
     → (full : List (List ℕ)) × (rows ≡ Some full) × (map (map shortened) full ≡ short)
 full_rows None short is = absurd cc
 full_rows (Some full) short is = (full, refl, cc)
 
--- behind a set-up within its limits both rows come to the same
+-- after a set-up within its limits, both forms of the rows give the same result
 held_shortened : (held : Result SetupFields OpeningFault) (full short : List (List ℕ)) (increment : ℕ) → map (map shortened) full ≡ short
     → IfOk held (λ setup. All IsProduct setup.products)
     → (held >>= λ setup. opening_with setup full increment) ≡ (held >>= λ setup. opening_with setup short increment)
@@ -113,7 +114,7 @@ held_shortened (Err fault) full short increment is limits = refl
 held_shortened (Ok setup) full short increment is limits =
     sym (opening_shortened setup full increment limits) ∙ ap (λ rows. opening_with setup rows increment) is
 
--- a document of the shape, by what its set-up comes to
+-- what a document of the right shape means, given what its set-up means
 pub opening_means : (value setup : Data) (demands : List (List ℕ)) (increment : ℕ) (held : Result SetupFields OpeningFault)
     → get (codes "setup") value ≡ Some setup → short_rows_in value ≡ Some demands → number_at (codes "increment") value ≡ Some increment
     → has_members 3 value ≡ true → in_opening (setup_of setup) ≡ held → IfOk held (λ setup. All IsProduct setup.products)

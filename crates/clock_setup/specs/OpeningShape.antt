@@ -1,11 +1,14 @@
--- The shape of an opening document: exactly these keys, each with a value of its kind. (Own format.)
---     parts_of value      the whole document, with its set-up not yet read and no count compared
+-- The shape of an opening document: an object with exactly these keys, each with a value of its
+-- kind. The format is our own.
+--     OpeningParts      the values of the document
+--     parts_of value      these values, before the set-up is read and the rows are counted
 use Rattle.std.specs.Prelude.{ℕ, List, Option, Some, None, option_and_then, if◌then◌else◌, codes}
 use Rattle.serde_json.specs.Data.{Data}
 use Rattle.serde_json.specs.Find.{get}
 use Rattle.clock_json.specs.Tree.{number_at, items_at, has_members, row_of, each, ◌>>=◌}
 
--- what an opening document has: any value for the set-up, rows of demands, and the increment in percent
+-- the values of the document: any value for the set-up, rows of demands, and an increment in
+-- percent
 pub record OpeningParts : Type 0 where
   pub setup : Data
   pub demands : List (List ℕ)

@@ -1,7 +1,11 @@
--- The value of JSON that a set-up is, whose meaning as a document is this set-up. Its keys ascend, as in every object.
---     product_data version product, bidder_data bidder      an item of "products" and of "bidders"
+-- The JSON value of a set-up: a document with this value means this set-up. Keys are in ascending
+-- order, as in every object that was read.
+--     added version n      a number that documents have from version 2
+--     product_data version product, bidder_data bidder      a product and a bidder
+--     products_data version products, bidders_data bidders      the lists of them
 --     setup_data setup      the whole document
---     product_fields, bidder_fields, setup_fields      the keys of an object that is being read, with what was found
+--     product_fields, bidder_fields, setup_fields      the keys of an object, each with its value
+--         if there is one
 use Rattle.std.specs.Prelude.{ℕ, List, [], ◌∷◌, ◌==◌, map, Option, Some, None, option_map, if◌then◌else◌, codes}
 use Rattle.serde_json.specs.Data.{Data, string, array, object}
 use Rattle.clock_json.specs.Reading.{whole, items_of, Fields, members_of}
@@ -9,10 +13,11 @@ use Rattle.clock_terms.specs.declared.setup.Product.{Product}
 use Rattle.clock_terms.specs.declared.setup.Bidder.{Bidder}
 use Rattle.clock_terms.specs.Limits.{SetupFields}
 
--- a number that documents have from version 2 on
+-- a number that documents have from version 2
 abbrev pub added : ℕ → ℕ → Option ℕ
 added version n = if version == 1 then None else Some n
 
+-- the keys of a product, each with its value if there is one
 abbrev pub product_fields : Option ℕ → Option ℕ → Option (List ℕ) → Option ℕ → Option ℕ → Option ℕ → Fields
 product_fields cap granule name opening supply units =
     (codes "cap", option_map whole cap)
@@ -23,10 +28,12 @@ product_fields cap granule name opening supply units =
     ∷ (codes "units", option_map whole units)
     ∷ []
 
+-- the JSON value of a product
 abbrev pub product_data : ℕ → Product → Data
 product_data version product = object (members_of (product_fields (Some product.cap) (added version product.granule) (Some product.name)
     (Some product.opening) (Some product.supply) (Some product.units)))
 
+-- the keys of a bidder, each with its value if there is one
 abbrev pub bidder_fields : Option ℕ → Option (List ℕ) → Option (List ℕ) → Fields
 bidder_fields eligibility name token =
     (codes "eligibility", option_map whole eligibility)
@@ -34,15 +41,19 @@ bidder_fields eligibility name token =
     ∷ (codes "token", option_map string token)
     ∷ []
 
+-- the JSON value of a bidder
 abbrev pub bidder_data : Bidder → Data
 bidder_data bidder = object (members_of (bidder_fields (Some bidder.eligibility) (Some bidder.name) (Some bidder.token)))
 
+-- the JSON value of a list of products
 abbrev pub products_data : ℕ → List Product → Data
 products_data version products = array (items_of (map (product_data version) products))
 
+-- the JSON value of a list of bidders
 abbrev pub bidders_data : List Bidder → Data
 bidders_data bidders = array (items_of (map bidder_data bidders))
 
+-- the keys of a set-up, each with its value if there is one
 abbrev pub setup_fields : Option Data → Option ℕ → Option (List ℕ) → Option Data → Option ℕ → Option ℕ → Fields
 setup_fields bidders limit operator products requirement version =
     (codes "bidders", bidders)
@@ -53,6 +64,7 @@ setup_fields bidders limit operator products requirement version =
     ∷ (codes "version", option_map whole version)
     ∷ []
 
+-- the JSON value of a set-up
 abbrev pub setup_data : SetupFields → Data
 setup_data setup = object (members_of (setup_fields (Some (bidders_data setup.bidders)) (added setup.version setup.limit) (Some setup.operator)
     (Some (products_data setup.version setup.products)) (Some setup.requirement) (Some setup.version)))

@@ -1,5 +1,9 @@
--- What a set-up document means: its set-up, or the fault of the first check that fails. (Own format and own order.)
---     setup_checks setup      the limits of a set-up in the order in which they are looked at
+-- What a set-up document means: its set-up, or its first fault. Format and order of checks are our
+-- own.
+--     product_checks i product, bidder_checks i bidder      the limits of one product and of one
+--         bidder, in order
+--     has_distinct_names setup, has_distinct_tokens setup      no name and no token is used twice
+--     setup_checks setup      the limits of a set-up, in order
 --     setup_of value      what a JSON value means as a set-up
 --     document_setup bytes      what bytes mean as a set-up
 use Rattle.std.specs.Prelude.{ℕ, Bool, ◌&&◌, List, [], ◌∷◌, ◌++◌, map, length, nat_le, if◌then◌else◌, Result, Ok, Err, codes}
@@ -18,7 +22,7 @@ use Rattle.clock_json.specs.Tree.{json, number_at}
 use Rattle.clock_setup.specs.SetupShape.{fields_of}
 use Rattle.clock_terms.specs.Faults.{first_fault, in_turn, unless, or_fault, ◌>>=◌}
 
--- of a product its name, units, supply, cap (at most the supply), opening price and granule
+-- a product's name, units, supply, cap (at most the supply), opening price, and granule
 unfoldable pub product_checks : ℕ → Product → List (SetupFault × Bool)
 product_checks i product =
     (Range (Name i), is_name product.name)
@@ -29,7 +33,7 @@ product_checks i product =
     ∷ (Range (Granule i), is_within 1 most_granule product.granule)
     ∷ []
 
--- of a bidder its name, token and eligibility
+-- a bidder's name, token, and eligibility
 unfoldable pub bidder_checks : ℕ → Bidder → List (SetupFault × Bool)
 bidder_checks i bidder =
     (Range (BidderName i), is_name bidder.name)
@@ -37,16 +41,17 @@ bidder_checks i bidder =
     ∷ (Range (Eligibility i), nat_le bidder.eligibility most_eligibility)
     ∷ []
 
--- no two products, and no two bidders, have one name; a product and a bidder may share one
+-- No two products have the same name, and no two bidders. A product and a bidder may have the same.
 abbrev pub has_distinct_names : SetupFields → Bool
 has_distinct_names setup =
     is_distinct (map (λ product. product.name) setup.products) && is_distinct (map (λ bidder. bidder.name) setup.bidders)
 
--- no two bidders, and no bidder and the operator, have one token
+-- no two of the operator and the bidders have the same token
 abbrev pub has_distinct_tokens : SetupFields → Bool
 has_distinct_tokens setup = is_distinct (setup.operator ∷ map (λ bidder. bidder.token) setup.bidders)
 
--- the limits of a set-up, in order: its parts before the products, products, bidders, and distinct names and tokens
+-- The limits of a set-up in order: requirement, limit, and operator; products; bidders; distinct
+-- names; distinct tokens.
 unfoldable pub setup_checks : SetupFields → List (SetupFault × Bool)
 setup_checks setup =
     (Range Requirement, is_within least_requirement most_requirement setup.requirement)
@@ -60,7 +65,8 @@ setup_checks setup =
     ∷ (DuplicateToken, has_distinct_tokens setup)
     ∷ []))))
 
--- a number under "version", then that this version is known, then the rest of the shape, then the limits
+-- The checks in order: there is a number under "version", it is 1 or 2, the shape is that of the
+-- version, and each limit is met.
 unfoldable pub setup_of : Data → Result SetupFields SetupFault
 setup_of value = do
   version ← or_fault Shape (number_at (codes "version") value)
@@ -68,7 +74,7 @@ setup_of value = do
   setup ← or_fault Shape (fields_of value)
   unless (first_fault (setup_checks setup)) setup
 
--- what the bytes of a set-up document mean
+-- The checks in order: the bytes are JSON (RFC 8259), and their value means a set-up.
 unfoldable pub document_setup : List ℕ → Result SetupFields SetupFault
 document_setup bytes = do
   value ← or_fault NotJson (json bytes)

@@ -1,7 +1,8 @@
--- The shape of a set-up document: exactly these keys, each with a value of its kind. (Own format.)
---     added_number, key_count      the keys that documents have from version 2 on
+-- The shape of a set-up document: objects with exactly these keys, each with a value of its kind.
+-- The format is our own.
+--     added_number, key_count      the keys that version 2 added
 --     product_of version value, bidder_of value      an item of "products" and of "bidders"
---     fields_of value      the whole document, with no limit tested yet
+--     fields_of value      the whole document, before any limit is checked
 use Rattle.std.specs.Prelude.{ℕ, ◌+◌, ◌==◌, List, Option, Some, None, option_and_then, if◌then◌else◌, codes}
 use Rattle.serde_json.specs.Data.{Data}
 use Rattle.clock_json.specs.Tree.{number_at, text_at, items_at, has_members, each, ◌>>=◌}
@@ -9,15 +10,16 @@ use Rattle.clock_terms.specs.declared.setup.Product.{Product}
 use Rattle.clock_terms.specs.declared.setup.Bidder.{Bidder}
 use Rattle.clock_terms.specs.Limits.{SetupFields, first_limit, first_granule}
 
--- a number that documents have from version 2 on, and what it is in version 1
+-- the number under a key that version 2 added; in version 1 it has a fixed value
 abbrev pub added_number : ℕ → ℕ → List ℕ → Data → Option ℕ
 added_number version in_first key value = if version == 1 then Some in_first else number_at key value
 
--- an object to which version 2 adds a key
+-- the number of keys of an object to which version 2 added one
 abbrev pub key_count : ℕ → ℕ → ℕ
 key_count version in_first = if version == 1 then in_first else in_first + 1
 
--- {"name":T,"units":N,"supply":N,"cap":N,"opening":N} and from version 2 on "granule":N, which is 1 in version 1
+-- {"name":T,"units":N,"supply":N,"cap":N,"opening":N}, from version 2 also "granule":N, which is 1
+-- in version 1
 unfoldable pub product_of : ℕ → Data → Option Product
 product_of version value = do
   name ← text_at (codes "name") value
@@ -38,8 +40,8 @@ bidder_of value = do
   eligibility ← number_at (codes "eligibility") value
   if has_members 3 value then Some (record { name = name; token = token; eligibility = eligibility }) else None
 
--- {"version":N,"requirement":N,"operator":T,"products":[PRODUCT,..],"bidders":[BIDDER,..]} and from version 2 on
--- "limit":N, which is 100 in version 1
+-- {"version":N,"requirement":N,"operator":T,"products":[PRODUCT,..],"bidders":[BIDDER,..]}, from
+-- version 2 also "limit":N, which is 100 in version 1
 unfoldable pub fields_of : Data → Option SetupFields
 fields_of value = do
   version ← number_at (codes "version") value

@@ -20,7 +20,8 @@ use clock_terms::{
 use serde_json::Value;
 use std::alloc::Global;
 
-/// The operator's token, where no name, and then no token, stands twice.
+/// Returns the operator's token, after checking that names and then tokens are distinct. May return
+/// `NoMemory`, which then replaces any other result.
 #[tactic(auto, unfolding(crate::specs::inside::SetupDocument::distinct_checks))]
 fn distinct_operator(alloc: Global, entries: &SetupEntries) -> Result<Text, SetupFault>
     ensures same { IfOk result (λ operator. operator ≡ entries.now.operator) }
@@ -38,7 +39,8 @@ fn distinct_operator(alloc: Global, entries: &SetupEntries) -> Result<Text, Setu
     Ok(Text::from_slice(alloc, entries.operator.as_bytes())?)
 }
 
-/// The set-up, where it is within its limits, or the first fault.
+/// Returns the set-up of a document's entries, or the first fault of its limits. May return
+/// `NoMemory`, which then replaces any other result.
 pub(crate) fn within_limits(alloc: Global, entries: &SetupEntries) -> Result<Setup, SetupFault>
     requires version { IsWithin 1 latest_version entries.now.version }
     requires first_version { entries.now.version ≡ 1 → IsOfFirstVersion entries.now }
@@ -64,15 +66,22 @@ pub(crate) fn within_limits(alloc: Global, entries: &SetupEntries) -> Result<Set
     })
 }
 
-/// The set-up that the bytes of a document mean, or the document's first fault.
+/// Reads a set-up document: returns its set-up, or its first fault.
 ///
-/// A document is one JSON value (RFC 8259), in any order of keys and with any white space:
-/// `{"version":1,"requirement":R,"operator":TOKEN,"products":[{"name":T,"units":N,"supply":N,"cap":N,"opening":N},..],
-/// "bidders":[{"name":T,"token":T,"eligibility":N},..]}`, and in version 2 with `"limit":N` as well, and `"granule":N`
-/// in each product. Version 1 means a limit of 100 percent and granules of one dollar. Its objects have exactly these
-/// keys, and its numbers are whole numbers below 2^64. [`SetupFault`] has the faults in the order in which they are
-/// looked at, and [`Place`] the limits. Reading takes time and memory in proportion to the document's length. Nothing
-/// is kept of a document that is refused. A tree of values is made only of a document that is not read by bytes.
+/// A document is one JSON value (RFC 8259), with keys in any order and any white space. Its objects
+/// have exactly these keys, and its numbers are whole numbers below 2^64:
+///
+/// - set-up: in version 2 with `"limit":N`,
+///   `{"version":V,"requirement":R,"operator":T,"products":[PRODUCT,..],"bidders":[BIDDER,..]}`
+/// - product: in version 2 with `"granule":N`,
+///   `{"name":T,"units":N,"supply":N,"cap":N,"opening":N}`
+/// - bidder: `{"name":T,"token":T,"eligibility":N}`
+///
+/// Version 1 means an activity limit of 100 percent and granules of one dollar.
+///
+/// Errors, in this order: the cases of [`SetupFault`]; [`Place`] has the limits. May return
+/// `NoMemory`, which then replaces any other result. Takes time and memory in proportion to the
+/// length of the document. A tree of values is made only if the document cannot be read by bytes.
 #[tactic(auto, using(clock_json::proofs::JsonLaws::json_value), unfolding(crate::specs::SetupDocument::document_setup))]
 pub fn read_setup(alloc: Global, bytes: &[u8]) -> Result<Setup, SetupFault>
     ensures ok { IfOk result (λ setup. document.document_setup bytes.now ≡ Ok setup) }
@@ -85,14 +94,15 @@ pub fn read_setup(alloc: Global, bytes: &[u8]) -> Result<Setup, SetupFault>
     setup_of(alloc, &value)
 }
 
-/// The set-up that a JSON value means, or its first fault: what [`read_setup`] answers for a text that reads as this
-/// value. It is never `NotJson`.
+/// Returns the set-up that a JSON value means, or its first fault, as [`read_setup`] does for a
+/// text with this value. Never returns `NotJson`. May return `NoMemory`, which then replaces any
+/// other result.
 #[tactic(auto, using(crate::proofs::LimitLaws::accepted), unfolding(crate::specs::SetupDocument::setup_of))]
 pub fn setup_of(alloc: Global, value: &Value) -> Result<Setup, SetupFault>
     ensures ok { IfOk result (λ setup. document.setup_of (view value.now) ≡ Ok setup) }
     ensures err { IfErr result (IsRefusal SetupFault.NoMemory (document.setup_of (view value.now))) }
-    // The checks refuse nothing that is within the limits: with the limits that the type of set-ups keeps, a document
-    // is accepted exactly where its set-up is within them.
+    // The checks refuse nothing that is within the limits: every set-up that the type allows is
+    // accepted.
     ensures accepts { (setup : SetupFields) → number_at (codes "version") (view value.now) ≡ Some setup.version
         → fields_of (view value.now) ≡ Some setup → IsSetup setup → document.setup_of (view value.now) ≡ Ok setup }
 {

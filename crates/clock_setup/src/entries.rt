@@ -1,4 +1,5 @@
-//! A set-up document of the right shape, with no limit tested yet, and how it is read from a tree of values.
+//! The entries of a set-up document: its values, of the right shape, before any limit is checked.
+//! Reads them from a tree of values.
 ghost use Rattle.std.specs.Prelude.{◌≡◌, ◌≤◌, All, IfOk};
 ghost use Rattle.serde_json.specs.View.{view};
 ghost use Rattle.clock_terms.specs.{declared.setup.Product.{Product}, declared.setup.Bidder.{Bidder}};
@@ -13,7 +14,7 @@ use serde_json::Value;
 use std::alloc::Global;
 use std::marker::Model;
 
-/// A product as a document has it, with no limit tested yet. Contracts see a product.
+/// A product as a document states it, before any limit is checked. In contracts, it is a product.
 #[derive(Drop)]
 pub(crate) struct ProductEntry<'v> {
     pub name: &'v str,
@@ -37,7 +38,7 @@ impl<'v> Model for ProductEntry<'v> {
     } };
 }
 
-/// A product, and the first version of documents in which one has its keys.
+/// A product, and the version of documents whose keys it has.
 #[derive(Drop)]
 pub(crate) struct VersionedProduct<'v> {
     pub version: u64,
@@ -46,7 +47,7 @@ pub(crate) struct VersionedProduct<'v> {
     ghost first_version: { version ≡ 1 → entry.granule ≡ first_granule },
 }
 
-/// Products whose keys are those of one version, which is 0 where there are none.
+/// Products that all have the keys of one version, which is 0 if there are no products.
 #[derive(Drop)]
 pub(crate) struct VersionedProducts<'v> {
     pub version: u64,
@@ -54,7 +55,7 @@ pub(crate) struct VersionedProducts<'v> {
     ghost first_version: { version ≡ 1 → All (λ entry. entry.granule ≡ first_granule) entries },
 }
 
-/// A bidder as a document has it, with no limit tested yet. Contracts see a bidder.
+/// A bidder as a document states it, before any limit is checked. In contracts, it is a bidder.
 #[derive(Drop)]
 pub(crate) struct BidderEntry<'v> {
     pub name: &'v str,
@@ -68,7 +69,8 @@ impl<'v> Model for BidderEntry<'v> {
     ghost view = { λ e. record { name = e.name.now; token = e.token.now; eligibility = e.eligibility } };
 }
 
-/// A set-up document of the right shape, with no limit tested yet. Contracts see the fields of a set-up.
+/// A set-up document of the right shape, before any limit is checked. In contracts, it is the
+/// fields of a set-up.
 #[derive(Drop)]
 pub(crate) struct SetupEntries<'v> {
     pub version: u64,
@@ -92,7 +94,7 @@ impl<'v> Model for SetupEntries<'v> {
     } };
 }
 
-/// The entries of a set-up of a known version.
+/// The entries of a set-up document of version 1 or 2 that was read by bytes.
 #[derive(Drop)]
 pub(crate) struct ScannedSetup<'v> {
     pub entries: SetupEntries<'v>,
@@ -100,7 +102,7 @@ pub(crate) struct ScannedSetup<'v> {
     ghost first_version: { entries.version ≡ 1 → IsOfFirstVersion entries },
 }
 
-/// A number that documents have from version 2 on.
+/// Returns the number under `key`, which version 2 added, or `in_first` in version 1.
 fn added_number(value: &Value, version: u64, in_first: u64, key: &str) -> Option<u64>
     ensures { result ≡ shape.added_number version in_first key.now (view value.now) }
 {
@@ -111,7 +113,7 @@ fn added_number(value: &Value, version: u64, in_first: u64, key: &str) -> Option
     }
 }
 
-/// Whether an object to which version 2 adds a key has its number of members.
+/// Whether an object has exactly the keys of its version: `in_first`, and from version 2 one more.
 fn has_keys(value: &Value, version: u64, in_first: usize) -> bool
     requires { in_first ≤ 5 }
     ensures { result ≡ members.has_members (shape.key_count version in_first) (view value.now) }
@@ -120,7 +122,7 @@ fn has_keys(value: &Value, version: u64, in_first: usize) -> bool
     has_members(value, count)
 }
 
-/// Products are read with the keys of a version.
+/// Reads products with the keys of `version`.
 #[derive(Drop)]
 struct ProductReader {
     version: u64,
@@ -145,7 +147,7 @@ impl<'v> PlainReader<'v> for ProductReader {
     }
 }
 
-/// Bidders are read with their keys.
+/// Reads bidders.
 #[derive(Drop)]
 struct BidderReader;
 
@@ -165,7 +167,8 @@ impl<'v> PlainReader<'v> for BidderReader {
     }
 }
 
-/// A set-up document of the right shape, or none.
+/// Returns the entries of a set-up document, or `None` if its shape is wrong. May return
+/// `NoMemory`.
 #[tactic(auto, unfolding(crate::specs::SetupShape::fields_of))]
 pub(crate) fn entries_of(alloc: Global, value: &Value) -> Result<Option<SetupEntries<'_>>, NoMemory>
     ensures { IfOk result (λ entries. entries ≡ shape.fields_of (view value.now)) }

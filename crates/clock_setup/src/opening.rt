@@ -22,42 +22,44 @@ use serde_json::Value;
 use std::alloc::Global;
 use thiserror::Error;
 
-/// What round 1 can be posted from: a set-up, and what each bidder demands at the opening prices. No demand is above
-/// its product's cap, and no bidder's activity above its eligibility.
+/// An opening: what the closing of round 1 needs, in one document. It has a set-up, each bidder's
+/// demands at the opening prices, and the increment. No demand is above its product's cap, and no
+/// bidder's activity above its eligibility.
 #[derive(Drop)]
 pub struct Opening {
-    /// The set-up that the document holds.
+    /// The set-up in the document.
     pub setup: Setup,
     /// A row for each bidder, and in it the demand for each product, in blocks.
     pub grid: Grid,
-    /// By how many percent prices rise, 1 to 50.
+    /// The increment of the closing, 1 to 50 percent.
     pub increment: u64,
 }
 
-/// Why an opening document is refused. The first fault in this order is answered, where faults of demands and
-/// activity go by rising bidder. A fault of the set-up is never `NoMemory`.
+/// Why an opening document is refused. A document with several faults has the first in this order,
+/// bidder by bidder for demands and activity.
 #[derive(Clone, Copy, Debug, PartialEq, Eq, Error)]
 pub enum OpeningFault {
     /// The bytes are no JSON value.
     #[error("not a JSON value")]
     NotJson,
-    /// The document is of another shape. That there is a row for each bidder, and a number for each product in each
-    /// row, is looked at only after the set-up's faults.
+    /// The document has another shape. Whether there is a row for each bidder, and in it a number
+    /// for each product, is checked only after the set-up.
     #[error("not of the shape of an opening")]
     Shape,
-    /// The value under `setup` is no set-up.
+    /// The value under `setup` is no set-up. Its fault is never `NoMemory`.
     #[error("the set-up is refused")]
     Setup(SetupFault),
-    /// A bidder's demand for a product is above the product's cap; of one bidder its least such product.
+    /// A bidder's demand for a product is above the cap: the bidder's number, and its first such
+    /// product.
     #[error("a demand is above the cap")]
     Demand(u64, u64),
-    /// The activity of a bidder's demands, none of which is above its cap, is above its eligibility.
+    /// The activity of a bidder's demands, all within the caps, is above its eligibility.
     #[error("an activity is above the eligibility")]
     Activity(u64),
-    /// The increment is not 1 to 50.
+    /// The increment is not 1 to 50 percent.
     #[error("the increment is outside its limits")]
     Increment,
-    /// There was no memory. It stands in place of any other answer.
+    /// Out of memory. Replaces any other result.
     #[error("out of memory")]
     NoMemory,
 }
@@ -78,8 +80,10 @@ fn has_counts(setup: &Setup, demands: &ShortRows) -> bool
     demands.len() == setup.bidders.len() && demands.iter().all(|row| row.len() == width)
 }
 
-/// A bidder's row, or the first fault of its demands and their activity. Each demand is looked at once, those that are 0
-/// as well, since a branch for them is mostly guessed wrong where many are held.
+/// Returns a bidder's row, or the first fault of its demands and activity. Requires a demand for
+/// each product. May return `NoMemory`, which then replaces any other result.
+///
+/// Adds all demands, also those of 0: a branch around the addition would often be mispredicted.
 fn row_within(
     alloc: Global,
     setup: &Setup,
@@ -110,7 +114,8 @@ fn row_within(
     Ok(Row::of(alloc, setup, demands)?)
 }
 
-/// The grid of the opening of a set-up, or the first fault of what is looked at behind the set-up.
+/// Returns the grid of an opening, or the first fault of the checks after the set-up. May return
+/// `NoMemory`, which then replaces any other result.
 fn opening_grid(
     alloc: Global,
     setup: &Setup,
@@ -142,14 +147,15 @@ fn opening_grid(
     Ok(Grid::of_rows(alloc, setup, rows)?)
 }
 
-/// The opening of a set-up, or the first fault of what is looked at behind it.
+/// Returns the opening with this set-up, or the first fault of the checks after the set-up. May
+/// return `NoMemory`, which then replaces any other result.
 fn compared(
     alloc: Global,
     setup: Setup,
     demands: ShortRows,
     increment: u64,
 ) -> Result<Opening, OpeningFault>
-    // A fact of every set-up, which a caller's proof takes from here.
+    // Holds of every set-up. The caller's proof uses it.
     ensures limits { All IsProduct setup.products }
     ensures ok { IfOk result (λ opening. opening_with setup demands increment ≡ Ok opening) }
     ensures grid { IfOk result
@@ -173,8 +179,9 @@ fn compared(
     }
 }
 
-/// The opening that a value of JSON means, or its first fault. A demand above 65,535 counts as that, which is above each
-/// cap as well.
+/// Returns the opening that a JSON value means, or its first fault. May return `NoMemory`, which
+/// then replaces any other result. Demands are read as 16-bit numbers: a higher one becomes 65,535,
+/// which is above every cap too.
 #[tactic(auto, using(crate::proofs::OpeningLaws::opening_shape), unfolding(crate::specs::OpeningShape::parts_of))]
 fn opening_in(alloc: Global, value: &Value) -> Result<Opening, OpeningFault>
     ensures ok { IfOk result (λ opening. opening_of (view value.now) ≡ Ok opening) }
@@ -201,10 +208,12 @@ fn opening_in(alloc: Global, value: &Value) -> Result<Opening, OpeningFault>
     }
 }
 
-/// The opening that the bytes of a document mean, or the document's first fault.
+/// Reads an opening document: returns the opening, or the document's first fault.
 ///
-/// The document is `{"demands":[[N,..],..],"increment":N,"setup":SETUP}` with a row for each bidder, a number of blocks
-/// for each product, and a set-up as [`read_setup`](crate::read_setup) reads it.
+/// The document is `{"demands":[[N,..],..],"increment":N,"setup":SETUP}`: a row for each bidder, in
+/// it a number of blocks for each product, and a set-up as [`read_setup`](crate::read_setup) reads
+/// it. Errors, in this order: the cases of [`OpeningFault`]. May return `NoMemory`, which then
+/// replaces any other result.
 #[tactic(auto, unfolding(crate::specs::OpeningDocument::document_opening))]
 pub fn read_opening(alloc: Global, bytes: &[u8]) -> Result<Opening, OpeningFault>
     ensures ok { IfOk result (λ opening. document_opening bytes.now ≡ Ok opening) }
@@ -221,8 +230,8 @@ pub fn read_opening(alloc: Global, bytes: &[u8]) -> Result<Opening, OpeningFault
     opening_in(alloc, &value)
 }
 
-/// What was found of an opening that is read by bytes: no text has an escape, each number is written in digits alone,
-/// and no demand is above 65,535.
+/// What was found so far of an opening that is read by bytes. Such an opening has no escape in a
+/// text, only digits in a number, and no demand above 65,535.
 #[derive(Default, Drop)]
 struct FoundOpening {
     demands: Option<ShortRows>,

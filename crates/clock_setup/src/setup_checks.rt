@@ -15,7 +15,7 @@ use clock_terms::{
 use std::alloc::Global;
 use std::collections::HashSet;
 
-/// A name has 1 to 32 letters, digits, dashes and underscores.
+/// Whether a name has 1 to 32 letters, digits, dashes, and underscores.
 fn is_name(name: &str) -> bool
     ensures { result ≡ limits.is_name name.now }
 {
@@ -24,7 +24,7 @@ fn is_name(name: &str) -> bool
     is_within(1, LONGEST_NAME, name.len() as u64) && fits
 }
 
-/// A token has 16 to 64 letters and digits.
+/// Whether a token has 16 to 64 letters and digits.
 pub(crate) fn is_token(token: &str) -> bool
     ensures { result ≡ limits.is_token token.now }
 {
@@ -33,7 +33,7 @@ pub(crate) fn is_token(token: &str) -> bool
     is_within(SHORTEST_TOKEN, LONGEST_TOKEN, token.len() as u64) && fits
 }
 
-/// The fault of a place, where the value there does not pass.
+/// Returns the range fault of `place` unless the value there passes.
 pub(crate) fn check(passes: bool, place: Place) -> Result<(), SetupFault>
     ensures ok { OnOk result (passes ≡ true) }
     ensures err { IfErr result (λ fault. (passes ≡ false) × (fault ≡ SetupFault.Range place)) }
@@ -41,25 +41,26 @@ pub(crate) fn check(passes: bool, place: Place) -> Result<(), SetupFault>
     passes.then_some(()).ok_or(SetupFault::Range(place))
 }
 
-/// An entry of a document, which has limits of its own.
+/// An entry of a document, a product or a bidder, with limits for each of its values.
 pub(crate) trait LimitedEntry {
-    /// What an entry is that is within its limits.
+    /// The value of an entry that is within its limits.
     type Whole: Drop;
 
-    /// What is looked at in the entry of a place, in order.
+    /// The checks of the entry with a number, in order.
     ghost checks: { ℕ → Self → List (SetupFault × Bool) };
 
-    /// The same, as what is read of an entry.
+    /// In contracts, an entry within its limits is this value.
     ghost shown: { Self → Self.Whole };
 
-    /// The bytes of its name.
+    /// The bytes of the entry's name.
     ghost text: { Self → List ℕ };
 
-    /// Its name.
+    /// Returns the entry's name.
     fn name(&self) -> &str
         ensures { result.now ≡ text self.now };
 
-    /// The entry of a place within its limits, or its first fault.
+    /// Returns the value of entry number `i`, or its first fault. May return `NoMemory`, which then
+    /// replaces any other result.
     fn within(&self, alloc: Global, i: u64) -> Result<Self::Whole, SetupFault>
         ensures same { IfOk result (λ whole. whole ≡ shown self.now) }
         ensures ok { IfOk result (λ _. first_fault (checks i self.now) ≡ None) }
@@ -124,8 +125,9 @@ impl<'v> LimitedEntry for BidderEntry<'v> {
     }
 }
 
-/// Entries of which there are so many as there may be, within their limits, or the first fault. A wrong count is a
-/// fault of the place where they stand.
+/// Returns the values of all entries, or the first fault. Errors, in this order: a fault of `place`
+/// if there is no entry or more than `most`; the first fault of each entry in turn. May return
+/// `NoMemory`, which then replaces any other result.
 pub(crate) fn each_within<E: LimitedEntry>(
     alloc: Global,
     place: Place,
@@ -147,17 +149,18 @@ pub(crate) fn each_within<E: LimitedEntry>(
     Ok(wholes.into_items())
 }
 
-/// Whether no two texts are equal.
+/// Whether no two texts are equal. May return `NoMemory`.
 fn is_distinct(alloc: Global, texts: &[&str]) -> Result<bool, NoMemory>
     ensures { IfOk result (λ distinct. distinct ≡ limits.is_distinct (map (λ text. text.now) texts.now)) }
 {
-    // Collecting asks again for less where there is no room for all, so the room is made here.
+    // Collecting into a set would retry a failed allocation with a smaller one, so the capacity is
+    // allocated here.
     let mut seen = HashSet::with_capacity(alloc, texts.len())?;
     seen.extend(texts.iter().copied())?;
     Ok(seen.len() == texts.len())
 }
 
-/// Whether no two entries have one name.
+/// Whether no two entries have the same name. May return `NoMemory`.
 pub(crate) fn has_distinct_names<E: LimitedEntry>(
     alloc: Global,
     entries: &[E],
@@ -171,7 +174,8 @@ pub(crate) fn has_distinct_names<E: LimitedEntry>(
     is_distinct(alloc, names.as_slice())
 }
 
-/// Whether no two bidders, and no bidder and the operator, have one token.
+/// Whether no two bidders, and no bidder and the operator, have the same token. May return
+/// `NoMemory`.
 pub(crate) fn has_distinct_tokens(
     alloc: Global,
     operator: &str,

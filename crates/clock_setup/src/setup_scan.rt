@@ -1,4 +1,5 @@
-//! A set-up read without a tree, where no text has an escape and each number is written in digits alone.
+//! Reads a set-up by bytes, without a tree of values, if no text has an escape and each number has
+//! only digits.
 ghost use Rattle.std.specs.Prelude.{◌≡◌, ◌<◌, length, Ok, IfOk, OnOk};
 ghost use Rattle.clock_json.specs.Reading.{Reads};
 ghost use Rattle.clock_setup.specs.{SetupData.{product_data, products_data, bidder_data, setup_data}, SetupDocument.{setup_of}};
@@ -14,7 +15,7 @@ use clock_json::{PartReader, Scan, ScanStop, ScannedMembers, is_key, scanned_par
 use clock_terms::{FIRST_GRANULE, FIRST_LIMIT, Setup};
 use std::alloc::Global;
 
-/// What was found of a product.
+/// The values found so far of a product.
 #[derive(Clone, Copy, Default)]
 struct FoundProduct<'v> {
     cap: Option<u64>,
@@ -68,7 +69,7 @@ impl<'v> ScannedMembers<'v> for FoundProduct<'v> {
     }
 }
 
-/// Products whose keys are those of one version.
+/// Reads a list of products that all have the keys of one version.
 fn products<'v>(alloc: Global, scan: &mut Scan<'v>) -> Result<VersionedProducts<'v>, ScanStop>
     ensures value { IfOk result (λ list. Reads 2 scan.old (products_data list.version list.entries) scan.new) }
     ensures shorter { OnOk result (length scan.new < length scan.old) }
@@ -87,7 +88,7 @@ fn products<'v>(alloc: Global, scan: &mut Scan<'v>) -> Result<VersionedProducts<
     Ok(VersionedProducts { version, entries })
 }
 
-/// What was found of a bidder.
+/// The values found so far of a bidder.
 #[derive(Clone, Copy, Default)]
 struct FoundBidder<'v> {
     eligibility: Option<u64>,
@@ -127,7 +128,7 @@ impl<'v> ScannedMembers<'v> for FoundBidder<'v> {
     }
 }
 
-/// What was found of a set-up.
+/// The values found so far of a set-up.
 #[derive(Default, Drop)]
 pub(crate) struct FoundSetup<'v> {
     bidders: Option<Items<BidderEntry<'v>>>,
@@ -189,16 +190,16 @@ impl<'v> ScannedMembers<'v> for FoundSetup<'v> {
     }
 }
 
-/// A set-up that was read without a tree and judged.
+/// A set-up inside another document, read by bytes and accepted.
 #[derive(Drop)]
 pub struct HeldSetup {
-    /// It is within its limits.
+    /// The set-up, within its limits.
     pub setup: Setup,
     ghost accepted: { setup_of (setup_data setup) ≡ Ok setup },
 }
 
-/// A set-up is read where it is within its limits, none of its texts has an escape, and each of its numbers is written
-/// in digits alone. Anything else is `Unusual`: then a tree of values tells what it means.
+/// Reads a set-up that is within its limits, with no escape in a text and only digits in each
+/// number. Declines any other with `Unusual`; then the reader by tree decides what it means.
 impl<'v> PartReader<'v> for HeldSetup {
     type Part = HeldSetup;
 

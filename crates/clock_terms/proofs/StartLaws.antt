@@ -1,5 +1,5 @@
--- The starts of groups, where a search for a product begins: they are right in an empty row, when a row is read, and
--- after an entry is inserted or removed, which moves the starts of all later groups by one.
+-- The starts of groups, from which a search for a product begins. They are right in an empty row and when a row is
+-- read. Inserting or removing an entry moves the starts of all later groups by one.
 use Rattle.std.proofs.Common.{◌≡◌, ℕ, ◌+◌, ◌-◌, ◌*◌, ◌/◌, ◌<◌, ◌≤◌, List, [], length, get_or, insert, remove, replicate, ap, sym, subst, ◌∙◌, ⊎_elim, arith}
 use Rattle.std.proofs.lemmas.Bool.{cases_lt, cases_eq}
 use Rattle.std.proofs.lemmas.List.{get_or_default, get_or-replicate, length-replicate}

@@ -41,8 +41,8 @@ pub type Products = Items<Product>;
 pub type Bidders = Items<Bidder>;
 
 /// The set-up of an auction. Every value of this type is within the limits: each part has its own,
-/// there are 1 to 4,096 products and 1 to 512 bidders, and no two products or bidders share a name,
-/// or bidders a token.
+/// and there are 1 to 4,096 products and 1 to 512 bidders. No two products share a name. No two
+/// bidders share a name or a token, and no bidder has the operator's token.
 ///
 /// The limits are our own. The parts are those of an ascending clock auction of generic blocks in
 /// the FCC's procedures for Auction 105.

@@ -1,15 +1,15 @@
--- What was found so far of a product and of a bidder that are being read.
---     found_product, found_bidder      the keys of an object, each with its value where one was found
+-- A product and a bidder while they are read by bytes.
+--     found_product, found_bidder      the keys of an object, each with its value if it was found
 use Rattle.std.specs.Prelude.{option_map}
 use Rattle.clock_json.specs.Reading.{Fields}
 use Rattle.clock_setup.specs.declared.setup_scan.FoundProduct.{FoundProduct}
 use Rattle.clock_setup.specs.declared.setup_scan.FoundBidder.{FoundBidder}
 use Rattle.clock_setup.specs.SetupData.{product_fields, bidder_fields}
 
--- the keys of a product
+-- the keys of a product, each with its value if it was found
 abbrev pub found_product : FoundProduct → Fields
 found_product parts = product_fields parts.cap parts.granule (option_map (λ text. text.now) parts.name) parts.opening parts.supply parts.units
 
--- the keys of a bidder
+-- the keys of a bidder, each with its value if it was found
 abbrev pub found_bidder : FoundBidder → Fields
 found_bidder parts = bidder_fields parts.eligibility (option_map (λ text. text.now) parts.name) (option_map (λ text. text.now) parts.token)

@@ -1,8 +1,9 @@
--- The value of JSON that an opening is, whose meaning as a document is this opening.
---     opening_fields demands increment setup      its keys, each with its value where one was found
---     opening_data setup demands increment      the whole document, over the value of its set-up
---     short_rows_in value      the rows of demands of a document, each demand shortened
---     found_opening, scanned_data      what was found of an opening that is being read, and the value of a whole one
+-- The JSON value of an opening: a document with this value means this opening.
+--     opening_fields demands increment setup      its keys, each with its value if there is one
+--     opening_data setup demands increment      the whole document, with the value of its set-up
+--     short_rows_in value      the demands of a document as 16-bit numbers
+--     found_opening, scanned_data      an opening while it is read by bytes, and the JSON value of
+--         a whole one
 use Rattle.std.specs.Prelude.{ℕ, List, [], ◌∷◌, Option, Some, option_and_then, option_map, map, codes}
 use Rattle.serde_json.specs.Data.{Data, object}
 use Rattle.clock_json.specs.Tree.{items_at, row_of, each}
@@ -12,6 +13,7 @@ use Rattle.clock_setup.specs.declared.setup_scan.HeldSetup.{HeldSetup}
 use Rattle.clock_setup.specs.declared.opening.FoundOpening.{FoundOpening}
 use Rattle.clock_setup.specs.SetupData.{setup_data}
 
+-- the keys of an opening, each with its value if there is one
 abbrev pub opening_fields : Option Data → Option ℕ → Option Data → Fields
 opening_fields demands increment setup =
     (codes "demands", demands)
@@ -19,18 +21,19 @@ opening_fields demands increment setup =
     ∷ (codes "setup", setup)
     ∷ []
 
+-- the JSON value of an opening
 abbrev pub opening_data : Data → List (List ℕ) → ℕ → Data
 opening_data setup demands increment = object (members_of (opening_fields (Some (rows demands)) (Some increment) (Some setup)))
 
--- the rows of demands of a document, each demand shortened
+-- the rows of demands of a document, where each demand above 65,535 is replaced by that
 abbrev pub short_rows_in : Data → Option (List (List ℕ))
 short_rows_in value = option_map (map (map shortened)) (option_and_then (each row_of) (items_at (codes "demands") value))
 
--- the keys of an opening that is being read
+-- the keys of an opening, each with its value if it was found
 abbrev pub found_opening : FoundOpening → Fields
 found_opening found =
     opening_fields (option_map rows found.demands) found.increment (option_map (λ held. setup_data held.setup) found.held)
 
--- what was read of an opening document, as a value
+-- the JSON value of an opening that was read by bytes
 abbrev pub scanned_data : HeldSetup × List (List ℕ) × ℕ → Data
 scanned_data found = opening_data (setup_data found.0.setup) found.1 found.2

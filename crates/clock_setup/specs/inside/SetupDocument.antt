@@ -1,4 +1,8 @@
--- The checks of a set-up, in the four parts in which they are made.
+-- The checks of a set-up in four parts, as the code makes them.
+--     head_checks setup      the values before the products
+--     counted_checks fault most checks items      the number of items, then each item
+--     products_checks products, bidders_checks bidders      the products, and the bidders
+--     distinct_checks setup      the names, and the tokens
 use Rattle.std.specs.Prelude.{ℕ, Bool, List, [], ◌∷◌, length}
 use Rattle.clock_terms.specs.declared.setup.Product.{Product}
 use Rattle.clock_terms.specs.declared.setup.Bidder.{Bidder}
@@ -10,7 +14,7 @@ use Rattle.clock_terms.specs.Limits.{least_requirement, most_requirement, least_
 use Rattle.clock_terms.specs.Faults.{in_turn}
 use Rattle.clock_setup.specs.SetupDocument.{product_checks, bidder_checks, has_distinct_names, has_distinct_tokens}
 
--- its parts that stand before the products
+-- the values before the products: requirement, limit, and operator
 unfoldable pub head_checks : SetupFields → List (SetupFault × Bool)
 head_checks setup =
     (Range Requirement, is_within least_requirement most_requirement setup.requirement)
@@ -18,18 +22,18 @@ head_checks setup =
     ∷ (Range Operator, is_token setup.operator)
     ∷ []
 
--- how many items there are, then each of them
+-- the number of items is 1 to `most`, then the checks of each item in turn
 abbrev pub counted_checks : {A : Type 0} → SetupFault → ℕ → (ℕ → A → List (SetupFault × Bool)) → List A → List (SetupFault × Bool)
 counted_checks fault most checks items = (fault, is_within 1 most (length items)) ∷ in_turn checks 0 items
 
--- how many products there are, then each of them
+-- the number of products, then each product
 unfoldable pub products_checks : List Product → List (SetupFault × Bool)
 products_checks products = counted_checks (Range Products) most_products product_checks products
 
--- how many bidders there are, then each of them
+-- the number of bidders, then each bidder
 unfoldable pub bidders_checks : List Bidder → List (SetupFault × Bool)
 bidders_checks bidders = counted_checks (Range Bidders) most_bidders bidder_checks bidders
 
--- its names, then its tokens
+-- distinct names, then distinct tokens
 unfoldable pub distinct_checks : SetupFields → List (SetupFault × Bool)
 distinct_checks setup = (DuplicateName, has_distinct_names setup) ∷ (DuplicateToken, has_distinct_tokens setup) ∷ []

@@ -1,3 +1,4 @@
+-- The three tests are the two checks of `distinct_checks`, of lists that are read as slices.
 use Rattle.std.proofs.Common.{◌≡◌, ℕ, Bool, true, false, List, ◌∷◌, map, Some, None, refl, sym, ap, ◌∙◌, subst}
 use Rattle.clock_terms.specs.declared.setup.Product.{Product}
 use Rattle.clock_terms.specs.declared.setup.Bidder.{Bidder}
@@ -9,7 +10,7 @@ use Rattle.clock_setup.specs.inside.SetupDocument.{distinct_checks}
 use Rattle.clock_setup.proofs.document.distinct_operator.Goals as goal
 
 module _ (setup : SetupFields) where
-  -- where no name stands twice, the tokens decide
+  -- if names are distinct, the tokens decide
   shared_token : is_distinct (map (λ product. product.name) setup.products) ≡ true → is_distinct (map (λ bidder. bidder.name) setup.bidders) ≡ true
       → has_distinct_tokens setup ≡ false → first_fault (distinct_checks setup) ≡ Some DuplicateToken
   unfolding distinct_checks
@@ -20,7 +21,7 @@ module _ (setup : SetupFields) where
   unfolding distinct_checks
   all_distinct products bidders tokens = rw (products, bidders, tokens) refl
 
--- what was told of the texts of a slice holds of those of the list that it is
+-- a test of the texts of a slice is the test of the list
 told_of : {A : Type 0} {slice list : List A} {found is : Bool} (texts : List A → List (List ℕ)) → slice ≡ list → found ≡ is_distinct (texts slice)
     → found ≡ is → is_distinct (texts list) ≡ is
 told_of texts same told found = ap (λ items. is_distinct (texts items)) (sym same) ∙ sym told ∙ found

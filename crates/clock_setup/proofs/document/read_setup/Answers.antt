@@ -1,3 +1,4 @@
+-- If the document was read by bytes, it has the JSON value of the set-up that was read, and only the limits are left.
 use Rattle.std.proofs.Common.{◌≡◌, Ok, IfOk, IfErr, sym, subst}
 use Rattle.clock_terms.specs.Faults.{IsRefusal}
 use Rattle.clock_setup.specs.SetupData.{setup_data}

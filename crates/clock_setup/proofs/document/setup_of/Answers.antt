@@ -1,3 +1,5 @@
+-- A document of the right shape has a version of 1 or 2 and, in version 1, the values of version 1. So only the limits
+-- are left, and the checks refuse nothing within them.
 use Rattle.std.proofs.Common.{◌≡◌, Some, codes, sym, ◌∙◌}
 use Rattle.serde_json.specs.View.{view}
 use Rattle.clock_json.specs.Tree.{number_at}

@@ -1,3 +1,5 @@
+-- Part by part: the values before the products, the products, the bidders, and the distinct names and tokens. A fault
+-- in one part is the first fault of the set-up if the parts before it pass.
 use Rattle.std.proofs.Common.{◌≡◌, Bool, true, false, List, Option, Some, None, refl, sym, ap, ◌∙◌, subst}
 use Rattle.std.proofs.lemmas.List.{map-id}
 use Rattle.std.proofs.lemmas.Result.{err_from_is_err_and}
@@ -10,7 +12,7 @@ use Rattle.clock_setup.specs.inside.SetupDocument.{head_checks, products_checks,
 use Rattle.clock_setup.proofs.LimitLaws.{setup_within, head_first, products_first, bidders_first, distinct_decide}
 use Rattle.clock_setup.proofs.document.within_limits.Goals as goal
 
--- the first fault of a list of the set-up, which is read as a slice
+-- the first fault of a list of the set-up that is read as a slice
 first_of : {A : Type 0} {slice : List A} {inside setup : SetupFields} {first : Option SetupFault} (checks : List A → List (SetupFault × Bool))
     (list : SetupFields → List A) → slice ≡ list inside → inside ≡ setup → first_fault (checks slice) ≡ first → first_fault (checks (list setup)) ≡ first
 first_of checks list read same is = ap (λ items. first_fault (checks items)) (sym (read ∙ ap list same)) ∙ is
@@ -35,7 +37,7 @@ module _ (setup : SetupFields) where
   unfolding head_checks
   head_passes requirement limit operator = rw (requirement, limit, operator) refl
 
--- what was told of the parts before the products holds of the set-up that is read
+-- if the tests of the code pass, the values before the products have no fault
 head_of : {inside setup : SetupFields} {requirement limit operator : Bool} → inside ≡ setup
     → requirement ≡ is_within least_requirement most_requirement inside.requirement → requirement ≡ true
     → limit ≡ is_within least_limit most_limit inside.limit → limit ≡ true → operator ≡ is_token inside.operator → operator ≡ true

@@ -1,3 +1,4 @@
+-- `all` tests the length of each row, and the comparison the number of rows.
 use Rattle.std.proofs.Common.{rules, tests, ◌≡◌, ◌==◌, ◌&&◌, true, Bool, List, ℕ, length, sym, ap, ◌∙◌, arith}
 use Rattle.std.specs.List.{list_all}
 use Rattle.std.proofs.lemmas.Bool.Decides.{nat_tests}

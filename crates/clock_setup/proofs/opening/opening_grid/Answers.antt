@@ -1,3 +1,4 @@
+-- The loop leaves the first fault of the remaining bidders as the first fault of all; at the end none remains.
 use Rattle.std.proofs.Common.{◌≡◌, ◌≤◌, ◌++◌, ◌∷◌, [], List, ℕ, All, None, length, get_or, take, drop, zip, sym, ap, ◌∙◌, subst, refl, arith}
 use Rattle.std.proofs.lemmas.List.{take_more, take_all}
 use Rattle.std.proofs.lemmas.List.Elements.{All-nil, All-push}
@@ -13,11 +14,11 @@ use Rattle.clock_setup.proofs.opening.opening_grid.Goals as goal
 
 module _ (setup : SetupFields) (demands : List (List ℕ)) (number : ℕ) (grid : IsGrid (length setup.bidders) (length setup.products) demands)
     (past : length setup.bidders ≤ number) where
-  -- behind the last bidder all rows are there
+  -- after the last bidder, all rows are in the list
   rows_all : (rows : List (List ℕ)) → rows ≡ take number demands → rows ≡ demands
   rows_all rows same = same ∙ take_all number demands (omega (arith, grid.0, past))
 
-  -- and none has a fault
+  -- and no bidder had a fault
   rows_pass : first_fault (in_turn (row_checks setup.products) number (drop number (zip setup.bidders demands)))
       ≡ first_fault (in_turn (row_checks setup.products) 0 (zip setup.bidders demands))
       → first_fault (in_turn (row_checks setup.products) 0 (zip setup.bidders demands)) ≡ None

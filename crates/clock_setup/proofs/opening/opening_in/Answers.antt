@@ -1,3 +1,4 @@
+-- The parts that the code reads are those of the definition, and demands as 16-bit numbers give the same result.
 use Rattle.std.proofs.Common.{◌≡◌, ◌≢◌, true, Some, Ok, Err, IfOk, IfErr, ap, sym, subst, ◌∙◌, rules}
 use Rattle.std.specs.Prelude.{codes, map, option_map}
 use Rattle.clock_json.specs.Rows.{shortened}

@@ -1,3 +1,4 @@
+-- If the document was read by bytes, its set-up was accepted, and only the checks after the set-up are left.
 use Rattle.std.proofs.Common.{◌≡◌, Ok, IfOk, IfErr, sym, subst}
 use Rattle.clock_terms.specs.Faults.{IsRefusal}
 use Rattle.clock_setup.specs.declared.opening.OpeningFault.TheVariants.{NoMemory}

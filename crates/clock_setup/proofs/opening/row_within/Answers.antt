@@ -1,3 +1,5 @@
+-- Demand by demand: those so far are within their caps, and the first that is not is the first fault. At the end the
+-- sum is the bidder's activity.
 use Rattle.std.proofs.Common.{◌≡◌, ◌≤◌, All, List, length, get_or, sym, ap, subst, ◌∙◌, below_more, arith}
 use Rattle.std.proofs.lemmas.List.{get_or_default}
 use Rattle.clock_terms.specs.declared.setup.Product.{Product}
@@ -11,7 +13,7 @@ use Rattle.clock_setup.proofs.opening.row_within.Goals as goal
 same : (c : After-as_slice-products) → c.as_slice-products.result.now ≡ c.args.setup.now.products
 same c = c.as_slice-products.ensures ∙ ap (λ (s : SetupFields). s.products) c.setup.view_is
 
--- a demand for each of them
+-- there is a demand for each of them
 each : (c : After-as_slice-products) → length c.args.demands.now ≡ length c.as_slice-products.result.now
 each c = c.requires ∙ sym (ap length (same c))
 

@@ -5,8 +5,8 @@ use Rattle.clock_terms.specs.Limits.{cap_of}
 use Rattle.clock_setup.specs.OpeningDocument.{demand_checks}
 use Rattle.clock_setup.proofs.opening.row_within.Given as goal
 
--- the demands so far are within their caps, those that are left decide the first fault, and what both take is what all
--- take
+-- The demands so far are within their caps, and those that are left decide the first fault. The units so far plus the
+-- activity of the rest are the activity of the row; they are bounded.
 abbrev pub invariant-loop-product : goal.invariant-loop-product
 invariant-loop-product l = record {
   rest : first_fault (in_turn (demand_checks l.number) l.product (drop l.product (zip l.products l.demands)))

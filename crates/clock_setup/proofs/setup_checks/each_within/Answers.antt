@@ -1,3 +1,4 @@
+-- If the number of entries is within its limits, the first fault of the entries left is the first fault of all.
 use Rattle.std.proofs.Common.{Some, None, sym, ◌∙◌, arith}
 use Rattle.std.proofs.lemmas.Grind.{common_steps}
 use Rattle.std.proofs.lemmas.Result.{err_from_is_err_and}

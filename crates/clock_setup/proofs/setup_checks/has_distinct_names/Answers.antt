@@ -1,3 +1,4 @@
+-- The loop collects the name of each entry in order.
 use Rattle.std.proofs.Common.{arith}
 use Rattle.clock_setup.proofs.NameLaws.{text_pushed, texts_end, distinct_texts}
 use Rattle.clock_setup.proofs.setup_checks.has_distinct_names.Goals as goal

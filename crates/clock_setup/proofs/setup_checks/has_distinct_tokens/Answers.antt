@@ -1,3 +1,4 @@
+-- The loop collects the operator's token and then the token of each bidder in order.
 use Rattle.std.proofs.Common.{ap, arith}
 use Rattle.clock_terms.specs.declared.setup.Bidder.{Bidder}
 use Rattle.clock_setup.proofs.NameLaws.{text_pushed_behind, texts_end_behind, distinct_texts}

@@ -1,3 +1,4 @@
+-- The set contains each text of the list, and has the list's length exactly if all texts are distinct.
 use Rattle.std.proofs.Common.{length, nat_eq, ap, ◌∙◌, subst}
 use Rattle.std.proofs.lemmas.Iterator.{YieldsList-from_slice}
 use Rattle.std.proofs.lemmas.Iterator.Adapters.{items_from_extend}

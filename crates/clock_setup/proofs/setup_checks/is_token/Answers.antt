@@ -1,3 +1,4 @@
+-- `all` tests each character, and the comparison the length.
 use Rattle.std.proofs.Common.{rules, tests, ◌≡◌, Bool, ◌&&◌, sym, ap, ◌∙◌}
 use Rattle.std.proofs.lemmas.Iterator.{YieldsList-from_slice}
 use Rattle.std.proofs.lemmas.Iterator.Search.{all_from_yields_List}

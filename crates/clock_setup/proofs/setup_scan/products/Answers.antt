@@ -1,3 +1,4 @@
+-- Each product that is read adds an item of the common version to the list.
 use Rattle.std.proofs.Common.{◌≡◌, ◌∷◌, ◌⊎◌, inl, inr, length, map, All, sym, ap, subst, arith}
 use Rattle.std.proofs.lemmas.List.Elements.{All-nil, All-push}
 use Rattle.clock_json.specs.Reading.{Token, Reads}

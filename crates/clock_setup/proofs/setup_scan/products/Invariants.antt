@@ -1,3 +1,4 @@
+-- The bytes so far are a list of the products so far, all of one version; in version 1 their granules are one dollar.
 use Rattle.std.proofs.Common.{◌≡◌, length, map, All, [], ◌≤◌}
 use Rattle.clock_json.specs.inside.Reading.{HasItems}
 use Rattle.clock_terms.specs.Limits.{first_granule}

@@ -1,3 +1,4 @@
+-- A set-up within its limits is what its JSON value means.
 use Rattle.std.proofs.Common.{◌≡◌, Ok, sym, ap, ◌∙◌, subst}
 use Rattle.clock_terms.specs.Faults.{unless}
 use Rattle.clock_terms.specs.Limits.{SetupFields}
