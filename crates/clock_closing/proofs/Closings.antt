@@ -1,4 +1,4 @@
--- What an accepted closing tells.
+-- Proves that an accepted closing has passed all checks, and adds the round that they guard.
 use Rattle.std.proofs.Common.{◌≡◌, ℕ, List, ◌∷◌, ◌++◌, Bool, true, false, not, ◌==◌, refl}
 use Rattle.std.specs.Prelude.{Option, Some, None, Ok, Err, length}
 use Rattle.clock_terms.specs.declared.increments.Increments.{Increments}
@@ -15,8 +15,8 @@ use Rattle.clock_closing.specs.Faults.{fault_check}
 use Rattle.clock_closing.specs.OpenRound.{OpenRound}
 use Rattle.clock_closing.specs.Closing.{ClosedRound, round_result, closed_round, closing}
 
--- the auction goes on, the round is the current one, increment and tie numbers have no fault, no next clock price is
--- too high, and the round is that of the result
+-- The auction has not ended, the round is the current one, increments and tie-breaking numbers have no fault, no next
+-- clock price is too high, and the round added is the one of the rules.
 pub record IsClosing (setup : PublicSetup) (now : OpenRound) (round : ℕ) (increments : Increments) (ties : List Tie) (closed : ClosedRound) : Type 0 where
   pub going : now.standing.ended ≡ false
   pub current : (round == now.standing.round) ≡ true
@@ -25,7 +25,7 @@ pub record IsClosing (setup : PublicSetup) (now : OpenRound) (round : ℕ) (incr
   pub possible : price_limit_fault setup.products (round_result setup.products now ties).grid (round_result setup.products now ties).posted increments ≡ None
   pub made : closed ≡ closed_round setup now increments (round_result setup.products now ties)
 
--- the checks of a closing
+-- The checks of a closing, in order.
 abbrev pub checks : Bool → Bool → Bool → ℕ → Option TieFault → Option ℕ → List (CloseFault × Bool)
 checks ended current within round tied limit =
     (close_faults.Ended, not ended) ∷ (close_faults.WrongRound round, current) ∷ (close_faults.Increment, within)
@@ -44,7 +44,7 @@ passed false true true round (Some fault) limit made closed e = let bad : Err (c
 passed false true true round None (Some product) made closed e = let bad : Err (close_faults.PriceLimit product) ≡ Ok closed = e in cc
 passed false true true round None None made closed e = (refl, refl, refl, refl, refl, cc)
 
--- an accepted closing passes all checks
+-- An accepted closing has passed all checks.
 pub closing_passed : (setup : PublicSetup) (now : OpenRound) (round : ℕ) (increments : Increments) (ties : List Tie) (closed : ClosedRound) →
     closing setup now round increments ties ≡ Ok closed → IsClosing setup now round increments ties closed
 closing_passed setup now round increments ties closed e =

@@ -1,4 +1,4 @@
--- All bidders' requests, one bidder's after another's.
+-- Proves facts about all bidders' requests from facts about the requests of each, which are joined bidder after bidder.
 use Rattle.std.proofs.Common.{◌≡◌, ℕ, zero, suc, ◌+◌, ◌<◌, ◌≤◌, List, [], ◌∷◌, ◌++◌, ap, ◌∙◌, arith, All}
 use Rattle.std.specs.Prelude.{flat_map}
 use Rattle.std.specs.List.{range_with_len, AllPairs}
@@ -10,7 +10,7 @@ use Rattle.clock_terms.specs.declared.change.Change.{Change}
 use Rattle.clock_terms.specs.Requests.{AreApart}
 
 module _ (requests_by : ℕ → List Change) (bidders : ℕ) where
-  -- what holds of each bidder's requests holds of all
+  -- A property of each bidder's requests is one of all requests.
   pub all_joined : (P : Change → Type 0) (a n : ℕ) → ((bidder : ℕ) → a ≤ bidder → bidder < bidders → All P (requests_by bidder)) → a + n ≤ bidders →
       All P (flat_map requests_by (range_with_len a n))
   all_joined P a zero each within = All-nil P
@@ -18,7 +18,7 @@ module _ (requests_by : ℕ → List Change) (bidders : ℕ) where
       All-append P (requests_by a) (flat_map requests_by (range_with_len (a + 1) n)) (each a (omega arith) (omega (arith, within)))
       (all_joined P (a + 1) n (λ bidder from to. each bidder (omega (arith, from)) to) (omega (arith, within)))
 
-  -- no two have one bidder, product and place
+  -- No two requests have the same bidder, product, and index in the chain.
   pub apart_joined : ((bidder : ℕ) → bidder < bidders → All (λ (change : Change). change.bidder ≡ bidder) (requests_by bidder)) →
       ((bidder : ℕ) → bidder < bidders → AllPairs AreApart (requests_by bidder)) →
       (a n : ℕ) → a + n ≤ bidders → AllPairs AreApart (flat_map requests_by (range_with_len a n))
@@ -34,14 +34,14 @@ module _ (requests_by : ℕ → List Change) (bidders : ℕ) where
       AllPairs-append AreApart (requests_by a) rest (apart a (omega (arith, within))) (apart_joined own apart (a + 1) n (omega (arith, within)))
       (λ i d i_in j e j_in bidder product place. omega (arith, mine i d i_in, later j e j_in, bidder))
 
--- a range is longer by its next number
+-- A range that is longer by one ends with its next number.
 range_more : (a n j : ℕ) → a + n ≡ j → range_with_len a (n + 1) ≡ range_with_len a n ++ j ∷ []
 range_more a zero j e = let here : a ≡ j = omega (arith, e) in ap (λ k. k ∷ []) here
 range_more a (suc n) j e =
     let next : suc n + 1 ≡ suc (n + 1) = omega arith in
     ap (range_with_len a) next ∙ ap (λ xs. a ∷ xs) (range_more (a + 1) n j (omega (arith, e)))
 
--- one bidder's requests more
+-- The requests of one more bidder come after the others.
 pub flat_map-range_more : {A : Type 0} (f : ℕ → List A) (n : ℕ) → flat_map f (range_with_len 0 (n + 1)) ≡ flat_map f (range_with_len 0 n) ++ f n
 flat_map-range_more f n =
     ap (flat_map f) (range_more 0 n n (omega arith)) ∙ flat_map-append f (range_with_len 0 n) (n ∷ [])

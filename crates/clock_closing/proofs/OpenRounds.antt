@@ -1,4 +1,5 @@
--- An open round that is in order can be settled, and its result is in order again.
+-- Proves that the requests of an open round in order can be processed, and that demands stay within the limits. From
+-- the checks that each sheet in force has passed.
 use Rattle.std.proofs.Common.{◌≡◌, ℕ, ◌*◌, ◌/◌, ◌<◌, ◌≤◌, List, [], cond, ap, sym, subst, ◌∙◌, arith, get_or, length, All, eq-eqb}
 use Rattle.std.specs.Prelude.{flat_map, IsPermutation}
 use Rattle.std.specs.List.{AllPairs}
@@ -32,11 +33,11 @@ module _ (setup : PublicSetup) (now : OpenRound) (sound : IsOpen setup now) wher
   demands_at : (bidder : ℕ) → bidder < length now.holdings → row_of (grid_of now) bidder ≡ (holding_at now.holdings bidder).demands
   demands_at bidder lt = get_or-map (λ (holding : Holding). holding.demands) now.holdings bidder (record { eligibility = 0; demands = [] }) [] lt
 
-  -- in the first round a sheet may ask for the eligibility
+  -- In round 1, the activity limit is the eligibility.
   first_limit : (round eligibility : ℕ) → round ≡ 1 → activity_limit setup round eligibility ≡ eligibility
   first_limit round eligibility first = ap (λ is. cond is eligibility (eligibility * setup.limit / 100)) (eq-eqb round 1 first)
 
-  -- a grid of rows that are within the limits
+  -- A grid is within the eligibilities if each of its rows is.
   within_by : (grid : List (List ℕ)) → length grid ≡ length now.holdings →
       ((bidder : ℕ) → bidder < length now.holdings → IsRow setup.products (row_of grid bidder)) →
       ((bidder : ℕ) → bidder < length now.holdings → activity setup.products (row_of grid bidder) ≤ (holding_at now.holdings bidder).eligibility) →
@@ -47,14 +48,14 @@ module _ (setup : PublicSetup) (now : OpenRound) (sound : IsOpen setup now) wher
     within = λ bidder lt. omega (arith, within bidder (omega (arith, lt, many)), eligibility_at bidder (omega (arith, lt, many)));
   }
 
-  -- before the round
+  -- The demands before the round are within the eligibilities.
   pub before_within : IsWithinEligibility setup.products (eligibilities_of now) (grid_of now)
   before_within = within_by (grid_of now) (length-map now.holdings _)
       (λ bidder lt. subst (IsRow setup.products) (sym (demands_at bidder lt)) (sound.within bidder lt).row)
       (λ bidder lt. subst (λ (row : List ℕ). activity setup.products row ≤ (holding_at now.holdings bidder).eligibility) (sym (demands_at bidder lt))
       (sound.within bidder lt).within)
 
-  -- what good sheets ask for in the first round
+  -- A bidder's row of the requested demands of round 1.
   asked_row : (bidder : ℕ) → bidder < length now.holdings → row_of (asked_grid setup.products now) bidder
       ≡ asked_demands (length setup.products) (bids_at now.sheets bidder)
   asked_row bidder lt = get_or-map-range_with_len (λ b. asked_demands (length setup.products) (bids_at now.sheets b)) 0
@@ -69,7 +70,7 @@ module _ (setup : PublicSetup) (now : OpenRound) (sound : IsOpen setup now) wher
       (first_limit now.standing.round (holding_at now.holdings bidder).eligibility first)
       (good_sheet_activity setup now.standing.round now.standing.prices (holding_at now.holdings bidder) (bids_at now.sheets bidder) (sound.good bidder lt))))
 
-  -- a bidder's requests in a later round
+  -- The requests of a bidder's sheet in a later round.
   pub changes_at : 2 ≤ now.standing.round → (bidder : ℕ) → bidder < length now.holdings →
       AreChangesOf setup.products now.standing.prices (holding_at now.holdings bidder).demands bidder (requests_by now bidder)
   changes_at later bidder lt =
@@ -79,7 +80,7 @@ module _ (setup : PublicSetup) (now : OpenRound) (sound : IsOpen setup now) wher
   abbrev pub all_requests : List Change
   all_requests = flat_map (requests_by now) (bidder_numbers now)
 
-  -- no two requests have one bidder, product and place
+  -- No two requests have the same bidder, product, and index in the chain.
   pub own_places : 2 ≤ now.standing.round → AllPairs AreApart all_requests
   own_places later =
       apart_joined (requests_by now) (length now.holdings)
@@ -87,7 +88,7 @@ module _ (setup : PublicSetup) (now : OpenRound) (sound : IsOpen setup now) wher
       (requests_by now bidder) (changes_at later bidder lt).all)
       (λ bidder lt. (changes_at later bidder lt).apart) 0 (length now.holdings) (omega arith)
 
-  -- each is made at a price of its product
+  -- Each request is at a price of its product.
   pub priced_requests : 2 ≤ now.standing.round → All (IsWithinPrices now.standing.prices) all_requests
   priced_requests later =
       all_joined (requests_by now) (length now.holdings) (IsWithinPrices now.standing.prices) 0 (length now.holdings)
@@ -96,7 +97,7 @@ module _ (setup : PublicSetup) (now : OpenRound) (sound : IsOpen setup now) wher
       (requests_by now bidder) (changes_at later bidder lt).all)
       (omega arith)
 
-  -- in whatever order, they can be settled
+  -- The requests can be processed in any order.
   pub can_settle : 2 ≤ now.standing.round → (list : List Change) → IsPermutation all_requests list →
       CanSettle (new_board setup.products (eligibilities_of now) (grid_of now)) list
   can_settle later list same =
@@ -114,7 +115,7 @@ module _ (setup : PublicSetup) (now : OpenRound) (sound : IsOpen setup now) wher
     within = before_within;
   }
 
-  -- after a later round
+  -- After a later round, demands are within the eligibilities.
   pub settled_within : 2 ≤ now.standing.round → (list : List Change) → IsPermutation all_requests list →
       IsWithinEligibility setup.products (eligibilities_of now) (settlement setup.products now list).grid
   settled_within later list same =

@@ -1,4 +1,4 @@
--- What is posted is the round of the closing.
+-- Proves that the closing returns what the rules say, from the posting that it has computed and the checks before it.
 use Rattle.std.proofs.Common.{◌≡◌, ℕ, List, Bool, true, false, ◌==◌, refl, ap, sym, subst, ◌∙◌, eq-eqb}
 use Rattle.std.specs.Prelude.{◌↔◌, Option, Some, None, Result, Ok, Err, length, map, IsNone, IsTrue, IfSome, IfOk, IfErr}
 use Rattle.std.proofs.lemmas.Option.{none-some}
@@ -29,11 +29,11 @@ use Rattle.clock_closing.specs.inside.Postings.{AreResults, IsRoundOf, Posts, po
 use Rattle.clock_closing.proofs.Closings.{checks}
 
 module _ (setup : PublicSetup) (now : OpenRound) (increments : Increments) (result : RoundResult) where
-  -- the closing by what is found of the next clock prices
+  -- The closed round, or the fault that a next clock price would be too high.
   abbrev by_limit : Option ℕ → Result ClosedRound CloseFault
   by_limit limit = unless (first_fault (fault_check close_faults.PriceLimit limit)) (closed_round setup now increments result)
 
-  -- the results of a posting and its slips
+  -- The results that a posting and its bidder results make up.
   module _ (posting : Posting) (results : Results)
       (is : IsPosting now.standing.round setup.products now.standing.prices result.grid result.posted increments posting)
       (laws : IsConsistent posting) (sheet : results.closed.sheet ≡ posting.sheet) (next : results.next ≡ posting.next)
@@ -61,7 +61,7 @@ module _ (setup : PublicSetup) (now : OpenRound) (increments : Increments) (resu
       consistent = consistent;
     }
 
-  -- a refusal of the posting
+  -- A refused posting refuses the closing for the same reason.
   posts_told : (limit : Option ℕ) (fault : PostFault) → IsFirstFault post_faults.NoMemory (post_fault limit) fault →
       IsRefusal close_faults.NoMemory (by_limit limit) (told_of_post fault)
   posts_told None (post_faults.PriceLimit product) is = λ other. absurd (none-some _ (is (λ same. cc)))
@@ -74,7 +74,7 @@ module _ (setup : PublicSetup) (now : OpenRound) (increments : Increments) (resu
       IsRefusal close_faults.NoMemory (by_limit (price_limit_fault setup.products result.grid result.posted increments)) (told_of_post fault)
   posts-refused fault is = posts_told (price_limit_fault setup.products result.grid result.posted increments) fault is
 
--- a posting, by what is told of it
+-- A posting or a refusal, from what its call returned.
 pub posts_by : (round : OpenRoundFields) (increments : Increments) (result : RoundResult) (posting : Result Posting PostFault) →
     IfOk posting (IsPosting round.before.standing.round round.setup.products round.before.standing.prices result.grid result.posted increments) →
     IfOk posting IsConsistent →
@@ -83,7 +83,7 @@ pub posts_by : (round : OpenRoundFields) (increments : Increments) (result : Rou
 posts_by round increments result (Ok one) is laws refused = (is, laws)
 posts_by round increments result (Err fault) is laws refused = refused
 
--- the results of a posting of these demands
+-- The results of a posting of these demands.
 module _ (round : OpenRoundFields) (demands : List (List ℕ)) (posting : Result Posting PostFault) where
   pub round-made : (one : Posting) (slips : List Slip) → posting ≡ Ok one → slips ≡ slips_after (public_setup round.setup) round.before demands →
       demands ≡ demands_of slips →
@@ -94,7 +94,7 @@ module _ (round : OpenRoundFields) (demands : List (List ℕ)) (posting : Result
       let both = subst (λ (posted : Result Posting PostFault). Posts round increments result posted) same is in
       posts (public_setup round.setup) round.before increments result one results both.0 both.1 refl refl slips_are demands_are
 
-  -- where nothing is posted
+  -- If there is no posting, there are no results.
   pub round-refused : (fault : PostFault) (told : CloseFault) → posting ≡ Err fault → told ≡ told_of_post fault →
       IsRoundOf round demands posting (Err told)
   round-refused fault told same is_told = λ increments list is.
@@ -113,7 +113,7 @@ module _ (setup : PublicSetup) (now : OpenRound) (round : ℕ) (increments : Inc
       (price_limit_fault setup.products (round_result setup.products now ties).grid (round_result setup.products now ties).posted increments)))
       (closed_round setup now increments (round_result setup.products now ties))
 
-  -- a closing that passes the checks before the tie numbers
+  -- A closing that has passed the checks before the tie-breaking numbers.
   closes-tied : now.standing.ended ≡ false → round ≡ now.standing.round → are_increments (length setup.products) increments ≡ true → (tied : Option TieFault) →
       tie_fault (length now.holdings) (length setup.products) ties ≡ tied → closing setup now round increments ties ≡ by_tests false true true tied
   closes-tied going current within tied found =
@@ -124,7 +124,7 @@ module _ (setup : PublicSetup) (now : OpenRound) (round : ℕ) (increments : Inc
       ∙ ap (λ good. by_tests false true good (tie_fault (length now.holdings) (length setup.products) ties)) within
       ∙ ap (by_tests false true true) found
 
-  -- with good tie numbers
+  -- A closing that has also passed the check of the tie-breaking numbers.
   pub closes-fair : now.standing.ended ≡ false → round ≡ now.standing.round → are_increments (length setup.products) increments ≡ true →
       tie_fault (length now.holdings) (length setup.products) ties ≡ None →
       closing setup now round increments ties ≡ by_tests false true true None

@@ -1,4 +1,5 @@
--- What the closing of an open round leaves is in order.
+-- Proves that the results of a round in order are in order again: demands within limits, next prices in order, and
+-- products that were full stay full. Each for round 1 and for later rounds.
 use Rattle.std.proofs.Common.{◌≡◌, ℕ, zero, suc, ◌+◌, ◌<◌, ◌≤◌, ◌⊎◌, inl, inr, List, Bool, true, false, cond}
 use Rattle.std.proofs.Common.{refl, ap, sym, subst, ◌∙◌, arith, get_or, length, All, eq-eqb, ne_eqb}
 use Rattle.std.specs.Prelude.{None, Any, map, sum_by, IsPermutation}
@@ -35,7 +36,7 @@ use Rattle.clock_posting.proofs.NextPrices.{next_rising, next_within}
 use Rattle.clock_closing.proofs.Sums.{sum_by-lt_sum_by, length-le-sum_by, sum_by-map, map-get_or}
 use Rattle.std.proofs.lemmas.List.Sorted.{All-permutation}
 
--- the result of the first round, and of a later one
+-- The result of round 1; below, that of a later round.
 pub result-first : (products : List Product) (now : OpenRound) (ties : List Tie) → now.standing.round ≡ 1 →
     round_result products now ties ≡ first_result products now
 result-first products now ties e =
@@ -47,13 +48,13 @@ result-later products now ties later =
     ap (λ first. cond first (first_result products now) (later_result products now (requests now ties)))
     (ne_eqb now.standing.round 1 (λ e. omega (arith, e, later)))
 
--- the first round or a later one
+-- A round is the first or a later one.
 pub first_or_later : (round : ℕ) → 1 ≤ round → (round ≡ 1) ⊎ (2 ≤ round)
 first_or_later zero some = absurd (omega (arith, some))
 first_or_later (suc zero) some = inl refl
 first_or_later (suc (suc n)) some = inr (omega arith)
 
--- posted prices of a round: one for each product, from 1 on, between start and clock price
+-- There is a posted price for each product, of one dollar at least, from start-of-round price to clock price.
 pub record ArePosted (products : List Product) (prices : List PricePair) (grid : List (List ℕ)) (posted : List ℕ) (increments : Increments) : Type 0 where
   pub lengths : length posted ≡ length products
   pub positive : All (λ price. 1 ≤ price) posted
@@ -63,7 +64,7 @@ module _ (setup : PublicSetup) (now : OpenRound) (sound : IsOpen setup now) (tie
   later_list : IsPermutation (all_requests setup now sound) (requests now ties)
   later_list = processing_permutes ties (all_requests setup now sound)
 
-  -- every bidder's demands are within its eligibility
+  -- Each bidder's demands are within its eligibility.
   pub result_within : IsWithinEligibility setup.products (eligibilities_of now) (round_result setup.products now ties).grid
   result_within = elim (first_or_later now.standing.round first)
       as (λ _. IsWithinEligibility setup.products (eligibilities_of now) (round_result setup.products now ties).grid) [
@@ -104,7 +105,7 @@ module _ (setup : PublicSetup) (now : OpenRound) (sound : IsOpen setup now) (tie
             (priced_list later) lt);
       }
 
-  -- the prices posted
+  -- The posted prices are in order.
   pub result_posted : (increments : Increments) → (now.standing.round ≡ 1 → now.standing.prices ≡ opening_prices setup.products) →
       ArePosted setup.products now.standing.prices (round_result setup.products now ties).grid (round_result setup.products now ties).posted increments
   result_posted increments opening = elim (first_or_later now.standing.round first)
@@ -115,7 +116,7 @@ module _ (setup : PublicSetup) (now : OpenRound) (sound : IsOpen setup now) (tie
             (sym (result-later setup.products now ties later)) (later_posted increments later)
       ]
 
-  -- in a later round that goes on, some price has risen to the clock price
+  -- In a later round that does not end the auction, some price has risen to the clock price.
   pub result_risen : (increments : Increments) → 2 ≤ now.standing.round → has_ended setup.products (round_result setup.products now ties).grid ≡ false →
       Any IsAtClock (lines_of_round setup.products now.standing.prices (round_result setup.products now ties).grid
       (round_result setup.products now ties).posted increments)
@@ -126,7 +127,7 @@ module _ (setup : PublicSetup) (now : OpenRound) (sound : IsOpen setup now) (tie
       (some_at_clock setup.products now.standing.prices (requests now ties) end.left end.grid increments
       (ap (λ (result : RoundResult). has_ended setup.products result.grid) (sym same) ∙ going))
 
-  -- a product that was sold out stays so
+  -- A product that was full before the round is full after it.
   pub result_supplied : 2 ≤ now.standing.round → (product : ℕ) → supply_of setup.products product ≤ total_of (grid_of now) product →
       supply_of setup.products product ≤ total_of (round_result setup.products now ties).grid product
   result_supplied later product sold =
@@ -137,7 +138,7 @@ module _ (setup : PublicSetup) (now : OpenRound) (sound : IsOpen setup now) (tie
         ap (λ (result : RoundResult). total_of result.grid product) (result-later setup.products now ties later),
       )
 
--- numbers by themselves, since a search reads all that is in scope
+-- These lemmas are about numbers only: a search uses all that is in scope.
 from_one : (next now : ℕ) → next ≡ now + 1 → 1 ≤ next
 from_one next now is = omega (arith, is)
 
@@ -154,7 +155,7 @@ later_bound : (next now products sum more posted : ℕ) → next ≡ now + 1 →
     next + products ≤ 2 + more
 later_bound next now products sum more posted is bound same rises = omega (arith, is, bound, same, rises)
 
--- the next prices of a round that goes on
+-- The next prices of a round that does not end the auction.
 module _ (products : List Product) (now : Standing) (priced : HasSoundPrices products now) (grid : List (List ℕ)) (posted : List ℕ)
     (increments : Increments) (are : ArePosted products now.prices grid posted increments)
     (limits : All IsProduct products) (rise : AreIncrements (length products) increments) (going : has_ended products grid ≡ false)
@@ -177,7 +178,7 @@ module _ (products : List Product) (now : Standing) (priced : HasSoundPrices pro
   rising : All IsRising (map next_pair (lines_of_round products now.prices grid posted increments))
   rising = subst (All IsRising) shown (next_rising products increments posted limit rise limits are.lengths are.positive)
 
-  -- the sum of start prices, taken from the lines
+  -- The sum of the start-of-round prices, from the lines of the round results.
   starts : sum_by (λ (line : Line). line.start) (lines_of_round products now.prices grid posted increments)
       ≡ sum_by (λ (pair : PricePair). pair.start) now.prices
   starts =
@@ -234,7 +235,7 @@ module _ (products : List Product) (now : Standing) (priced : HasSoundPrices pro
         | inr later ↦ later_bound next now.round _ _ _ _ is (priced.bounded later) next_starts (sum_rises later)
       ]
 
-  -- they are in order again
+  -- The next prices are in order.
   pub priced_next : (standing : Standing) → standing.round ≡ now.round + 1 →
       standing.prices ≡ map next_pair (lines_of_round products now.prices grid posted increments) → 1 ≤ now.round → HasSoundPrices products standing
   priced_next standing number prices some =

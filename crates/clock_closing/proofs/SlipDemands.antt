@@ -1,4 +1,4 @@
--- The demands on slips.
+-- Proves that the bidder results have the processed demands of the round.
 use Rattle.std.proofs.Common.{◌≡◌, ℕ, List, [], refl, sym, ◌∙◌, length}
 use Rattle.std.specs.List.{range_with_len}
 use Rattle.std.proofs.lemmas.List.FromFn.{fill_by_all}
@@ -10,7 +10,7 @@ use Rattle.clock_closing.specs.OpenRound.{OpenRound, holding_at}
 use Rattle.clock_closing.specs.Closing.{slip_after, slips_after}
 use Rattle.clock_closing.specs.Results.{demands_of}
 
--- the slips after a round have the round's demands
+-- The demands in the bidder results are those of the round.
 pub slips_demands : (setup : PublicSetup) (now : OpenRound) (grid : List (List ℕ)) → length grid ≡ length now.holdings →
     grid ≡ demands_of (slips_after setup now grid)
 slips_demands setup now grid many =

@@ -1,4 +1,4 @@
--- What the steps of a closing ask for, of a round as its type keeps it.
+-- Proves what each step of a closing requires, from the invariant of an open round.
 use Rattle.std.proofs.Common.{◌≡◌, ℕ, ◌<◌, List, true, false, refl, ap, subst, ◌∙◌, arith, length, All}
 use Rattle.std.specs.Prelude.{None}
 use Rattle.std.proofs.lemmas.List.{length-map}
@@ -19,7 +19,7 @@ use Rattle.clock_closing.specs.Closing.{closing}
 use Rattle.clock_closing.specs.inside.Postings.{posted_now}
 use Rattle.clock_closing.proofs.Posts.{closes-fair}
 
--- what the type keeps, of the value that contracts see
+-- The invariant holds of the value that contracts see.
 pub is_open : {inside round : OpenRoundFields} → inside ≡ round → IsOpenRound inside → IsOpenRound round
 is_open same is = subst IsOpenRound same is
 
@@ -28,24 +28,24 @@ module _ (round : OpenRoundFields) (is : IsOpenRound round) where
     in_range : bidder < length round.before.holdings
     in_range = omega (arith, lt, is.holdings)
 
-    -- each bid in force is for a product
+    -- Each bid in force is for a product of the set-up.
     pub known_bids : All (λ bid. bid.product < length round.setup.products) (bids_at round.before.sheets bidder)
     known_bids =
         (good_sheet_chains (public_setup round.setup) round.before.standing.round round.before.standing.prices
         (holding_at round.before.holdings bidder) (bids_at round.before.sheets bidder) (is.sound.good bidder in_range)).known
 
-    -- they ask for a row of demands
+    -- The requested demands of a sheet are a row: one for each product, within the caps.
     pub asked_row : IsRow round.setup.products (asked_demands (length round.setup.products) (bids_at round.before.sheets bidder))
     asked_row = good_sheet_row (public_setup round.setup) round.before.standing.round round.before.standing.prices
         (holding_at round.before.holdings bidder) (bids_at round.before.sheets bidder) (is.sound.good bidder in_range)
 
-  -- demands within the eligibilities are a grid
+  -- Demands within the eligibilities are a grid.
   pub within_grid : (grid : List (List ℕ)) → IsWithinEligibility round.setup.products (eligibilities_of round.before) grid →
       IsGrid (length round.setup.bidders) (length round.setup.products) grid
   within_grid grid within =
       (within.bidders ∙ length-map round.before.holdings (λ (held : Holding). held.eligibility) ∙ is.holdings, λ k d lt. (within.rows k d lt).each)
 
-  -- with good increments and tie numbers the closing comes to what is posted
+  -- With allowed increments and tie-breaking numbers without a fault, the result of the closing is that of the posting.
   pub closes-good : (increments : Increments) (ties : List Tie) → round.before.standing.ended ≡ false →
       are_increments (length round.setup.products) increments ≡ true →
       tie_fault (length round.setup.bidders) (length round.setup.products) ties ≡ None →
@@ -55,7 +55,7 @@ module _ (round : OpenRoundFields) (is : IsOpenRound round) where
       closes-fair (public_setup round.setup) round.before round.before.standing.round increments ties going refl within
       (ap (λ (n : ℕ). tie_fault n (length round.setup.products) ties) is.holdings ∙ fair)
 
-  -- also where they are tested by what is read of the set-up
+  -- So it is if the checks use equal parts of the set-up.
   pub closes-tested : (setup : SetupFields) (listed : List Product) (increments : Increments) (ties : List Tie) →
       round.before.standing.ended ≡ false → setup ≡ round.setup →
       listed ≡ setup.products → are_increments (length listed) increments ≡ true → tie_fault (length setup.bidders) (length setup.products) ties ≡ None →

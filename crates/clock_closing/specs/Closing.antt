@@ -1,9 +1,10 @@
--- The closing of a round, from what is known before it.
+-- The closing of a round, from all that is known before it. These are the FCC's procedures for
+-- Auction 105; the rules' sections "What is refused", "Bid processing", and "After a round".
 --     requests round ties      all bidders' requests, in the order of processing
---     round_result products round ties      the demands and the posted prices after the round
---     closed_round setup round increments result      the sheet and the slips of the round
---     closing setup round number increments ties      the round that a closing adds, or its first fault
---     closing_now round increments ties      the same of a closing of the current round
+--     round_result products round ties      the processed demands and posted prices of the round
+--     closed_round setup round increments result      the round results and bidder results
+--     closing setup round number increments ties      the round that it adds, or its first fault
+--     closing_now round increments ties      that for the current round
 use Rattle.std.specs.Prelude.{ℕ, List, ◌∷◌, ◌++◌, not, ◌==◌, if◌then◌else◌, Result, length, map, flat_map}
 use Rattle.clock_terms.specs.declared.setup.Product.{Product}
 use Rattle.clock_terms.specs.declared.increments.Increments.{Increments}
@@ -28,35 +29,35 @@ use Rattle.clock_closing.specs.declared.fault.CloseFault.TheVariants as close_fa
 use Rattle.clock_closing.specs.Faults.{fault_check}
 use Rattle.clock_closing.specs.OpenRound.{OpenRound, OpenRoundFields, bidder_numbers, holding_at, bids_at}
 
--- the demands that the sheets in force ask for
+-- The requested demands of all bidders, a row for each, from their sheets in force.
 abbrev pub asked_grid : List Product → OpenRound → List (List ℕ)
 asked_grid products now =
     map (λ bidder. asked_demands (length products) (bids_at now.sheets bidder)) (bidder_numbers now)
 
--- the requests that a bidder's sheet in force stands for
+-- The requests that a bidder's sheet in force makes.
 abbrev pub requests_by : OpenRound → ℕ → List Change
 requests_by now bidder =
     changes_of_sheet now.standing.prices (holding_at now.holdings bidder).demands bidder (bids_at now.sheets bidder)
 
--- all bidders' requests, in the order of processing
+-- All bidders' requests, in the order of processing.
 abbrev pub requests : OpenRound → List Tie → List Change
 requests now ties = processing_list ties (flat_map (requests_by now) (bidder_numbers now))
 
--- what the settling of the requests comes to
+-- Bid processing of these requests: the processed demands, and what is left of each request.
 abbrev pub settlement : List Product → OpenRound → List Change → Progress
 settlement products now changes =
     settled products (map (λ holding. holding.eligibility) now.holdings) changes (map (λ holding. holding.demands) now.holdings)
 
--- the demands and the posted prices of a round
+-- The processed demands of a round, a row for each bidder, and its posted prices.
 pub record RoundResult : Type 0 where
   pub grid : List (List ℕ)
   pub posted : List ℕ
 
--- in the first round the sheets' quantities stand as demands, at the opening prices
+-- Round 1: the quantities bid become the demands, and the posted prices are the opening prices.
 abbrev pub first_result : List Product → OpenRound → RoundResult
 first_result products now = record { grid = asked_grid products now; posted = opening_posted products }
 
--- in a later round the requests are settled: the demands that this leaves, and the posted prices
+-- From round 2: the demands after bid processing, and the posted prices that follow from them.
 abbrev pub later_result : List Product → OpenRound → List Change → RoundResult
 later_result products now changes = record {
   grid = (settlement products now changes).grid;
@@ -64,12 +65,12 @@ later_result products now changes = record {
       (settlement products now changes).grid;
 }
 
--- the demands and the posted prices of the current round
+-- The processed demands and posted prices of the current round.
 abbrev pub round_result : List Product → OpenRound → List Tie → RoundResult
 round_result products now ties =
     if now.standing.round == 1 then first_result products now else later_result products now (requests now ties)
 
--- a bidder's slip: its activity, its next eligibility and its demands after the round
+-- A bidder's results of a round: its processed activity, next eligibility, and processed demands.
 abbrev pub slip_after : PublicSetup → ℕ → ℕ → List ℕ → Slip
 slip_after setup round eligibility demands = record {
   round = round;
@@ -78,19 +79,21 @@ slip_after setup round eligibility demands = record {
   demands = demands;
 }
 
--- the slip of each bidder
+-- The bidder results of all bidders.
 abbrev pub slips_after : PublicSetup → OpenRound → List (List ℕ) → List Slip
 slips_after setup now grid = map (λ bidder. slip_after setup now.standing.round
     (holding_at now.holdings bidder).eligibility (row_of grid bidder)) (bidder_numbers now)
 
--- the sheet and the slips of the round
+-- The round results and bidder results of a round.
 abbrev pub closed_round : PublicSetup → OpenRound → Increments → RoundResult → ClosedRound
 closed_round setup now increments result = record {
   sheet = round_sheet now.standing.round setup.products now.standing.prices result.grid result.posted increments;
   slips = slips_after setup now result.grid;
 }
 
--- the round that a closing adds, or the first fault: ended, another round, bad increments or ties, a price too high
+-- The round that a closing adds, or its first fault, in this order: the auction has ended; it is
+-- for another round than the current one; an increment is not allowed; the tie-breaking numbers
+-- have a fault; a next clock price would be too high. The order is our own.
 abbrev pub closing : PublicSetup → OpenRound → ℕ → Increments → List Tie → Result ClosedRound CloseFault
 closing setup now round increments ties = let result = round_result setup.products now ties in
     unless (first_fault ((close_faults.Ended, not now.standing.ended)
@@ -100,6 +103,6 @@ closing setup now round increments ties = let result = round_result setup.produc
     ++ fault_check close_faults.PriceLimit (price_limit_fault setup.products result.grid result.posted increments)))
     (closed_round setup now increments result)
 
--- the round that the closing of an open round adds, or its first fault
+-- The round that a closing of the current round adds, or its first fault.
 abbrev pub closing_now : OpenRoundFields → Increments → List Tie → Result ClosedRound CloseFault
 closing_now round increments ties = closing (public_setup round.setup) round.before round.before.standing.round increments ties

@@ -1,11 +1,11 @@
--- A round that is not closed yet, as it stands before its closing.
---     OpenRound      where the auction stands, what each bidder holds, and the sheets in force
---     holding_at holdings bidder, bids_at sheets bidder      what is held, and the bids in force
---     IsWithinLimits products holding      a bidder's demands are within the caps and its eligibility
---     HasSoundPrices products now      the prices of a round that goes on
---     IsOpen setup now      an open round is in order
+-- The input of a closing: a round before it is closed.
+--     OpenRound      the state, each bidder's eligibility and demands, the sheets in force
+--     holding_at holdings bidder, bids_at sheets bidder      one bidder's, from these
+--     IsWithinLimits products holding      demands within the caps, and activity within eligibility
+--     HasSoundPrices products now      the prices of the current round are in order
+--     IsOpen setup now      bidders within limits, prices in order, sheets that pass the checks
 --     OpenRoundFields, open_at setup round ..      what contracts see of an open round
---     IsOpenRound round      what the type of an open round keeps
+--     IsOpenRound round      the invariant of its type
 use Rattle.std.specs.Prelude.{◌≡◌, ℕ, ◌+◌, ◌<◌, ◌≤◌, List, [], false, Option, None, unwrap_or, length, sum_by, slice_index_or, All}
 use Rattle.std.specs.List.{range_with_len}
 use Rattle.clock_money.specs.Price.{highest_price}
@@ -20,31 +20,35 @@ use Rattle.clock_posting.specs.Posting.{IsRising}
 use Rattle.clock_closing.specs.Standing.{Standing}
 use Rattle.clock_closing.specs.Holdings.{Holding, holdings_of}
 
--- what a closing goes by: where the auction stands, what each bidder holds, and each bidder's sheet in force
+-- The input of a closing: the state of the auction, each bidder's eligibility and processed
+-- demands, and each bidder's sheet in force.
 pub record OpenRound : Type 0 where
   pub standing : Standing
   pub holdings : List Holding
   pub sheets : List (Option (List Bid))
 
--- the number of a bidder, for each bidder
+-- The numbers of all bidders, from 0.
 abbrev pub bidder_numbers : OpenRound → List ℕ
 bidder_numbers now = range_with_len 0 (length now.holdings)
 
--- what a bidder holds
+-- A bidder's eligibility and processed demands.
 abbrev pub holding_at : List Holding → ℕ → Holding
 holding_at holdings bidder = slice_index_or holdings bidder (record { eligibility = 0; demands = [] })
 
--- a bidder's bids in force; no sheet is the same as an empty one
+-- The bids of a bidder's sheet in force. No sheet counts as an empty one.
 abbrev pub bids_at : List (Option (List Bid)) → ℕ → List Bid
 bids_at sheets bidder = unwrap_or (slice_index_or sheets bidder None) []
 
--- a demand for each product, none above its cap, and the activity within the eligibility, which is at most 10^12
+-- There is a demand for each product, none above its cap. The activity is within the eligibility,
+-- and that is at most 10^12 bidding units.
 pub record IsWithinLimits (products : List Product) (holding : Holding) : Type 0 where
   pub row : IsRow products holding.demands
   pub within : activity products holding.demands ≤ holding.eligibility
   pub most : holding.eligibility ≤ most_eligibility
 
--- a round from 1 on, with prices in order; from round 2 on they rise, and each round has raised some start price
+-- Each product has prices: a start-of-round price from one dollar to the highest price, and a clock
+-- price not below it. From round 2, the clock price is higher, and each round before has raised the
+-- sum of the start-of-round prices by a dollar at least.
 pub record HasSoundPrices (products : List Product) (now : Standing) : Type 0 where
   pub numbered : 1 ≤ now.round
   pub pairs : length now.prices ≡ length products
@@ -54,7 +58,8 @@ pub record HasSoundPrices (products : List Product) (now : Standing) : Type 0 wh
   pub rising : 2 ≤ now.round → All IsRising now.prices
   pub bounded : 2 ≤ now.round → now.round + length products ≤ 2 + sum_by (λ pair. pair.start) now.prices
 
--- a set-up's open round: bidders within limits, prices in order, and a good sheet of each bidder, as an empty one is
+-- An open round is in order: the set-up is within its limits, each bidder is, the prices are in
+-- order, and each sheet in force passes the checks.
 pub record IsOpen (setup : PublicSetup) (now : OpenRound) : Type 0 where
   pub limits : All IsProduct setup.products
   pub few_products : length setup.products ≤ most_products
@@ -64,19 +69,21 @@ pub record IsOpen (setup : PublicSetup) (now : OpenRound) : Type 0 where
   pub good : (bidder : ℕ) → bidder < length now.holdings →
       IsGoodSheet setup now.standing.round now.standing.prices (holding_at now.holdings bidder) (bids_at now.sheets bidder)
 
--- a set-up, and a round of its auction before its closing
+-- In contracts, an open round is a set-up, and the input of its closing.
 pub record OpenRoundFields : Type 0 where
   pub setup : SetupFields
   pub before : OpenRound
 
--- a round of a set-up that goes on, at these prices, with what is held and the sheets in force
+-- An open round of a set-up, from the current round, its prices, each bidder's eligibility and
+-- demands, and the sheets in force. The auction has not ended.
 abbrev pub open_at : SetupFields → ℕ → List PricePair → List ℕ → List (List ℕ) → List (Option (List Bid)) → OpenRoundFields
 open_at setup round prices eligibilities demands sheets = record {
   setup = setup;
   before = record { standing = record { ended = false; round = round; prices = prices }; holdings = holdings_of eligibilities demands; sheets = sheets };
 }
 
--- a holding and a sheet or none for each bidder, a round in order, and in round 1 the opening prices
+-- Each bidder has an entry in both lists, the round is in order, and round 1 has the opening
+-- prices.
 pub record IsOpenRound (round : OpenRoundFields) : Type 0 where
   pub holdings : length round.before.holdings ≡ length round.setup.bidders
   pub sheets : length round.before.sheets ≡ length round.setup.bidders

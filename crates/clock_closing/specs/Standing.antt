@@ -1,8 +1,9 @@
--- Where an auction stands before a round, which everyone knows.
+-- The state of an auction that everyone knows.
 use Rattle.std.specs.Prelude.{ℕ, List, Bool}
 use Rattle.clock_terms.specs.declared.prices.PricePair.{PricePair}
 
--- where the auction stands: whether it has ended, the current round, and the prices of that round
+-- Whether the auction has ended, the current round, and the prices of that round: start-of-round
+-- price and clock price for each product.
 pub record Standing : Type 0 where
   pub ended : Bool
   pub round : ℕ

@@ -7,55 +7,56 @@ use clock_posting::RoundSheet;
 use clock_terms::{Grid, Increments, KeptRow, Prices};
 use std::marker::Model;
 
-/// What a round leaves a bidder with: its slip.
+/// The results of one bidder after a round.
 #[derive(Drop)]
 pub struct Slip {
-    /// The number of the round.
+    /// The round, from 1.
     pub round: u64,
-    /// The bidding units of the demands.
+    /// The processed activity, in bidding units.
     pub activity: u64,
-    /// The eligibility, in bidding units, for the next round.
+    /// The eligibility for the next round, in bidding units.
     pub eligibility: u64,
-    /// The demand for each product, in blocks.
+    /// The processed demand for each product, in blocks.
     pub demands: KeptRow,
 }
 
-/// A slip for each bidder.
+/// Bidder results, one per bidder in the order of the set-up.
 pub type Slips = Items<Slip>;
 
-/// A closed round: its sheet, and the slip of each bidder.
+/// A closed round: the round results, and the results of each bidder.
 #[derive(Drop)]
 pub struct ClosedRound {
-    /// What everyone may see of the round.
+    /// The round results, for everyone.
     pub sheet: RoundSheet,
-    /// What each bidder was left with, in the order of the set-up.
+    /// The bidder results, each for its bidder only.
     pub slips: Slips,
 }
 
-/// What a closing leaves: the closed round, the prices of the next one, and all demands.
+/// What a closing produces.
 #[derive(Drop)]
 pub struct Results {
-    /// The sheet and the slips of the round.
+    /// The round results and the bidder results.
     pub closed: ClosedRound,
-    /// The prices of the next round, or none exactly where the auction has ended.
+    /// The prices of the next round, or `None` if the auction has ended.
     pub next: Option<Prices>,
-    /// The demands on the slips, for quick reading in the next round.
+    /// The processed demands of the bidder results, one row per bidder, for quick reading in the
+    /// next round.
     pub demands: Grid,
 }
 
-/// A closing that is accepted and not made yet.
+/// A closing that is accepted, but not yet in effect.
 ///
-/// Contracts see the round, the increments and the tie numbers that were asked for, and the round that the closing
-/// adds.
+/// In contracts, it is the round, the increments, and the tie-breaking numbers of the request, and
+/// the round that it adds.
 #[derive(Drop)]
 pub struct Prepared {
-    /// The round that is closed.
+    /// The round that it closes.
     pub round: u64,
-    /// By how many percent it raises prices.
+    /// The increments for the next round, in percent.
     pub increments: Increments,
-    /// The tie numbers that it goes by.
+    /// The tie-breaking numbers of this round.
     pub ties: Ties,
-    /// What it leaves.
+    /// What it produces.
     pub results: Results,
 }
 

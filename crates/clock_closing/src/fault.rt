@@ -7,15 +7,16 @@ use clock_order::TieFault;
 use clock_posting::PostFault;
 use thiserror::Error;
 
-/// Why a round is not closed: the first of these that applies, but for want of memory, which may come at any point.
+/// Why a closing is refused: the first of these that applies. `NoMemory` may replace any of them.
 ///
 /// - `Ended`: the auction has ended.
-/// - `WrongRound`: the closing is for another round than the current one, which is told.
-/// - `Increment`: an increment is not 1 to 50 percent, or a list has not one for each product.
-/// - `Tie`: the tie numbers have this fault.
+/// - `WrongRound`: the closing is not for the current round, whose number is given.
+/// - `Increment`: an increment is not 1 to 50 percent, or there is not one for each product.
+/// - `Tie`: the tie-breaking numbers have this fault.
 /// - `PriceLimit`: the next clock price of this product would be above the highest price.
-/// - `NoMemory`: there was no memory.
-// They are described here, since `rt plant` takes a comment above a case for its name.
+/// - `NoMemory`: out of memory.
+// The cases are described above the enum because `rt plant` takes a comment above a case for its
+// name.
 #[derive(Clone, Copy, Debug, PartialEq, Eq, Error)]
 pub enum CloseFault {
     #[error("the auction has ended")]

@@ -1,7 +1,8 @@
-//! The closing of a round: from what stands before it to its sheet, its slips and the prices of the next round.
+//! The closing of a round: its bids are processed, and give the round results, the bidder results,
+//! and the prices of the next round.
 //!
-//! An [`OpenRound`] has all that the closing of a round goes by, and [`OpenRound::close`] settles it. What came before
-//! is no matter here: neither earlier rounds, nor who put which sheet when.
+//! An [`OpenRound`] is the whole input of a closing, and [`OpenRound::close`] computes it. It does
+//! not depend on earlier rounds, or on who submitted which sheet when.
 #![tactic(auto)]
 
 mod closed_round;

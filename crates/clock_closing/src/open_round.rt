@@ -19,23 +19,24 @@ use clock_terms::{Amounts, Grid, Increments, Prices, Row, Setup, next_eligibilit
 use std::alloc::Global;
 use std::marker::Model;
 
-/// A round of an auction that goes on, with all that its closing goes by (ascending clock auction, the FCC's procedures
-/// for Auction 105). All of it is in order.
+/// An open round, with all that its closing depends on, after the FCC's procedures for Auction 105.
+/// Bidders are within their limits, prices in order, and sheets pass the checks.
 ///
-/// Contracts see the set-up, and where the auction stands, what is held and the sheets.
+/// In contracts, it is the set-up, the state of the auction, each bidder's eligibility and demands,
+/// and the sheets in force.
 #[derive(Drop)]
 pub struct OpenRound<'a> {
     /// The set-up of the auction.
     pub setup: &'a Setup,
-    /// The number of the round.
+    /// The current round, from 1.
     pub round: u64,
-    /// A pair of prices for each product.
+    /// The start-of-round price and clock price of each product, in whole dollars.
     pub prices: &'a Prices,
     /// The eligibility of each bidder, in bidding units.
     pub eligibilities: &'a Amounts,
-    /// A row of demands for each bidder, in blocks.
+    /// The processed demands before this round, one row per bidder, in blocks.
     pub demands: &'a Grid,
-    /// The sheet in force, or none, of each bidder.
+    /// The sheet in force of each bidder, if it has one.
     pub sheets: &'a [Option<Sheet>],
 }
 
@@ -49,13 +50,17 @@ impl<'a> Model for OpenRound<'a> {
 }
 
 impl<'a> OpenRound<'a> {
-    /// Closes the round: settles it by a processor, and makes its sheet, its slips and the next prices. An increment is
-    /// a percentage from 1 to 50; there is one for all products, or one for each. A grid that is no longer needed may
-    /// be lent: the demands are then settled in its memory.
+    /// Closes the round: processes the bids with `processor`, and computes the round results, the
+    /// bidder results, and the next prices. An increment is a percentage from 1 to 50, one for all
+    /// products or one for each. `old` may have a grid that is no longer needed. Its memory is then
+    /// reused for the demands.
     ///
-    /// The refusals, in this order: an increment is not 1 to 50, or the list has not one for each product; the tie
-    /// numbers have a fault; the auction would go on, and a product can have no next clock price. Want of memory may
-    /// come in place of any answer.
+    /// Errors, in this order:
+    /// - an increment is not 1 to 50, or there is not one for each product;
+    /// - the first fault of the tie-breaking numbers;
+    /// - the auction would continue, and a next clock price would be too high.
+    ///
+    /// May return `NoMemory`, which then replaces any other result.
     pub fn close<P: Processor>(
         &self,
         alloc: Global,
@@ -84,8 +89,8 @@ impl<'a> OpenRound<'a> {
         })
     }
 
-    /// What the round comes to. In the first round the sheets' quantities stand as demands, and in a later one all
-    /// bidders' requests are settled in their order.
+    /// Computes what the closing produces. In round 1 the quantities bid become the demands. In a
+    /// later round all bidders' requests are processed in order. Requires allowed increments.
     fn results<P: Processor>(
         &self,
         alloc: Global,
@@ -117,7 +122,7 @@ impl<'a> OpenRound<'a> {
         self.with_slips(alloc, posting, settled.into_grid())
     }
 
-    /// The demands that the sheets in force ask for. No sheet is the same as an empty one.
+    /// The requested demands, one row per bidder, in blocks. No sheet counts as an empty one.
     fn asked_grid(&self, alloc: Global) -> Result<Grid, NoMemory>
         ensures { IfOk result (λ grid. grid ≡ rules.asked_grid self.now.setup.products self.now.before) }
     {
@@ -129,7 +134,7 @@ impl<'a> OpenRound<'a> {
         Ok(Grid::of_rows(alloc, self.setup, rows)?)
     }
 
-    /// All bidders' requests in the order of processing.
+    /// All bidders' requests, in the order of processing. Requires round 2 or later.
     fn requests(&self, alloc: Global, ties: &Ties) -> Result<Changes, NoMemory>
         requires { 2 ≤ self.now.before.standing.round }
         ensures ordered { IfOk result (λ list. list ≡ rules.requests self.now.before ties.now) }
@@ -150,8 +155,8 @@ impl<'a> OpenRound<'a> {
         ordered(alloc, &changes, ties)
     }
 
-    /// The demands that the settling of these requests leaves, and what is left of each. They are settled in the memory
-    /// of a grid that is no longer needed, where there is one.
+    /// Processes these requests: the demands afterward, and what is left of each request. Reuses
+    /// the memory of `old`, if there is one. Requires round 2 or later, and all bidders' requests.
     fn settled<P: Processor>(
         &self,
         alloc: Global,
@@ -174,14 +179,15 @@ impl<'a> OpenRound<'a> {
         processor.settle(alloc, board, requests)
     }
 
-    /// The demands that are held, in the memory of a grid that is no longer needed, where there is one.
+    /// A copy of the demands before the round, in the memory of `old`, if there is one.
     fn grid(&self, alloc: Global, old: &mut Option<Grid>) -> Result<Grid, NoMemory>
         ensures { IfOk result (λ grid. grid ≡ grid_of self.now.before) }
     {
         self.demands.copy_over(alloc, old.take())
     }
 
-    /// What a posting and these demands make of the round, or why there is no posting.
+    /// Adds the bidder results to a posting of these demands, or returns its error. Requires
+    /// demands within the eligibilities.
     fn with_slips(
         &self,
         alloc: Global,
@@ -200,7 +206,8 @@ impl<'a> OpenRound<'a> {
         })
     }
 
-    /// Each bidder's slip after a round with these demands.
+    /// The bidder results after a round with these demands, one per bidder. Requires demands within
+    /// the eligibilities.
     fn slips(&self, alloc: Global, demands: &Grid) -> Result<Slips, NoMemory>
         requires { IsWithinEligibility self.now.setup.products (eligibilities_of self.now.before) demands.now }
         ensures slips { IfOk result (λ slips. slips ≡
@@ -214,7 +221,8 @@ impl<'a> OpenRound<'a> {
         Ok(Slips::from_vec(slips))
     }
 
-    /// A bidder's slip after a round that leaves it these demands.
+    /// A bidder's results after a round with these demands. Requires demands within its
+    /// eligibility.
     fn slip_after(&self, alloc: Global, bidder: u32, demands: &Row) -> Result<Slip, NoMemory>
         requires bidder { bidder < length self.now.setup.bidders }
         requires row { IsRow self.now.setup.products demands.now }
@@ -234,7 +242,7 @@ impl<'a> OpenRound<'a> {
         })
     }
 
-    /// What a bidder holds.
+    /// A bidder's eligibility and demands before the round. Requires a bidder of the set-up.
     fn own(&self, bidder: u32) -> Own<'a>
         requires { bidder < length self.now.setup.bidders }
         ensures round { result.round ≡ self.now.before.standing.round }
@@ -247,7 +255,7 @@ impl<'a> OpenRound<'a> {
         }
     }
 
-    /// A bidder's sheet in force, if any.
+    /// A bidder's sheet in force, if it has one. Requires a bidder of the set-up.
     fn sheet(&self, bidder: u32) -> Option<&'a Sheet>
         requires { bidder < length self.now.setup.bidders }
         ensures { option_copied result ≡ slice_index_or self.now.before.sheets bidder None }
@@ -255,7 +263,7 @@ impl<'a> OpenRound<'a> {
         self.sheets[bidder as usize].as_ref()
     }
 
-    /// How many bidders there are.
+    /// The number of bidders.
     fn bidders(&self) -> u32
         ensures each { result ≡ length self.now.setup.bidders }
         ensures held { result ≡ length self.now.before.holdings }
@@ -264,7 +272,7 @@ impl<'a> OpenRound<'a> {
     }
 }
 
-/// Equal increments.
+/// Copies increments.
 fn copy_of(alloc: Global, increments: &Increments) -> Result<Increments, NoMemory>
     ensures { IfOk result (λ copy. copy ≡ increments.now) }
 {

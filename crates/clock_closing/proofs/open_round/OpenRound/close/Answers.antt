@@ -18,7 +18,7 @@ results-requires g c =
     rw c.in_ok-increments.ensures
     (increments_of_test _ c.args.increments.now (sym (rw (c.as_slice.ensures, products) at c.if-not-are_within.ensures)))
 
--- what is settled is what was asked for
+-- A closing with copies of its arguments is that closing.
 settled_by : (now : OpenRoundFields) (increments copy : Increments) (ties listed : List Tie) → copy ≡ increments → listed ≡ ties →
     closing_now now increments ties ≡ posted_now now increments ties → closing_now now increments ties ≡ posted_now now copy listed
 settled_by now increments copy ties listed copied list good =

@@ -10,7 +10,7 @@ use Rattle.clock_closing.proofs.RoundResults.{result-first, result-later}
 use Rattle.clock_closing.proofs.Steps.{is_open, within_grid}
 use Rattle.clock_closing.proofs.open_round.OpenRound.results.Goals as goal
 
--- a round that is not the first is a later one
+-- A round that is not round 1 is a later one.
 later_by : (inside : OpenRoundFields) → IsOpenRound inside → inside.before.standing.round ≢ 1 → 2 ≤ inside.before.standing.round
 later_by inside is other = omega (arith, is.sound.priced.numbered, other)
 

@@ -15,7 +15,7 @@ use Rattle.clock_closing.proofs.OpenRounds.{before_within, can_settle}
 use Rattle.clock_closing.proofs.Steps.{is_open}
 use Rattle.clock_closing.proofs.open_round.OpenRound.settled.Goals as goal
 
--- a board of the lists that are lent is that of what is held
+-- The board of the borrowed lists is the board of each bidder's eligibility and demands.
 module _ (setup : SetupFields) (number : ℕ) (prices : List PricePair) (eligibilities : List ℕ) (demands : List (List ℕ)) (sheets : List (Option (List Bid)))
     (many : length demands ≡ length eligibilities) where
   held_board : (round : OpenRoundFields) (board : BoardFields) (grid : List (List ℕ)) → open_at setup number prices eligibilities demands sheets ≡ round →
