@@ -1,4 +1,4 @@
--- Posted prices, sheets and price limits of small rounds, computed from their definitions.
+-- Posted prices, round results, and price limits of small rounds, computed from their definitions.
 use Rattle.std.specs.Prelude.{◌≡◌, ℕ, List, [], ◌∷◌, Option, Some, None, true, false, refl}
 use Rattle.clock_terms.specs.declared.increments.Increments.TheVariants.{Single, PerProduct}
 use Rattle.clock_terms.specs.declared.setup.Product.{Product}
@@ -11,11 +11,11 @@ use Rattle.clock_posting.specs.declared.sheet.Line.{Line}
 use Rattle.clock_posting.specs.Posting.{opening_posted, price_limit_fault, round_sheet}
 use Rattle.clock_posting.specs.PostedPrice.{posted_prices}
 
--- the second round of a product that opened at 100, with an increment of 10 percent
+-- Round 2 of a product with an opening price of 100 and an increment of 10 percent.
 abbrev second : PricePair
 second = record { start = 100; clock = 110 }
 
--- X and Y hold 2 and 1 of A; Y's drop of 1 at 100 is applied
+-- Before the round, X demands 2 of A, and Y 1. Y's reduction by 1, at 100, is applied.
 abbrev posted_of_one : ℕ → ℕ → List (List ℕ) → List ℕ
 posted_of_one price left grid =
     posted_prices one_product.products (second ∷ []) (request Reduction 1 0 0 1 100 ∷ request Reduction 0 0 0 2 price ∷ []) (0 ∷ left ∷ []) grid
@@ -34,7 +34,7 @@ the_highest_of_two_reductions_is_posted = refl
 no_reduction_posts_the_start_price : posted_prices one_product.products (second ∷ []) [] [] ((1 ∷ []) ∷ (1 ∷ []) ∷ []) ≡ 100 ∷ []
 no_reduction_posts_the_start_price = refl
 
--- Y's reduction of A has room only once X's increase was applied, and counts with its own price
+-- Y's reduction of A has room only after X's increase was applied, and counts with its own price.
 abbrev in_turn : List Change
 in_turn = request Reduction 1 0 0 1 102 ∷ request Increase 0 0 0 1 104 ∷ request Reduction 0 1 0 1 106 ∷ []
 
@@ -43,7 +43,7 @@ kept_reduction_counts_with_its_own_price :
     ≡ 102 ∷ 106 ∷ []
 kept_reduction_counts_with_its_own_price = refl
 
--- 1 block of A and 3 of B are demanded, of a supply of 2 each; Y's drop has no room
+-- The aggregate demand is 1 of A and 3 of B, with supplies of 2. Y's reduction has no room.
 abbrev goes_on : List (List ℕ)
 goes_on = (0 ∷ 2 ∷ []) ∷ (1 ∷ 0 ∷ []) ∷ (0 ∷ 1 ∷ []) ∷ []
 
@@ -70,7 +70,7 @@ highest_price_cannot_rise = refl
 highest_price_may_be_the_last : price_limit_fault one_product.products ((1 ∷ []) ∷ (1 ∷ []) ∷ []) (1000000000000 ∷ []) (Single 1) ≡ None
 highest_price_may_be_the_last = refl
 
--- A and B with granules of 25 and 1 dollars
+-- A and B with granules of 25 dollars and 1 dollar.
 abbrev granules : List Product
 granules = record (two_blocks (65 ∷ [])) { granule = 25 } ∷ record (two_blocks (66 ∷ [])) { granule = 1 } ∷ []
 

@@ -1,4 +1,5 @@
--- Which products have excess demand.
+-- Proves that comparing the aggregate demand with the supply read from the set-up decides which products have excess
+-- demand.
 use Rattle.std.proofs.Common.{◌≡◌, ℕ, ◌<◌, ◌≤◌, Bool, true, false, List, length, get_or, sym, ap, ◌∙◌, arith, ltb, lt-ltb}
 use Rattle.std.specs.Prelude.{if◌then◌else◌}
 use Rattle.std.proofs.lemmas.Bool.{le-ltb}
@@ -11,18 +12,18 @@ use Rattle.clock_terms.specs.Demands.{total_of}
 use Rattle.clock_posting.specs.Posting.{has_excess}
 use Rattle.clock_posting.specs.inside.Parts.{least_price}
 
--- the supply of the product that was read at a place
+-- The supply of a product that was read from the set-up.
 pub supply_read : (products : List Product) (place : ℕ) (product : Product) → place < length products →
     product ≡ get_or products place product → supply_of products place ≡ product.supply
 supply_read products place product below is = ap (λ p. p.supply) (sym (get_or_read products place product below is no_product))
 
--- its total is above its supply
+-- A product has excess demand if its aggregate demand is above the supply that was read.
 pub has_excess_at : (products : List Product) (grid : List (List ℕ)) (place : ℕ) (product : Product) → place < length products →
     product ≡ get_or products place product → product.supply < total_of grid place → has_excess products grid place ≡ true
 has_excess_at products grid place product below is above =
     ap (λ supply. ltb supply (total_of grid place)) (supply_read products place product below is) ∙ lt-ltb product.supply (total_of grid place) above
 
--- the least price of a product whose supply and prices were read
+-- The least posted price of a product whose supply and prices were read.
 module _ (products : List Product) (prices : List PricePair) (grid : List (List ℕ)) (place : ℕ) (product : Product) (pair : PricePair)
     (below : place < length products) (each : length prices ≡ length products) (is : product ≡ get_or products place product)
     (are : pair ≡ get_or prices place pair) where

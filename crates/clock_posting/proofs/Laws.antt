@@ -1,4 +1,4 @@
--- The laws that each posting keeps.
+-- Proves the laws of every posting, line by line of the round results.
 use Rattle.std.proofs.Common.{◌≡◌, ℕ, ◌<◌, ◌≤◌, Bool, true, false, List, length, get_or, map, Option, None, refl, ap, sym, ◌∙◌, arith, zero-add}
 use Rattle.std.specs.Prelude.{◌↔◌, All, IsNone, IsTrue, IfSome, Some, if◌then◌else◌}
 use Rattle.std.specs.List.{range_with_len}
@@ -19,18 +19,18 @@ use Rattle.clock_posting.specs.Posting.{next_pair, IsBetween, IsRising, IsPostin
 use Rattle.clock_posting.specs.inside.RoundEnd.{HasClocks, IsRoundEnd}
 use Rattle.clock_posting.proofs.Ranges.{all_in_range}
 
--- there is no next round exactly where the auction has ended
+-- There are no next prices if and only if the auction has ended.
 none_if_ended : (ended : Bool) (next : List PricePair) → IsNone (if ended then None else Some next) ↔ IsTrue ended
 none_if_ended true next = (λ _. refl, λ _. refl)
 none_if_ended false next = (λ h. cc, λ h. cc)
 
--- what holds of the next prices where the auction goes on
+-- A property that next prices have if the auction continues.
 pub some_if_going_on : (ended : Bool) (next : List PricePair) (P : List PricePair → Type 0) → (ended ≡ false → P next) →
     IfSome (if ended then None else Some next) P
 some_if_going_on true next P holds = tt
 some_if_going_on false next P holds = holds refl
 
--- what a line shows of the next prices, where there are none and where there are some
+-- The next clock price in a line, without next prices; below, with them.
 pub none_shown : (ended : Bool) (pairs : List PricePair) (clock : Option ℕ) → None ≡ (if ended then None else Some pairs) →
     None ≡ (if ended then None else clock)
 none_shown true pairs clock is = refl
@@ -41,13 +41,13 @@ pub some_shown : (ended : Bool) (pairs prices : List PricePair) (clock : Option 
 some_shown true pairs prices clock price is shown = cc
 some_shown false pairs prices clock price is shown = sym shown
 
--- there are prices for each product
+-- There are next prices for each product.
 pub clocks_each : (products : List Product) (increments : Increments) (posted : List ℕ) (prices : List PricePair) →
     HasClocks products increments posted prices → length products ≡ length prices
 clocks_each products increments posted prices has =
     sym (length-map-range_with_len (next_clock products increments posted) 0 (length products)) ∙ ap length has ∙ length-map prices _
 
--- the clock price that the next prices say of a product
+-- A product's clock price in the next prices is its next clock price.
 pub clock_of : (products : List Product) (increments : Increments) (posted : List ℕ) (prices : List PricePair) (k : ℕ) → k < length products →
     HasClocks products increments posted prices → next_clock products increments posted k ≡ Some (prices_at prices k).clock
 clock_of products increments posted prices k below has =
@@ -57,13 +57,13 @@ clock_of products increments posted prices k below has =
     ∙ get_or-map (λ (pair : PricePair). Some pair.clock) prices k (record { start = 0; clock = 0 }) None (omega (arith, below, long))
 
 module _ (products : List Product) (prices : List PricePair) (grid : List (List ℕ)) (posted : List ℕ) (increments : Increments) where
-  -- the lines show the next prices
+  -- The next prices are those of the lines.
   pub lines_show : has_ended products grid ≡ false →
       next_prices products increments posted ≡ map next_pair (lines_of_round products prices grid posted increments)
   lines_show goes_on =
       sym (map-map next_pair (sheet_line products prices grid posted increments) (range_with_len 0 (length products)) ∙ rw goes_on)
 
-  -- each line of a round
+  -- A property of each product's line is one of all lines.
   pub lines_between : ((k : ℕ) → k < length products → IsBetween (sheet_line products prices grid posted increments k)) →
       All IsBetween (lines_of_round products prices grid posted increments)
   lines_between between =
@@ -80,7 +80,7 @@ module _ (products : List Product) (prices : List PricePair) (grid : List (List 
     rising = rising;
   }
 
--- in the first round all three prices of a product are its opening price
+-- In round 1 the posted price is from start-of-round price to clock price: all three are the opening price.
 pub opening_between : (products : List Product) (grid : List (List ℕ)) (increments : Increments) (k : ℕ) → k < length products →
     IsBetween (sheet_line products (opening_prices products) grid (opening_posted products) increments k)
 opening_between products grid increments k below =
@@ -94,7 +94,7 @@ either : (test : Bool) (price clock start : ℕ) → price ≡ clock → price �
 either true price clock start top low = top
 either false price clock start top low = low
 
--- at opening prices the least prices are those that are posted
+-- In round 1 the least posted prices are the posted prices.
 pub opening_least : (products listed : List Product) (prices : List PricePair) (grid : List (List ℕ)) (posted : List ℕ) → listed ≡ products →
     prices ≡ opening_prices products → posted ≡ map (least_price listed prices grid) (range_with_len 0 (length listed)) →
     posted ≡ opening_posted products
@@ -109,7 +109,7 @@ opening_least products listed prices grid posted same opening are =
     either (has_excess products grid k) (get_or (opening_posted products) k 0) (prices_at (opening_prices products) k).clock
     (prices_at (opening_prices products) k).start (price ∙ sym (ap (λ (p : PricePair). p.clock) pair)) (price ∙ sym (ap (λ (p : PricePair). p.start) pair))))
 
--- what the first round has come to
+-- The input of round 1's posting fits together.
 pub first_round_end : (products : List Product) (grid : List (List ℕ)) (increments : Increments) → All IsProduct products →
     All (λ row. length row ≡ length products) grid → AreIncrements (length products) increments →
     IsRoundEnd products (opening_prices products) grid (opening_posted products) increments
@@ -122,7 +122,7 @@ first_round_end products grid increments limits rows are = record {
   between = λ k below. opening_between products grid increments k below;
 }
 
--- opening prices are at least a dollar
+-- Opening prices are one dollar at least.
 pub opening_dollars : (products : List Product) → All IsProduct products → All (λ price. 1 ≤ price) (opening_posted products)
 opening_dollars products limits =
     All-map (λ price. 1 ≤ price) (λ product. product.opening) products

@@ -1,4 +1,4 @@
--- The next prices, where no product is at the price limit.
+-- Proves that next prices rise and are not too high if no product is at the price limit, product by product.
 use Rattle.std.proofs.Common.{◌≡◌, ℕ, ◌+◌, ◌<◌, ◌≤◌, List, [], ◌∷◌, Bool, true, false, cond, length, get_or, refl, ap, sym, ◌∙◌, arith, zero-add, All}
 use Rattle.std.specs.Prelude.{Option, Some, None, is_none, nat_le, if◌then◌else◌, unwrap_or}
 use Rattle.std.specs.List.{position_from, range_with_len}
@@ -17,7 +17,7 @@ use Rattle.clock_posting.specs.inside.Parts.{first_at_limit}
 use Rattle.clock_posting.specs.Posting.{next_clock, next_price, next_prices, IsRising}
 use Rattle.clock_posting.proofs.Ranges.{all_in_range}
 
--- where there is no first number that passes, none passes
+-- If no number is the first to pass a test, none passes it.
 none_passes_from : (test : ℕ → Bool) (i x : ℕ) (xs : List ℕ) (b : Bool) (rest : Option ℕ) → test x ≡ b →
     (rest ≡ None → All (λ y. test y ≡ false) xs) → cond b (Some i) rest ≡ None → All (λ y. test y ≡ false) (x ∷ xs)
 none_passes_from test i x xs true rest is later none = cc
@@ -28,7 +28,7 @@ none_passes test i [] none = All-nil (λ x. test x ≡ false)
 none_passes test i (x ∷ xs) none =
     none_passes_from test i x xs (test x) (position_from test (i + 1) xs) refl (none_passes test (i + 1) xs) none
 
--- a choice that is not none
+-- A choice that is some was made.
 kept : (b : Bool) (x : ℕ) → is_none (if b then Some x else None) ≡ false → b ≡ true
 kept true x is = refl
 kept false x is = cc
@@ -38,7 +38,7 @@ value_of true x is = refl
 value_of false x is = cc
 
 module _ (products : List Product) (increments : Increments) (posted : List ℕ) (none : first_at_limit products increments posted ≡ None) where
-  -- each product has a next clock price
+  -- Each product has a next clock price.
   has_next : (k : ℕ) → k < length products → is_none (next_clock products increments posted k) ≡ false
   has_next k below =
       let test = λ (product : ℕ). is_none (next_clock products increments posted product) in
@@ -51,7 +51,7 @@ module _ (products : List Product) (increments : Increments) (posted : List ℕ)
   clock_is : (k : ℕ) → k < length products → (next_price products increments posted k).clock ≡ raised_at k
   clock_is k below = value_of (nat_le (raised_at k) highest_price) (raised_at k) (has_next k below)
 
-  -- next clock prices are above their start prices
+  -- Next clock prices are above the next start-of-round prices.
   pub next_rising : AreIncrements (length products) increments → All IsProduct products → length posted ≡ length products → All (λ price. 1 ≤ price) posted →
       All IsRising (next_prices products increments posted)
   next_rising are limits each some =
@@ -63,7 +63,7 @@ module _ (products : List Product) (increments : Increments) (posted : List ℕ)
             (increment_within (length products) increments k are below).0 (limits k no_product below).granule.0,
       ))
 
-  -- and not above the highest price
+  -- They are not above the highest price.
   pub next_within : All (λ (pair : PricePair). pair.clock ≤ highest_price) (next_prices products increments posted)
   next_within =
       all_in_range (λ (pair : PricePair). pair.clock ≤ highest_price) (next_price products increments posted) (length products)

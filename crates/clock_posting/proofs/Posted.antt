@@ -1,5 +1,5 @@
--- The posted prices of a round after the first stand between start and clock price, and where the auction goes on one
--- is the clock price.
+-- Proves that posted prices of a later round are from start-of-round price to clock price, and that one of them is the
+-- clock price if the auction continues. From the price of each request, which is between these two.
 use Rattle.std.proofs.Common.{◌≡◌, ℕ, ◌<◌, ◌≤◌, Bool, true, false, cond, List, [], ◌∷◌, length, get_or, map, refl, ap, ◌∙◌, arith, zero-add}
 use Rattle.std.specs.Prelude.{All, Any, IfSome, fold, max, filter, zip, not, if◌then◌else◌}
 use Rattle.std.specs.List.{list_any, range_with_len}
@@ -25,11 +25,11 @@ not_false : (b : Bool) → not b ≡ false → b ≡ true
 not_false true is = refl
 not_false false is = cc
 
--- an applied reduction of a product is a change of it
+-- An applied reduction of a product is a request for that product.
 applied_product : (product : ℕ) (change : Change) (left : ℕ) → is_applied_reduction product change left ≡ true → change.product ≡ product
 applied_product product change left applied = grind (arith, nat_tests)
 
--- what holds of the prices of a product's changes holds of its applied prices
+-- A property of the prices of all requests for a product is one of its applied prices.
 applied_head : (P : ℕ → Type 0) (product : ℕ) (change : Change) (left : ℕ) (rest : List (Change × ℕ)) (b : Bool) →
     is_applied_reduction product change left ≡ b → (change.product ≡ product → P change.price) → All P (map (λ line. line.0.price) rest) →
     All P (map (λ line. line.0.price) (cond b ((change, left) ∷ rest) rest))
@@ -46,7 +46,7 @@ applied_within P product (change ∷ changes) (l ∷ left) holds =
     applied_head P product change l (filter (λ line. is_applied_reduction product line.0 line.1) (zip changes left))
     (is_applied_reduction product change l) refl (All-head Q change changes holds) (applied_within P product changes left (All-tail Q change changes holds))
 
--- the highest of a price and others
+-- The highest of several prices is at least the first.
 highest_from : (price : ℕ) (prices : List ℕ) → price ≤ fold max price prices
 highest_from price [] = omega arith
 highest_from price (x ∷ prices) = omega (arith, highest_from (max price x) prices)
@@ -57,7 +57,7 @@ highest_to most price (x ∷ prices) first others =
     let here : x ≤ most = All-head (λ y. y ≤ most) x prices others in
     highest_to most (max price x) prices (omega arith) (All-tail (λ y. y ≤ most) x prices others)
 
--- a lower price changes nothing
+-- A price that is lower than all others does not change the highest.
 fold_is_highest : (start : ℕ) (prices : List ℕ) → All (λ x. start ≤ x) prices → fold max start prices ≡ highest_or start prices
 fold_is_highest start [] above = refl
 fold_is_highest start (x ∷ prices) above =
@@ -78,7 +78,7 @@ highest_or_to : (start most : ℕ) (prices : List ℕ) → start ≤ most → Al
 highest_or_to start most prices first above below =
     omega (arith, highest_to most start prices first below, fold_is_highest start prices above)
 
--- applied prices stand from the start price to the clock price
+-- Applied prices are at least the start-of-round price; below, at most the clock price.
 applied_from_start : (prices : List PricePair) (changes : List Change) (left : List ℕ) (product : ℕ) →
     All (IsWithinPrices prices) changes → All (λ price. (prices_at prices product).start ≤ price) (applied_prices changes left product)
 applied_from_start prices changes left product priced =
@@ -94,7 +94,7 @@ applied_to_clock prices changes left product priced =
     (λ c h is. rw is at h.to_clock) changes priced)
 
 module _ (products : List Product) (prices : List PricePair) (changes : List Change) (left : List ℕ) (grid : List (List ℕ)) where
-  -- a posted price for each product
+  -- There is a posted price for each product.
   pub length-posted_prices : length (posted_prices products prices changes left grid) ≡ length products
   length-posted_prices =
       length-map-range_with_len (posted_price products prices changes left grid) 0 (length products)
@@ -113,7 +113,7 @@ module _ (products : List Product) (prices : List PricePair) (changes : List Cha
       let above = applied_from_start prices changes left product priced in
       (highest_or_from _ _ above, highest_or_to _ _ _ ordered above (applied_to_clock prices changes left product priced))
 
-  -- the highest of the least price and the applied ones
+  -- The highest of the least posted price and the applied prices is the posted price.
   raised_by : (product : ℕ) (excess : Bool) → All (IsWithinPrices prices) changes →
       fold max (if excess then (prices_at prices product).clock else (prices_at prices product).start) (applied_prices changes left product)
       ≡ (if excess then (prices_at prices product).clock else highest_or (prices_at prices product).start (applied_prices changes left product))
@@ -124,7 +124,7 @@ module _ (products : List Product) (prices : List PricePair) (changes : List Cha
       fold max (least_price products prices grid product) (applied_prices changes left product) ≡ posted_price products prices changes left grid product
   raised_is_posted product priced = raised_by product (has_excess products grid product) priced
 
-  -- each posted price stands between start and clock price
+  -- Each posted price is from start-of-round price to clock price.
   pub posted_between : (increments : Increments) (product : ℕ) → length prices ≡ length products → All IsPriceRange prices →
       All (IsWithinPrices prices) changes → product < length products →
       IsBetween (sheet_line products prices grid (posted_prices products prices changes left grid) increments product)
@@ -134,7 +134,7 @@ module _ (products : List Product) (prices : List PricePair) (changes : List Cha
       let is = posted_at product below in
       record { from_start = omega (arith, here.0, is); to_clock = omega (arith, here.1, is) }
 
-  -- what a round after the first has come to
+  -- The input of a later round's posting fits together.
   pub later_round_end : (increments : Increments) → All IsProduct products → All (λ row. length row ≡ length products) grid →
       AreIncrements (length products) increments → length prices ≡ length products → All IsPriceRange prices →
       All (IsWithinPrices prices) changes → IsRoundEnd products prices grid (posted_prices products prices changes left grid) increments
@@ -147,7 +147,7 @@ module _ (products : List Product) (prices : List PricePair) (changes : List Cha
     between = λ k below. posted_between increments k each ordered priced below;
   }
 
-  -- posted prices are at least a dollar
+  -- Posted prices are one dollar at least.
   pub posted_dollars : length prices ≡ length products → All IsPriceRange prices → All (IsWithinPrices prices) changes →
       All (λ pair. 1 ≤ pair.start) prices → All (λ price. 1 ≤ price) (posted_prices products prices changes left grid)
   posted_dollars each ordered priced some =
@@ -157,7 +157,7 @@ module _ (products : List Product) (prices : List PricePair) (changes : List Cha
       let here = price_between k (has_excess products grid k) (All-get_or IsPriceRange prices k d in_range ordered) priced in
       omega (arith, here.0, some k d in_range))
 
-  -- where the auction goes on, some clock price is posted
+  -- If the auction continues, some posted price is the clock price.
   pub some_at_clock : (increments : Increments) → has_ended products grid ≡ false →
       Any IsAtClock (lines_of_round products prices grid (posted_prices products prices changes left grid) increments)
   some_at_clock increments goes_on =

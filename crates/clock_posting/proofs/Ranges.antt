@@ -1,28 +1,28 @@
--- A test, a fact or a function over n neighbouring numbers from a on.
+-- Proves facts about a test or a function over consecutive numbers, by induction over their count.
 use Rattle.std.proofs.Common.{◌≡◌, ℕ, zero, suc, ◌+◌, ◌-◌, ◌<◌, ◌≤◌, Bool, true, false, cond, Some, map, refl, ap, sym, ◌∙◌, arith, zero-add}
 use Rattle.std.specs.Prelude.{All, Any}
 use Rattle.std.specs.List.{list_any, range_with_len, position_from}
 use Rattle.std.proofs.lemmas.List.FromFn.{length-range_with_len, get_or-range_with_len, length-map-range_with_len, get_or-map-range_with_len}
 use Rattle.std.proofs.lemmas.List.Folds.{list_any_at, Any-from_list_any}
 
--- none of the numbers passes
+-- If no number passes the test, none of the list does.
 pub none_in_range : (test : ℕ → Bool) (a n : ℕ) → ((k : ℕ) → a ≤ k → k < a + n → test k ≡ false) → list_any test (range_with_len a n) ≡ false
 none_in_range test a zero fails = refl
 none_in_range test a (suc n) fails =
     rw (fails a (omega arith) (omega arith)) (none_in_range test (a + 1) n (λ k low high. fails k (omega arith) (omega arith)))
 
--- one of the numbers passes
+-- If a number passes the test, one of the list does.
 pub one_in_range : (test : ℕ → Bool) (n k : ℕ) → k < n → test k ≡ true → list_any test (range_with_len 0 n) ≡ true
 one_in_range test n k below passes =
     list_any_at test (range_with_len 0 n) k 0 (omega (arith, length-range_with_len 0 n)) (ap test (get_or-range_with_len 0 n k 0 below ∙ zero-add k) ∙ passes)
 
--- what holds of each value of a function
+-- A property of each value of a function is one of the list of its values.
 pub all_in_range : {X : Type 0} (P : X → Type 0) (f : ℕ → X) (n : ℕ) → ((k : ℕ) → k < n → P (f k)) → All P (map f (range_with_len 0 n))
 all_in_range P f n holds = λ k d below.
     let in_range : k < n = omega (arith, length-map-range_with_len f 0 n) in
     rw (get_or-map-range_with_len f 0 n k k d in_range (zero-add k)) (holds k in_range)
 
--- what holds of some value of a function, namely where a test passes
+-- A property of the value at each number that passes is one of some value in the list, if any number passes.
 pub some_in_range : {X : Type 0} (P : X → Type 0) (f : ℕ → X) (test : ℕ → Bool) (n : ℕ) → ((k : ℕ) → k < n → test k ≡ true → P (f k)) →
     list_any test (range_with_len 0 n) ≡ true → Any P (map f (range_with_len 0 n))
 some_in_range P f test n holds passes =
@@ -36,7 +36,7 @@ some_in_range P f test n holds passes =
       holds found.0 in_range (ap test (sym is) ∙ found.4),
     )
 
--- the first number that passes, of those from k on that are below n: it is k, or one of the others
+-- The first number from k, and below n, that passes: k itself, or the first after it.
 range_from : (k n : ℕ) → k < n → range_with_len k (n - k) ≡ range_with_len k (suc (n - (k + 1)))
 range_from k n below = let more : n - k ≡ suc (n - (k + 1)) = omega (arith, below) in ap (range_with_len k) more
 

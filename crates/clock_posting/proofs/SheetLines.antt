@@ -1,4 +1,4 @@
--- The line of a product, whose numbers are written from its end to its start.
+-- Proves the bytes of a product's line, whose numbers are written from its end to its start.
 use Rattle.std.proofs.Common.{◌≡◌, List, ℕ, ◌++◌, codes, ap, append_assoc, ◌∙◌}
 use Rattle.std.specs.Prelude.{Result, Ok, Err, OnOk}
 
@@ -7,7 +7,7 @@ in_order : (text name a b c d e : List ℕ)
     ≡ text ++ (name ++ codes " " ++ a ++ codes " " ++ b ++ codes " " ++ c ++ codes " " ++ d ++ codes " " ++ e ++ codes "\n")
 in_order text name a b c d e = simp append_assoc
 
--- behind the name stand the numbers
+-- The numbers come after the name.
 pub line_added : {T E : Type 0} (text name next written a b c d e : List ℕ) (result : Result T E) → OnOk result (next ≡ (text ++ name) ++ written)
     → written ≡ codes " " ++ (a ++ (codes " " ++ (b ++ (codes " " ++ (c ++ (codes " " ++ (d ++ (codes " " ++ (e ++ codes "\n")))))))))
     → OnOk result (next ≡ text ++ (name ++ codes " " ++ a ++ codes " " ++ b ++ codes " " ++ c ++ codes " " ++ d ++ codes " " ++ e ++ codes "\n"))

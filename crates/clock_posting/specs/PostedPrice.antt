@@ -1,6 +1,6 @@
--- The posted prices of a round after the first.
+-- The posted prices of a round after round 1.
 --     posted_prices products prices changes left grid      the posted price of each product
---     IsWithinPrices prices change      the change is made at a price of its product
+--     IsWithinPrices prices change      the request is at a price of this round for its product
 use Rattle.std.specs.Prelude.{ℕ, ◌≤◌, ◌<◌, List, [], ◌∷◌, Bool, true, false, ◌&&◌, ◌==◌, nat_lt, if◌then◌else◌, length, map, max, filter, fold, zip}
 use Rattle.std.specs.List.{range_with_len}
 use Rattle.clock_terms.specs.declared.setup.Product.{Product}
@@ -11,33 +11,38 @@ use Rattle.clock_terms.specs.declared.change.Kind.{Kind}
 use Rattle.clock_terms.specs.declared.change.Kind.TheVariants.{Increase, Reduction}
 use Rattle.clock_posting.specs.Posting.{has_excess}
 
+-- The request is to reduce demand.
 abbrev pub is_reduction : Kind → Bool
 is_reduction Reduction = true
 is_reduction Increase = false
 
--- the change is a reduction of the product, and less is left of it than its amount
+-- The request reduces this product's demand, and was applied at least in part: less of it is left
+-- than it asked for.
 abbrev pub is_applied_reduction : ℕ → Change → ℕ → Bool
 is_applied_reduction product change left =
     is_reduction change.kind && (change.product == product) && nat_lt left change.amount
 
--- the highest of some prices, or another price where there are none
+-- The highest of these prices, or another price if there are none.
 abbrev pub highest_or : ℕ → List ℕ → ℕ
 highest_or other [] = other
 highest_or other (price ∷ prices) = fold max price prices
 
--- the clock price at excess demand, else the highest price of an applied reduction, else the start price (own rule)
+-- The posted price of a product. With excess demand it is the clock price. Without, it is the
+-- highest price of its reductions that were applied at least in part, or the start-of-round price
+-- if there are none. Our own rule for the case without excess demand.
 abbrev pub posted_price : List Product → List PricePair → List Change → List ℕ → List (List ℕ) → ℕ → ℕ
 posted_price products prices changes left grid product =
     if has_excess products grid product then (prices_at prices product).clock
     else highest_or (prices_at prices product).start
     (map (λ line. line.0.price) (filter (λ line. is_applied_reduction product line.0 line.1) (zip changes left)))
 
--- the posted price of each product
+-- The posted price of each product.
 abbrev pub posted_prices : List Product → List PricePair → List Change → List ℕ → List (List ℕ) → List ℕ
 posted_prices products prices changes left grid =
     map (posted_price products prices changes left grid) (range_with_len 0 (length products))
 
--- the change is of a product that has prices, at a price from its start price to its clock price
+-- The request is for a product that has prices, and its price is from the start-of-round price to
+-- the clock price.
 pub record IsWithinPrices (prices : List PricePair) (change : Change) : Type 0 where
   pub product : change.product < length prices
   pub from_start : (prices_at prices change.product).start ≤ change.price

@@ -1,3 +1,3 @@
--- What only proofs and private functions use: no clause of a public call cites it.
+-- Definitions that only proofs and private functions use. No clause of a public call cites them.
 pub mod RoundEnd
 pub mod Parts

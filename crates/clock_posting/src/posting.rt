@@ -20,11 +20,11 @@ use thiserror::Error;
 /// Why a closing posts nothing.
 #[derive(Clone, Copy, Debug, PartialEq, Eq, Error)]
 pub enum PostFault {
-    /// The auction goes on, and this product, the first such, can have no next clock price: it would be above the
-    /// highest price.
+    /// The auction would continue, and the next clock price of this product, the first such, would
+    /// be above the highest price.
     #[error("the next clock price of product {0} would be too high")]
     PriceLimit(u64),
-    /// There was no memory. It stands in place of any other answer.
+    /// Out of memory. May replace any other result.
     #[error("out of memory")]
     NoMemory,
 }
@@ -37,23 +37,27 @@ impl From<NoMemory> for PostFault {
     }
 }
 
-/// What the closing of a round posts: its sheet, and the prices of the next round.
+/// What the closing of a round posts.
 #[derive(Drop)]
 pub struct Posting {
-    /// The sheet of the round.
+    /// The round results.
     pub sheet: RoundSheet,
-    /// The prices of the next round, or none exactly where the auction has ended.
+    /// The prices of the next round, or `None` if the auction has ended.
     pub next: Option<Prices>,
 }
 
-/// What the closing of the first round posts, where the sheets' quantities stand as demands: each product's opening
-/// price is its start, clock and posted price.
+/// Posts round 1, in which the quantities bid become the demands. The opening price of each product
+/// is its start-of-round, clock, and posted price, which is our own rule.
 ///
-/// An increment is a percentage from 1 to 50, by which the clock price of a product in the next round stands above its
-/// posted price, rounded up to a whole multiple of its granule; a list has one for each product. The auction ends where
-/// no product's total exceeds its supply; otherwise it is refused with [`PostFault::PriceLimit`] where some product can
-/// have no next clock price, and names the first such product (ascending clock auction, FCC Auction 105; the posted
-/// price of the first round is an own rule).
+/// The auction ends if no product's aggregate demand exceeds its supply. Otherwise each product has
+/// a next clock price: its posted price plus the increment, rounded up to a multiple of its
+/// granule. These are the FCC's procedures for Auction 105, except for the rounding. `grid` has one
+/// row per bidder, in blocks. Requires increments from 1 to 50 percent, one for all products or one
+/// for each.
+///
+/// Errors: [`PostFault::PriceLimit`], if the auction would continue and a next clock price would be
+/// too high; it names the first such product. May return `NoMemory`, which then replaces any other
+/// result.
 pub fn post_first(
     alloc: Global,
     setup: &Setup,
@@ -84,15 +88,14 @@ pub fn post_first(
     .posting(alloc)
 }
 
-/// What the closing of a round after the first posts, by the prices of the round, the changes that were asked, and what
-/// they settled to: each product's posted price is its clock price where its total exceeds its supply, otherwise its
-/// start price where no reduction of it was applied, and otherwise the highest bid price among its reductions of which
-/// a part was applied.
+/// Posts a later round, from its prices, its requests, and what bid processing made of them. A
+/// product's posted price is its clock price if it has excess demand. Otherwise it is the highest
+/// price of its reductions that were applied at least in part, or its start-of-round price if there
+/// are none. The rule without excess demand is our own.
 ///
-/// Increments, end, next prices and refusals are those of [`post_first`] (ascending clock auction, FCC Auction 105; the
-/// posted price is an own rule). The round is 2 or later. There is a pair of prices for each product, its start price
-/// not above its clock price; each change is of a product, at a price from its start to its clock price; and of each
-/// change it is known how much was left.
+/// End, next prices, and errors are those of [`post_first`]. Requires round 2 or later; a pair of
+/// prices per product, the start-of-round price not above the clock price; requests for these
+/// products at these prices; and for each request what is left of it.
 pub fn post(
     alloc: Global,
     setup: &Setup,
@@ -117,7 +120,8 @@ pub fn post(
         IfErr result (IsFirstFault PostFault.NoMemory
         (rules.post_fault (rules.price_limit_fault products end.grid posted increments.now))) }
     ensures laws { IfOk result rules.IsConsistent }
-    // While the auction goes on, some clock price is posted: prices rise, so it can't go on for ever.
+    // If the auction continues, some posted price is a clock price. So prices rise, and it must
+    // end.
     ensures clock { IfOk result (λ posting. IfSome posting.next (λ _. Any rules.IsAtClock posting.sheet.lines)) }
 {
     let products = setup.products.as_slice();
@@ -140,8 +144,8 @@ pub fn post(
     .posting(alloc)
 }
 
-/// The least price that may be posted for each product: its clock price where its total exceeds its supply, otherwise
-/// its start price.
+/// The least that each product's posted price can be: the clock price with excess demand, the
+/// start-of-round price without.
 fn least_prices(
     alloc: Global,
     products: &[Product],
@@ -162,7 +166,7 @@ fn least_prices(
     Ok(least.into_items())
 }
 
-/// The posted price of each product in a round after the first.
+/// The posted price of each product in a later round.
 fn posted_prices(
     alloc: Global,
     products: &[Product],
@@ -184,7 +188,8 @@ fn posted_prices(
     Ok(posted)
 }
 
-/// Takes the price of a change into account, where it is a reduction of which a part was applied.
+/// Raises the posted price of a request's product to the request's price, if it is a reduction that
+/// was applied at least in part. `left` is what is left of the request, in blocks.
 fn note(posted: &mut Items<Price>, prices: &[PricePair], change: &Change, left: u64)
     requires lengths { length posted.old ≡ length prices.now }
     requires priced { IsWithinPrices prices.now change.now }
@@ -203,21 +208,21 @@ fn note(posted: &mut Items<Price>, prices: &[PricePair], change: &Change, left: 
     }
 }
 
-/// What a round has come to, from which its sheet and the prices of the next round are made.
+/// The input of a posting.
 #[derive(Drop)]
 struct RoundEnd<'a> {
     products: &'a [Product],
-    /// The number of the round, from 1.
+    /// The round, from 1.
     round: u64,
     prices: &'a [PricePair],
-    /// The demands after the round.
+    /// The demands after the round, one row per bidder, in blocks.
     grid: &'a Grid,
     posted: &'a [Price],
     increments: &'a Increments,
 }
 
 impl RoundEnd<'_> {
-    /// What the closing of the round posts.
+    /// Computes the round results and the prices of the next round.
     fn posting(&self, alloc: Global) -> Result<Posting, PostFault>
         requires { FitsTogether self.now }
         ensures ok { IfOk result (IsPostingOf self.now) }
@@ -235,7 +240,8 @@ impl RoundEnd<'_> {
         Ok(Posting { sheet, next })
     }
 
-    /// The prices of the next round, or none where the auction has ended, or the first product that can have none.
+    /// The prices of the next round, `None` if the auction has ended, or as error the first product
+    /// whose next clock price would be too high.
     #[tactic(auto, using(clock_terms::proofs::IncrementLaws::increment_there))]
     fn prices_after(&self, alloc: Global) -> Result<Option<Prices>, PostFault>
         requires { FitsTogether self.now }
@@ -260,7 +266,7 @@ impl RoundEnd<'_> {
         Ok(Some(next.into_items()))
     }
 
-    /// The lines of the round's sheet, by the prices of the next round.
+    /// The lines of the round results. Requires the prices of the next round.
     fn lines(&self, alloc: Global, next: &Option<Prices>) -> Result<Lines, NoMemory>
         requires end { FitsTogether self.now }
         requires next { next.now ≡ next_of self.now }
@@ -268,7 +274,7 @@ impl RoundEnd<'_> {
         ensures count { IfOk result (λ lines. length lines ≡ length self.now.products.now) }
         ensures exact { IfOk result (λ lines. lines ≡ lines_of self.now) }
     {
-        // Each closed round keeps its lines, so they have no more room than they take.
+        // Every closed round stores its lines, so their memory is no larger than they need.
         let mut lines = Lines::with_capacity(alloc, self.products.len())?;
         for product in 0..self.products.len() {
             let pair = self.prices[product];
@@ -285,7 +291,7 @@ impl RoundEnd<'_> {
         Ok(lines.into_items())
     }
 
-    /// The clock price of a product in the next round, where there is one.
+    /// The clock price of a product in the next round, or `None` if the auction has ended.
     fn next_at(&self, product: usize, next: &Option<Prices>) -> Option<u64>
         requires product { product < length self.now.products.now }
         requires next { next.now ≡ next_of self.now }
@@ -297,7 +303,7 @@ impl RoundEnd<'_> {
     }
 }
 
-/// Whether no product's total exceeds its supply.
+/// Whether no product has excess demand.
 fn has_ended(products: &[Product], grid: &Grid) -> bool
     requires { All (λ row. length row ≡ length products.now) grid.now }
     ensures { result ≡ rules.has_ended products.now grid.now }

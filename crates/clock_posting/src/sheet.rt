@@ -8,37 +8,37 @@ use clock_terms::{Product, Setup};
 use itoa::write_digits;
 use std::alloc::Global;
 
-/// What a round's sheet says of a product. Prices are in whole dollars. It names no bidder.
+/// A product's line of the round results. Prices are in whole dollars. It names no bidder.
 #[derive(Clone, Copy, Debug)]
 pub struct Line {
-    /// The start price of the round.
+    /// The start-of-round price.
     pub start: Price,
-    /// The clock price of the round.
+    /// The clock price.
     pub clock: Price,
-    /// The posted price, from the start price to the clock price.
+    /// The posted price, from the start-of-round price to the clock price.
     pub posted: Price,
-    /// The blocks that all bidders together demand, only where they exceed the supply.
+    /// The aggregate demand, in blocks, if it exceeds the supply.
     pub demand: Option<u64>,
-    /// The clock price of the next round, only where the auction goes on.
+    /// The clock price of the next round, if the auction continues.
     pub next: Option<u64>,
 }
 
-/// A line for each product.
+/// Lines of the round results, one per product in the order of the set-up.
 pub type Lines = Items<Line>;
 
-/// The sheet of a round, which everyone may see.
+/// The results of a round, for everyone.
 #[derive(Drop)]
 pub struct RoundSheet {
-    /// The number of the round, from 1.
+    /// The round, from 1.
     pub round: u64,
     /// Whether the auction ends with this round.
     pub ended: bool,
-    /// A line for each product, in the order of the set-up.
+    /// One line per product, in the order of the set-up.
     pub lines: Lines,
 }
 
 impl RoundSheet {
-    /// An equal sheet.
+    /// Copies the round results.
     pub fn copy(&self, alloc: Global) -> Result<RoundSheet, NoMemory>
         ensures { IfOk result (λ copy. copy ≡ self.now) }
     {
@@ -50,9 +50,9 @@ impl RoundSheet {
     }
 }
 
-/// The lines that tell a round's sheet: `round N`, then for each product
-/// `NAME START CLOCK POSTED DEMAND NEXT`, with `-` where there is no demand or next clock price.
-/// Fields are parted by one space, numbers are plain decimal, and each line ends with a line feed:
+/// The round results as text: `round N`, then for each product
+/// `NAME START CLOCK POSTED DEMAND NEXT`, with `-` for no demand or no next clock price. Fields are
+/// separated by one space, numbers are decimal, and each line ends with a line feed:
 ///
 /// ```text
 /// round 1
@@ -66,8 +66,8 @@ pub fn sheet_lines(alloc: Global, setup: &Setup, sheet: &RoundSheet) -> Result<T
     with_sheet_lines(Text::new(alloc), setup, sheet)
 }
 
-/// A text, and behind it the lines that tell a round's sheet, as [`sheet_lines`] has them. The text is taken over, so
-/// that none is left with a part of the lines where there is no memory.
+/// Appends the lines of [`sheet_lines`] to `text`. It moves `text`, so that after `NoMemory` no
+/// text is left with only a part of the lines.
 pub fn with_sheet_lines(mut text: Text, setup: &Setup, sheet: &RoundSheet) -> Result<Text, NoMemory>
     requires { length sheet.now.lines ≡ length setup.now.products }
     ensures { IfOk result (λ lines. lines ≡ text ++ sheet_text setup.now.products sheet.now) }
@@ -82,10 +82,12 @@ pub fn with_sheet_lines(mut text: Text, setup: &Setup, sheet: &RoundSheet) -> Re
     Ok(text)
 }
 
-/// How many bytes the numbers of a line take at most: five of 20 digits, each behind a space, and a line feed.
+/// The most bytes that the numbers of a line take: five numbers of 20 digits, each after a space,
+/// and a line feed.
 const NUMBERS_ROOM: usize = 106;
 
-/// Writes a space and a number, or a dash where there is none, right before a place, and tells where they begin.
+/// Writes a space and a number, or a dash for `None`, so that they end before index `end`. Returns
+/// the index at which they begin.
 #[inline(always)]
 fn put_field(bytes: &mut [u8], end: usize, number: Option<u64>) -> usize
     requires room { 21 ≤ end }
@@ -102,7 +104,7 @@ fn put_field(bytes: &mut [u8], end: usize, number: Option<u64>) -> usize
     put_before(bytes, start, b" ")
 }
 
-/// Adds the line of a product.
+/// Appends the line of a product.
 fn push_line(text: &mut Text, product: &Product, line: &Line) -> Result<(), NoMemory>
     ensures { OnOk result (text.new ≡ text.old ++ line_text product.now line.now) }
 {

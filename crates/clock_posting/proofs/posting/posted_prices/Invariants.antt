@@ -3,7 +3,7 @@ use Rattle.std.specs.Prelude.{fold, max}
 use Rattle.clock_posting.specs.inside.Parts.{applied_prices, least_price}
 use Rattle.clock_posting.proofs.posting.posted_prices.Given as goal
 
--- with the other changes each price becomes the highest of the least price and all applied ones
+-- With the requests still to come, each price becomes the highest of the least posted price and all applied prices.
 abbrev pub invariant-loop-i : goal.invariant-loop-i
 invariant-loop-i l = record {
   lengths : length l.posted ≡ length l.prices;

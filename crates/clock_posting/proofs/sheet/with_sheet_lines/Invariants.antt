@@ -2,7 +2,7 @@ use Rattle.std.proofs.Common.{◌≡◌, ◌++◌, drop}
 use Rattle.clock_posting.specs.SheetText.{lines_text}
 use Rattle.clock_posting.proofs.sheet.with_sheet_lines.Given as goal
 
--- with the lines of the other products it is the whole text
+-- With the lines of the products still to come, this is the whole text.
 abbrev pub invariant-loop-i : goal.invariant-loop-i
 invariant-loop-i l =
     l.text ++ lines_text (drop l.i l.products) (drop l.i l.sheet.lines) ≡ l.initial.text ++ lines_text l.products l.sheet.lines

@@ -6,7 +6,7 @@ use Rattle.clock_posting.specs.declared.sheet.Line.{Line}
 use Rattle.clock_posting.specs.Posting.{sheet_line}
 use Rattle.clock_posting.proofs.posting.RoundEnd.lines.Goals as goal
 
--- one line more
+-- The lines with one more.
 one_more : (f : ℕ → Line) (n : ℕ) (old new : List Line) (line : Line) → new ≡ old ++ line ∷ [] → old ≡ map f (range_with_len 0 n) → line ≡ f n →
     new ≡ map f (range_with_len 0 (n + 1))
 one_more f n old new line pushed so_far is =

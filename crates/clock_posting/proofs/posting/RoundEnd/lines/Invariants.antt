@@ -3,7 +3,7 @@ use Rattle.std.specs.List.{range_with_len}
 use Rattle.clock_posting.specs.Posting.{sheet_line}
 use Rattle.clock_posting.proofs.posting.RoundEnd.lines.Given as goal
 
--- the lines of the products so far, and room for the others
+-- The list has the lines of the products so far, and capacity for the others.
 abbrev pub invariant-loop-product : goal.invariant-loop-product
 invariant-loop-product l = record {
   lengths : length l.lines.items ≡ l.product;

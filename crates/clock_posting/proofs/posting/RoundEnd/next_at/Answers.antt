@@ -13,7 +13,7 @@ returns-in_err-as_ref c =
     ∙ none_shown (has_ended end.products.now end.grid.now) (next_prices end.products.now end.increments.now end.posted.now)
     (next_clock end.products.now end.increments.now end.posted.now c.args.product) (c.in_err-as_ref.ensures.value ∙ c.requires.next)
 
--- the next prices are the products'
+-- These next prices are those of the products.
 has_clocks : (c : goal.After-as_slice) → HasClocks c.args.self.now.products.now c.args.self.now.increments.now c.args.self.now.posted.now c.in_ok-as_ref.field-0.now
 has_clocks c = rw (← c.in_ok-as_ref.ensures.value) at c.requires.clocks
 

@@ -16,7 +16,7 @@ use Rattle.clock_posting.specs.Posting.{has_ended, next_clock, next_price, next_
 use Rattle.clock_posting.proofs.Ranges.{first_is, first_is_later}
 use Rattle.clock_posting.proofs.posting.RoundEnd.prices_after.Goals as goal
 
--- where the auction goes on
+-- The price limit and the next prices, if the auction continues.
 limit_going : (end : RoundEnd) → has_ended end.products.now end.grid.now ≡ false →
     limit_of end ≡ first_at_limit end.products.now end.increments.now end.posted.now
 limit_going end going = ap (λ (ended : Bool). if ended then None else first_at_limit end.products.now end.increments.now end.posted.now) going
@@ -25,7 +25,7 @@ next_going : (end : RoundEnd) → has_ended end.products.now end.grid.now ≡ fa
     next_of end ≡ Some (next_prices end.products.now end.increments.now end.posted.now)
 next_going end going = ap (λ (ended : Bool). if ended then None else Some (next_prices end.products.now end.increments.now end.posted.now)) going
 
--- what was read of a product gives its next clock price
+-- The next clock price of a product, from what was read of it.
 priced : (end : RoundEnd) (product price percent : ℕ) (here : Product) → product < length end.products.now →
     length end.posted.now ≡ length end.products.now → percent ≡ increment_at end.increments.now product →
     raise (get_or end.posted.now product price) percent (get_or end.products.now product here).granule

@@ -5,8 +5,8 @@ use Rattle.clock_posting.specs.inside.Parts.{first_at_limit}
 use Rattle.clock_posting.specs.Posting.{next_clock, next_price, IsRising}
 use Rattle.clock_posting.proofs.posting.RoundEnd.prices_after.Given as goal
 
--- the prices so far are the products' next ones and rise, there is room for the others, and the first product that
--- can't have any is among the others
+-- The prices so far are the next ones and rise, and the list has capacity for the others. The first product whose next
+-- clock price would be too high, if any, is among the others.
 abbrev pub invariant-loop-product : goal.invariant-loop-product
 invariant-loop-product l = record {
   lengths : length l.next.items ≡ l.product;
