@@ -1,4 +1,5 @@
--- What the demands that a sheet asks for take, where a further bid changes one of them.
+-- The requested activity of the first bids of a sheet, and how one more bid changes it: its quantity replaces that of
+-- the last bid for its product.
 use Rattle.std.proofs.Common.{◌≡◌, ℕ, ◌+◌, ◌*◌, ◌<◌, ◌≤◌, List, [], ◌∷◌, length, take, refl, ap, sym, subst, ◌∙◌, arith, get_or}
 use Rattle.std.specs.Prelude.{Option, None}
 use Rattle.std.proofs.lemmas.List.{get_or_default}
@@ -13,7 +14,7 @@ use Rattle.clock_bids.specs.inside.Chains.{last_of, last_bids, quantity_of}
 use Rattle.clock_bids.proofs.Chains.{last_quantity-after}
 use Rattle.clock_bids.proofs.Tables.{no_bid, asked_demands-more, length-asked_demands}
 
--- the last bid of a chain has the quantity that the chain ends with
+-- the last bid of a chain has the chain's last quantity
 last_quantity-of : (chain : List Bid) → last_quantity 0 chain ≡ quantity_of (last_of chain)
 last_quantity-of [] = refl
 last_quantity-of (bid ∷ bids) = last_quantity-after bid bids
@@ -25,20 +26,20 @@ module _ (products : List Product) (bids : List Bid) (i : ℕ) (known : (get_or 
   abbrev before : List ℕ
   before = asked_demands (length products) (take i bids)
 
-  -- what was asked for before is the quantity of the last bid for the product
+  -- the demand requested so far is the quantity of the last bid for the product
   asked_last : get_or before product 0 ≡ quantity_of (get_or (last_bids (length products) (take i bids)) product None)
   asked_last =
       get_or-map-range_with_len (λ p. last_quantity 0 (chain_of p (take i bids))) 0 (length products) product product 0 known (omega arith)
       ∙ last_quantity-of (chain_of product (take i bids))
       ∙ sym (ap quantity_of (get_or-map-range_with_len (λ p. last_of (chain_of p (take i bids))) 0 (length products) product product None known (omega arith)))
 
-  -- that takes no more than all
+  -- its bidding units are at most the activity so far
   pub asked_least : units_of products product * quantity_of (get_or (last_bids (length products) (take i bids)) product None) ≤ activity products before
   asked_least =
       let least = demand_taken products before product known (omega (arith, known, length-asked_demands (length products) (take i bids))) in
       subst (λ (q : ℕ). units_of products product * q ≤ activity products before) asked_last least
 
-  -- the next bid's quantity stands in its place
+  -- the next bid's quantity replaces it
   pub asked_more : i < length bids →
       activity products (asked_demands (length products) (take (i + 1) bids))
       + units_of products product * quantity_of (get_or (last_bids (length products) (take i bids)) product None)
@@ -51,7 +52,7 @@ module _ (products : List Product) (bids : List Bid) (i : ℕ) (known : (get_or 
       ≡ activity products before + units_of products product * (get_or bids i no_bid).quantity) asked_last
       (ap (λ (row : List ℕ). activity products row + units_of products product * get_or before product 0) next ∙ changed)
 
--- what a product is read as has its units
+-- a product that is read has its own units
 pub units_read : (read products : List Product) (p : ℕ) (one : Product) → read ≡ products → p < length products →
     (get_or read p one).units ≡ units_of products p
 units_read read products p one same known =

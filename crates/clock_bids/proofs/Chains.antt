@@ -1,4 +1,5 @@
--- A chain of good bids, and a further bid behind it.
+-- A good chain stays good after one more bid without a fault, and the last bid of a good chain is enough to check the
+-- next one: prices rise, and quantities move in one direction.
 use Rattle.std.proofs.Common.{◌≡◌, ℕ, ◌<◌, ◌≤◌, List, [], ◌∷◌, ◌++◌, Bool, true, false, ◌&&◌}
 use Rattle.std.proofs.Common.{◌||◌, not, cond, length, ◌==◌, inl, inr, refl, ap, sym, ◌∙◌, arith}
 use Rattle.std.specs.Prelude.{Option, Some, None, nat_lt}
@@ -20,7 +21,7 @@ pub last_quantity-after : (bid : Bid) (bids : List Bid) → last_quantity bid.qu
 last_quantity-after bid [] = refl
 last_quantity-after bid (next ∷ rest) = last_quantity-after next rest
 
--- a bid put at the end is the last one
+-- a bid added at the end is the last one
 last_after-push : (first : Bid) (bids : List Bid) (bid : Bid) → last_after first (bids ++ bid ∷ []) ≡ bid
 last_after-push first [] bid = refl
 last_after-push first (next ∷ rest) bid = last_after-push next rest bid
@@ -33,7 +34,7 @@ pub last_quantity-push : (held : ℕ) (chain : List Bid) (bid : Bid) → last_qu
 last_quantity-push held [] bid = refl
 last_quantity-push held (first ∷ rest) bid = last_quantity-push first.quantity rest bid
 
--- prices that rise
+-- the first of rising prices is at most the last
 rises-le : (first : Bid) (bids : List Bid) → RisesFrom first.price bids → first.price ≤ (last_after first bids).price
 rises-le first [] rises = omega arith
 rises-le first (next ∷ rest) rises = omega (arith, rises.0, rises-le next rest rises.1)
@@ -43,7 +44,7 @@ rises-push : (first : Bid) (bids : List Bid) (bid : Bid) → RisesFrom first.pri
 rises-push first [] bid rises above = (above, tt)
 rises-push first (next ∷ rest) bid rises above = (rises.0, rises-push next rest bid rises.1 above)
 
--- quantities that climb or fall
+-- quantities that rise or fall stay on one side of the first
 pub climbs-le : (held : ℕ) (chain : List Bid) → Climbs held chain → held ≤ last_quantity held chain
 climbs-le held [] climbs = omega arith
 climbs-le held (bid ∷ bids) climbs = omega (arith, climbs.0, climbs-le bid.quantity bids climbs.1)
@@ -62,7 +63,7 @@ falls-push : (held : ℕ) (chain : List Bid) (bid : Bid) → Falls held chain �
 falls-push held [] bid falls below = (below, tt)
 falls-push held (first ∷ rest) bid falls below = (falls.0, falls-push first.quantity rest bid falls.1 below)
 
--- where prices rise, all are below a price exactly where the last is
+-- if prices rise, all are below a price exactly if the last is
 and_larger : (x m n : ℕ) → m ≤ n → (nat_lt m x && nat_lt n x) ≡ nat_lt n x
 and_larger x m n most = elim (cases_Bool (nat_lt n x)) as (λ _. (nat_lt m x && nat_lt n x) ≡ nat_lt n x) [
   | inl below ↦ ap (λ b. b && nat_lt n x) (lt-ltb m x (omega (arith, ltb-true n x below, most)))
@@ -76,7 +77,7 @@ all_prices first (next ∷ rest) price rises =
     ap (λ b. nat_lt first.price price && b) (all_prices next rest price rises.1)
     ∙ and_larger price first.price (last_after next rest).price (omega (arith, rises.0, rises-le next rest rises.1))
 
--- the last quantity stands on that side of the demand held where the first does
+-- the last quantity is on the same side of the processed demand as the first
 step_by : (held first last quantity : ℕ) → nat_lt held first ≡ nat_lt held last →
     cond (nat_lt held first) (nat_lt last quantity) (nat_lt quantity last) ≡ is_step_on held last quantity
 step_by held first last quantity same = ap (λ b. cond b (nat_lt last quantity) (nat_lt quantity last)) same
@@ -98,7 +99,7 @@ direction_by_last held clock first bids bid moves =
     step_by held first.quantity (last_quantity first.quantity bids) bid.quantity (same_side held clock first bids moves)
     ∙ ap (λ last. is_step_on held last bid.quantity) (last_quantity-after first bids)
 
--- where no check fails, the first one passes, and none after it fails
+-- if no check fails, the first one passes, and none of the others fails
 pub passes : {F : Type 0} (fault : F) (test : Bool) (others : Option F) → cond test others (Some fault) ≡ None → (test ≡ true) × (others ≡ None)
 passes fault true others e = (refl, e)
 passes fault false others e = cc
@@ -115,7 +116,7 @@ further_down : (held last quantity : ℕ) → last < held → is_step_on held la
 further_down held last quantity below good =
     ltb-true quantity last (sym (ap (λ b. cond b (nat_lt last quantity) (nat_lt quantity last)) (le-ltb held last (omega (arith, below)))) ∙ good)
 
--- the first bid for a product, where it has no fault
+-- the first bid for a product, if it has no fault
 begins : (held clock : ℕ) (bid : Bid) → (not (bid.quantity == held) || (bid.price == clock)) ≡ true → Moves held clock (bid ∷ [])
 begins held clock bid good = elim (cases_order held bid.quantity) as (λ _. Moves held clock (bid ∷ [])) [
   | inl same ↦ kept bid refl (sym same) (at_clock held clock bid (sym same) good)
@@ -123,7 +124,7 @@ begins held clock bid good = elim (cases_order held bid.quantity) as (λ _. Move
   | inr (inr below) ↦ down (below, tt)
 ]
 
--- a further bid, where it has no fault
+-- a further bid, if it has no fault
 goes_on : (held clock : ℕ) (first : Bid) (bids : List Bid) (bid : Bid) → Moves held clock (first ∷ bids) →
     (last_after first bids).price < bid.price → bid.price ≤ clock → is_step_on held (last_after first bids).quantity bid.quantity ≡ true →
     Moves held clock (first ∷ (bids ++ bid ∷ []))
@@ -142,7 +143,7 @@ goes_on held clock first [] bid (kept one is same at) rises most good =
     absurd (omega (arith, rises, most, at, ap (λ (b : Bid). b.price) one_is))
 goes_on held clock first (next ∷ rest) bid (kept one is same at) rises most good = cc
 
--- a good chain stays good behind a bid without a fault
+-- a good chain stays good after a bid without a fault
 pub good_chain-push : (pair : PricePair) (cap held : ℕ) (chain : List Bid) (bid : Bid) (i : ℕ) → IsGoodChain pair cap held chain → IsInRange pair cap bid →
     first_fault (step_checks (last_of chain) held pair.clock i bid) ≡ None → IsGoodChain pair cap held (chain ++ bid ∷ [])
 good_chain-push pair cap held [] bid i good here none = record {
@@ -160,7 +161,7 @@ good_chain-push pair cap held (first ∷ rest) bid i good here none =
       moves = goes_on held pair.clock first rest bid good.moves rises here.to_clock turn.0;
     }
 
--- what is asked of a bid by the earlier ones for its product, in the order in which it is looked at
+-- the checks of a bid within its chain, by all earlier bids of the chain, in the order of the rules
 abbrev pub chain_checks : ℕ → ℕ → List Bid → ℕ → Bid → List (BidFault × Bool)
 chain_checks held clock chain i bid =
     (PriceOrder i, is_above_prices chain bid)
@@ -168,7 +169,7 @@ chain_checks held clock chain i bid =
     ∷ (KeepPrice i, is_kept_at_clock held clock chain bid)
     ∷ []
 
--- they are judged by the last of these
+-- these checks give the same first fault as those by the last bid
 pub checks_by_last_of : (pair : PricePair) (cap held : ℕ) (chain : List Bid) (bid : Bid) (i : ℕ) → IsGoodChain pair cap held chain →
     first_fault (chain_checks held pair.clock chain i bid) ≡ first_fault (step_checks (last_of chain) held pair.clock i bid)
 checks_by_last_of pair cap held [] bid i good = refl

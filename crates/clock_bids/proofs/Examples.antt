@@ -1,4 +1,4 @@
--- The rules on sheets and changes, computed on examples.
+-- Examples of the rules on sheets and on requests.
 use Rattle.std.specs.Prelude.{◌≡◌, ℕ, ◌<◌, List, [], ◌∷◌, Option, Some, None, length, refl, codes}
 use Rattle.std.proofs.lemmas.Bool.{lt-leb}
 use Rattle.clock_terms.specs.Limits.{SetupFields, PublicSetup, public_setup}
@@ -24,7 +24,7 @@ hold eligibility demands = record { eligibility = eligibility; demands = demands
 abbrev prices : List PricePair
 prices = record { start = 100; clock = 110 } ∷ []
 
--- X holds 2 in the second round
+-- in round 2, bidder X has a processed demand of 2
 abbrev later : List Bid → Option BidFault
 later bids = sheet_fault (public_setup one_product) 2 prices (hold 3 (2 ∷ [])) bids
 
@@ -73,8 +73,7 @@ missing_bid = refl
 increases_in_a_chain : changes_of_sheet prices (0 ∷ []) 0 (bid 0 1 104 ∷ bid 0 2 110 ∷ []) ≡ request Increase 0 0 0 1 104 ∷ request Increase 0 0 1 1 110 ∷ []
 increases_in_a_chain = refl
 
--- an activity limit of 125 percent, with products of four blocks of two units, and with others of seven blocks of one
--- unit
+-- an activity limit of 125 percent: with products of four blocks of two units, and of seven blocks of one unit
 abbrev limited : PublicSetup
 limited = public_setup activity_limit
 
@@ -93,7 +92,7 @@ twelve_of_ten = refl
 thirteen_of_ten : sheet_fault limited_of_seven 2 both (hold 10 (7 ∷ 3 ∷ [])) (bid 0 7 110 ∷ bid 1 6 110 ∷ []) ≡ Some OverActivity
 thirteen_of_ten = refl
 
--- of an eligibility of 8 a sheet may ask for 8 bidding units in round 1, and for 10 later
+-- with an eligibility of 8, a sheet may request an activity of 8 in round 1, and of 10 later
 ten_in_the_first_round : sheet_fault limited 1 (opening_prices limited.products) (hold 8 (0 ∷ 0 ∷ [])) (bid 0 4 100 ∷ bid 1 1 100 ∷ []) ≡ Some OverActivity
 ten_in_the_first_round = refl
 

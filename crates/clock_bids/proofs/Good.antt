@@ -1,4 +1,5 @@
--- What a sheet without a fault is, and what it asks for.
+-- A sheet has no fault exactly if it has few enough bids, no bid has a fault, and its requested activity is within the
+-- limit. Then its chains are good, by induction over the bids.
 use Rattle.std.proofs.Common.{◌≡◌, ℕ, zero, suc, ◌+◌, ◌*◌, ◌<◌, ◌≤◌, List, [], ◌∷◌, ◌++◌, Bool, cond, map}
 use Rattle.std.proofs.Common.{length, take, inl, inr, refl, ap, sym, subst, ◌∙◌, arith, get_or, All}
 use Rattle.std.specs.Prelude.{Option, Some, None, nat_le, slice_index, zip}
@@ -33,7 +34,7 @@ good_chains-nil products prices demands = record {
   chains = λ product known. record { in_range = λ k d within. absurd (omega (arith, within)); rising = tt; moves = up tt };
 }
 
--- the bid is for a product, and in range, where its first three checks pass
+-- if its first three checks pass, a bid is for a product of the set-up, and in range
 module _ (products : List Product) (prices : List PricePair) (demands : List ℕ) (earlier : List Bid) (i : ℕ) (bid : Bid) where
   abbrev pair : PricePair
   pair = prices_at prices bid.product
@@ -68,7 +69,7 @@ module _ (products : List Product) (prices : List PricePair) (demands : List ℕ
         others = capped.1;
       }
 
-  -- good chains stay good behind a bid without a fault
+  -- good chains stay good after a bid without a fault
   pub good_chains-push : AreGoodChains products prices demands earlier → first_fault (bid_checks products prices demands earlier i bid) ≡ None →
       AreGoodChains products prices demands (earlier ++ bid ∷ [])
   good_chains-push good none =
@@ -87,7 +88,7 @@ module _ (products : List Product) (prices : List PricePair) (demands : List ℕ
         ];
       }
 
-  -- the last bid for each product decides
+  -- the last bid for each product is enough for the checks
   abbrev last_one : Option Bid
   last_one = get_or (last_bids (length products) earlier) bid.product None
 
@@ -108,7 +109,7 @@ module _ (products : List Product) (prices : List PricePair) (demands : List ℕ
         | inr unknown ↦ rw unknown
       ]
 
--- where no item has a fault, the item at a place has none
+-- if no item has a fault, the item at an index has none
 each_passes : {X F : Type 0} (checks : ℕ → X → List (F × Bool)) (i : ℕ) (items : List X) → first_fault (in_turn checks i items) ≡ None →
     (k n : ℕ) (d : X) → n ≡ i + k → k < length items → first_fault (checks n (get_or items k d)) ≡ None
 each_passes checks i [] none k n d at within = absurd (omega (arith, within))
@@ -119,11 +120,11 @@ each_passes checks i (x ∷ xs) none (suc k) n d at within =
     each_passes checks (i + 1) xs (both_pass (checks i x) (in_turn checks (i + 1) xs) none).1 k n d (omega (arith, at)) (omega (arith, within))
 
 module _ (setup : PublicSetup) (round : ℕ) (prices : List PricePair) (holding : Holding) (bids : List Bid) where
-  -- what a sheet asks for takes so many bidding units
+  -- the requested activity of the sheet
   abbrev asked_activity : ℕ
   asked_activity = activity setup.products (asked_demands (length setup.products) bids)
 
-  -- a good sheet has few bids, none with a fault, and asks for no more activity than the limit
+  -- what it means that a sheet is good: few enough bids, no bid with a fault, and activity within the limit
   pub record HasNoFault : Type 0 where
     pub count : length bids ≤ most_bids
     pub passed : first_fault (checks_of_bids setup.products prices holding.demands bids) ≡ None
@@ -142,7 +143,7 @@ module _ (setup : PublicSetup) (round : ℕ) (prices : List PricePair) (holding 
         active = leb-true asked_activity (activity_limit setup round holding.eligibility) (passes OverActivity _ None parts.1).0;
       }
 
-  -- the first fault of a sheet of few bids
+  -- the first fault of a sheet that has few enough bids
   module _ (few : length bids ≤ most_bids) where
     of_few : sheet_fault setup round prices holding bids ≡ first_fault (checks_of_bids setup.products prices holding.demands bids ++ last_check)
     of_few =
@@ -166,7 +167,7 @@ module _ (setup : PublicSetup) (round : ℕ) (prices : List PricePair) (holding 
           of_good_bids ∙ ap (λ b. cond b None (Some OverActivity)) (le-leb asked_activity (activity_limit setup round holding.eligibility) within)
 
 module _ (products : List Product) (prices : List PricePair) (demands : List ℕ) (bids : List Bid) where
-  -- the bids up to a place are good chains, where none has a fault
+  -- if no bid has a fault, the first bids of the sheet are good chains
   good_up_to : first_fault (checks_of_bids products prices demands bids) ≡ None → (i : ℕ) → i ≤ length bids →
       AreGoodChains products prices demands (take i bids)
   good_up_to none zero within = good_chains-nil products prices demands
@@ -188,7 +189,7 @@ pub good_sheet_chains : (setup : PublicSetup) (round : ℕ) (prices : List Price
 good_sheet_chains setup round prices holding bids good =
     good_bids_chains setup.products prices holding.demands bids (no_sheet_fault setup round prices holding bids good).passed
 
--- a good chain ends within the cap
+-- the last quantity of a good chain is within the cap
 pub last_quantity-le : (prices : PricePair) (cap before : ℕ) (chain : List Bid) → before ≤ cap → All (IsInRange prices cap) chain →
     last_quantity before chain ≤ cap
 last_quantity-le prices cap before [] most good = most
@@ -196,7 +197,7 @@ last_quantity-le prices cap before (bid ∷ bids) most good =
     let first : IsInRange prices cap bid = All-head (IsInRange prices cap) bid bids good in
     last_quantity-le prices cap bid.quantity bids first.capped (All-tail (IsInRange prices cap) bid bids good)
 
--- good chains ask for demands within the caps
+-- requested demands of good chains are within the caps
 pub asked_row : (products : List Product) (prices : List PricePair) (demands : List ℕ) (bids : List Bid) → AreGoodChains products prices demands bids →
     IsRow products (asked_demands (length products) bids)
 asked_row products prices demands bids good = record {
@@ -208,19 +209,19 @@ asked_row products prices demands bids good = record {
       omega (arith, is, most));
 }
 
--- what is told of the bid at a place: the last one before it for the same product, and its first fault
+-- what is known of the bid at an index: the last bid before it for its product, and its first fault
 pub record IsJudged (products : List Product) (prices : List PricePair) (demands : List ℕ) (bids : List Bid) (i : ℕ) (last : Option Bid)
     (fault : Option BidFault) : Type 0 where
   pub last_is : last ≡ get_or (last_bids (length products) (take i bids)) (get_or bids i no_bid).product None
   pub fault_is : first_fault (bid_checks products prices demands (take i bids) i (get_or bids i no_bid)) ≡ fault
 
--- a pass over the bids, those before a place being good
+-- one step of a pass over the bids, if those before are good
 module _ (products : List Product) (prices : List PricePair) (demands : List ℕ) (bids : List Bid) (i : ℕ)
     (good : AreGoodChains products prices demands (take i bids)) where
   abbrev here : Bid
   here = get_or bids i no_bid
 
-  -- the products may be read from elsewhere
+  -- the products may be read from another list that is equal
   pub judged_by : (seen : List Product) (last : Option Bid) (fault : Option BidFault) → seen ≡ products →
       last ≡ get_or (last_bids (length seen) (take i bids)) here.product None → fault ≡ first_fault (checks_by_last seen prices demands last i here) →
       IsJudged products prices demands bids i last fault
@@ -243,7 +244,7 @@ module _ (products : List Product) (prices : List PricePair) (demands : List ℕ
     pub known_here : here.product < length products
     known_here = (so_far_good products prices demands (take i bids) i here none).known
 
--- what a good sheet asks for is a row of demands, of an activity within the limit; in round 1 that is the eligibility
+-- the requested demands of a good sheet are a row, with an activity within the limit, in round 1 within eligibility
 module _ (setup : PublicSetup) (round : ℕ) (prices : List PricePair) (holding : Holding) (bids : List Bid)
     (good : IsGoodSheet setup round prices holding bids) where
   pub good_sheet_row : IsRow setup.products (asked_demands (length setup.products) bids)

@@ -1,4 +1,5 @@
--- The changes of a good sheet can be settled: what each product's changes keep, they keep together.
+-- All requests of a good sheet together can be processed. Product by product they go in one direction, and lead to no
+-- demand below 0 or above the cap; requests for different products do not concern each other.
 use Rattle.std.proofs.Common.{◌≡◌, ℕ, zero, suc, ◌+◌, ◌<◌, ◌≤◌, List, [], ◌∷◌, Bool, true, false, ◌&&◌, cond}
 use Rattle.std.proofs.Common.{length, ◌==◌, inl, inr, refl, ap, sym, subst, ◌∙◌, arith, get_or, All}
 use Rattle.std.specs.Prelude.{nat_le, sum_by, slice_index}
@@ -25,17 +26,17 @@ use Rattle.clock_terms.specs.Requests.{same_kind, is_request_of, asked_of, IsCha
 use Rattle.clock_bids.proofs.Good.{no_sheet_fault, good_sheet_chains, last_quantity-le}
 use Rattle.clock_bids.proofs.Links.{IsStep, AreSteps, AreProductSteps, KeepsWithin, product_steps}
 
--- pairs of which less is said
+-- a weaker relation of all pairs
 pairs_weaker : {A : Type 0} (R S : A → A → Type 0) → ((a b : A) → R a b → S a b) → (xs : List A) → AllPairs R xs → AllPairs S xs
 pairs_weaker R S weaker xs pairs i j d before within = weaker (get_or xs i d) (get_or xs j d) (pairs i j d before within)
 
--- pairs, where more is known of each
+-- a relation of all pairs that follows from a weaker one and a property of each item
 pairs_with : {A : Type 0} (P : A → Type 0) (R S : A → A → Type 0) → ((a b : A) → P a → P b → R a b → S a b) → (xs : List A) → All P xs →
     AllPairs R xs → AllPairs S xs
 pairs_with P R S holds xs each pairs i j d before within =
     holds (get_or xs i d) (get_or xs j d) (each i d (omega (arith, before, within))) (each j d within) (pairs i j d before within)
 
--- what the changes of one kind and product ask for together: all of them, or nothing
+-- the blocks of a product's requests of one kind, added up: all of them, or none
 kind_self : (kind : Kind) → same_kind kind kind ≡ true
 kind_self Increase = refl
 kind_self Reduction = refl
@@ -91,7 +92,7 @@ other_kind owner item first pair way kind changes differ each =
     none_counted kind owner item changes (All-weaker (IsStep owner item first pair way) (λ change. is_request_of kind owner item change ≡ false)
     (λ change step. ap (λ b. b && (change.bidder == owner) && (change.product == item)) (ap (λ k. same_kind kind k) step.kind ∙ differ)) changes each)
 
--- so a product's changes keep its demand within 0 and the cap
+-- so the requests for a product lead to no demand below 0 or above the cap
 module _ (owner item : ℕ) (pair : PricePair) (cap held most : ℕ) (changes : List Change) where
   pub record Keeps : Type 0 where
     pub raised : held + asked_of Increase owner item changes ≤ cap
@@ -110,7 +111,7 @@ module _ (owner item : ℕ) (pair : PricePair) (cap held most : ℕ) (changes : 
   keeps : held ≤ cap → AreProductSteps owner item pair cap held most changes → Keeps
   keeps least steps = by_way steps.way steps.blocks least steps.steps steps.within
 
--- a bid for a product is one from that product on, and not from the next
+-- the bids for a product are among those from that product on, and not among those from the next on
 chains_apart : (item : ℕ) (bids : List Bid) → length (chain_of item bids) + length (filter (λ bid. nat_le (item + 1) bid.product) bids) ≤ length
     (filter (λ bid. nat_le item bid.product) bids)
 chains_apart item [] = omega arith
@@ -138,7 +139,7 @@ chains_apart item (bid ∷ bids) =
       ) (omega (arith, rest))
     ]
 
--- no more bids from a product on than bids
+-- there are no more bids from a product on than bids
 pub length-filter-le : {A : Type 0} (test : A → Bool) (xs : List A) → length (filter test xs) ≤ length xs
 length-filter-le test xs = omega (arith, length-filter test xs, count_by-le-length test xs)
 
@@ -193,7 +194,7 @@ module _ (products : List Product) (prices : List PricePair) (demands : List ℕ
         (All-weaker (λ (change : Change). from + 1 ≤ change.product) (λ (change : Change). from ≤ change.product)
         (λ change above. omega (arith, above)) (flat_map asks (range_with_len (from + 1) n)) (from_on (from + 1) n (omega (arith, within))))
 
-    -- pairs, of which each two for one product or for two products are so
+    -- a relation of all pairs, if it holds within each product and between products
     pairs : (R : Change → Change → Type 0) → ((item : ℕ) → item < length products → AllPairs R (asks item)) → ((a b : Change) → a.product < b.product → R a b) →
         (from n : ℕ) → from + n ≤ length products → AllPairs R (flat_map asks (range_with_len from n))
     pairs R own other from zero within = λ i j d before within. absurd (omega (arith, before, within))
@@ -218,7 +219,7 @@ module _ (products : List Product) (prices : List PricePair) (demands : List ℕ
         (λ a b first second before bidder product. first.kind ∙ sym second.kind) (asks item) (its_steps item known) (steps item known).steps.placed)
         (λ a b before bidder product. absurd (omega (arith, before, product)))
 
-    -- what they ask for of one product
+    -- the blocks that the requests of several products ask for of one of them
     asked_before : (kind : Kind) (item from n : ℕ) → item < from → from + n ≤ length products →
         asked_of kind owner item (flat_map asks (range_with_len from n)) ≡ 0
     asked_before kind item from zero before within = refl
@@ -256,7 +257,7 @@ module _ (products : List Product) (prices : List PricePair) (demands : List ℕ
           )
         ]
 
-    -- at most one for each bid and each product
+    -- there is at most one request for each bid and each product
     count : (from n : ℕ) → from + n ≤ length products → length (flat_map asks (range_with_len from n)) ≤ length
         (filter (λ bid. nat_le from bid.product) bids) + n
     count from zero within = omega arith
@@ -290,7 +291,7 @@ module _ (products : List Product) (prices : List PricePair) (demands : List ℕ
           });
     }
 
--- the changes of a good sheet
+-- the requests of a good sheet
 module _ (setup : PublicSetup) (round : ℕ) (prices : List PricePair) (holding : Holding) (owner : ℕ) (bids : List Bid)
     (few : length setup.products ≤ most_products) (limits : All IsProduct setup.products) (pairs_each : length prices ≡ length setup.products)
     (rising : All (λ pair. pair.start < pair.clock) prices) (row : IsRow setup.products holding.demands)

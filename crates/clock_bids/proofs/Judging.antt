@@ -1,4 +1,5 @@
--- How far the bids of a sheet are judged, and one bid more by the last one before it for its product.
+-- One step of the pass that checks a sheet. If the first bids are good, the last bid before the next one for its product
+-- decides whether that has a fault, and the others decide the first fault after it.
 use Rattle.std.proofs.Common.{◌≡◌, ℕ, ◌+◌, ◌-◌, ◌*◌, ◌<◌, ◌≤◌, Bor, List, length, take, drop, refl, ap, ◌∙◌, sym, subst, arith, get_or}
 use Rattle.std.specs.Prelude.{Option, Some, None}
 use Rattle.std.specs.Option.{option_copied}
@@ -19,7 +20,7 @@ use Rattle.clock_bids.proofs.Tables.{no_bid}
 use Rattle.clock_bids.proofs.Good.{no_activity, good_chains-nil, judged_by, good_chains-more, known_here}
 use Rattle.clock_bids.proofs.Activity.{held_least, taken_more, units_read}
 
--- the bids before a place are good and ask for so much activity, and the bids ahead decide the first fault
+-- the first `place` bids are good and request this activity, and the others decide the first fault
 pub record AreJudged (products : List Product) (prices : List PricePair) (demands : List ℕ) (bids : List Bid) (place taken : ℕ) : Type 0 where
   pub good : AreGoodChains products prices demands (take place bids)
   pub taken_is : taken ≡ activity products (asked_demands (length products) (take place bids))
@@ -27,7 +28,7 @@ pub record AreJudged (products : List Product) (prices : List PricePair) (demand
   pub ahead : first_fault (in_turn (λ i bid. bid_checks products prices demands (take i bids) i bid) place (drop place bids))
       ≡ first_fault (checks_of_bids products prices demands bids)
 
--- no bid is judged at first
+-- at first no bid has been checked
 pub none_judged : (products : List Product) (prices : List PricePair) (demands : List ℕ) (bids : List Bid) → AreJudged products prices demands bids 0 0
 none_judged products prices demands bids = record {
   good = good_chains-nil products prices demands;
@@ -36,7 +37,7 @@ none_judged products prices demands bids = record {
   ahead = refl;
 }
 
--- where all bids are judged, none has a fault, and it is known what they ask for
+-- at the end all bids have been checked: none has a fault, and their activity is known
 module _ (products : List Product) (prices : List PricePair) (demands : List ℕ) (bids : List Bid) (n taken : ℕ)
     (all : AreJudged products prices demands bids n taken) (end : length bids ≤ n) where
   pub none_at_fault : first_fault (checks_of_bids products prices demands bids) ≡ None
@@ -47,7 +48,7 @@ module _ (products : List Product) (prices : List PricePair) (demands : List ℕ
   pub all_taken : taken ≡ activity products (asked_demands (length products) bids)
   all_taken = all.taken_is ∙ ap (λ (list : List Bid). activity products (asked_demands (length products) list)) (take_all n bids end)
 
--- what is taken once a quantity stands in the place of the last bid's, if there is one
+-- the activity when a quantity replaces that of the last bid, if there is one
 pub held_some : (units : ℕ) {taken : ℕ} {last : Option (Bor Bid)} {one : Bor Bid} → last ≡ Some one
     → units * quantity_of (option_copied last) ≤ taken → units * one.now.quantity ≤ taken
 held_some units {taken} is held = subst (λ (bid : Option (Bor Bid)). units * quantity_of (option_copied bid) ≤ taken) is held
@@ -73,7 +74,7 @@ module _ (products : List Product) (prices : List PricePair) (demands : List ℕ
   abbrev here : Bid
   here = get_or bids i no_bid
 
-  -- its fault is the first one
+  -- if the next bid has a fault, it is the first one
   pub fault_found : (one : BidFault) → fault ≡ Some one → first_fault (checks_of_bids products prices demands bids) ≡ Some one
   fault_found one found =
       let is = judged_by products prices demands bids i so_far.good seen last fault same before judged in
@@ -81,7 +82,7 @@ module _ (products : List Product) (prices : List PricePair) (demands : List ℕ
       ∙ turn_failed (λ i bid. bid_checks products prices demands (take i bids) i bid) bids i here one within
       (get_or_default bids i no_bid here within) (is.fault_is ∙ found)
 
-  -- where it has none, its units are known, and with it the bids up to it are judged
+  -- if it has none, its units are known, and the bids up to it are good
   module _ (none : fault ≡ None) (one : Product) where
     pub known : here.product < length products
     known =

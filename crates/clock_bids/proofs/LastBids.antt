@@ -1,4 +1,5 @@
--- The last bid before a place for a product.
+-- The last bid for a product among the first bids of a sheet, as the pass that checks a sheet finds it. Either there is
+-- none, or it is the bid directly before, or a table has its index.
 use Rattle.std.proofs.Common.{◌≡◌, ℕ, ◌+◌, ◌<◌, ◌≤◌, List, [], ◌==◌, false, map, length, replicate, take, inl, inr, ap, ap₂, sym, subst, ◌∙◌, arith, get_or, set, All}
 use Rattle.std.specs.Prelude.{Option, Some, None}
 use Rattle.std.proofs.lemmas.Bool.{cases_lt, ne_eqb}
@@ -13,7 +14,7 @@ use Rattle.clock_bids.specs.inside.LastBids.{AreLastPlaces}
 use Rattle.clock_bids.proofs.ByProduct.{filter_none}
 use Rattle.clock_bids.proofs.Tables.{no_bid, last_bids-nil, last_bids-more, none_at, bid_here}
 
--- a product without bids has no last one, and a number that no product has neither
+-- a product without bids has no last one, nor has a number that is no product's
 pub none_last : (products product : ℕ) (bids : List Bid) → chain_of product bids ≡ [] → None ≡ get_or (last_bids products bids) product None
 none_last products product bids empty = elim (cases_lt product products) as (λ _. None ≡ get_or (last_bids products bids) product None) [
   | inl known ↦ sym (get_or-map-range_with_len (λ p. last_of (chain_of p bids)) 0 products product product None known (omega arith) ∙ ap last_of empty)
@@ -21,7 +22,7 @@ none_last products product bids empty = elim (cases_lt product products) as (λ 
       (omega (arith, unknown, length-map-range_with_len (λ p. last_of (chain_of p bids)) 0 products)))
 ]
 
--- a product above those of all bids is such a one
+-- a product above those of all bids has none
 pub none_below : (products least product : ℕ) (bids : List Bid) → All (λ bid. bid.product < least) bids → least ≤ product →
     None ≡ get_or (last_bids products bids) product None
 none_below products least product bids below high =
@@ -30,26 +31,26 @@ none_below products least product bids below high =
     (All-weaker (λ (bid : Bid). bid.product < least) (λ (bid : Bid). (bid.product == product) ≡ false)
     (λ bid low. ne_eqb bid.product product (λ e. omega (arith, e, low, high))) bids below))
 
--- bids for products are for those of a list that is the same
+-- bids for products of a list are for products of an equal list
 pub known_all : (products seen : List Product) (bids : List Bid) → seen ≡ products → All (λ bid. bid.product < length products) bids →
     All (λ bid. bid.product < length seen) bids
 known_all products seen bids same known = subst (λ (list : List Product). All (λ bid. bid.product < length list) bids) (sym same) known
 
--- each bid before a place is for a product
+-- each of the first `place` bids is for a product
 pub known_at : (products : ℕ) (bids : List Bid) (place i : ℕ) → place ≤ length bids → All (λ bid. bid.product < products) (take place bids) → i < place →
     (get_or bids i no_bid).product < products
 known_at products bids place i within known below =
     subst (λ (bid : Bid). bid.product < products) (get_or-take place bids i no_bid below)
     (known i no_bid (omega (arith, below, length-take-le place bids within)))
 
--- before the first place no product has a last bid
+-- in a table of zeros no product has a last bid
 pub no_places : (products : ℕ) (bids : List Bid) (places : List ℕ) → places ≡ replicate products 0 → AreLastPlaces products bids 0 places
 no_places products bids places zeros = record {
   each = ap length zeros ∙ length-replicate products 0;
   table = ap (map (bid_at bids)) zeros ∙ none_at bids products ∙ sym (last_bids-nil products);
 }
 
--- one place further: the bid there is the last one for its product
+-- with one more bid, its index replaces that of its product
 pub last_places-more : (products : ℕ) (bids : List Bid) (i : ℕ) (places : List ℕ) → i < length bids → (get_or bids i no_bid).product < products →
     AreLastPlaces products bids i places → AreLastPlaces products bids (i + 1) (set places (get_or bids i no_bid).product (i + 1))
 last_places-more products bids i places within known kept =
@@ -62,13 +63,13 @@ last_places-more products bids i places within known kept =
           ∙ sym (last_bids-more products bids i within known);
     }
 
--- what is read at a product's place is its last bid
+-- the entry of a product leads to its last bid
 pub last_read : (products : ℕ) (bids : List Bid) (i : ℕ) (places slice : List ℕ) (product : ℕ) (last : Option Bid) → AreLastPlaces products bids i places →
     slice ≡ places → last ≡ get_or (map (bid_at bids) slice) product None → last ≡ get_or (last_bids products (take i bids)) product None
 last_read products bids i places slice product last kept is read =
     read ∙ ap (λ (xs : List ℕ). get_or (map (bid_at bids) xs) product None) is ∙ ap (λ entries. get_or entries product None) kept.table
 
--- one place further: all bids stay below a number that is no less than before, and above the bid there
+-- with one more bid, all are for products below a number that is above the bid's
 pub below_more : (bids : List Bid) (i least next : ℕ) → i < length bids → least ≤ next → (get_or bids i no_bid).product < next →
     All (λ bid. bid.product < least) (take i bids) → All (λ bid. bid.product < next) (take (i + 1) bids)
 below_more bids i least next within more high below =
@@ -76,7 +77,7 @@ below_more bids i least next within more high below =
     (All-push (λ (bid : Bid). bid.product < next) (take i bids) (get_or bids i no_bid)
     (All-weaker (λ (bid : Bid). bid.product < least) (λ (bid : Bid). bid.product < next) (λ bid low. omega (arith, low, more)) (take i bids) below) high)
 
--- the bid right before a place is the last one for its product, of those before the place
+-- the bid directly before an index is the last one for its product
 pub last_before : (products product place i : ℕ) (bids : List Bid) (before : Bid) → place ≡ i + 1 → i < length bids → before ≡ get_or bids i no_bid →
     before.product ≡ product → All (λ bid. bid.product < products) (take place bids)
     → Some before ≡ get_or (last_bids products (take place bids)) product None

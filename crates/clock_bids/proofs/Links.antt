@@ -1,5 +1,5 @@
--- The changes of one product's chain: each leaves the demand in one direction, and together they lead from the demand
--- held to the last quantity.
+-- The requests of one chain: all go in one direction, and together they lead from the processed demand to the chain's
+-- last quantity, so that they stay within 0 and the cap.
 use Rattle.std.proofs.Common.{◌≡◌, ℕ, suc, ◌+◌, ◌<◌, ◌≤◌, List, [], ◌∷◌, Bool, true, false, not, cond}
 use Rattle.std.proofs.Common.{map, length, ◌==◌, inl, inr, refl, ap, sym, subst, ◌∙◌, arith, All}
 use Rattle.std.specs.Prelude.{⊤, nat_lt, sum_by}
@@ -21,7 +21,7 @@ use Rattle.clock_bids.specs.Changes.{change_to, Link, links_from, changes_of_pro
 use Rattle.clock_bids.specs.inside.Chains.{Climbs, Falls, Moves, up, down, kept, IsInRange, IsGoodChain}
 use Rattle.clock_bids.proofs.Chains.{climbs-le, falls-le}
 
--- a step in a direction
+-- a step from one quantity to another in a direction
 abbrev pub LeadsOn : Kind → ℕ → ℕ → Type 0
 LeadsOn Increase from to = from < to
 LeadsOn Reduction from to = to < from
@@ -71,7 +71,7 @@ some_blocks : (way : Kind) (from to : ℕ) → LeadsOn way from to → 1 ≤ dis
 some_blocks Increase from to on = omega (arith, on)
 some_blocks Reduction from to on = omega (arith, on)
 
--- a change of one bidder and product, in a direction, at a place or later
+-- a request of this bidder for this product in this direction, at a place of the chain from `first` on
 pub record IsStep (owner item first : ℕ) (pair : PricePair) (way : Kind) (change : Change) : Type 0 where
   pub bidder : change.bidder ≡ owner
   pub product : change.product ≡ item
@@ -83,7 +83,7 @@ pub record IsStep (owner item first : ℕ) (pair : PricePair) (way : Kind) (chan
   pub to_clock : change.price ≤ pair.clock
   pub point : change.point ≡ price_point pair.start change.price pair.clock
 
--- changes of one bidder and product, in a direction, at rising places from one on, for so many blocks together
+-- requests of this bidder for this product in this direction, at rising places, for a total of `blocks`
 pub record AreSteps (owner item first : ℕ) (pair : PricePair) (way : Kind) (blocks most : ℕ) (changes : List Change) : Type 0 where
   pub all : All (IsStep owner item first pair way) changes
   pub placed : AllPairs (λ a b. a.place < b.place) changes
@@ -125,7 +125,7 @@ one_more_step owner item first pair way blocks most change changes step at steps
   count = omega (arith, steps.count);
 }
 
--- the changes that the bids of a chain ask for, from a place and a quantity on
+-- the requests of the bids of a chain, from a place and a quantity on
 module _ (owner item : ℕ) (pair : PricePair) where
   abbrev pub change_of : Link → Change
   change_of link = change_to owner item pair link.place link.before link.bid.quantity link.bid.price
@@ -141,7 +141,7 @@ module _ (owner item : ℕ) (pair : PricePair) where
   abbrev links_after : ℕ → Bid → List Bid → List Link
   links_after place bid bids = filter (λ link. not (link.before == link.bid.quantity)) (links_from (place + 1) bid.quantity bids)
 
-  -- a bid of another quantity than the one before it asks for a change, and one of the same for none
+  -- a bid with another quantity than the one before it makes a request, and one with the same quantity makes none
   pub begins_with : (place before : ℕ) (bid : Bid) (bids : List Bid) → (before == bid.quantity) ≡ false →
       changes_from place before (bid ∷ bids) ≡ change_to owner item pair place before bid.quantity bid.price ∷ changes_from (place + 1) bid.quantity bids
   begins_with place before bid bids differ =
@@ -190,12 +190,12 @@ module _ (owner item : ℕ) (pair : PricePair) (cap : ℕ) (small : cap ≤ most
       (subst (λ blocks. AreSteps owner item place pair way blocks (length bids + 1)
       (change ∷ changes_from owner item pair (place + 1) bid.quantity bids)) sums all))
 
--- changes in a direction keep a demand within 0 and the cap
+-- requests in a direction lead to no demand below 0 or above the cap
 abbrev pub KeepsWithin : Kind → ℕ → ℕ → ℕ → Type 0
 KeepsWithin Increase cap held blocks = held + blocks ≤ cap
 KeepsWithin Reduction cap held blocks = blocks ≤ held
 
--- the changes for one product go in one direction, and keep its demand within 0 and the cap
+-- the requests for one product go in one direction, and lead to no demand below 0 or above the cap
 pub record AreProductSteps (owner item : ℕ) (pair : PricePair) (cap held : ℕ) (most : ℕ) (changes : List Change) : Type 0 where
   pub way : Kind
   pub blocks : ℕ
@@ -203,7 +203,7 @@ pub record AreProductSteps (owner item : ℕ) (pair : PricePair) (cap held : ℕ
   pub within : KeepsWithin way cap held blocks
 
 module _ (owner item : ℕ) (pair : PricePair) (cap held : ℕ) (small : cap ≤ most_supply) (least : held ≤ cap) where
-  -- at most one more than there are bids, for where there is none
+  -- at most one more request than bids: the one for a product without a bid
   more_room : (way : Kind) (blocks most : ℕ) (changes : List Change) → AreSteps owner item 0 pair way blocks most changes →
       AreSteps owner item 0 pair way blocks (most + 1) changes
   more_room way blocks most changes steps = record { all = steps.all; placed = steps.placed; together = steps.together; count = omega (arith, steps.count) }
@@ -251,7 +251,7 @@ module _ (owner item : ℕ) (pair : PricePair) (cap held : ℕ) (small : cap ≤
         (sym (ap (λ b. cond b (change_to owner item pair 0 held 0 pair.start ∷ []) []) holds)) (nothing 1)
   ]
 
-  -- a keeping bid asks for no change
+  -- a bid to maintain demand makes no request
   keeping : (bid : Bid) → bid.quantity ≡ held → changes_of_chain owner item pair held (bid ∷ []) ≡ []
   keeping bid same = begins_without owner item pair 0 held bid [] (eq-eqb held bid.quantity (sym same))
 
@@ -264,7 +264,7 @@ module _ (owner item : ℕ) (pair : PricePair) (cap held : ℕ) (small : cap ≤
       subst (λ list. AreProductSteps owner item pair cap held (length (first ∷ rest) + 1) list)
       (sym (ap (λ chain. changes_of_chain owner item pair held chain) is ∙ keeping bid same)) (nothing (length (first ∷ rest) + 1))
 
-  -- the changes for a product, whatever its chain
+  -- the requests for a product, whatever its chain
   pub product_steps : (chain : List Bid) → pair.start ≤ pair.clock → IsGoodChain pair cap held chain → last_quantity held chain ≤ cap →
       AreProductSteps owner item pair cap held (length chain + 1) (changes_of_product owner item pair held chain)
   product_steps [] rising good most = given_up rising

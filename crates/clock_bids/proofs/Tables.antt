@@ -1,4 +1,4 @@
--- Tables with an entry for each product, made of the bids for it, and a further bid.
+-- Tables with an entry for each product, made of its chain: one more bid changes only the entry of its product.
 use Rattle.std.proofs.Common.{◌≡◌, ℕ, ◌+◌, ◌<◌, List, [], ◌∷◌, ◌++◌, cond, map, length, ◌==◌, ◌-◌, replicate}
 use Rattle.std.proofs.Common.{take, zero, suc, inl, inr, refl, ap, sym, ◌∙◌, arith, get_or, set, append-nil}
 use Rattle.std.specs.Prelude.{Some, None, slice_get}
@@ -13,7 +13,7 @@ use Rattle.clock_bids.specs.Sheet.{chain_of, last_quantity, asked_demands}
 use Rattle.clock_bids.specs.inside.Chains.{bid_at, last_of, last_bids}
 use Rattle.clock_bids.proofs.Chains.{last_of-push, last_quantity-push}
 
--- a further bid stands at the end of its product's chain, and in no other
+-- one more bid is the last one of its product's chain, and in no other chain
 pub chain_of-own : (product : ℕ) (bids : List Bid) (bid : Bid) → bid.product ≡ product → chain_of product (bids ++ bid ∷ []) ≡ chain_of product bids ++ bid ∷ []
 chain_of-own product bids bid own =
     filter-append (λ (b : Bid). b.product == product) bids (bid ∷ []) ∙ ap (λ t. chain_of product bids ++ cond t (bid ∷ []) []) (eq-eqb bid.product product own)
@@ -24,7 +24,7 @@ chain_of-other product bids bid other =
     ∙ ap (λ t. chain_of product bids ++ cond t (bid ∷ []) []) (ne_eqb bid.product product other)
     ∙ append-nil (chain_of product bids)
 
--- so only its product's entry changes
+-- so it changes only its product's entry
 module _ {A : Type 0} (entry : ℕ → List Bid → A) where
   table : ℕ → List Bid → List A
   table products bids = map (λ product. entry product (chain_of product bids)) (range_with_len 0 products)
@@ -53,7 +53,7 @@ module _ {A : Type 0} (entry : ℕ → List Bid → A) where
             ∙ sym (get_or-set_other (map old (range_with_len 0 products)) bid.product k own d (λ e. differ (sym e)))
       ]))
 
--- the last bids and the demands asked for, with one more bid
+-- the last bids and the requested demands, with one more bid
 pub last_bids-push : (products : ℕ) (bids : List Bid) (bid : Bid) → bid.product < products →
     last_bids products (bids ++ bid ∷ []) ≡ set (last_bids products bids) bid.product (Some bid)
 last_bids-push products bids bid known =
@@ -66,7 +66,7 @@ asked_demands-push products bids bid known =
     table-push (λ _ chain. last_quantity 0 chain) products bids bid known
     ∙ ap (λ last. set (asked_demands products bids) bid.product last) (last_quantity-push 0 (chain_of bid.product bids) bid)
 
--- before any bid
+-- the tables without any bid
 no_entries : {A : Type 0} (a : A) (from n : ℕ) → map (λ _. a) (range_with_len from n) ≡ replicate n a
 no_entries a from zero = refl
 no_entries a from (suc n) = ap (λ rest. a ∷ rest) (no_entries a (from + 1) n)
@@ -77,7 +77,7 @@ last_bids-nil products = no_entries None 0 products
 pub asked_demands-nil : (products : ℕ) → asked_demands products [] ≡ replicate products 0
 asked_demands-nil products = no_entries 0 0 products
 
--- one place further
+-- the tables with one more bid of the sheet
 abbrev pub no_bid : Bid
 no_bid = record { product = 0; quantity = 0; price = 0 }
 
@@ -94,7 +94,7 @@ asked_demands-more products bids i within known = ap (asked_demands products) (t
 pub length-asked_demands : (products : ℕ) (bids : List Bid) → length (asked_demands products bids) ≡ products
 length-asked_demands products bids = length-map-range_with_len (λ product. last_quantity 0 (chain_of product bids)) 0 products
 
--- what a resize makes of a list without items
+-- the first items of a list without items
 take_none : {A : Type 0} (n : ℕ) → take n (let none : List A = [] in none) ≡ []
 take_none zero = refl
 take_none (suc n) = refl
@@ -105,7 +105,7 @@ filled items fresh n had a is none empty =
     is ∙ ap (λ old. take n old ++ replicate (n - had) a) none ∙ ap (λ old. old ++ replicate (n - had) a) (take_none n)
     ∙ ap (λ (k : ℕ). replicate k a) (let all : n - had ≡ n = omega (arith, empty) in all)
 
--- the bids at the places of a table: none before any bid, and the next one at the place after it
+-- the bids at the indexes of a table: none for zeros, and the next bid at its own index
 pub none_at : (bids : List Bid) (n : ℕ) → map (bid_at bids) (replicate n 0) ≡ replicate n None
 none_at bids zero = refl
 none_at bids (suc n) = ap (λ rest. None ∷ rest) (none_at bids n)

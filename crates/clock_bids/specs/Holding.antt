@@ -1,22 +1,23 @@
--- What one bidder holds before a round, and how much activity its sheet may ask for.
---     Holding      an eligibility, and a demand for each product
---     holding_of own      what the program is told of it
---     activity_limit setup round eligibility      the most activity that a sheet may ask for
--- (The activity limit is that of the FCC's procedures for Auction 105, by which processed activity stays within the
--- eligibility; that it is rounded down, and that it is the eligibility itself in round 1, are own rules.)
+-- What one bidder has before a round, and the limit on its requested activity. The activity limit
+-- is the FCC's for Auction
+-- 105. Rounding it down, and that it is the eligibility in round 1, are our own rules.
+--     Holding      an eligibility, and a processed demand for each product
+--     holding_of own      the values of an argument of the program
+--     activity_limit setup round eligibility      the most requested activity
 use Rattle.std.specs.Prelude.{ℕ, ◌*◌, ◌/◌, ◌==◌, if◌then◌else◌, List}
 use Rattle.clock_terms.specs.Limits.{PublicSetup}
 use Rattle.clock_bids.specs.declared.sheet.Own.{Own}
 
--- an eligibility in bidding units, and the demand for each product in blocks
+-- an eligibility in bidding units, and the processed demand for each product in blocks
 pub record Holding : Type 0 where
   pub eligibility : ℕ
   pub demands : List ℕ
 
--- what the program is told of a bidder
+-- the eligibility and the demands in an argument of the program
 abbrev pub holding_of : Own → Holding
 holding_of own = record { eligibility = own.eligibility; demands = own.demands.now }
 
--- the eligibility in round 1, and from round 2 on the set-up's percentage of it, rounded down
+-- The most requested activity: in round 1 the eligibility, from round 2 the set-up's percentage of
+-- it, rounded down. With an eligibility of 8 and a limit of 120 percent, it is 9.
 abbrev pub activity_limit : PublicSetup → ℕ → ℕ → ℕ
 activity_limit setup round eligibility = if round == 1 then eligibility else eligibility * setup.limit / 100

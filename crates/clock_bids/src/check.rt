@@ -12,18 +12,21 @@ use clock_device::{Items, NoMemory};
 use clock_terms::{PricePair, Prices, Product, Row, Setup};
 use std::alloc::Global;
 
-/// The most bids that a sheet may have.
+/// The most bids of a sheet.
 const MOST_BIDS: usize = 8192;
 
-/// Judges a sheet of bids: the sheet with these bids, or its first fault.
+/// Checks the bids of a sheet for a round: returns the sheet, or its first fault.
 ///
-/// [`BidFault::TooMany`] comes first, whatever memory there is, then the faults of the bids in their order, each bid's
-/// first one in the order of [`BidFault`], and [`BidFault::OverActivity`] last. The prices are those of the round, a
-/// pair for each product; `own` has a demand for each product, at most its cap. In round 1 a sheet may ask for activity
-/// up to the eligibility, and from round 2 on up to the set-up's percentage of it, rounded down.
+/// Requires the prices of the round, one pair for each product, and in `own` a demand for each
+/// product, at most its cap.
 ///
-/// A sheet is judged in one pass over its bids, however many products they are for. The rules are those of the FCC's
-/// procedures for Auction 105 on simple bids; that several bids for a product form a chain is our own rule.
+/// Errors, in this order: [`BidFault::TooMany`], which needs no memory; bid by bid, the first of
+/// [`BidFault`] from `UnknownProduct` to `KeepPrice`; [`BidFault::OverActivity`]. May return
+/// `NoMemory`, which then replaces any other result but `TooMany`.
+///
+/// Takes one pass over the bids. Only a sheet that returns to an earlier product needs a table with
+/// an entry for each product. The rules are the FCC's for simple bids in Auction 105; several bids
+/// for one product, a chain, are our own.
 pub fn check_sheet(
     alloc: Global,
     setup: &Setup,
@@ -46,8 +49,10 @@ pub fn check_sheet(
     take_sheet(alloc, setup, prices, own, Items::from_slice(alloc, bids)?)
 }
 
-/// Judges a sheet as [`check_sheet`] does, and takes its bids over: none is copied. The limit on activity is that of the
-/// FCC's procedures for Auction 105; processing keeps a bidder's activity within its eligibility all the same.
+/// Like [`check_sheet`], but moves `bids` instead of copying them.
+///
+/// From round 2, requested activity may be above eligibility, up to the activity limit. Bid
+/// processing nevertheless leaves processed activity within eligibility.
 pub fn take_sheet(
     alloc: Global,
     setup: &Setup,
@@ -79,11 +84,13 @@ pub fn take_sheet(
     Ok(Sheet { bids })
 }
 
-/// Judges each bid by the last one before it for the same product. A bid for a higher product than all before it has
-/// none, and nearly all bids are such; most of the others have it right before them. Places of last bids are made for the
-/// rest alone, and no memory is taken before one comes. Where the earlier bids are good, their prices rise and their
-/// quantities move one way, so that the last one tells whether the next price is higher and the next step goes on. Good
-/// bids ask for demands that take so many bidding units.
+/// Checks each bid against the last earlier bid for its product, and returns the requested activity
+/// in bidding units. May return `NoMemory`, which then replaces any other result.
+///
+/// Most sheets list products in rising order: a bid for a higher product than all before it has no
+/// earlier bid. Most other bids directly follow a bid for their product. The table of last bids is
+/// made for any other bid, and nothing is allocated before. The last earlier bid is enough: since
+/// the earlier ones passed, their prices rise and their quantities move in one direction.
 fn judge(
     alloc: Global,
     setup: &Setup,
@@ -108,7 +115,7 @@ fn judge(
     let mut places = Vec::new(alloc);
     for (i, bid) in bids.iter().enumerate() {
         let last = if bid.product >= least {
-            // The highest number of all has no next one, but is no product's: its bid is refused below.
+            // The highest number wraps to 0. No product has it, so `bid_fault` refuses the bid.
             least = bid.product.wrapping_add(1);
             None
         } else if let Some(before) = bid_before(bids, i, bid.product) {
@@ -130,7 +137,8 @@ fn judge(
     Ok(taken)
 }
 
-/// The bid right before a place, where it is for a product: it is then the last one for it.
+/// Returns the bid at index `place - 1` if it is for `product`. It is then the last bid for it
+/// before `place`.
 fn bid_before(bids: &[Bid], place: usize, product: u64) -> Option<&Bid>
     ensures { (products : ℕ) → All (λ bid. bid.product < products) (take place bids.now)
         → OnSome result (option_copied result ≡ slice_index_or (last_bids products (take place bids.now)) product None) }
@@ -139,9 +147,11 @@ fn bid_before(bids: &[Bid], place: usize, product: u64) -> Option<&Bid>
     (before.product == product).then_some(before)
 }
 
-/// For each product the place of the last bid for it, of those before a place, counted from 1 on, or 0 where there is
-/// none. The bids before an earlier place, which is 0 at first, are in these places already. Told that this is cold,
-/// LLVM keeps what rising bids need in registers.
+/// Returns for each product the index of its last bid among the first `place` bids, counted from 1,
+/// or 0 if there is none. May return `NoMemory`.
+///
+/// `places` has the first `kept` bids already; if `kept` is 0, it is allocated here. Marked as cold
+/// so that LLVM leaves in registers what bids for rising products need.
 #[cold]
 fn last_places(
     alloc: Global,
@@ -167,7 +177,7 @@ fn last_places(
     Ok(places)
 }
 
-/// The last bid for a product, by such places, if any.
+/// Returns the last bid for a product from such a table, if there is one.
 fn last_bid<'a>(bids: &'a [Bid], places: &[u16], product: u64) -> Option<&'a Bid>
     ensures { option_copied result ≡ slice_index_or (map (bid_at bids.entry.now) places.now) product None }
 {
@@ -175,8 +185,8 @@ fn last_bid<'a>(bids: &'a [Bid], places: &[u16], product: u64) -> Option<&'a Bid
     bids.get((place as usize).checked_sub(1)?)
 }
 
-/// The fault of the bid at a place of the sheet, by the last bid before it for the same product. Most sheets stand by
-/// rising product, so what is held is looked for near where it was found for the bid before.
+/// Returns the first fault of bid number `place`, given the last earlier bid for its product.
+/// `near` makes the look-up of processed demands fast for rising products, as in [`Row::get_near`].
 fn bid_fault(
     products: &[Product],
     prices: &[PricePair],

@@ -1,3 +1,4 @@
+-- If the bid directly before is for the product, it is the last one for it.
 use Rattle.std.proofs.Common.{◌≡◌, ◌+◌, ◌<◌, Bool, true, false, Bor, Option, Some, get_or, length, nat_eq, refl, rules}
 use Rattle.std.specs.Prelude.{OnSome}
 use Rattle.std.specs.Bool.{then_some}
@@ -7,7 +8,7 @@ use Rattle.clock_bids.proofs.Tables.{no_bid}
 use Rattle.clock_bids.proofs.LastBids.{last_before}
 use Rattle.clock_bids.proofs.check.bid_before.Goals as goal
 
--- what holds of a bid where a test is met holds of what the test answers
+-- a property that holds if a test passes is a property of what the test lets through
 where_met : (test : Bool) (before : Bor Bid) (last : Option Bid) → (test ≡ true → Some before.now ≡ last)
     → OnSome (then_some test before) (option_copied (then_some test before) ≡ last)
 where_met true before last is = is refl

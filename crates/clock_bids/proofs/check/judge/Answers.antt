@@ -1,3 +1,6 @@
+-- One step of the loop: each of the three ways to find the last bid for the product finds it, and with it the bid's
+-- first fault is the one of the rules. The activity so far has the units of that last bid, so that the subtraction is
+-- safe.
 use Rattle.std.proofs.Common.{◌≡◌, ℕ, ◌+◌, ◌*◌, ◌≤◌, List, length, take, ◌∙◌, ap, subst, arith, get_or, rules}
 use Rattle.std.specs.Prelude.{None}
 use Rattle.std.specs.Option.{option_copied}
@@ -38,7 +41,7 @@ returns-in-Some-bid_fault-clause-fault c _ =
     fault_found list c.args.prices.now c.args.demands.now bids i c.loop-i.taken c.loop-i.invariant.judged c.loop-i-test.true seen (option_copied c.if-bid-least.last)
     c.bid_fault.result same last c.bid_fault.ensures c.in-Some-bid_fault.fault c.in-Some-bid_fault.is
 
--- the last bid for the product, of those before
+-- the last bid for the product, among those before
 last_is : (c : In_default-bid_fault) → option_copied c.if-bid-least.last
     ≡ get_or (last_bids (length c.as_slice-products.result.now) (take c.loop-i.i c.args.bids.now)) (get_or c.args.bids.now c.loop-i.i no_bid).product None
 last_is c =
@@ -55,7 +58,7 @@ last_is c =
           (option_copied w.last_bid.result) w.in_ok-places.ensures w.as_slice.ensures.value w.last_bid.ensures
     ]
 
--- what the last bid's blocks take stands in what all take so far
+-- the bidding units of the last bid are part of the activity so far
 held : (c : In_default-bid_fault) (one : Product) → (get_or c.as_slice-products.result.now (get_or c.args.bids.now c.loop-i.i no_bid).product one).units
     * quantity_of (option_copied c.if-bid-least.last) ≤ c.loop-i.taken
 held c one =

@@ -3,7 +3,7 @@ use Rattle.clock_bids.proofs.Judging.{AreJudged}
 use Rattle.clock_bids.specs.inside.LastBids.{AreLastPlaces}
 use Rattle.clock_bids.proofs.check.judge.Given as goal
 
--- the bids so far are judged and for products below the least one, and places of the last ones are kept for those up to one
+-- the bids so far are good and for products below `least`, and the table has the first `kept` bids
 abbrev pub invariant-loop-i : goal.invariant-loop-i
 invariant-loop-i l = record {
   judged : AreJudged l.setup.products l.prices l.demands l.bids l.i l.taken;

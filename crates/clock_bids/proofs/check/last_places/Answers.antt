@@ -1,3 +1,4 @@
+-- The loop starts with an empty table or with that of the first `kept` bids, and enters one bid after another.
 use Rattle.std.proofs.Common.{◌<◌, length, arith, rules}
 use Rattle.clock_bids.proofs.LastBids.{known_at, last_places-more, no_places}
 use Rattle.clock_bids.proofs.check.last_places.Goals as goal

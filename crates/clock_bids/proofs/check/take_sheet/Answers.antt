@@ -1,3 +1,5 @@
+-- The checks in order: a fault of a bid is the sheet's; if there is none, the limit in the code is the activity limit,
+-- and only the requested activity is left.
 use Rattle.std.proofs.Common.{◌<◌, ◌≤◌, ◌≡◌, length, ap, arith, rules}
 use Rattle.std.proofs.lemmas.Result.{err_from_is_err_and}
 use Rattle.clock_terms.specs.Limits.{public_setup}

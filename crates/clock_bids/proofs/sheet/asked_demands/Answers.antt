@@ -1,3 +1,4 @@
+-- Each bid replaces the requested demand for its product.
 use Rattle.std.proofs.Common.{◌<◌, [], length, take, ◌∙◌, sym, ap, arith, get_or, set}
 use Rattle.clock_bids.specs.Sheet.{asked_demands}
 use Rattle.clock_bids.proofs.Tables.{no_bid, asked_demands-nil, asked_demands-more, length-asked_demands}

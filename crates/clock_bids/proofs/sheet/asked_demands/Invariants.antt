@@ -2,6 +2,6 @@ use Rattle.std.proofs.Common.{◌≡◌, length, take}
 use Rattle.clock_bids.specs.Sheet.{asked_demands}
 use Rattle.clock_bids.proofs.sheet.asked_demands.Given as goal
 
--- the demands that the bids so far ask for
+-- the requested demands of the bids so far
 abbrev pub invariant-loop-bid : goal.invariant-loop-bid
 invariant-loop-bid l = l.asked ≡ asked_demands (length l.setup.products) (take l.bid-index l.bids)
