@@ -1,4 +1,5 @@
--- The entries of a map in the order of insertion, read as a list of tie numbers.
+-- A look-up in the hash map finds what a search of the list of tie-breaking numbers finds: entries are in the order of
+-- insertion, and both compare bidder and product.
 use Rattle.std.proofs.Common.{◌≡◌, ℕ, List, [], ◌∷◌, Bool, true, false, cond, ◌&&◌, ◌||◌, ◌==◌, map, find, Option, Some, is_some, unwrap_or, refl, sym, ap, ◌∙◌}
 use Rattle.std.specs.Cmp.{nat_eq_equiv}
 use Rattle.std.specs.List.{list_any}
@@ -8,11 +9,11 @@ use Rattle.clock_order.specs.declared.ties.Tie.{Tie}
 use Rattle.clock_order.specs.Entries.{tie_of}
 use Rattle.clock_order.specs.Ties.{tie_number, is_tie_of}
 
--- the key is the pair
+-- the key is this pair of bidder and product
 abbrev pub is_key : ℕ → ℕ → ℕ × ℕ → Bool
 is_key bidder product key = (bidder == key.0) && (product == key.1)
 
--- both compare the bidder and the product
+-- both compare bidder and product
 is_tie_of-tie_of : (bidder product : ℕ) (entry : (ℕ × ℕ) × ℕ) → is_tie_of bidder product (tie_of entry) ≡ is_key bidder product entry.0
 is_tie_of-tie_of bidder product entry =
     ap (λ x. x && (entry.0.1 == product)) (nat_eq_equiv.symm entry.0.0 bidder) ∙ ap (λ x. (bidder == entry.0.0) && x) (nat_eq_equiv.symm entry.0.1 product)
@@ -25,7 +26,7 @@ found false false number tie rest others e f g = g
 found true false number tie rest others e f g = let bad : false ≡ true = e in cc
 found false true number tie rest others e f g = let bad : true ≡ false = e in cc
 
--- what the map has at a pair, or 0, is its tie number
+-- the value of a pair in the map, or 0, is its tie-breaking number
 pub tie_number-entries : (bidder product : ℕ) (entries : List ((ℕ × ℕ) × ℕ)) →
     unwrap_or (lookup (is_key bidder product) entries) 0 ≡ tie_number (map tie_of entries) bidder product
 tie_number-entries bidder product [] = refl
@@ -41,7 +42,7 @@ present false false number rest others e f = f
 present true false number rest others e f = let bad : false ≡ true = e in cc
 present false true number rest others e f = let bad : true ≡ false = e in cc
 
--- the map has a pair exactly where it is listed
+-- the map has a pair exactly if the list has it
 pub list_any-entries : (bidder product : ℕ) (entries : List ((ℕ × ℕ) × ℕ)) →
     is_some (lookup (is_key bidder product) entries) ≡ list_any (is_tie_of bidder product) (map tie_of entries)
 list_any-entries bidder product [] = refl

@@ -1,4 +1,5 @@
--- One entry after another of a list of tie numbers is looked at, and put into a map.
+-- One step of the loop that checks a list of tie-breaking numbers: the map has the earlier entries, so it decides
+-- whether the next one repeats a pair.
 use Rattle.std.proofs.Common.{◌≡◌, ℕ, ◌+◌, ◌<◌, List, [], ◌∷◌, ◌++◌, Bool, true, false, not, map, take, drop}
 use Rattle.std.proofs.Common.{length, Option, Some, None, is_some, if◌then◌else◌, refl, sym, ap, ◌∙◌}
 use Rattle.std.specs.List.{slice_index_or, list_any}
@@ -14,11 +15,11 @@ use Rattle.clock_order.specs.Ties.{is_tie_of, tie_checks}
 use Rattle.clock_order.specs.inside.TieTests.{is_in_range, is_new, checks_of_ties}
 use Rattle.clock_order.proofs.Listed.{is_key, list_any-entries}
 
--- the entry at place i
+-- the entry at index i
 abbrev pub tie_at : List Tie → ℕ → Tie
 tie_at ties i = slice_index_or ties i (record { bidder = 0; product = 0; number = 0 })
 
--- the entries with one more at the end are listed
+-- the map with one more entry at the end
 pub listed_more : (ties : List Tie) (i : ℕ) (entries : List ((ℕ × ℕ) × ℕ)) → i < length ties → map tie_of entries ≡ take i ties
     → map tie_of (entries ++ (((tie_at ties i).bidder, (tie_at ties i).product), (tie_at ties i).number) ∷ []) ≡ take (i + 1) ties
 listed_more ties i entries lt same =
@@ -27,7 +28,7 @@ listed_more ties i entries lt same =
     ∙ sym (take_more ties i (record { bidder = 0; product = 0; number = 0 }) lt)
 
 module _ (bidders products : ℕ) (ties : List Tie) where
-  -- the entries from place i on have the first fault of the list
+  -- the entries from index i on decide the first fault of the list
   abbrev pub AreAhead : ℕ → Type 0
   AreAhead i = first_fault (in_turn (λ i tie. tie_checks bidders products (take i ties) i tie) i (drop i ties)) ≡ first_fault
       (checks_of_ties bidders products ties)
@@ -35,7 +36,7 @@ module _ (bidders products : ℕ) (ties : List Tie) where
   abbrev earlier_fault : ℕ → Bool → Bool → Option TieFault
   earlier_fault i within fresh = if within then (if fresh then None else Some (Repeated i)) else Some (Range i)
 
-  -- the map has the pair of the entry at place i exactly where it stands earlier
+  -- the map has the pair of the entry at index i exactly if an earlier entry has it
   pair_listed : (i : ℕ) (entries : List ((ℕ × ℕ) × ℕ)) → map tie_of entries ≡ take i ties
       → is_some (lookup (is_key (tie_at ties i).bidder (tie_at ties i).product) entries)
       ≡ list_any (is_tie_of (tie_at ties i).bidder (tie_at ties i).product) (take i ties)
@@ -50,13 +51,13 @@ module _ (bidders products : ℕ) (ties : List Tie) where
       ∙ turn_failed (λ i tie. tie_checks bidders products (take i ties) i tie) ties i (tie_at ties i) fault within
       (get_or_default ties i (record { bidder = 0; product = 0; number = 0 }) (tie_at ties i) within) is
 
-  -- the entry at place i is the first with a fault: it is out of range
+  -- the entry at index i has the first fault: its bidder or product does not exist
   pub range_first : (i : ℕ) → i < length ties → AreAhead i → false ≡ is_in_range bidders products (tie_at ties i)
       → first_fault (checks_of_ties bidders products ties) ≡ Some (Range i)
   range_first i within ahead out =
       fails i (Range i) within ahead (ap (λ b. earlier_fault i b (is_new (take i ties) (tie_at ties i))) (sym out))
 
-  -- what the entry at place i comes to, where it is in range
+  -- the first fault of the entry at index i, if its bidder and product exist
   in_range_at : (i : ℕ) (entries : List ((ℕ × ℕ) × ℕ)) (old : Option ℕ) → map tie_of entries ≡ take i ties → true ≡ is_in_range bidders products (tie_at ties i)
       → old ≡ lookup (is_key (tie_at ties i).bidder (tie_at ties i).product) entries
       → first_fault (tie_checks bidders products (take i ties) i (tie_at ties i)) ≡ earlier_fault i true (not (is_some old))
@@ -64,14 +65,14 @@ module _ (bidders products : ℕ) (ties : List Tie) where
       ap (λ b. earlier_fault i b (is_new (take i ties) (tie_at ties i))) (sym range)
       ∙ ap (λ b. earlier_fault i true (not b)) (sym (ap is_some was ∙ pair_listed i entries same))
 
-  -- the entry at place i is the first with a fault: its pair stands earlier
+  -- the entry at index i has the first fault: an earlier entry has its pair
   pub repeated_first : (i : ℕ) (entries : List ((ℕ × ℕ) × ℕ)) (old : Option ℕ) → i < length ties → AreAhead i → map tie_of entries ≡ take i ties
       → true ≡ is_in_range bidders products (tie_at ties i) → old ≡ lookup (is_key (tie_at ties i).bidder (tie_at ties i).product) entries → true ≡ is_some old
       → first_fault (checks_of_ties bidders products ties) ≡ Some (Repeated i)
   repeated_first i entries old within ahead same range was some =
       fails i (Repeated i) within ahead (in_range_at i entries old same range was ∙ ap (λ b. earlier_fault i true (not b)) (sym some))
 
-  -- the entry at place i has no fault
+  -- the entry at index i has no fault
   pub ahead_more : (i : ℕ) (entries : List ((ℕ × ℕ) × ℕ)) (old : Option ℕ) → i < length ties → AreAhead i → map tie_of entries ≡ take i ties
       → true ≡ is_in_range bidders products (tie_at ties i) → old ≡ lookup (is_key (tie_at ties i).bidder (tie_at ties i).product) entries → false ≡ is_some old
       → AreAhead (i + 1)
@@ -81,7 +82,7 @@ module _ (bidders products : ℕ) (ties : List Tie) where
       (in_range_at i entries old same range was ∙ ap (λ b. earlier_fault i true (not b)) (sym none)))
       ∙ ahead
 
--- an option that is not there is none
+-- an option without a value is `None`
 pub none_from_test : {A : Type 0} (o : Option A) → false ≡ is_some o → o ≡ None
 none_from_test None e = refl
 none_from_test (Some a) e = let bad : false ≡ true = e in cc

@@ -1,4 +1,4 @@
--- What only proofs and private functions use: no clause of a public call cites it.
+-- Definitions that only proofs and private functions use. No clause of a public call names one.
 pub mod Keyed
 pub mod KeyLaws
 pub mod OrderKeyLaws

@@ -3,25 +3,25 @@ ghost use Rattle.std.specs.Prelude.{◌≤◌};
 use clock_money::Point;
 use std::cmp::Ordering;
 
-/// What a change is ordered by: its price point, the tie number of its bidder and product, and
-/// then bidder, product and place themselves.
+/// The key of a request in the order of bid processing: its price point, the tie-breaking number of
+/// its bidder and product, and then bidder, product, and place in the chain.
 ///
-/// Points are compared by value, so that 5/10 and 50/100 tie; the two numbers of a point come
-/// last, so that keys compare equal exactly where they are equal. The order by price point is that
-/// of the FCC's Auction 105; what settles equal points is this auction's own rule.
+/// Price points are compared by value, so that 5/10 and 50/100 are equal. The two numbers of a
+/// point come last, so that keys compare as equal only if they are equal. The order by price point
+/// is the FCC's for Auction 105; the rest is our own.
 #[derive(Clone, Copy, Debug, PartialEq, Eq)]
 pub struct OrderKey {
-    /// How far the price stands from the start price to the clock price.
+    /// How far the price is from the start-of-round price to the clock price.
     pub point: Point,
-    /// The tie number of the bidder and the product, 0 where none is listed.
+    /// The tie-breaking number of the bidder and product, or 0 if none is listed.
     pub tie: u64,
-    /// The bidder's number.
+    /// The bidder's number in the set-up, from 0.
     pub bidder: u32,
-    /// The product's number.
+    /// The product's number in the set-up, from 0.
     pub product: u32,
-    /// The number of the bid in the sheet's chain for the product, from 0.
+    /// The index of the bid in the sheet's chain for the product, from 0.
     pub place: u32,
-    // Without it 0/0 would equal every point, and the order would not be total.
+    // Without it, 0/0 would equal every point, and the order would not be total.
     pub ghost denominator: { 1 ≤ point.span },
 }
 

@@ -1,4 +1,4 @@
--- Each entry is judged by the map of those before it.
+-- Each entry is checked against the map of those before it.
 use Rattle.std.proofs.Common.{◌≡◌, ℕ, ◌<◌, true, ◌∙◌, ap, map, rules, sym}
 use Rattle.std.proofs.lemmas.Bool.{lt-ltb}
 use Rattle.indexmap.proofs.CallerLemmas.{insert_entry-new}

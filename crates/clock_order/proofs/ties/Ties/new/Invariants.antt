@@ -1,4 +1,4 @@
--- The entries so far are listed, and those ahead have the first fault of the list.
+-- The map has the entries so far, and the others decide the first fault of the list.
 use Rattle.std.proofs.Common.{◌≡◌, take}
 use Rattle.clock_order.specs.Entries.{listed as listed_in}
 use Rattle.clock_order.proofs.TieSteps.{AreAhead}

@@ -1,4 +1,4 @@
--- What the map has at the pair is the tie number of the list that it is seen as.
+-- The value of the pair in the map is its tie-breaking number in the list.
 use Rattle.std.proofs.Common.{◌∙◌, ap, unwrap_or}
 use Rattle.clock_order.specs.Ties.{tie_number}
 use Rattle.clock_order.proofs.Listed.{tie_number-entries}
