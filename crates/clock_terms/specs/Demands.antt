@@ -30,10 +30,10 @@ abbrev pub changed_demand : Kind → ℕ → ℕ → ℕ
 changed_demand Increase demand amount = demand + amount
 changed_demand Reduction demand amount = demand - amount
 
--- every bidder demands 0 of every product
+-- a grid in which every demand is 0
 abbrev pub no_demands : ℕ → ℕ → List (List ℕ)
 no_demands bidders products = replicate bidders (replicate products 0)
 
--- a row for each bidder, and in each row a number for each product
+-- a grid: a row for each bidder, and in each row a number for each product
 abbrev pub IsGrid : ℕ → ℕ → List (List ℕ) → Type 0
 IsGrid bidders products grid = (length grid ≡ bidders) × All (λ row. length row ≡ products) grid

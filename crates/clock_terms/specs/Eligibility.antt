@@ -1,5 +1,5 @@
--- Activity and eligibility, in bidding units. The rules are the FCC's procedures for Auction 105;
--- rounding eligibility up is our own rule.
+-- Activity and eligibility, in bidding units. The rules are from the FCC's procedures for
+-- Auction 105; rounding eligibility up is our own rule.
 --     activity products demands      the activity of a row of demands
 --     supported_eligibility activity requirement      the eligibility that an activity supports,
 --         computed
@@ -14,12 +14,14 @@ use Rattle.clock_terms.specs.declared.setup.Product.{Product}
 abbrev pub activity : List Product → List ℕ → ℕ
 activity products demands = sum_by (λ line. line.0.units * line.1) (zip products demands)
 
--- activity divided by the required percentage, rounded up: with 95 percent, an activity of 30
--- supports 32
+-- the eligibility that an activity supports: the activity divided by the required percentage,
+-- rounded up
 abbrev pub supported_eligibility : ℕ → ℕ → ℕ
 supported_eligibility activity requirement = rounded_up (100 * activity) requirement
 
--- The least whole number whose required percentage is at least the activity.
+-- The eligibility that an activity supports: the least whole number whose required percentage is at
+-- least the activity. With 95 percent, an activity of 30 supports 32: 95 percent of 32 is 30.4, and
+-- of 31 only 29.45.
 abbrev pub IsSupported : ℕ → ℕ → ℕ → Type 0
 IsSupported activity requirement eligibility = IsLeastWith (λ enough. 100 * activity ≤ requirement * enough) eligibility
 

@@ -29,11 +29,11 @@ abbrev pub or_fault : {A F : Type 0} → F → Option A → Result A F
 or_fault fault None = Err fault
 or_fault fault (Some value) = Ok value
 
--- a fault other than out of memory is the first one by the rules
+-- The error that a call returns is the first fault by the rules, or out of memory.
 abbrev pub IsFirstFault : {F : Type 0} → F → Option F → F → Type 0
 IsFirstFault no_memory first fault = fault ≢ no_memory → first ≡ Some fault
 
--- an error other than out of memory is the result by the rules
+-- The error that a call returns is the error by the rules, or out of memory.
 abbrev pub IsRefusal : {A F : Type 0} → F → Result A F → F → Type 0
 IsRefusal no_memory answer fault = fault ≢ no_memory → answer ≡ Err fault
 

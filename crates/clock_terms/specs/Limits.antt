@@ -56,8 +56,8 @@ least_limit = 100
 abbrev pub most_limit : ℕ
 most_limit = 140
 
--- A document of version 1 has no activity limit and no granules. They are 100 percent and one
--- dollar.
+-- A document of version 1 cannot state an activity limit or granules. It means 100 percent, and one
+-- dollar for each product.
 abbrev pub first_limit : ℕ
 first_limit = 100
 
@@ -107,7 +107,7 @@ IsToken text = IsWithin shortest_token longest_token (length text) × AllPass is
 abbrev pub is_token : List ℕ → Bool
 is_token text = is_within shortest_token longest_token (length text) && list_all is_letter_or_digit text
 
--- the limits of a product: each number has its range, and the cap is at most the supply
+-- the limits of a product: each value has its range, and the cap is at most the supply
 pub record IsProduct (product : Product) : Type 0 where
   pub name : IsName product.name
   pub units : IsWithin 1 most_units product.units
@@ -131,7 +131,8 @@ abbrev pub is_distinct : List (List ℕ) → Bool
 is_distinct [] = true
 is_distinct (text ∷ texts) = not (list_any (bytes_eq text) texts) && is_distinct texts
 
--- all parts of a set-up
+-- A set-up: its version, activity limit and activity requirement in percent, the operator's token,
+-- the products, and the bidders.
 pub record SetupFields : Type 0 where
   pub version : ℕ
   pub limit : ℕ

@@ -47,15 +47,15 @@ pub record IsChangeOf (products : List Product) (prices : List PricePair) (owner
   pub to_clock : change.price ≤ (prices_at prices change.product).clock
   pub point : change.point ≡ price_point (prices_at prices change.product).start change.price (prices_at prices change.product).clock
 
--- a comes before b: by product, and for one product by its place in the chain
+-- request a comes before request b: by product, and for one product by its place in the chain
 abbrev pub StandsBefore : Change → Change → Type 0
 StandsBefore a b = (a.product < b.product) ⊎ ((a.product ≡ b.product) × (a.place < b.place))
 
--- no two requests have the same bidder, product, and place
+-- the two requests do not have the same bidder, product, and place
 abbrev pub AreApart : Change → Change → Type 0
 AreApart a b = a.bidder ≡ b.bidder → a.product ≡ b.product → a.place ≡ b.place → ⊥
 
--- requests of one bidder for one product go in one direction
+-- if the two requests are by one bidder for one product, they go in one direction
 abbrev pub GoOneWay : Change → Change → Type 0
 GoOneWay a b = a.bidder ≡ b.bidder → a.product ≡ b.product → a.kind ≡ b.kind
 
