@@ -1,10 +1,10 @@
--- The text of a report, computed on a small one.
+-- An example of the text of a report.
 use Rattle.std.specs.Prelude.{◌≡◌, [], ◌∷◌, None, true, codes, refl}
 use Rattle.std.specs.Fmt.{digits}
 use Rattle.clock_terms.proofs.Examples.{one_product}
 use Rattle.clock_reports.specs.ReportText.{report_text}
 
--- X and Y have won a block of A each at 115
+-- X and Y have each won one block of A at 115
 bidders_pay_the_posted_price :
     report_text (record {
       setup = one_product;

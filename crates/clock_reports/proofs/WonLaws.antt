@@ -1,4 +1,5 @@
--- What is won, by the products that are held alone.
+-- Text and price of a bidder's demands, computed from the positive ones only: demands of 0 between them cost nothing,
+-- and their text is a prefix of the text of a row of zeros.
 use Rattle.std.proofs.Common.{◌≡◌, ℕ, zero, suc, ◌+◌, ◌-◌, ◌*◌, ◌<◌, ◌≤◌, List, ◌∷◌, ◌++◌, flat_map, length, take, drop, get_or, None, refl, sym, ap, ap₂}
 use Rattle.std.proofs.Common.{◌∙◌, append_assoc, arith}
 use Rattle.std.specs.Prelude.{codes, decimal, replicate, zip}
@@ -11,7 +12,7 @@ use Rattle.clock_posting.specs.declared.sheet.Line.{Line}
 use Rattle.clock_reports.specs.ReportText.{payment}
 use Rattle.clock_reports.specs.inside.WonLines.{demand_text, none_held}
 
--- ---- the text of products that are not held
+-- ---- the text of demands of 0
 
 zero_text : demand_text 0 ≡ codes "0 "
 unfolding digits
@@ -25,7 +26,7 @@ pub length-none_held : (n : ℕ) → length (none_held n) ≡ 2 * n
 length-none_held zero = refl
 length-none_held (suc n) = ap (λ (text : List ℕ). length text) (none_more n) ∙ (let rest = length-none_held n in omega arith)
 
--- that of fewer products is its front
+-- the text for fewer products is a prefix
 pub front_of_none : (many products : ℕ) → products ≤ many → take (2 * products) (none_held many) ≡ none_held products
 front_of_none many zero few = refl
 front_of_none zero (suc products) few = absurd (omega (arith, few))
@@ -35,9 +36,9 @@ front_of_none (suc many) (suc products) few =
     ∙ ap (λ (text : List ℕ). codes "0 " ++ text) (front_of_none many products (omega (arith, few)))
     ∙ sym (none_more products)
 
--- ---- products that are passed over
+-- ---- skipped products
 
--- the demands from a place on, of which so many are none
+-- the demands from an index on, if the first `count` of them are 0
 none_first : (row : List ℕ) (from count : ℕ) → from + count ≤ length row → AllWithin (λ demand. demand ≡ 0) row from (from + count)
     → drop from row ≡ replicate count 0 ++ drop (from + count) row
 none_first row from zero within none =
@@ -51,7 +52,7 @@ none_first row from (suc count) within none =
     (λ k d low high. none k d (omega (arith, low)) (omega (arith, high))))
     ∙ ap (λ (n : ℕ). replicate (suc count) 0 ++ drop n row) same
 
--- their text, and that of the demands behind them
+-- the text of skipped demands, followed by that of the demands after them
 pub none_passed : (row : List ℕ) (from to : ℕ) → from ≤ to → to ≤ length row → AllWithin (λ demand. demand ≡ 0) row from to
     → none_held (to - from) ++ flat_map demand_text (drop to row) ≡ flat_map demand_text (drop from row)
 none_passed row from to order within none =
@@ -61,7 +62,7 @@ none_passed row from to order within none =
     ∙ ap (λ (demands : List ℕ). flat_map demand_text demands)
     (sym (none_first row from (to - from) (omega (arith, same, within)) (λ k d low high. none k d low (omega (arith, high, same)))))
 
--- a demand behind them, before those for the others
+-- a positive demand after skipped ones
 pub one_held : (row text passed number next all : List ℕ) (from product demand : ℕ) → from ≤ product → product < length row
     → AllWithin (λ demand. demand ≡ 0) row from product → demand ≡ get_or row product 0
     → passed ≡ text ++ none_held (product - from) → number ≡ passed ++ decimal demand → next ≡ number ++ codes " "
@@ -79,12 +80,12 @@ one_held row text passed number next all from product demand order within none i
     ∙ ap (λ (left : List ℕ). text ++ left) (none_passed row from product order (omega (arith, within)) none)
     ∙ rest
 
--- ---- payments
+-- ---- prices of demands
 
 no_line : Line
 no_line = record { start = 0; clock = 0; posted = 0; demand = None; next = None }
 
--- a product more
+-- one product more
 paid_more : (line : Line) (lines : List Line) (demand : ℕ) (row : List ℕ)
     → payment (line ∷ lines) (demand ∷ row) ≡ line.posted * demand + payment lines row
 paid_more line lines demand row = sum_by-cons (λ (pair : Line × ℕ). pair.0.posted * pair.1) (line, demand) (zip lines row)
@@ -116,7 +117,7 @@ so_many_free lines row from (suc count) same within none =
     ∙ so_many_free lines row (from + 1) count same (omega (arith, within)) (λ k d low high. none k d (omega (arith, low)) (omega (arith, high)))
     ∙ ap (λ (n : ℕ). payment (drop n lines) (drop n row)) end
 
--- what is not held costs nothing
+-- demands of 0 cost nothing
 pub free : (lines : List Line) (row : List ℕ) (from to : ℕ) → length row ≡ length lines → from ≤ to → to ≤ length row
     → AllWithin (λ demand. demand ≡ 0) row from to → payment (drop from lines) (drop from row) ≡ payment (drop to lines) (drop to row)
 free lines row from to same order within none =

@@ -1,2 +1,2 @@
--- What only proofs and private functions use: no clause of a public call cites it.
+-- Definitions that only proofs and private functions use. No clause of a public call names one.
 pub mod WonLines

@@ -1,4 +1,4 @@
-//! The text of a report: of a replay, of an auction that has ended, and of an audit.
+//! The text of a report: of a rehearsal, of an auction that has ended, and of an audit.
 #![tactic(auto)]
 
 mod report;

@@ -1,4 +1,5 @@
-//! The report of an auction, of its rounds so far.
+//! The report of an auction so far: its round results, and the processed demands after its last
+//! closed round.
 
 ghost use Rattle.std.specs.Prelude.{◌≡◌, ◌<◌, ◌≤◌, Some, length, map, reverse, slice_get, All, IfOk};
 ghost use Rattle.clock_reports.specs.Reports.{IsPricedLine, IsReport, ReportFields};
@@ -11,18 +12,20 @@ use clock_terms::{Grid, Setup};
 use std::alloc::Global;
 use std::marker::Model;
 
-/// The sheets of closed rounds, by rising round from round 1.
+/// The round results of closed rounds, in order from round 1.
 pub type RoundSheets = Items<RoundSheet>;
 
-/// What an auction has come to so far: of a replay, or of an audit. The type keeps that there is at least one sheet,
-/// and in each a line for each product at prices from 1 to 10^12; and that the grid is one of the set-up.
+/// The outcome of an auction so far, of a rehearsal or an audit. There is at least one closed
+/// round. Each round's results have a line for each product, with prices from 1 to 10^12 dollars.
+/// The demands are a grid of the set-up.
 #[derive(Drop)]
 pub struct Report {
-    /// What the auction was set up with.
+    /// The set-up of the auction.
     pub setup: Setup,
-    /// The sheets of its rounds.
+    /// The round results of the closed rounds.
     pub sheets: RoundSheets,
-    /// What each bidder holds after the last of these rounds, and at the end has won.
+    /// The processed demands after the last closed round. At the end, each bidder has won these
+    /// blocks.
     pub grid: Grid,
 }
 
@@ -34,7 +37,7 @@ impl Model for Report {
     ghost invariant = { λ r. IsReport (record { setup = r.setup; sheets = r.sheets; grid = r.grid }) };
 }
 
-/// The prices of lines are prices.
+/// Gives its caller a law: the prices in the lines are from 1 to 10^12 dollars.
 fn law_of_prices(lines: &[Line])
     ensures { All IsPricedLine lines.now }
 {
@@ -43,7 +46,7 @@ fn law_of_prices(lines: &[Line])
     }
 }
 
-/// The sheet of a closed round; rounds are numbered from 0 here.
+/// Returns the results of a closed round, by its index from 0. Requires a closed round.
 pub(crate) fn sheet_at<P>(house: &House<P>, round: u64) -> &RoundSheet
     requires { round < length house.now.closed }
     ensures is { slice_get (map (λ closed. closed.sheet) (reverse house.now.closed)) round ≡ Some result.now }
@@ -53,7 +56,7 @@ pub(crate) fn sheet_at<P>(house: &House<P>, round: u64) -> &RoundSheet
     house.sheet(round + 1).unwrap()
 }
 
-/// The sheets of the closed rounds, in order.
+/// Returns the round results of all closed rounds, in order. May return `NoMemory`.
 fn sheets_of<P>(alloc: Global, house: &House<P>) -> Result<RoundSheets, NoMemory>
     ensures same { IfOk result (λ sheets. sheets ≡ map (λ closed. closed.sheet) (reverse house.now.closed)) }
     ensures priced { IfOk result (All (λ sheet. All IsPricedLine sheet.lines)) }
@@ -67,13 +70,14 @@ fn sheets_of<P>(alloc: Global, house: &House<P>) -> Result<RoundSheets, NoMemory
     Ok(sheets)
 }
 
-/// The report of an auction of which a round is closed at least: its rounds so far, and what each bidder holds.
+/// Returns the report of an auction so far. Requires at least one closed round. May return
+/// `NoMemory`.
 pub fn report_so_far<P>(alloc: Global, house: &House<P>) -> Result<Report, NoMemory>
     requires { 1 ≤ length house.now.closed }
     ensures { IfOk result (λ report. report ≡ rules.report_of house.now.setup house.now.closed) }
 {
     house.law_of_house();
-    // the set-up comes last, so that the least is let go where there is no memory
+    // The set-up is copied last, so that the least is freed if memory runs out.
     let grid = house.demands().copy(alloc)?;
     let sheets = sheets_of(alloc, house)?;
     Ok(Report {

@@ -1,4 +1,4 @@
-//! The texts of reports: of a replay, of an auction itself, and of an audit.
+//! The texts of reports: of a rehearsal, of an auction that has ended, and of an audit.
 
 ghost use Rattle.std.specs.{Prelude.{◌≡◌, ◌≤◌, ◌++◌, All, IfOk, OnOk, length, decimal, codes, zip, true}, List.{flat_map}};
 ghost use Rattle.clock_terms.specs.Limits.{most_products};
@@ -14,17 +14,14 @@ use clock_posting::{Line, with_sheet_lines};
 use clock_terms::{Grid, Row, Setup};
 use std::alloc::Global;
 
-/// The text of a report: the lines of each round's sheet, by rising round, then for each bidder the line
-/// `won NAME DEMAND .. PAY` with its demand for each product and the sum of demand times posted price of the last
-/// round, in whole dollars. Fields are parted by one space, numbers are plain decimal, and each line ends with a line
-/// feed:
+/// Returns the text of a report. May return `NoMemory`.
 ///
-/// ```text
-/// round 1
-/// A 100 100 100 - -
-/// won X 1 100
-/// won Y 1 100
-/// ```
+/// The lines of each round's results come first, by rising round. Then there is a line `won NAME
+/// DEMAND .. PAY` for each bidder: its processed demand for each product, and the sum of demand
+/// times last posted price, in whole dollars. Fields are separated by one space, numbers are in
+/// decimal, and each line ends with a line feed:
+///
+/// ```text round 1 A 100 100 100 - - won X 1 100 won Y 1 100 ```
 pub fn report_text(alloc: Global, report: &Report) -> Result<Text, NoMemory>
     ensures { IfOk result (λ text. text ≡ words.report_text report.now) }
 {
@@ -38,7 +35,8 @@ pub fn report_text(alloc: Global, report: &Report) -> Result<Text, NoMemory>
     Ok(text)
 }
 
-/// What demands cost at the posted prices, in whole dollars.
+/// Returns the price of a bidder's demands at the posted prices, in whole dollars. Requires a line
+/// for each product. Allocates nothing.
 fn payment(lines: &[Line], demands: &Row) -> u64
     requires each { length demands.now ≡ length lines.now }
     requires few { length lines.now ≤ most_products }
@@ -52,7 +50,7 @@ fn payment(lines: &[Line], demands: &Row) -> u64
     total
 }
 
-/// The demands for so many products of which none is held, each with a space behind it.
+/// Returns the text of `products` demands of 0, each followed by a space. May return `NoMemory`.
 fn none_held_text(alloc: Global, products: usize) -> Result<Text, NoMemory>
     ensures { IfOk result (λ text. text ≡ none_held products) }
 {
@@ -63,8 +61,8 @@ fn none_held_text(alloc: Global, products: usize) -> Result<Text, NoMemory>
     Ok(text)
 }
 
-/// Adds demands by product, each with a space behind it. Nothing is looked at but what is held; the others are copied
-/// out of the text of as many products of which none is.
+/// Appends the demand for each product, each followed by a space. Visits only positive demands.
+/// Demands of 0 are copied from `none`, which is the text of a row of them. May return `NoMemory`.
 fn push_demands(text: &mut Text, none: &[u8], demands: &Row) -> Result<(), NoMemory>
     requires { none.now ≡ none_held (length demands.now) }
     ensures { OnOk result (text.new ≡ text.old ++ flat_map (λ demand. decimal demand ++ codes " ") demands.now) }
@@ -81,7 +79,8 @@ fn push_demands(text: &mut Text, none: &[u8], demands: &Row) -> Result<(), NoMem
     text.extend_from_slice(&none[..2 * (products - from)])
 }
 
-/// Adds the lines of a set-up's bidders. There is a line for each product, and a row of the grid for each bidder.
+/// Appends the line of each bidder. Requires a line for each product, and a row of the grid for
+/// each bidder. May return `NoMemory`.
 fn push_wins(
     alloc: Global,
     text: &mut Text,
@@ -108,20 +107,16 @@ fn push_wins(
     Ok(())
 }
 
-/// A digest in digits of base 16.
+/// A digest in 64 hexadecimal digits.
 pub type Digits = [u8; 64];
 
-/// The text of an audit: the lines of each round's sheet, by rising round, and behind each the line `closed ROUND
-/// DIGEST` with the digest of the closing, one for each round; and where the auction has ended the lines of what each
-/// bidder won, as [`report_text`] has them.
+/// Returns the text of an audit. Requires a digest for each round. May return `NoMemory`.
 ///
-/// ```text
-/// round 1
-/// A 100 100 100 - -
-/// closed 1 5be1a2c4..
-/// won X 1 100
-/// won Y 1 100
-/// ```
+/// The lines of each round's results come first, by rising round, each followed by a line `closed
+/// ROUND DIGEST` with the digest after its closing. If the auction has ended, the lines of the
+/// bidders come next, as in [`report_text`]:
+///
+/// ```text round 1 A 100 100 100 - - closed 1 5be1a2c4.. won X 1 100 won Y 1 100 ```
 pub fn audit_text(alloc: Global, report: &Report, digests: &[Digits]) -> Result<Text, NoMemory>
     requires { length report.now.sheets ≤ length digests.now }
     ensures { IfOk result (λ text. text ≡ words.audit_text report.now digests.now) }
@@ -145,17 +140,19 @@ pub fn audit_text(alloc: Global, report: &Report, digests: &[Digits]) -> Result<
     Ok(text)
 }
 
-/// How many bytes a line of a product takes, about.
+/// The length of a product's line in bytes, about.
 const LINE_ROOM: usize = 48;
 
-/// The text of the report of an auction that has ended, written from the auction itself: no sheet is copied.
+/// Returns the text of the report of an auction that has ended, without copying its round results.
+/// Requires that the auction has ended. May return `NoMemory`.
 pub fn final_text<P>(alloc: Global, house: &House<P>) -> Result<Text, NoMemory>
     requires { (standing_in house.now).ended ≡ true }
     ensures { IfOk result (λ text. text ≡ words.report_text (rules.report_of house.now.setup house.now.closed)) }
 {
     let products = house.setup().products.as_slice().len();
     let count = products.saturating_mul(house.closed_rounds() as usize);
-    // room is taken at once, about: a long text that grows is copied, and both stand in memory
+    // Allocates about what is needed at once: a long text that grows is copied, and both copies
+    // need memory.
     let mut text = Text::from_vec(Vec::with_capacity(alloc, count.saturating_mul(LINE_ROOM))?);
     for round in 0..house.closed_rounds() {
         text = with_sheet_lines(text, house.setup(), sheet_at(house, round))?;

@@ -1,3 +1,4 @@
+-- One step of the loop: the type of prices bounds the three prices of the next line.
 use Rattle.std.proofs.Common.{◌≡◌, ℕ, suc, ◌+◌, All, take, sym, subst, arith, rules}
 use Rattle.std.proofs.Math.Seq.{take-suc}
 use Rattle.std.proofs.lemmas.List.Elements.{All-push}

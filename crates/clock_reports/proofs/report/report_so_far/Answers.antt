@@ -1,3 +1,4 @@
+-- The limits of a report follow from the laws of the house: its set-up, its closed rounds, and its processed demands.
 use Rattle.std.proofs.Common.{◌≡◌, ◌≤◌, ℕ, List, All, length, ap, sym, subst, ◌∙◌, arith}
 use Rattle.std.specs.Prelude.{reverse, map}
 use Rattle.std.specs.List.{range_with_len}

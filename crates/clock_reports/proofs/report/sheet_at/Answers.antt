@@ -1,3 +1,4 @@
+-- The house numbers its rounds from 1, and the closed rounds are in reverse order.
 use Rattle.std.proofs.Common.{Bor, Option, sym, ap, ◌∙◌}
 use Rattle.std.specs.Prelude.{option_copied}
 use Rattle.clock_posting.specs.declared.sheet.RoundSheet.{RoundSheet}

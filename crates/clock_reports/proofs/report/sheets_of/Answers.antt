@@ -1,3 +1,4 @@
+-- The loop copies the results of one round after another.
 use Rattle.std.proofs.Common.{◌≡◌, List, [], ◌∷◌, ◌++◌, All, map, ap, sym, subst, ◌∙◌, arith}
 use Rattle.std.specs.Prelude.{reverse, Some, slice_get}
 use Rattle.std.proofs.lemmas.List.{length-map, length-reverse, take_all}

@@ -1,3 +1,4 @@
+-- The loop appends the lines of one round after another; the lines of the bidders follow only if the auction has ended.
 use Rattle.std.proofs.Common.{◌≡◌, ◌<◌, ◌+◌, ◌++◌, List, [], ◌∷◌, ℕ, length, get_or, drop, zip, ap, ap₂, sym, ◌∙◌, append_assoc, arith}
 use Rattle.std.specs.Prelude.{codes, decimal}
 use Rattle.std.specs.List.{flat_map}
@@ -9,7 +10,7 @@ use Rattle.clock_reports.specs.Reports.{ReportFields}
 use Rattle.clock_reports.specs.ReportText.{audited_round}
 use Rattle.clock_reports.proofs.report_lines.audit_text.Goals as goal
 
--- one more piece behind those that were added to a text
+-- one more piece after those that were appended to a text
 behind : (text known added piece : List ℕ) → known ≡ text ++ added → known ++ piece ≡ text ++ (added ++ piece)
 behind text known added piece is = ap (λ (all : List ℕ). all ++ piece) is ∙ append_assoc text added piece
 
@@ -22,7 +23,7 @@ audited text lines new products sheet digest told closed =
     let three = behind text _ _ (codes " ") two in
     closed ∙ behind text _ _ (codes "\n") (behind text _ _ digest three)
 
--- with it the lines of the other rounds are the rest
+-- the text with this round, followed by the lines of the rounds left, is the whole
 next_round : (products : List Product) (sheets : List RoundSheet) (digests : List (List ℕ)) (i : ℕ) (text new all : List ℕ) (sheet : RoundSheet)
     → i < length sheets → i < length digests → sheet ≡ get_or sheets i sheet → new ≡ text ++ audited_round products (sheet, get_or digests i [])
     → text ++ flat_map (audited_round products) (zip (drop i sheets) (drop i digests)) ≡ all

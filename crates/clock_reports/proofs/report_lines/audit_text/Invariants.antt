@@ -3,7 +3,7 @@ use Rattle.std.specs.List.{flat_map}
 use Rattle.clock_reports.specs.ReportText.{audited_round}
 use Rattle.clock_reports.proofs.report_lines.audit_text.Given as goal
 
--- with the lines of the other rounds it is the text of all
+-- the text so far, followed by the lines of the rounds left, is the text of all rounds
 abbrev pub invariant-loop-index : goal.invariant-loop-index
 invariant-loop-index l =
     l.text ++ flat_map (audited_round l.report.setup.products) (zip (drop l.index l.sheets) (drop l.index l.digests))

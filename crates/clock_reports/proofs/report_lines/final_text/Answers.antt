@@ -1,3 +1,4 @@
+-- The loop appends the lines of one round after another, and then those of the bidders, as in the text of the report.
 use Rattle.std.proofs.Common.{◌≡◌, ◌≤◌, ◌+◌, ◌-◌, ◌++◌, ℕ, List, [], All, false, length, drop, map, zip, ap, sym, subst, ◌∙◌, arith}
 use Rattle.std.specs.Prelude.{reverse, slice_get, slice_index_or}
 use Rattle.std.specs.List.{flat_map}

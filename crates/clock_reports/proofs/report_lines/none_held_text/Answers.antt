@@ -1,3 +1,4 @@
+-- One step of the loop: the text of one product more.
 use Rattle.std.proofs.Common.{◌≡◌, ◌+◌, ◌-◌, ◌++◌, ℕ, suc, List, sym, ap, ◌∙◌, append_assoc, arith}
 use Rattle.std.specs.Prelude.{codes}
 use Rattle.clock_reports.specs.inside.WonLines.{none_held}

@@ -1,3 +1,4 @@
+-- The loop visits only positive demands: those of 0 between them cost nothing.
 use Rattle.std.proofs.Common.{◌≡◌, ◌≤◌, ◌<◌, ◌+◌, ◌*◌, min, ℕ, List, length, drop, ap, sym, subst, ◌∙◌, arith}
 use Rattle.std.specs.Prelude.{slice_index, slice_index_or}
 use Rattle.std.specs.List.{AllWithin}
@@ -8,7 +9,7 @@ use Rattle.clock_reports.specs.ReportText.{payment}
 use Rattle.clock_reports.proofs.WonLaws.{paid_at, free}
 use Rattle.clock_reports.proofs.report_lines.payment.Goals as goal
 
--- nothing is paid from where a walk goes on to a later place, where none between is held
+-- the demands of 0 that the iterator skips cost nothing
 unpaid : (lines : List Line) (row demands : List ℕ) (from to : ℕ) → length demands ≡ length lines → row ≡ demands → min from (length demands) ≤ to
     → to ≤ length demands → AllWithin (λ demand. demand ≡ 0) row from to
     → payment (drop (min from (length demands)) lines) (drop (min from (length demands)) demands) ≡ payment (drop to lines) (drop to demands)

@@ -2,7 +2,7 @@ use Rattle.std.proofs.Common.{◌≡◌, ◌+◌, ◌-◌, ◌*◌, ◌≤◌, m
 use Rattle.clock_reports.specs.ReportText.{payment}
 use Rattle.clock_reports.proofs.report_lines.payment.Given as goal
 
--- what is paid so far and what the rest costs are what all costs, and a bound
+-- the price so far plus the price of the rest is the price of all; the sum so far is bounded
 abbrev pub invariant-held : goal.invariant-held
 invariant-held l =
     let from = min l.held.from (length l.demands) in record {

@@ -1,3 +1,4 @@
+-- The text of a positive demand follows that of the demands of 0 before it, which is a prefix of `none`.
 use Rattle.std.proofs.Common.{◌≡◌, ◌<◌, ◌≤◌, ◌+◌, ◌-◌, ◌*◌, ◌++◌, ℕ, List, append-nil, flat_map, length, take, get_or, sym, subst, ap, ◌∙◌, arith, ⊎_elim}
 use Rattle.std.specs.Prelude.{OnOk}
 use Rattle.std.specs.List.{AllWithin}
@@ -7,13 +8,13 @@ use Rattle.clock_reports.specs.inside.WonLines.{demand_text, none_held}
 use Rattle.clock_reports.proofs.WonLaws.{front_of_none, length-none_held, none_passed, one_held}
 use Rattle.clock_reports.proofs.report_lines.push_demands.Goals as goal
 
--- no demand is held from one place to a third, where none is up to a second and none from there on
+-- two ranges of demands of 0 that meet are one range
 joined : (row : List ℕ) (from between to : ℕ) → AllWithin (λ demand. demand ≡ 0) row from between → AllWithin (λ demand. demand ≡ 0) row between to
     → AllWithin (λ demand. demand ≡ 0) row from to
 joined row from between to before behind k d low high =
     ⊎_elim (λ (early : k < between). before k d low early) (λ (late : between ≤ k). behind k d late high) (cases_lt k between)
 
--- what is copied for so many products that are passed over
+-- the prefix that is copied is the text of the skipped products
 zeros : (none : List ℕ) (many products : ℕ) → none ≡ none_held many → products ≤ many → take (2 * products) none ≡ none_held products
 zeros none many products is few = ap (λ (text : List ℕ). take (2 * products) text) is ∙ front_of_none many products few
 

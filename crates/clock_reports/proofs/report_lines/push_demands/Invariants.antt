@@ -3,7 +3,7 @@ use Rattle.std.specs.List.{AllWithin}
 use Rattle.clock_reports.specs.inside.WonLines.{demand_text}
 use Rattle.clock_reports.proofs.report_lines.push_demands.Given as goal
 
--- with the other demands it is the whole text
+-- the text so far, followed by that of the demands left, is the whole
 abbrev pub invariant-held : goal.invariant-held
 invariant-held l = record {
   row : l.held.demands ≡ l.demands;
