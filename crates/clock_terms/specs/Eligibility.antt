@@ -14,8 +14,7 @@ use Rattle.clock_terms.specs.declared.setup.Product.{Product}
 abbrev pub activity : List Product → List ℕ → ℕ
 activity products demands = sum_by (λ line. line.0.units * line.1) (zip products demands)
 
--- the eligibility that an activity supports: the activity divided by the required percentage,
--- rounded up
+-- the eligibility that an activity supports: activity / required percentage, rounded up
 abbrev pub supported_eligibility : ℕ → ℕ → ℕ
 supported_eligibility activity requirement = rounded_up (100 * activity) requirement
 
