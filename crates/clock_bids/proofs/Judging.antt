@@ -1,5 +1,5 @@
--- One step of the pass that checks a sheet. If the first bids are good, the last bid before the next one for its product
--- decides whether that has a fault, and the others decide the first fault after it.
+-- One step of the pass that checks a sheet. If the first bids are good, the last bid before the next one for its
+-- product decides whether that has a fault, and the others decide the first fault after it.
 use Rattle.std.proofs.Common.{◌≡◌, ℕ, ◌+◌, ◌-◌, ◌*◌, ◌<◌, ◌≤◌, Bor, List, length, take, drop, refl, ap, ◌∙◌, sym, subst, arith, get_or}
 use Rattle.std.specs.Prelude.{Option, Some, None}
 use Rattle.std.specs.Option.{option_copied}
