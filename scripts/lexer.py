@@ -18,6 +18,8 @@ RUST = re.compile(
 )
 ANTT = re.compile(r"(?P<comment>(?<![^\s(){}.;,@\"«»])--[^\n]*)|(?:\"(?:[^\"\\\n]|\\.)*\"|(?!\s)[^\"])", re.S)
 IMPORT = re.compile(r"(?:pub (?:\( \w+ \) )?)?(?:ghost )?(?:unfoldable )?(?:pub )?(?:use|mod) ")
+SEPARATOR = re.compile(r'"(?:[^"\\]|\\.)*"|[(){};,]')
+NEXT_TO_BRACKET = re.compile(r" [;,] (?=[)}])|(?<= \[) \| ")
 CLOSERS = (")", "]", "}", ">", "|")
 
 
@@ -53,17 +55,30 @@ def antt_words(text: str) -> Iterator[Word]:
         yield Word(text[start:end], start, False)
 
 
-def without_last_commas(words: list[str]) -> list[str]:
-    """The words without each comma before a closing bracket, which layout adds and takes. A tuple of one keeps it."""
+class Opened(NamedTuple):
+    """A bracket that is open: what it begins, and how many commas are in it."""
+
+    is_tuple: bool
+    is_record: bool
+    commas: int
+
+
+def without_last_signs(words: list[str]) -> list[str]:
+    """The words without each comma before a closing bracket, which layout adds and takes. A tuple of one keeps it.
+
+    The same of the semicolon at the end of a record of a clause.
+    """
     left: list[str] = []
-    opened: list[tuple[bool, int]] = []
+    opened: list[Opened] = []
     for word in words:
         if word in ("(", "[", "{"):
             is_call = bool(left) and bool(re.fullmatch(r"[\w'◌]+|[)\]>!]", left[-1]))
-            opened.append((word != "(" or is_call, 0))
+            opened.append(Opened(word == "(" and not is_call, word == "{" and "record" in left[-2:], 0))
         elif word == "," and opened:
-            opened[-1] = (opened[-1][0], opened[-1][1] + 1)
-        elif word in CLOSERS and left[-1:] == [","] and (not opened or opened[-1][0] or opened[-1][1] > 1):
+            opened[-1] = opened[-1]._replace(commas=opened[-1].commas + 1)
+        elif word in CLOSERS and left[-1:] == [","] and not (opened and opened[-1].is_tuple and opened[-1].commas < 2):
+            left.pop()
+        elif word == "}" and left[-1:] == [";"] and opened and opened[-1].is_record:
             left.pop()
         if word in (")", "]", "}") and opened:
             opened.pop()
@@ -71,15 +86,24 @@ def without_last_commas(words: list[str]) -> list[str]:
     return left
 
 
+def parts(names: str) -> list[str]:
+    """The names of an import, at its first level."""
+    found, depth = [""], 0
+    for sign in names:
+        depth += {"{": 1, "}": -1}.get(sign, 0)
+        if sign == "," and not depth:
+            found.append("")
+        else:
+            found[-1] += sign
+    return [name.strip() for name in found if name.strip()]
+
+
 def imported(statement: str) -> list[str]:
     """An import as one line for each name that it brings in."""
     head, brace, names = statement.partition("{")
     if not brace:
-        return [statement]
-    inner = names[: names.rindex("}")]
-    if "{" in inner:
-        return [head + "{" + " ".join(sorted(re.split(r"\s*([{},])\s*", inner))) + "}"]
-    return [head + " ".join(name.split()) for name in inner.split(",") if name.strip()]
+        return [" ".join(statement.split())]
+    return [line for name in parts(names[: names.rindex("}")]) for line in imported(head + name)]
 
 
 def in_order(statements: list[str]) -> list[str]:
@@ -97,7 +121,7 @@ def in_order(statements: list[str]) -> list[str]:
 
 def rust_code(text: str) -> list[str]:
     """The code of a source: its words, with its imports in order."""
-    words = without_last_commas([word.text for word in rust_words(text) if not word.is_comment])
+    words = without_last_signs([word.text for word in rust_words(text) if not word.is_comment])
     statements: list[str] = []
     place = 0
     while place < len(words):
@@ -112,17 +136,27 @@ def rust_code(text: str) -> list[str]:
     return in_order(statements)
 
 
+def without_list_signs(words: str) -> str:
+    """Words without each sign of a list that is next to a bracket, which layout adds and takes."""
+    spaced = SEPARATOR.sub(lambda found: found[0] if found[0][0] == '"' else f" {found[0]} ", words)
+    return NEXT_TO_BRACKET.sub(" ", " ".join(spaced.split()))
+
+
 def antt_code(text: str) -> list[str]:
-    """The code of definitions or proofs: what begins at the left edge, in its words, with the imports in order."""
+    """The code of definitions or proofs: what begins at the left edge, in its words, with the imports in order.
+
+    A closing bracket at the left edge begins nothing.
+    """
     statements: list[str] = []
     for word in antt_words(text):
         if word.is_comment:
             continue
-        if statements and word.start and text[word.start - 1] != "\n":
+        is_inside = word.text[0] in ")}]" or (word.start and text[word.start - 1] != "\n")
+        if statements and is_inside:
             statements[-1] += " " + word.text
         else:
             statements.append(word.text)
-    return in_order(statements)
+    return in_order([without_list_signs(statement) for statement in statements])
 
 
 def edit_code(text: str) -> list[str]:
@@ -138,6 +172,11 @@ def edit_code(text: str) -> list[str]:
 
 
 KINDS = {".rt": rust_code, ".antt": antt_code, ".edit": edit_code}
+
+
+def words(path: str, text: str) -> Iterator[Word]:
+    """The words and comments of a file, by the ending of its path."""
+    return antt_words(text) if path.endswith(".antt") else rust_words(text)
 
 
 def code(path: str, text: str) -> list[str] | None:
