@@ -1,4 +1,4 @@
--- Digits are text, and what std reads them as.
+-- Decimal digits are UTF-8, and std parses them to the number that they write. By induction over the digits.
 use Rattle.std.proofs.Common.{◌≡◌, ℕ, zero, suc, ◌<◌, ◌^◌, true, List, [], ◌∷◌, length, Option}
 use Rattle.std.proofs.Common.{Result, Ok, Err, sym, subst, arith, rules}
 use Rattle.std.specs.Prelude.{IsTrue, nat_lt}

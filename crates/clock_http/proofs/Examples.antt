@@ -1,4 +1,4 @@
--- Methods, rounds and replies, computed on small ones.
+-- Examples of methods, rounds, and replies.
 use Rattle.std.specs.Prelude.{◌≡◌, List, [], ◌∷◌, ◌++◌, Some, None, true, false, map, codes, refl}
 use Rattle.std.specs.Fmt.{digits}
 use Rattle.clock_http.specs.declared.code.Code.TheVariants.{Done, Method, Token}

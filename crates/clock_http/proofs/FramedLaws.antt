@@ -1,4 +1,4 @@
--- By which codes a text is refused, and whose request a whole text is.
+-- A text is refused by one of five codes, and a whole text has a head. By cases on where the head ends.
 use Rattle.std.proofs.Common.{◌≡◌, ℕ, ◌+◌, cond, List, [], ◌∷◌, length, take, Option, Some, None, Ok, Err, Result}
 use Rattle.std.proofs.Common.{◌∙◌, ap, sym, subst, inl, inr}
 use Rattle.std.specs.Prelude.{nat_lt, codes}
@@ -98,9 +98,9 @@ module _ (P : Code → Type 0) (long_head : P LongHead) (bad_head : P BadHead) (
   unfolding known
   refused_by text code e = by_end (head_length (take head_limit text)) text code (by_known (known text) text code (framed_is text ∙ e))
 
--- ---- whose request a whole text is
+-- ---- the head of a whole text
 
--- the head that was read, where there is one
+-- the head that was read, if there is one
 abbrev head_or : Result (Head × ℕ) Code → Head → Head
 head_or (Err c) head = head
 head_or (Ok read) head = read.0

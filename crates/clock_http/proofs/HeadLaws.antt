@@ -1,4 +1,5 @@
--- The head that the bytes are taken apart into is their one head of the grammar.
+-- If no line ends loosely, the head that the definitions compute is the only one by httparse's grammar. Printed parts
+-- have no line end, space, or colon inside, so splitting the bytes at these returns the parts.
 use Rattle.std.proofs.Common.{◌≡◌, ◌≢◌, ℕ, ◌+◌, ◌-◌, ◌<◌, ◌≤◌, suc, zero, Bool, true, false, cond, not, ◌&&◌, List, [], ◌∷◌, ◌++◌, length, take, drop}
 use Rattle.std.proofs.Common.{map, Some, None, refl, sym, ◌∙◌, ap, subst, arith, append_assoc, length-append, eqb, eq-eqb}
 use Rattle.std.specs.Prelude.{◌==◌, ◌||◌, nat_lt, nat_le, slice_index}
@@ -25,7 +26,7 @@ use Rattle.clock_http.specs.FramingLaws.{IsHeadOfGrammar}
 abbrev pub lacks : ℕ → List ℕ → Type 0
 lacks c xs = list_all (λ b. not (b == c)) xs ≡ true
 
--- bytes that pass a test which c fails
+-- bytes that pass a test which c fails have no c
 pub avoids : (p : ℕ → Bool) (c : ℕ) → p c ≡ false → (xs : List ℕ) → list_all p xs ≡ true → lacks c xs
 avoids p c fails [] all = refl
 avoids p c fails (x ∷ xs) all =
@@ -83,7 +84,7 @@ ends_front (x ∷ xs) rest a =
     ap (λ t. cond (t && pointwise eqb (10 ∷ []) (take 1 (xs ++ 13 ∷ (10 ∷ rest)))) 1 0 + line_ends (xs ++ 13 ∷ (10 ∷ rest))) no in
     here ∙ omega (arith, more)
 
--- ---- a line's parts
+-- ---- the parts of a line
 
 first_at : (c : ℕ) (xs ys : List ℕ) → lacks c xs → position_or_len (λ b. b == c) (xs ++ c ∷ ys) ≡ length xs
 first_at c [] ys a = ap (λ t. cond (not t) (1 + prefix_len (λ x. not (x == c)) ys) 0) (eq-eqb c c refl)
@@ -99,7 +100,7 @@ before_at c xs ys a = ap (λ n. take n (xs ++ c ∷ ys)) (first_at c xs ys a) �
 pub after_at : (c : ℕ) (xs ys : List ℕ) → lacks c xs → after_first (λ b. b == c) (xs ++ c ∷ ys) ≡ ys
 after_at c xs ys a = ap (λ n. drop (n + 1) (xs ++ c ∷ ys)) (first_at c xs ys a) ∙ drop-append-add xs (c ∷ ys) 1
 
--- ---- the field lines
+-- ---- the header lines
 
 abbrev pub print_line : Field → List ℕ
 print_line f = f.name ++ colon ∷ f.raw
@@ -113,7 +114,7 @@ line_lacks c name mid raw f is =
     let behind : lacks c (58 ∷ f.raw) = ap (λ t. not t && list_all (λ b. not (b == c)) f.raw) mid ∙ after in
     lacks-append c f.name (58 ∷ f.raw) (token_lacks c name f.name is.name) behind
 
--- what a line and its end are, where no LF is bare
+-- a line and its end, if no LF is bare
 record Splits (before : ℕ) (line : List ℕ) (e : LineEnd) (rest : List ℕ) : Type 0 where
   end : e ≡ crlf
   lines : lines_of (line ++ (print_end e ++ rest)) ≡ line ∷ lines_of rest
@@ -267,7 +268,7 @@ pub append_none : (xs : List ℕ) → xs ++ [] ≡ xs
 append_none [] = refl
 append_none (x ∷ xs) = ap (λ ys. x ∷ ys) (append_none xs)
 
--- what is found is in the grammar
+-- a computed head is in the grammar
 pub head_of_reads : (bytes : List ℕ) (h : RequestHead) → head_of bytes ≡ Some h → ReadsRequest bytes h []
 unfolding head_of
 head_of_reads bytes h e =
@@ -282,7 +283,7 @@ or_false : (s t : Bool) → (s || t) ≡ false → (s ≡ false) × (t ≡ false
 or_false true t e = absurd cc
 or_false false t e = (refl, e)
 
--- a head that is found, and how many line ends it has
+-- a head that is found, and its number of line ends
 pub record Found (bytes : List ℕ) (h : RequestHead) : Type 0 where
   pub head : head_of bytes ≡ Some h
   pub count : line_ends bytes ≡ length h.fields + 2
@@ -324,7 +325,7 @@ found bytes m t n e last fs is text bare =
     regroup : (m t v e s : List ℕ) → m ++ 32 ∷ (t ++ 32 ∷ (v ++ (e ++ (s ++ [])))) ≡ (m ++ 32 ∷ (t ++ 32 ∷ v)) ++ (e ++ s)
     regroup m t v e s = simp (append_none, append_assoc, cons-append)
 
--- what is in the grammar, with no loose line end, is found
+-- a head in the grammar is found, if no line ends loosely
 pub found_of_reads : (bytes : List ℕ) (h : RequestHead) → is_loose bytes ≡ false → ReadsRequest bytes h [] → Found bytes h
 found_of_reads bytes h tight reads =
     let loose = or_false (slice_index bytes 0 == 13) (has_bare_line_feed 0 bytes) tight in

@@ -1,4 +1,5 @@
--- One step of the loop over headers, and what the lines of a name come to.
+-- One step of the loop over header lines: each name's count and last value grow by the line. At the end they give the
+-- length of the body and the token.
 use Rattle.std.proofs.Common.{◌≡◌, ℕ, ◌+◌, ◌-◌, ◌≤◌, ◌<◌, Bool, true, false, cond, List, [], ◌∷◌, ◌++◌, length, map, take, drop, filter, get_or}
 use Rattle.std.proofs.Common.{Some, refl, sym, ◌∙◌, ap, subst, arith, length-append}
 use Rattle.std.specs.Prelude.{◌↔◌, IsTrue}
@@ -21,7 +22,7 @@ named a b false h = by (same_bytes a b) refl
     by true e = absurd (let bad : IsTrue false = h.1 ((bytes_decides a b).0 e) in cc)
     by false e = e
 
--- ---- one line more
+-- ---- one more line
 
 abbrev value_if : Bool → List ℕ → List (List ℕ)
 value_if is value = cond is (value ∷ []) []
@@ -43,7 +44,7 @@ last_only [] a b e = cc
 last_only (x ∷ []) a b e = absurd cc
 last_only (x ∷ (y ∷ rest)) a b e = absurd cc
 
--- a line of the name
+-- a line of this name
 pub line_added : (text wanted name : List ℕ) (pairs : Pairs) (lines new : HeaderLines) (value : Span) → AreLinesOf text wanted pairs lines
     → IsWithin (length text) value → is_named wanted (name, span_bytes text value) ≡ true → new ≡ record { count = lines.count + 1; value = value }
     → AreLinesOf text wanted (pairs ++ (name, span_bytes text value) ∷ []) new
@@ -67,7 +68,7 @@ line_passed text wanted name bytes pairs lines are is =
       within = are.within;
     }
 
--- one header more
+-- one more header line
 pub header_taken : (text wanted name : List ℕ) (headers : List HeaderSpan) (i : ℕ) (d : HeaderSpan) (lines new : HeaderLines) → i < length headers
     → name ≡ span_bytes text (get_or headers i d).name
     → ((text : List ℕ) (pairs : Pairs) → AreLinesOf text wanted pairs lines → IsWithin (length text) (get_or headers i d).value

@@ -1,4 +1,4 @@
--- How the lines of bytes end, line by line.
+-- The count of line ends and the test for loose ones, computed line by line instead of byte by byte.
 use Rattle.std.proofs.Common.{◌≡◌, ℕ, ◌+◌, ◌-◌, ◌<◌, ◌≤◌, ◌≢◌, ◌&&◌, ◌==◌, suc, Bool, true, false, cond, List, [], ◌∷◌, ◌++◌, length, get_or, take, drop}
 use Rattle.std.proofs.Common.{refl, sym, ◌∙◌, ap, subst, arith, zero-add, length-drop, Some, None}
 use Rattle.std.specs.Prelude.{◌||◌, not, nat_eq}
@@ -11,11 +11,11 @@ use Rattle.memchr.specs.Find.{IsFirstByte, is_byte}
 use Rattle.clock_http.specs.Scans.{line_ends, has_bare_line_feed}
 use Rattle.clock_http.proofs.ScanLaws.{tail}
 
--- no LF stands in a line
+-- a line has no LF
 abbrev pub NoFeed : List ℕ → Type 0
 NoFeed line = (k : ℕ) → k < length line → get_or line k 0 ≢ 10
 
--- a CR stands at its end
+-- a line ends with a CR
 abbrev pub has_return : List ℕ → Bool
 has_return line = ends_with nat_eq line (13 ∷ [])
 
@@ -47,7 +47,7 @@ line_ends-none [] none = refl
 line_ends-none (x ∷ []) none = no_end (nat_eq 13 x) 0
 line_ends-none (x ∷ (y ∷ line)) none = passed_end x y line (none 1 (omega arith)) ∙ line_ends-none (y ∷ line) (later x (y ∷ line) none)
 
--- a byte that is no LF leaves nothing bare
+-- a byte that is not an LF is not a bare LF
 passed_bare : (before x : ℕ) (rest : List ℕ) → x ≢ 10 → has_bare_line_feed before (x ∷ rest) ≡ has_bare_line_feed x rest
 passed_bare before x rest other = ap (λ t. (t && not (before == 13)) || has_bare_line_feed x rest) (ne_eqb x 10 other)
 
@@ -80,13 +80,13 @@ has_bare-none before (x ∷ line) none = passed_bare before x line (none 0 (omeg
 abbrev pub line_in : List ℕ → ℕ → ℕ → List ℕ
 line_in text from ahead = take ((from + ahead) - from) (drop from text)
 
--- a line stands at a place, and behind its LF the rest
+-- a line begins at an index, and the rest of the text follows its LF
 pub record HasLine (text : List ℕ) (from ahead : ℕ) : Type 0 where
   pub within : from + (ahead + 1) ≤ length text
   pub split : drop from text ≡ line_in text from ahead ++ 10 ∷ drop (from + (ahead + 1)) text
   pub none : NoFeed (line_in text from ahead)
 
--- the slice in which the LF is looked for
+-- the slice that is searched for an LF
 abbrev rest_of : List ℕ → ℕ → List ℕ
 rest_of text from = take (length text - from) (drop from text)
 

@@ -1,4 +1,5 @@
--- A decided text stays decided, and what is known of a text follows from what is known of its beginning.
+-- A decided text stays decided, and what is known of a text follows from what is known of a prefix. The end of a head,
+-- once found, does not move, and everything else depends on the bytes before it and on lengths.
 use Rattle.std.proofs.Common.{◌≡◌, ℕ, ◌+◌, ◌≤◌, ◌⊎◌, suc, Bool, true, false, cond, List, [], ◌∷◌, ◌++◌, length, take, drop, Option, Some}
 use Rattle.std.proofs.Common.{None, Ok, Err, Result, refl, sym, ◌∙◌, ap, arith, inl, inr, zero, length-append, length-drop}
 use Rattle.std.specs.Prelude.{option_map, option_and_then, nat_eq, nat_lt, if◌then◌else◌}
@@ -26,7 +27,7 @@ suc_of : (h : Option ℕ) (n : ℕ) → option_map (λ k. suc k) h ≡ Some n �
 suc_of None n e = absurd cc
 suc_of (Some m) n e = (m, refl, cc)
 
--- what begins with four bytes has four bytes
+-- a text that begins with four bytes has at least four
 four : (xs : List ℕ) → starts_with nat_eq xs empty_line ≡ true → 4 ≤ length xs
 four xs e = omega (arith, as_long nat_eq empty_line (take 4 xs) e, length-take 4 xs)
 
@@ -52,13 +53,13 @@ head_length-append (b ∷ rest) more n e =
           ∙ ap (option_map (λ k. suc k)) (head_length-append rest more m.0 m.1) ∙ ap Some m.2)
     ]
 
--- the first bytes of a longer text are those of the text, and some of what follows
+-- the first bytes of a longer text are those of the text, and some that follow
 taken : (limit : ℕ) (text more : List ℕ) → (ys : List ℕ) × (take limit (text ++ more) ≡ take limit text ++ ys)
 taken limit [] more = (take limit more, ap (λ t. t ++ take limit more) (sym (take-nil limit)))
 taken zero (b ∷ text) more = ([], refl)
 taken (suc limit) (b ∷ text) more = let t = taken limit text more in (t.0, ap (λ xs. b ∷ xs) t.1)
 
--- an end that was found stays where it is
+-- the end of a head, once found, does not move
 pub end-append : (text more : List ℕ) (n : ℕ) → head_length (take head_limit text) ≡ Some n → head_length (take head_limit (text ++ more)) ≡ Some n
 end-append text more n e =
     let t = taken head_limit text more in
@@ -67,7 +68,7 @@ end-append text more n e =
 pub end_within : (text : List ℕ) (n : ℕ) → head_length (take head_limit text) ≡ Some n → n ≤ length text
 end_within text n e = (let w = head_length_within (take head_limit text) n e in omega (arith, length-take head_limit text))
 
--- where so many bytes have come that no head may end, none does later
+-- if no head ends in the most bytes that one may have, none does later
 long-append : (text more : List ℕ) → head_length (take head_limit text) ≡ None → head_limit ≤ length text
     → head_length (take head_limit (text ++ more)) ≡ None
 long-append text more e le = ap head_length (take-append-le head_limit text more le) ∙ e
@@ -110,7 +111,7 @@ pub known_by_parts : IsKnownByParts
 unfolding known
 known_by_parts text more = known-append text more (head_length (take head_limit text)) refl
 
--- a request that is complete has come
+-- a complete request is within the text
 complete_of : (text : List ℕ) (o : Option ℕ) (head : Head) (n body : ℕ) → known_with_end o text ≡ complete head n body → n + body ≤ length text
 complete_of text None head n body e =
     elim (cond_cases (nat_lt (length text) head_limit) (unended (length text)) (refused LongHead) _ e) [
@@ -147,7 +148,7 @@ framed-append text more (complete head n body) e d =
     ap (λ rest. whole head (take body rest)) (drop-append-le n text more before)
     ∙ ap (whole head) (take-append-le body (drop n text) more after)
 
--- what is known of a text tells its framing
+-- what is known of a text gives its framing
 framed_with : (text : List ℕ) (n : ℕ) (head : Head) (body : ℕ) (short : Bool)
     → framed (if short then waiting head n body else complete head n body) text
     ≡ (if short then incomplete else whole head (take body (drop n text)))
@@ -176,7 +177,7 @@ decided_once text more d =
     sym (framed_is (text ++ more)) ∙ ap (λ k. framed k (text ++ more)) (known_by_parts text more)
     ∙ framed-append text more (known text) refl (ap is_incomplete (framed_is text) ∙ d) ∙ framed_is text
 
--- ---- whose request a text is
+-- ---- the head of a text
 
 ended_at-append : (text more : List ℕ) (o : Option ℕ) → head_length (take head_limit text) ≡ o → is_incomplete (framed (known_with_end o text) text) ≡ false
     → ended_at (head_length (take head_limit (text ++ more))) (text ++ more) ≡ ended_at o text
@@ -195,12 +196,12 @@ ended_is : (o : Option ℕ) (text : List ℕ) → ended_at o text ≡ option_and
 ended_is None text = refl
 ended_is (Some n) text = refl
 
--- the whole head that a text has, by where it ends
+-- the head of a text, by where it ends
 pub head_is : (text : List ℕ) → ended_at (head_length (take head_limit text)) text ≡ head_in text
 unfolding head_in
 head_is text = ended_is (head_length (take head_limit text)) text
 
--- a decided text keeps its head
+-- adding bytes to a decided text does not change its head
 pub one_head : HasOneHead
 unfolding known
 one_head text more d =

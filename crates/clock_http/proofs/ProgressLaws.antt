@@ -1,4 +1,5 @@
--- What the code's values show of a text and of what follows it.
+-- What the code knows of a text is what the definitions say, also after more bytes. Spans cover the same bytes in a
+-- longer text, and no empty line begins before the last three bytes that were searched.
 use Rattle.std.proofs.Common.{◌≡◌, ℕ, ◌+◌, ◌-◌, ◌≤◌, ◌<◌, true, false, cond, List, ◌++◌, length, take, drop, min, Option, Some, None}
 use Rattle.std.proofs.Common.{Ok, Err, Result, refl, sym, ◌∙◌, ap, subst, arith, inl, inr, length-append, length-drop}
 use Rattle.std.specs.Prelude.{option_map, nat_lt}
@@ -49,12 +50,12 @@ ended-append front more head is =
     (span-append front more head.path (longer head.length (length front) head.path is.fits is.path))
     ∙ ap (parted (span_bytes front head.method) (span_bytes front head.path)) (token-append front more head.length head.token is.fits is.token)
 
--- ---- the scan of a text
+-- ---- the search for the end of a head
 
 at_limit : (text : List ℕ) (limit : ℕ) → limit ≡ min (length text) head_limit → take limit text ≡ take head_limit text
 at_limit text limit is = ap (λ n. take n text) (let e : limit ≡ min head_limit (length text) = omega arith in e) ∙ take_min head_limit text
 
--- none begins before the last three of the bytes in which no head ends, also among the first bytes of the text
+-- no empty line begins before the last three of the bytes that were searched
 pub scan_from : (text : List ℕ) (limit looked start : ℕ) → limit ≡ min (length text) head_limit → looked ≤ length text → looked < head_limit
     → head_length (take looked text) ≡ None → start ≡ looked - 3
     → head_length (take limit text) ≡ option_map (λ n. start + n) (head_length (drop start (take limit text)))
@@ -70,7 +71,7 @@ scan_from text limit looked start is within short none from =
     front_of : (text : List ℕ) (k n : ℕ) → k ≤ n → take n text ≡ take k text ++ take (n - k) (drop k text)
     front_of text k n le = ap (λ m. take m text) (let e : n ≡ k + (n - k) = omega arith in e) ∙ take-add k (n - k) text
 
--- ---- what is known where the scan ends
+-- ---- what is known after the search
 
 known_at : (text : List ℕ) (limit : ℕ) (o : Option ℕ) → limit ≡ min (length text) head_limit → o ≡ head_length (take limit text)
     → known_with_end o text ≡ known text
@@ -115,7 +116,7 @@ known_headed text limit n head is e read in_head size =
 
 -- ---- what is known of a longer text
 
--- no head has ended in a text, and how many bytes it has
+-- no head has ended in a text of n bytes
 pub record IsUnended (text : List ℕ) (n : ℕ) : Type 0 where
   pub all : n ≡ length text
   pub short : length text < head_limit
@@ -157,7 +158,7 @@ shown_in text count head is =
 pub head_longer : (n m : ℕ) (head : EndedHead) → n ≤ m → IsHeadWithin n head → IsHeadWithin m head
 head_longer n m head le is = record { method = is.method; path = is.path; token = is.token; fits = omega arith }
 
--- the first bytes of a text are no more than the text
+-- a prefix is not longer than the text
 pub fewer : (text : List ℕ) (count : ℕ) → length (take count text) ≤ length text
 fewer text count = omega (arith, length-take count text)
 
@@ -173,7 +174,7 @@ pub known_complete : (text : List ℕ) (count : ℕ) (head : EndedHead)
 known_complete text count head is in_front =
     ap (λ h. complete h head.length head.body) (sym (shown_in text count head in_front)) ∙ sym (brought_on text count _ is)
 
--- ---- what a text is of which all is known
+-- ---- the framing by what is known
 
 pub framed_of : (text : List ℕ) (k : Known) → k ≡ known text → framed k text ≡ framing text
 framed_of text k is = ap (λ k. framed k text) is ∙ framed_is text
@@ -181,7 +182,7 @@ framed_of text k is = ap (λ k. framed k text) is ∙ framed_is text
 pub needs_more_of : (text : List ℕ) (k : Known) → k ≡ known text → is_incomplete (framed k text) ≡ needs_more text
 needs_more_of text k is = ap is_incomplete (framed_of text k is)
 
--- the body has not come whole
+-- the body is not whole
 pub still_waiting : (text : List ℕ) (count : ℕ) (head : EndedHead)
     → waiting (shown_ended (take count text) head) head.length head.body ≡ known (take count text)
     → IsHeadWithin (length (take count text)) head → length text < head.length + head.body → Waits text (so_far.Waiting head)
@@ -201,7 +202,7 @@ whole_of text shown head n body same is =
     ap (λ h. whole h (take (n + body - n) (drop n text))) same
     ∙ ap (λ k. whole head (take k (drop n text))) (let e : n + body - n ≡ body = omega arith in e) ∙ framed_of text _ is
 
--- a text that is its head alone is whole with a piece that has its body
+-- a text that is exactly a head is a whole request with a piece that has its body
 pub whole_with : (text piece : List ℕ) (shown : Head) (head : EndedHead)
     → waiting (shown_ended text head) head.length head.body ≡ known text → shown ≡ shown_ended text head
     → head.length ≡ length text → head.body ≤ length piece → whole shown (take head.body piece) ≡ framing (text ++ piece)
@@ -218,14 +219,14 @@ whole_with text piece shown head is same all fits =
 pub request_longer : (n m : ℕ) (head : EndedHead) → n ≤ m → IsRequestWithin n head → IsRequestWithin m head
 request_longer n m head le is = record { head = head_longer n m head le is.head; body = (let fits = is.body in omega arith) }
 
--- as many bytes as were looked at are those that were looked at
+-- the bytes that were searched are those of the prefix
 pub looked_at : (text : List ℕ) (count n : ℕ) → n ≡ length (take count text) → take n text ≡ take count text
 looked_at text count n is = ap (λ k. take k text) (is ∙ length-take count text) ∙ take_min count text
 
--- what is known of a text is known of the start of each longer one
+-- what is known of a text is known of a prefix of each longer one
 pub knows_start : (text more : List ℕ) (progress : Progress) → Knows text progress → KnowsOfStart (text ++ more) progress
 knows_start text more progress knows = (length text, subst (λ front. Knows front progress) (sym (take-append_seam text more)) knows)
 
--- no text has fewer bytes than none
+-- no text has fewer than 0 bytes
 pub none_below : (text : List ℕ) (progress : Progress) → WaitsBelow 0 text progress
 none_below text progress more less = absurd (omega arith)

@@ -1,4 +1,4 @@
--- What is told of a result by cases, where `ok()` was asked of it.
+-- What a contract says of a `Result` by cases, for code that calls `ok()` on it.
 use Rattle.std.proofs.Common.{◌≡◌, Some, None, Result, Ok, Err, MatchResult, subst}
 use Rattle.std.specs.Result.{result_ok}
 
@@ -8,7 +8,7 @@ pub value_told : {T E : Type 0} (result : Result T E) (P : T → Type 0) (Q : E 
 value_told (Ok same) P Q is told = subst P (let e : same ≡ _ = cc in e) told
 value_told (Err fault) P Q is told = absurd (cc)
 
--- and of its fault
+-- of its error
 pub fault_told : {T E : Type 0} (result : Result T E) (P : T → Type 0) (Q : E → Type 0) → None ≡ result_ok result → MatchResult result P Q
     → (fault : E) × Q fault
 fault_told (Ok value) P Q is told = absurd (cc)

@@ -1,4 +1,5 @@
--- What inserts make, and what a look-up finds.
+-- What an insert into the router makes, and what a look-up finds. The library's contracts speak of its rows; these laws
+-- say it of our pages.
 use Rattle.std.proofs.Common.{◌≡◌, ◌≢◌, ℕ, ◌-◌, ◌<◌, ◌≤◌, Bool, true, false, cond, not, List, length, get_or, take, drop}
 use Rattle.std.proofs.Common.{Option, None, Result, Ok, Err, refl, sym, ◌∙◌, ap, arith}
 use Rattle.std.specs.Prelude.{option_map, find, ◌==◌}
@@ -41,7 +42,7 @@ pub page_seen : (path text : List ℕ) (routes : Table) (o : Option (RouteOf Pag
     → first routes text ≡ o → option_map (λ r. r.value) o ≡ page_of path
 page_seen path text routes o same is_text is found = page_found path routes o is_text is (ap (first routes) (sym same) ∙ found)
 
--- a text behind which no slash stands, and before which one does or nothing
+-- the bytes after the last slash, or the whole path if there is none
 pub segment_is : (path : List ℕ) (start n : ℕ) → start ≤ n → n ≡ length path → ((k : ℕ) → start ≤ k → k < n → get_or path k 0 ≢ 47)
     → (0 < start → get_or path (start - 1) 0 ≡ 47) → take (length path - start) (drop start path) ≡ last_segment path
 segment_is path start n le all none before =

@@ -1,4 +1,5 @@
--- The router's walk over its rows finds the row that fits a path, and the rows of the table are the paths of the pages.
+-- The router's walk over its rows finds the row that matches a path, and the rows of our table match the paths of the
+-- pages. Our patterns have at most a parameter at their end, so the walk needs no backtracking.
 use Rattle.std.proofs.Common.{◌≡◌, ℕ, zero, suc, ◌-◌, Bool, true, false, cond, not, List, [], ◌∷◌, ◌++◌, length, drop, nat_eq}
 use Rattle.std.proofs.Common.{Option, Some, None, refl, sym, ◌∙◌, ap, subst, arith, eqb-true, eq-eqb}
 use Rattle.std.specs.Prelude.{option_map, find, ◌==◌, ◌&&◌, ◌||◌, ltb, nat_lt}
@@ -26,13 +27,13 @@ abbrev plain : List ℕ → Bool
 plain [] = true
 plain (x ∷ t) = not (x == 257) && (cond (x == 256) (is_nil t) true && plain t)
 
--- a parameter of the first stands beside no byte of the second
+-- the first pattern has no parameter at the position of a byte of the second
 abbrev goes_before : List ℕ → List ℕ → Bool
 goes_before [] u = true
 goes_before (x ∷ t) [] = true
 goes_before (x ∷ t) (y ∷ u) = cond (x == y) (goes_before t u) (not (x == 256))
 
--- the pattern fits the path
+-- the pattern matches the path
 abbrev fits : List ℕ → List ℕ → Bool
 fits [] [] = true
 fits [] (b ∷ p) = false
@@ -55,7 +56,7 @@ end_of x t h e =
 plain_tail : (x : ℕ) (t : List ℕ) → plain (x ∷ t) ≡ true → plain t ≡ true
 plain_tail x t h = (and_parts (cond (x == 256) (is_nil t) true) (plain t) (and_parts (not (x == 257)) _ h).1).1
 
--- behind a parameter there are parameters alone
+-- only a parameter may follow a parameter
 param_head : (y : ℕ) (u : List ℕ) → goes_before (256 ∷ []) (y ∷ u) ≡ true → 256 ≡ y
 param_head y u h = by (256 == y) refl
   where
@@ -96,7 +97,7 @@ module _ {K : Type 0} where
   ArePlain [] = Unit {0}
   ArePlain ((t, k) ∷ rs) = (plain t ≡ true) × ArePlain rs
 
-  -- a pattern goes before all these
+  -- a pattern comes before all these
   abbrev GoesFirst : List ℕ → RowsOf K → Type 0
   GoesFirst t [] = Unit {0}
   GoesFirst t ((u, k) ∷ rs) = (goes_before t u ≡ true) × GoesFirst t rs
@@ -117,7 +118,7 @@ module _ {K : Type 0} where
   after_param true rs b p = seek-empty 0 p
   after_param false rs b p = ap (λ n. seek n rs p) (one_less (length p)) ∙ seek-all rs p
 
-  -- the walk where no row has a catch-all, nor anything behind a parameter
+  -- the walk, if no row has a catch-all or anything after a parameter
   abbrev walk : RowsOf K → List ℕ → Option K
   walk rs [] = own rs
   walk rs (b ∷ p) = or_else (walk (step b rs) p) (cond (has_slash (b ∷ p)) None (own (step param_token rs)))
@@ -238,7 +239,7 @@ module _ {K : Type 0} where
   later true k x q = refl
   later false k x q = refl
 
-  -- the first of some rows is found where it fits, and otherwise what the others find
+  -- the first row is found if it matches; otherwise the walk finds what it finds among the others
   row_first : (t : List ℕ) (k : K) (rs : RowsOf K) (p : List ℕ) → plain t ≡ true → GoesFirst t rs → ArePlain rs →
       walk ((t, k) ∷ rs) p ≡ cond (fits t p) (Some k) (walk rs p)
   row_first [] k rs [] h go all = refl
@@ -274,7 +275,7 @@ module _ {K : Type 0} where
 
 -- ---- all rows, and those of the table
 
--- the pages that rows tell, by their patterns
+-- the pages of rows, with their patterns
 abbrev pages_in : RowsOf (RouteOf Page) → List (List ℕ × Page)
 pages_in [] = []
 pages_in ((t, r) ∷ rs) = (t, r.value) ∷ pages_in rs
@@ -394,7 +395,7 @@ table_is : pages_in table ≡ patterns_of paths
 unfolding table scan
 table_is = refl
 
--- the router's walk over the table finds the page of a path
+-- the router's walk over our table finds the page of a path
 pub walk_is : (path : List ℕ) → option_map (λ r. r.value) (first table path) ≡ option_map (λ row. row.1) (find (λ row. is_path row.0 path) paths)
 walk_is path =
     ap (option_map (λ (r : RouteOf Page). r.value)) (walked table path (plain_from table table_in_order)) ∙ fitted table path table_in_order

@@ -1,4 +1,4 @@
--- One step of each scan.
+-- The search for an empty line, from CR to CR, passes none.
 use Rattle.std.proofs.Common.{◌≡◌, ℕ, ◌+◌, ◌-◌, ◌<◌, ◌≤◌, ◌≢◌, ◌&&◌, ◌==◌, suc, zero, Bool, true, false, cond, List, [], ◌∷◌, ◌++◌, length, get_or, take}
 use Rattle.std.proofs.Common.{drop, length-drop, Option, Some, None, refl, sym, ◌∙◌, ap, arith, add-one}
 use Rattle.std.specs.Prelude.{option_map, nat_eq}
@@ -18,7 +18,7 @@ further : (i : ℕ) (o : Option ℕ) → option_map (λ k. i + k) (option_map (�
 further i None = refl
 further i (Some k) = ap Some (omega arith)
 
--- what is left begins with the byte at its place
+-- the rest of a text begins with the byte at its index
 first_byte : (text : List ℕ) (i : ℕ) → i < length text → drop i text ≡ get_or text i 0 ∷ drop (i + 1) text
 first_byte text i lt = drop-cons text i 0 lt ∙ ap (λ n. get_or text i 0 ∷ drop n text) (sym (add-one i))
 
@@ -45,7 +45,7 @@ other_byte text i lt other =
     ap (λ t. starts_with nat_eq t empty_line) (first_byte text i lt)
     ∙ ap (λ t. t && pointwise nat_eq (10 ∷ 13 ∷ 10 ∷ []) (take 3 (drop (i + 1) text))) (ne_eqb 13 (get_or text i 0) (λ same. other (sym same)))
 
--- none begins up to the next CR
+-- none begins before the next CR
 pub passed : (text : List ℕ) (from count : ℕ) → from + count ≤ length text
     → ((k : ℕ) → from ≤ k → k < from + count → get_or text k 0 ≢ 13)
     → option_map (λ k. from + k) (head_length (drop from text)) ≡ option_map (λ k. (from + count) + k) (head_length (drop (from + count) text))
@@ -62,11 +62,11 @@ passed text from (suc count) within others =
 pub tail : (text : List ℕ) (i : ℕ) → take (length text - i) (drop i text) ≡ drop i text
 tail text i = take_all (length text - i) (drop i text) (omega (arith, length-drop i text))
 
--- a place in it is one of the text
+-- an index of this slice is an index of the text
 pub in_tail : (text : List ℕ) (from ahead : ℕ) → ahead < length (take (length text - from) (drop from text)) → from + ahead < length text
 in_tail text from ahead within = omega (arith, within, ap length (tail text from), length-drop from text)
 
--- and a test of it is one of what is left of the text
+-- a test of the slice is a test of the rest of the text
 pub tail_tested : (text : List ℕ) (i : ℕ) (result begins : Bool) → result ≡ starts_with nat_eq (take (length text - i) (drop i text)) empty_line
     → result ≡ begins → starts_with nat_eq (drop i text) empty_line ≡ begins
 tail_tested text i result begins test is = ap (λ t. starts_with nat_eq t empty_line) (sym (tail text i)) ∙ sym test ∙ is
@@ -88,7 +88,7 @@ pub at_end : (text : List ℕ) (place : ℕ) → place ≡ length text → optio
 at_end text place end =
     ap (λ t. option_map (λ k. place + k) (head_length t)) (drop_all place text (omega (arith, end)))
 
--- no empty line begins before the last three of bytes in which none ends
+-- no empty line begins before the last three of bytes without one
 pub skipped : (k : ℕ) (front more : List ℕ) → head_length front ≡ None → k ≤ length front - 3
     → head_length (front ++ more) ≡ option_map (λ n. k + n) (head_length (drop k (front ++ more)))
 skipped zero front more none le = at_start (head_length (front ++ more))

@@ -1,4 +1,5 @@
--- The steps of reading a text.
+-- What the parser's contract says of a head, in our definitions: which head is found, when none is, and that its spans
+-- cover the parts.
 use Rattle.std.proofs.Common.{◌≡◌, ℕ, ◌-◌, ◌≤◌, false, cond, List, [], ◌++◌, length, map, take, drop, Option, Some, None}
 use Rattle.std.proofs.Common.{Result, Ok, Err, refl, sym, ◌∙◌, ap, arith}
 use Rattle.std.specs.Prelude.{nat_lt}
@@ -29,7 +30,7 @@ parsed bytes headers r tight all (h, at) =
     let reads : ReadsRequest bytes h [] = (at.reads.0, at.reads.1 ∙ ap (λ t. print_request h ++ t) rest) in
     (h, (found_of_reads bytes h tight reads).head, at)
 
--- a head that is there is found, so where none is found there is none
+-- a head that exists is found, so if none is found there is none
 pub not_parsed : (bytes : List ℕ) (room : ℕ) (headers : List HeaderSpan) (result : Result (Status RequestSpans) Error) → line_ends bytes - 2 ≤ room
     → is_loose bytes ≡ false → FindsRequest bytes room headers result → (IsCompleteAnd result (λ r. r.len ≡ length bytes) → ⊥) → head_of bytes ≡ None
 not_parsed bytes room headers result few tight finds missing = by (head_of bytes) refl
@@ -51,7 +52,7 @@ not_parsed bytes room headers result few tight finds missing = by (head_of bytes
 abbrev parted : List ℕ → List ℕ → Option (List ℕ) → ℕ → Result (Head × ℕ) Code
 parted method path token n = Ok (record { method = method; path = path; token = token }, n)
 
--- the parts that the spans cover are those of the head
+-- the spans cover the parts of the head
 pub read_is : (bytes : List ℕ) (headers : List HeaderSpan) (r : RequestSpans) (h : RequestHead) (method target path : List ℕ) (token : Option (List ℕ)) (n : ℕ)
     → line_ends bytes ≤ 66 → is_loose bytes ≡ false → head_of bytes ≡ Some h → IsRequestAt bytes headers r h
     → method ≡ span_bytes bytes r.method → target ≡ span_bytes bytes r.path → path ≡ path_of_target target
@@ -71,14 +72,14 @@ read_is bytes headers r h method target path token n few tight head at m t p k l
     ∙ ap (λ x. parted h.method (path_of_target h.target) x n) tokened
     ∙ sym (ap length_read ended ∙ ap (and_length h) sized)
 
--- bytes with no head of the grammar are refused
+-- bytes that have no head by the grammar are refused
 pub no_head : (bytes : List ℕ) → line_ends bytes ≤ 66 → is_loose bytes ≡ false → head_of bytes ≡ None → Err BadHead ≡ head_with_length bytes
 no_head bytes few tight none =
     let short : nat_lt 64 (line_ends bytes - 2) ≡ false = (let le : line_ends bytes - 2 ≤ 64 = omega arith in grind (arith, nat_tests)) in
     sym (ap length_read (ap (λ u. cond u (Err LongHead) (cond (is_loose bytes) (Err BadHead) (or_bad_head (head_of bytes)))) short
     ∙ ap (λ u. cond u (Err BadHead) (or_bad_head (head_of bytes))) tight ∙ ap or_bad_head none))
 
--- nor is one taken whose length is refused
+-- a head with a refused length is refused
 pub no_length : (bytes : List ℕ) (headers : List HeaderSpan) (r : RequestSpans) (h : RequestHead) (fault : Code) → line_ends bytes ≤ 66
     → is_loose bytes ≡ false → head_of bytes ≡ Some h → IsRequestAt bytes headers r h
     → Err fault ≡ body_length (map (header_bytes bytes) (take r.headers headers)) → Err fault ≡ head_with_length bytes

@@ -1,4 +1,4 @@
--- The codes of replies (own), and the statuses of HTTP that they have.
+-- The codes of replies, which are our own, and their statuses of HTTP (RFC 9110).
 --     row_of code      the table: the status of a code, and the code as pages show it
 --     status_of code, text_of code      its two columns
 use Rattle.std.specs.Prelude.{ℕ, List, codes}
@@ -8,7 +8,7 @@ use Rattle.clock_http.specs.declared.code.Code.TheVariants.{WrongRound, LongBody
 use Rattle.clock_http.specs.declared.code.Code.TheVariants.{MixedDirection, KeepPrice, OverActivity, Increment, TieRange, TieRepeated, TooManyTies}
 use Rattle.clock_http.specs.declared.code.Code.TheVariants.{PriceLimit, LongHead, Coding, Memory}
 
--- the table: the status of HTTP, and the code as pages show it
+-- the table: the status, and the code as pages show it
 abbrev pub row_of : Code → ℕ × List ℕ
 row_of Done = (200, codes "done")
 row_of BadHead = (400, codes "bad_head")

@@ -1,6 +1,6 @@
--- Numbers written in decimal digits.
+-- Numbers in decimal digits.
 --     is_number text      one or more digits
---     plain_number text      the number that they write, if it has at most 64 bits
+--     plain_number text      the number that a text writes without leading zeros, below 2^64
 use Rattle.std.specs.Prelude.{ℕ, ◌^◌, ◌&&◌, ◌||◌, not, Bool, List, length, slice_index, if◌then◌else◌, nat_lt, ◌==◌, Option, Some, None}
 use Rattle.std.specs.List.{list_all}
 use Rattle.std.specs.Char.{is_ascii_digit}
@@ -11,7 +11,7 @@ use Rattle.httparse.specs.Ascii.{digit_zero}
 abbrev pub is_number : List ℕ → Bool
 is_number text = nat_lt 0 (length text) && list_all is_ascii_digit text
 
--- the number that they write, if the first is no 0, unless it is the only one, and it has at most 64 bits
+-- the number, if it is below 2^64 and written in digits without leading zeros
 abbrev pub plain_number : List ℕ → Option ℕ
 plain_number text =
     if (is_number text && (length text == 1 || not (slice_index text 0 == digit_zero))) && nat_lt (digits_value 10 text) (2 ^ 64)

@@ -1,13 +1,12 @@
--- What a text of bytes is when it has come so far: less than a request, a request, or refused.
+-- What the bytes of a request that have arrived so far are: incomplete, a request, or refused.
 --     ended_head bytes      the head that these bytes are, or why they are refused
 --     framing text      the request that a text is, a refusal, or that it is incomplete
---     needs_more text      it is incomplete
+--     needs_more text      the text is incomplete
 --     IsDecided text      the text is a request or refused, whatever follows
---     head_in text      the head of a text, also where its body is refused or still to come
---     known text      what is kept of a text so far: nothing but its length, its head while its body still comes, all,
---         or a refusal
---     advanced known text      what is known of a longer text, by what was known of its beginning
--- The order of the refusals is this server's own. They are looked at only once a head has ended, or where it is too
+--     head_in text      the head of a text, even if its body is refused or incomplete
+--     known text      what a server needs to know of a text that may still grow
+--     advanced known text      what is known of a longer text, by what was known of a prefix
+-- The order of the refusals is our own. Nothing is refused before the head has ended or is too
 -- long.
 use Rattle.std.specs.Prelude.{◌≡◌, ℕ, ◌+◌, ◌-◌, Bool, true, false, List, length, take, drop, if◌then◌else◌, ◌==◌, nat_lt, Option, Some, None, option_and_then, Result}
 use Rattle.std.specs.Prelude.{Ok, Err}
@@ -20,7 +19,7 @@ use Rattle.clock_http.specs.HeaderLines.{pairs_of, body_length, token_of}
 use Rattle.clock_http.specs.declared.code.Code.{Code}
 use Rattle.clock_http.specs.declared.code.Code.TheVariants.{LongHead, BadHead}
 
--- the most bytes of a head, its last line end included, and the most header lines of one (own limits)
+-- the most bytes of a head, with its empty line, and its most header lines (own limits)
 abbrev pub head_limit : ℕ
 head_limit = 16384
 
@@ -31,12 +30,12 @@ abbrev pub or_bad_head : Option RequestHead → Result RequestHead Code
 or_bad_head None = Err BadHead
 or_bad_head (Some head) = Ok head
 
--- what an ended head is: its line ends are those of the header lines, of the request line and of the empty one
+-- the head of these bytes; two of their line ends are of the request line and of the empty line
 abbrev pub ended_head : List ℕ → Result RequestHead Code
 ended_head bytes = if nat_lt line_limit (line_ends bytes - 2) then Err LongHead
     else (if is_loose bytes then Err BadHead else or_bad_head (head_of bytes))
 
--- what is kept of a head
+-- the parts of a head that this server uses
 pub record Head : Type 0 where
   pub method : List ℕ
   pub path : List ℕ
@@ -50,29 +49,29 @@ kept head = record {
   token = token_of (pairs_of head);
 }
 
--- a head with the length of its body
+-- a head, and the length of its body
 abbrev pub and_length : RequestHead → Result ℕ Code → Result (Head × ℕ) Code
 and_length head (Err fault) = Err fault
 and_length head (Ok n) = Ok (kept head, n)
 
--- what an ended head says of itself and of its body
+-- a head and the length of its body, or why they are refused
 abbrev pub length_read : Result RequestHead Code → Result (Head × ℕ) Code
 length_read (Err fault) = Err fault
 length_read (Ok head) = and_length head (body_length (pairs_of head))
 
--- ---- what the text is
+-- ---- what a text is
 
 pub data Framing : Type 0 where
   incomplete : Framing
   refusal : Code → Framing
   whole : Head → List ℕ → Framing
 
--- a head of n bytes and the body that its lines tell, once that has come; bytes behind it are not of the request
+-- a head of n bytes and its body, if that is whole; bytes after the body are ignored
 abbrev pub framed_head : ℕ → List ℕ → Result (Head × ℕ) Code → Framing
 framed_head n text (Err fault) = refusal fault
 framed_head n text (Ok read) = if nat_lt (length text) (n + read.1) then incomplete else whole read.0 (take read.1 (drop n text))
 
--- the head has ended after n bytes, or has not, and may still do so
+-- if the head has ended, after n bytes, or has not, and may still do so
 abbrev pub framed_at : Option ℕ → List ℕ → Framing
 framed_at None text = if nat_lt (length text) head_limit then incomplete else refusal LongHead
 framed_at (Some n) text = framed_head n text (length_read (ended_head (take n text)))
@@ -85,34 +84,35 @@ is_incomplete incomplete = true
 is_incomplete (refusal code) = false
 is_incomplete (whole head body) = false
 
--- the text is less than a request, and not refused
+-- the text is neither a whole request nor refused
 abbrev pub needs_more : List ℕ → Bool
 needs_more text = is_incomplete (framing text)
 
--- the text is decided, whatever follows
+-- the text is a request or refused, whatever follows
 abbrev pub IsDecided : List ℕ → Type 0
 IsDecided text = needs_more text ≡ false
 
--- ---- whose request a text is, also where its body is refused or cut short
+-- ---- the head of a text, even if its body is refused or incomplete
 
 abbrev pub ok_head : Result RequestHead Code → Option Head
 ok_head (Err fault) = None
 ok_head (Ok head) = Some (kept head)
 
--- the whole head that a text has
+-- the head of a text, once it has ended
 unfoldable pub head_in : List ℕ → Option Head
 head_in text = option_and_then (λ n. ok_head (ended_head (take n text))) (head_length (take head_limit text))
 
--- ---- what is known of a text so far
+-- ---- what is known of a text that may still grow
 
--- a text's length where no head has ended; a head, its length and its body's, not all there yet, or all; a refusal
+-- Without an end of a head: the length of the text. Otherwise: a head with its length and its
+-- body's, while the body is incomplete or once it is whole; or a refusal.
 pub data Known : Type 0 where
   unended : ℕ → Known
   waiting : Head → ℕ → ℕ → Known
   complete : Head → ℕ → ℕ → Known
   refused : Code → Known
 
--- a head of so many bytes, with its body's length, in a text of so many bytes
+-- what is known of a text of `count` bytes with a head of n bytes, by the length of its body
 abbrev pub known_with_body : ℕ → Head → ℕ → ℕ → Known
 known_with_body count head n body = if nat_lt count (n + body) then waiting head n body else complete head n body
 
@@ -128,7 +128,7 @@ known_with_end (Some n) text = known_with_head (length text) n (length_read (end
 unfoldable pub known : List ℕ → Known
 known text = known_with_end (head_length (take head_limit text)) text
 
--- what is known of a longer text: a head that has ended is not looked at again, and what is decided stays
+-- what is known of a longer text: an ended head is not read again, and decisions are final
 abbrev pub advanced : Known → List ℕ → Known
 advanced (unended n) text = known text
 advanced (waiting head n body) text = known_with_body (length text) head n body

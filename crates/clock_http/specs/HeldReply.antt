@@ -1,9 +1,9 @@
--- What a reply holds.
+-- The bytes of a reply.
 use Rattle.std.specs.Prelude.{ℕ, List, drop}
 use Rattle.clock_http.specs.declared.reply.ReplyBytes.{ReplyBytes}
 use Rattle.clock_http.specs.declared.reply.ReplyBytes.TheVariants.{Constant, Written}
 
--- the bytes of a reply
+-- constant bytes, or those of a text from an index on
 abbrev pub shown_held : ReplyBytes → List ℕ
 shown_held (Constant bytes) = bytes.now
 shown_held (Written written) = drop written.start written.text

@@ -1,6 +1,6 @@
--- The bytes of a reply (RFC 9112, sections 4 and 5; RFC 9110 for the header lines). Every line ends with CR LF, and
--- nothing stands behind the page.
---     reply_bytes code allowed page      a reply: its status, the methods of the page that was asked for, and its text
+-- The bytes of a reply (RFC 9112, sections 4 and 5; RFC 9110 for the header lines). Each line ends
+-- with CR LF, and nothing follows the page.
+--     reply_bytes code allowed page      the reply with this code, `allow` line, and page
 --     Answer      a code and the bytes of its reply
 use Rattle.std.specs.Prelude.{ℕ, List, [], ◌++◌, length, Option, Some, None, codes, decimal}
 use Rattle.std.specs.List.{join_by}
@@ -12,22 +12,22 @@ use Rattle.clock_http.specs.Codes.{status_of}
 use Rattle.clock_http.specs.declared.routes.Page.{Page}
 use Rattle.clock_http.specs.Routes.{methods}
 
--- what is answered
+-- a code and the bytes of its reply
 pub record Answer : Type 0 where
   pub code : Code
   pub bytes : List ℕ
 
--- the methods that a page has, where another was asked for
+-- the line with the methods of a page that does not have the requested one
 abbrev pub allow_line : Option Page → List ℕ
 allow_line None = []
 allow_line (Some page) = codes "allow: " ++ (join_by (λ method. method) (codes ", ") (methods page) ++ codes "\r\n")
 
--- a token is asked for
+-- the line that asks for a token
 abbrev pub challenge_line : Code → List ℕ
 challenge_line Token = codes "www-authenticate: Bearer\r\n"
 challenge_line _ = []
 
--- a whole reply: the status line with the words of its status, the header lines, an empty line and the page
+-- a whole reply: status line with reason phrase, header lines, empty line, and page
 unfoldable pub reply_bytes : Code → Option Page → List ℕ → List ℕ
 reply_bytes code allowed page =
     codes "HTTP/1.1 " ++ (decimal (status_of code) ++ (codes " " ++ (unwrap_or (reason_phrase (status_of code)) []

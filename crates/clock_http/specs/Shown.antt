@@ -1,7 +1,7 @@
--- What the code's values show of a text: spans stand for the bytes that they cover.
+-- How values of the code correspond to the definitions: a span is the bytes that it covers.
 --     Knows text progress      the progress is what is known of the text
---     KnowsOfStart text progress      it is what is known of some beginning of the text
---     shown_head head, shown_framing framing      a head and a framing whose parts are slices of a text
+--     KnowsOfStart text progress      the progress is what is known of a prefix of the text
+--     shown_head head, shown_framing framing      a head and a framing, with their slices' bytes
 --     IsFramed text framing      the framing is what the text is
 use Rattle.std.specs.Prelude.{◌≡◌, ◌≤◌, ◌+◌, ℕ, List, take, length, Option, Some, None, option_map}
 use Rattle.std.specs.Borrow.{Bor}
@@ -15,7 +15,7 @@ use Rattle.clock_http.specs.declared.progress.Framing.{Framing}
 use Rattle.clock_http.specs.declared.progress.Framing.TheVariants as framed
 use Rattle.clock_http.specs.Framing as spec
 
--- a span, where there is one, lies in the first n bytes
+-- if there is a span, it is within the first n bytes
 abbrev pub IsSomeWithin : ℕ → Option Span → Type 0
 IsSomeWithin n None = Unit {0}
 IsSomeWithin n (Some span) = IsWithin n span
@@ -27,7 +27,7 @@ shown_ended text head = record {
   token = option_map (span_bytes text) head.token;
 }
 
--- the spans lie in the head, and the head in a text of so many bytes
+-- the spans are within the head, and the head within a text of `count` bytes
 pub record IsHeadWithin (count : ℕ) (head : EndedHead) : Type 0 where
   pub method : IsWithin head.length head.method
   pub path : IsWithin head.length head.path
@@ -40,12 +40,12 @@ shown_progress text (so_far.Waiting head) = spec.waiting (shown_ended text head)
 shown_progress text (so_far.Complete head) = spec.complete (shown_ended text head) head.length head.body
 shown_progress text (so_far.Refused fault) = spec.refused fault
 
--- a head and its whole body lie in a text of so many bytes
+-- a head and its whole body are within a text of `count` bytes
 pub record IsRequestWithin (count : ℕ) (ended : EndedHead) : Type 0 where
   pub head : IsHeadWithin count ended
   pub body : ended.length + ended.body ≤ count
 
--- the spans of a head that is known lie in the text
+-- the spans of a known head are within the text
 abbrev pub IsProgressWithin : ℕ → Progress → Type 0
 IsProgressWithin count (so_far.Unended n) = Unit {0}
 IsProgressWithin count (so_far.Waiting head) = IsHeadWithin count head
@@ -57,7 +57,7 @@ pub record Knows (text : List ℕ) (progress : Progress) : Type 0 where
   pub is : shown_progress text progress ≡ spec.known text
   pub within : IsProgressWithin (length text) progress
 
--- the progress is what is known of the first so many bytes of the text
+-- the progress is what is known of the first `count` bytes of the text, for some count
 abbrev pub KnowsOfStart : List ℕ → Progress → Type 0
 KnowsOfStart text progress = (count : ℕ) × Knows (take count text) progress
 
@@ -72,6 +72,6 @@ shown_framing framed.NeedMore = spec.incomplete
 shown_framing (framed.Refused fault) = spec.refusal fault
 shown_framing (framed.Whole head body) = spec.whole (shown_head head) body.now
 
--- the framing is what the text is, wherever its parts stand
+-- the framing, by the bytes of its slices, is what the text is
 abbrev pub IsFramed : List ℕ → Framing → Type 0
 IsFramed text framing = shown_framing framing ≡ spec.framing text

@@ -6,18 +6,18 @@ use clock_device::NoMemory;
 use std::alloc::Global;
 use std::marker::Model;
 
-/// The bytes of a request that have come so far, and what is known of them, so that what came in earlier pieces is not
-/// searched again.
+/// The bytes of a request that have arrived so far, and what is known of them, so that no byte is
+/// searched twice.
 ///
-/// Contracts see the bytes.
+/// In contracts, an `Arriving` is the list of these bytes.
 #[derive(Drop)]
 pub struct Arriving {
-    /// The bytes, and behind them zeros, in whose places further ones are written.
+    /// The bytes, followed by zeros that later bytes overwrite.
     room: Vec<u8>,
     count: usize,
     progress: Progress,
-    /// While the bytes are fewer than this they have a place, more of the body comes, and nothing else is to be known
-    /// of them.
+    /// A text of fewer bytes than this fits, and only waits for more of its body, whatever its
+    /// further bytes are.
     quiet: usize,
 }
 
@@ -29,8 +29,8 @@ impl Model for Arriving {
     ghost invariant = { λ a. IsFollowed a.room.items a.count a.progress a.quiet };
 }
 
-/// Makes zeros behind some bytes, up to one byte less than are awaited, as far as there is room for them: no memory is
-/// asked for. Below the length that it answers each byte has a place, and is not the last that is awaited.
+/// Appends zeros within the capacity, up to one byte less than `awaited`. Returns a length: each
+/// shorter text fits among these bytes, and still lacks a byte of those awaited. Allocates nothing.
 fn make_places(room: &mut Vec<u8>, awaited: usize) -> usize
     ensures kept { (zeros : List ℕ) × (room.new.items ≡ room.old.items ++ zeros) }
     ensures placed { result ≤ length room.new.items + 1 }
@@ -43,8 +43,9 @@ fn make_places(room: &mut Vec<u8>, awaited: usize) -> usize
     places + 1
 }
 
-/// Adds bytes at the end, all of them or none. Before, room is made for three times as many bytes as there are, but for
-/// none beyond those awaited, where that is more than are added. One byte by itself is no list to be copied.
+/// Appends `piece`, all of it or nothing. If `awaited` allows, it first reserves three times the
+/// bytes so far, but none beyond `awaited`. May return `NoMemory`. A single byte is pushed, which
+/// costs less than a copy.
 fn append(room: &mut Vec<u8>, piece: &[u8], awaited: usize) -> Result<(), NoMemory>
     ensures ok { OnOk result (room.new.items ≡ room.old.items ++ piece.now) }
     ensures err { OnErr result (room.new.items ≡ room.old.items) }
@@ -61,7 +62,7 @@ fn append(room: &mut Vec<u8>, piece: &[u8], awaited: usize) -> Result<(), NoMemo
     Ok(())
 }
 
-/// Writes bytes in the places of others.
+/// Overwrites the bytes from `place` on with `piece`.
 fn write_at(room: &mut Vec<u8>, place: usize, piece: &[u8])
     requires { place + length piece.now ≤ length room.old.items }
     ensures written { take (place + length piece.now) room.new.items ≡ take place room.old.items ++ piece.now }
@@ -71,7 +72,7 @@ fn write_at(room: &mut Vec<u8>, place: usize, piece: &[u8])
 }
 
 impl Arriving {
-    /// No bytes. It takes no memory yet.
+    /// Creates an empty buffer. Allocates nothing.
     pub fn new(alloc: Global) -> Arriving
         ensures { result ≡ [] }
     {
@@ -83,8 +84,9 @@ impl Arriving {
         }
     }
 
-    /// Adds bytes at the end, all of them or none, and tells whether they are neither a whole request nor refused.
-    /// Where more of a body comes that is awaited only the number of the bytes is looked at.
+    /// Appends `piece`, all of it or nothing, and returns whether the request still needs more
+    /// bytes. While more of a body is awaited, this only counts bytes. May return `NoMemory`; then
+    /// nothing was appended.
     #[inline(always)]
     pub fn take(&mut self, piece: &[u8]) -> Result<bool, NoMemory>
         ensures ok { OnOk result (self.new ≡ self.old ++ piece.now) }
@@ -102,8 +104,8 @@ impl Arriving {
         }
     }
 
-    /// The same, of more than one byte or where they have no place yet. It stands apart, so that what a single byte
-    /// costs stays small.
+    /// Like [`Arriving::take`], for more than one byte, or if the byte has no zero to overwrite.
+    /// Not inlined, so that the path for a single byte stays short.
     #[inline(never)]
     fn take_piece(&mut self, piece: &[u8]) -> Result<bool, NoMemory>
         ensures ok { OnOk result (self.new ≡ self.old ++ piece.now) }
@@ -124,15 +126,15 @@ impl Arriving {
         Ok(self.progress.needs_more())
     }
 
-    /// What the bytes are.
+    /// Returns the framing of the bytes: incomplete, a request, or refused. Allocates nothing.
     pub fn framing(&self) -> Framing<'_>
         ensures { IsFramed self.now result }
     {
         self.progress.framing(self.as_slice())
     }
 
-    /// What the bytes are with a piece that has the whole body, where they are its head and no more: so nothing of it
-    /// need be kept.
+    /// Returns the framing of the bytes followed by `piece`, if the bytes are exactly a head and
+    /// `piece` has its whole body. Otherwise returns `None`. The body then needs no copy.
     pub fn framing_with<'a>(&'a self, piece: &'a [u8]) -> Option<Framing<'a>>
         ensures is { IfSome result (IsFramed (self.now ++ piece.now)) }
         ensures whole { OnSome result (needs_more (self.now ++ piece.now) ≡ false) }
@@ -148,14 +150,14 @@ impl Arriving {
         }
     }
 
-    /// The bytes.
+    /// Returns the bytes.
     pub fn as_slice(&self) -> &[u8]
         ensures { result.now ≡ self.now }
     {
         &self.room[..self.count]
     }
 
-    /// What is known of the bytes.
+    /// Returns what is known of the bytes.
     pub fn progress(&self) -> Progress
         ensures { Knows self.now result }
     {

@@ -4,99 +4,99 @@ ghost use Rattle.clock_http.specs.Codes.{status_of, text_of};
 
 use http::StatusCode;
 
-/// What a reply says of its request: that it was done, or why it was refused.
+/// The result of a request: done, or why it was refused.
 ///
-/// The codes are this auction's own; the statuses that they have are those of HTTP (RFC 9110, and RFC 6585 for 431).
-/// They stand here by rising status, and those of one status in the order in which they are looked for.
+/// The codes are our own. Their statuses are those of HTTP (RFC 9110; 431 is of RFC 6585). Codes
+/// are sorted by status, and those of one status are in the order of the checks.
 #[derive(Clone, Copy, Debug, PartialEq, Eq)]
 pub enum Code {
-    /// The request was done. This code stands in no page.
+    /// The request was done. No page shows this code.
     Done,
-    /// The head is not one of HTTP.
+    /// The head is not of the grammar of HTTP.
     BadHead,
-    /// The length of the body is told twice, or not by digits alone.
+    /// There are several `content-length` lines, or its value is not digits only.
     BadLength,
     /// The input ended before the head or the body was whole.
     CutShort,
     /// The body is not JSON.
     BadJson,
-    /// The token that the route asks for is missing, or it is nobody's.
+    /// The route needs a token, and the request has no valid one.
     Token,
     /// The route is the operator's and the token a bidder's, or the reverse.
     Role,
     /// The path has no page.
     NoPage,
-    /// The round has no sheet, since it is not closed or no round at all.
+    /// The round has no results: it is not closed, or does not exist.
     NoRound,
-    /// The page is not for this method.
+    /// The page does not have this method.
     Method,
     /// The auction has ended.
     Ended,
     /// The request is for another round than the current one, which the page shows.
     WrongRound,
-    /// The body is longer than may be sent.
+    /// The body has more than 1,048,576 bytes.
     LongBody,
-    /// The body is JSON of another shape than is asked for.
+    /// The body is JSON, but not of the required shape.
     Shape,
-    /// There are more bids than a sheet may have.
+    /// The sheet has too many bids.
     TooMany,
-    /// A bid is for no product of the set-up. The page shows the bid's place in the list, from 0,
-    /// as it does for the next five codes.
+    /// A bid is for a product that is not in the set-up. The page shows the bid's index in the
+    /// list, as it does for the next five codes.
     UnknownProduct,
-    /// A bid's price is below the start price or above the clock price.
+    /// A bid's price is below the start-of-round price or above the clock price.
     PriceRange,
     /// A bid's quantity is above the product's cap.
     OverCap,
-    /// A bid's price is not above those of the bids before it for the product.
+    /// An earlier bid for the product has this price or a higher one.
     PriceOrder,
-    /// A bid goes the other way than the chain of bids before it for the product.
+    /// A bid does not continue in the direction of its chain.
     MixedDirection,
-    /// A bid keeps the demand held, at another price than the clock price.
+    /// A bid to maintain demand is not at the clock price.
     KeepPrice,
-    /// The sheet asks for more activity than it may.
+    /// The sheet's requested activity is above the limit.
     OverActivity,
-    /// The increments are not those that a closing may have.
+    /// An increment is out of range, or there is not one for each product.
     Increment,
-    /// There are more tie numbers than a closing may have.
+    /// The closing has too many tie-breaking numbers.
     TooManyTies,
-    /// A tie number is for no bidder or no product of the set-up. The page shows its place in the
-    /// list, from 0, as it does for the next code.
+    /// A tie-breaking number is for a bidder or product that is not in the set-up. The page shows
+    /// its index in the list, as it does for the next code.
     TieRange,
-    /// A tie number's bidder and product stand earlier in the list.
+    /// An earlier tie-breaking number is for the same bidder and product.
     TieRepeated,
-    /// The next clock price of a product would be too high. The page shows the product's number.
+    /// A product's next clock price would be too high. The page shows the product's number.
     PriceLimit,
-    /// The head is longer, or has more lines, than may be sent.
+    /// The head has more than 16,384 bytes or more than 64 header lines.
     LongHead,
-    /// The body is sent in a transfer coding.
+    /// The head has a `transfer-encoding` line.
     Coding,
-    /// There was no memory.
+    /// Out of memory.
     Memory,
 }
 
 impl Code {
-    /// The status of the replies that have this code. It takes no memory.
+    /// Returns the status of replies with this code. Allocates nothing.
     pub fn status(&self) -> u16
         ensures { result ≡ status_of self.now }
     {
         self.row().0.as_u16()
     }
 
-    /// The reason phrase that stands behind the status. It takes no memory.
+    /// Returns the reason phrase of the status. Allocates nothing.
     pub fn reason(&self) -> &'static str
         ensures { Some result.now ≡ reason_phrase (status_of self.now) }
     {
         self.row().0.canonical_reason().unwrap_or("")
     }
 
-    /// The code as pages show it. It takes no memory.
+    /// Returns the code as pages show it. Allocates nothing.
     pub fn text(&self) -> &'static str
         ensures { result.now ≡ text_of self.now }
     {
         self.row().1
     }
 
-    /// The status as HTTP's own type, and the code as pages show it.
+    /// Returns the status, as the type of the crate http, and the code as pages show it.
     fn row(&self) -> (StatusCode, &'static str)
         ensures status { result.0 ≡ status_of self.now }
         ensures text { result.1.now ≡ text_of self.now }

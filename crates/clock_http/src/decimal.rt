@@ -1,16 +1,16 @@
-//! Numbers written in decimal digits.
+//! Numbers in decimal digits.
 
 ghost use Rattle.std.specs.{Prelude.{◌≡◌, ◌<◌, ◌^◌, IsTrue}, Option.{SomeIff}, Str.Parse.{digits_value}};
 ghost use Rattle.clock_http.specs.Decimals as spec;
 
-/// Whether these are one or more digits.
+/// Returns whether `text` is one or more digits.
 pub(crate) fn is_number(text: &[u8]) -> bool
     ensures { result ≡ spec.is_number text.now }
 {
     !text.is_empty() && text.iter().all(|b| b.is_ascii_digit())
 }
 
-/// The number that digits write, if it has at most 64 bits.
+/// Returns the number that `digits` write, if it is below 2^64.
 pub(crate) fn number(digits: &[u8]) -> Option<u64>
     requires { IsTrue (spec.is_number digits.now) }
     ensures { SomeIff result (digits_value 10 digits.now < 2 ^ 64) (digits_value 10 digits.now) }
@@ -18,7 +18,7 @@ pub(crate) fn number(digits: &[u8]) -> Option<u64>
     std::str::from_utf8(digits).ok()?.parse().ok()
 }
 
-/// The number that a text writes in digits without leading zeros, if it has at most 64 bits.
+/// Returns the number that `text` writes in digits without leading zeros, if it is below 2^64.
 pub fn plain_number(text: &[u8]) -> Option<u64>
     ensures { result ≡ spec.plain_number text.now }
 {

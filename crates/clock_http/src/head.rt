@@ -1,7 +1,7 @@
-//! Heads of requests: where one ends, how its lines end, and what stands in it.
+//! Heads of requests (RFC 9112, section 2.1): where one ends, how its lines end, and its parts.
 //!
 //! ```text
-//! HTTP-message = start-line CRLF *( field-line CRLF ) CRLF [ message-body ]    (RFC 9112, section 2.1)
+//! HTTP-message = start-line CRLF *( field-line CRLF ) CRLF [ message-body ]
 //! ```
 
 ghost use Rattle.std.specs.Prelude.{◌≡◌, ◌≤◌, ◌+◌, ◌-◌, length, false, IfOk, drop, option_map};
@@ -16,8 +16,8 @@ use httparse::Status;
 use httparse::spans::{EMPTY_HEADER_SPAN, HeaderSpan, Span, parse_request};
 use memchr::memchr;
 
-/// How many bytes there are up to and with the first empty line, where none begins before a place. It is looked for at
-/// each CR, since each begins with one.
+/// Returns the length of the head of `text`, with its empty line. Requires that no empty line
+/// begins before `start`. Looks only at CRs, since an empty line begins with one.
 pub(crate) fn head_length(text: &[u8], start: usize) -> Option<usize>
     requires within { start ≤ length text.now }
     requires none { length_of_head text.now ≡ option_map (λ n. start + n) (length_of_head (drop start text.now)) }
@@ -37,14 +37,14 @@ pub(crate) fn head_length(text: &[u8], start: usize) -> Option<usize>
 /// How the lines of a head end.
 #[derive(Clone, Copy, Debug)]
 struct LineEnds {
-    /// How many lines end.
+    /// The number of lines that end with CR LF.
     count: usize,
-    /// Whether the bytes begin with a CR, or have an LF with no CR before it: RFC 9112 lets a
-    /// server take such an LF for the end of a line, and this one does not.
+    /// Whether the bytes begin with a CR, or have an LF with no CR before it. RFC 9112 lets a
+    /// server accept such an LF as the end of a line; this server does not.
     loose: bool,
 }
 
-/// How the lines of these bytes end.
+/// Returns how the lines of `text` end.
 fn line_ends(text: &[u8]) -> LineEnds
     ensures count { result.count ≡ count_of_line_ends text.now }
     ensures loose { result.loose ≡ is_loose_text text.now }
@@ -66,26 +66,26 @@ fn line_ends(text: &[u8]) -> LineEnds
 /// The most header lines of a head.
 const LINE_LIMIT: usize = 64;
 
-/// How many header lines most heads have at most. Each place is cleared before it is written, so few are made for
-/// those.
+/// A number of header lines that most heads do not exceed. All spans are initialized before the
+/// parser runs, so it gets a short array for such heads.
 const FEW_LINES: usize = 8;
 
-/// Where the parts of an ended head stand in its text, and how long it and its body are.
+/// The parts of a whole head, as spans of its text, and the lengths of the head and its body.
 #[derive(Clone, Copy, Debug)]
 pub struct EndedHead {
     /// The method.
     pub method: Span,
     /// The target up to the first `?`.
     pub path: Span,
-    /// What stands behind `Bearer` in the one `authorization` line.
+    /// What follows `Bearer` in the `authorization` line, if there is exactly one such line.
     pub token: Option<Span>,
-    /// How many bytes the head has, with its last line end.
+    /// The number of bytes of the head, with its empty line.
     pub length: usize,
-    /// How many bytes the body has: its `content-length`, or 0 without such a line.
+    /// The number of bytes of the body: the value of `content-length`, or 0 without such a line.
     pub body: usize,
 }
 
-/// Where the path of a target stands.
+/// Returns the path of a target: its bytes before the first `?`.
 fn path_of(text: &[u8], mut target: Span) -> Span
     requires { IsWithin (length text.now) target }
     ensures shown { span_bytes text.now result ≡ path_of_target (span_bytes text.now target) }
@@ -97,7 +97,8 @@ fn path_of(text: &[u8], mut target: Span) -> Span
     target
 }
 
-/// The parts of a head whose lines end as they should, with room for the places of so many header lines.
+/// Reads a head whose lines all end with CR LF. Requires a span for each header line. Errors, in
+/// this order: `BadHead`, and those of [`Fields::body_length`].
 fn read_parts(bytes: &[u8], spans: &mut [HeaderSpan]) -> Result<EndedHead, Code>
     requires room { count_of_line_ends bytes.now - 2 ≤ length spans.old }
     requires few { count_of_line_ends bytes.now ≤ LINE_LIMIT + 2 }
@@ -121,7 +122,9 @@ fn read_parts(bytes: &[u8], spans: &mut [HeaderSpan]) -> Result<EndedHead, Code>
     })
 }
 
-/// What an ended head says, or why it is refused. httparse is asked once, of exactly these bytes.
+/// Reads a whole head. Errors, in this order: `LongHead` if it has more than 64 header lines,
+/// `BadHead` if it is not of the grammar of HTTP, and those of [`Fields::body_length`]. Parses the
+/// head once.
 pub(crate) fn read_head(bytes: &[u8]) -> Result<EndedHead, Code>
     ensures shown { shown_read bytes.now result ≡ head_with_length bytes.now }
     ensures within { IfOk result (IsHeadWithin (length bytes.now)) }

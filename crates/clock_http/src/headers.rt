@@ -1,4 +1,4 @@
-//! What the header lines of a head say of its body's length and of its sender.
+//! What the header lines of a head say of the length of its body and of its sender.
 //!
 //! ```text
 //! field-line     = field-name ":" OWS field-value OWS    (RFC 9112, section 5; names of any case)
@@ -18,17 +18,17 @@ use httparse::spans::{HeaderSpan, Span};
 /// The most bytes of a body.
 pub const MOST_BODY: usize = 1_048_576;
 
-/// The word before a token, and the first of the spaces after it. Its letters may be of any case.
+/// The word before a token, and the first space after it. Letters of any case match.
 const BEARER: &[u8] = b"bearer ";
 
-/// The header lines of one name: how many there are, and where the value of the last one stands.
+/// The header lines of one name: their number, and the value of the last one.
 #[derive(Clone, Copy, Debug, Default)]
 pub(crate) struct HeaderLines {
     count: usize,
     value: Span,
 }
 
-/// The header lines that are looked at, each name's by themselves.
+/// The header lines that this server reads, by name.
 #[derive(Clone, Copy, Debug, Default)]
 pub(crate) struct Fields {
     coding: HeaderLines,
@@ -37,7 +37,7 @@ pub(crate) struct Fields {
 }
 
 impl HeaderLines {
-    /// Adds a line, if it is of the wanted name, which is told in letters of any case.
+    /// Counts a header line if its name is `wanted`, in letters of any case, and notes its value.
     fn add(&mut self, wanted: &[u8], name: &[u8], value: Span)
         requires { self.old.count < usize.MAX }
         ensures lines { (text : List ℕ) (pairs : Pairs) → AreLinesOf text wanted.now pairs self.old
@@ -52,7 +52,7 @@ impl HeaderLines {
     }
 }
 
-/// The header lines that are looked at, by one pass over all.
+/// Returns the header lines that this server reads, by one pass over all.
 pub(crate) fn fields_of(text: &[u8], headers: &[HeaderSpan]) -> Fields
     requires { All (IsHeaderWithin (length text.now)) headers.now }
     ensures { AreFieldsOf text.now (map (header_bytes text.now) headers.now) result }
@@ -68,7 +68,8 @@ pub(crate) fn fields_of(text: &[u8], headers: &[HeaderSpan]) -> Fields
     fields
 }
 
-/// The number that one or more digits write, if a body may be so long.
+/// Returns the length that `value` writes. Errors, in this order: `BadLength` if it is not one or
+/// more digits, `LongBody` if it is above [`MOST_BODY`].
 fn parse_length(value: &[u8]) -> Result<usize, Code>
     ensures { result ≡ lines.within_limit (lines.length_from (value.now ∷ [])) }
 {
@@ -81,7 +82,7 @@ fn parse_length(value: &[u8]) -> Result<usize, Code>
     }
 }
 
-/// How many spaces the bytes begin with.
+/// Returns the number of spaces with which `text` begins.
 fn leading_spaces(text: &[u8]) -> usize
     ensures within { result ≤ length text.now }
     ensures rest { drop result text.now ≡ lines.skip_spaces text.now }
@@ -89,7 +90,8 @@ fn leading_spaces(text: &[u8]) -> usize
     text.iter().position(|b| *b != b' ').unwrap_or(text.len())
 }
 
-/// How many bytes of a value stand before the token behind the word `Bearer`.
+/// Returns where the token begins in a value: after the word `Bearer` and spaces. `None` if the
+/// value does not begin with `Bearer` and a space.
 fn token_start(value: &[u8]) -> Option<usize>
     ensures within { IfSome result (λ start. start ≤ length value.now) }
     ensures shown { option_map (λ start. drop start value.now) result ≡ lines.bearer value.now }
@@ -103,7 +105,10 @@ fn token_start(value: &[u8]) -> Option<usize>
 }
 
 impl Fields {
-    /// How long the body is.
+    /// Returns the length of the body, 0 without a `content-length` line. Errors, in this order:
+    /// `Coding` if there is a `transfer-encoding` line, `BadLength` if there are several
+    /// `content-length` lines or its value is not digits only, `LongBody` if it is above
+    /// [`MOST_BODY`].
     pub(crate) fn body_length(&self, text: &[u8]) -> Result<usize, Code>
         requires { (pairs : Pairs) × AreFieldsOf text.now pairs self.now }
         ensures { (pairs : Pairs) → AreFieldsOf text.now pairs self.now → result ≡ lines.body_length pairs }
@@ -118,7 +123,7 @@ impl Fields {
         }
     }
 
-    /// Where the token stands.
+    /// Returns where the token is, if there is exactly one `authorization` line and it has one.
     pub(crate) fn token(&self, text: &[u8]) -> Option<Span>
         requires { (pairs : Pairs) × AreFieldsOf text.now pairs self.now }
         ensures shown { (pairs : Pairs) → AreFieldsOf text.now pairs self.now → option_map (span_bytes text.now) result

@@ -1,10 +1,10 @@
-//! Requests and replies as bytes, whatever they are about: what a text of bytes is, which page its
-//! path names, and the bytes of a reply.
+//! Requests and replies of HTTP as bytes, whatever their subject.
 //!
-//! [`frame`] says what a text of bytes is when it has come so far, [`Progress`] is what is known of
-//! a text that comes in pieces, and [`Arriving`] holds its bytes with that. All are functions of the
-//! text alone, so however a text comes, it is decided alike. [`Routes`] finds the [`Page`] of a path,
-//! and a [`Reply`] is a [`Code`] and the bytes that say it.
+//! - [`frame`] decides whether the bytes so far are incomplete, a request, or refused.
+//! - [`Progress`] is what is known of a text that arrives in pieces, and [`Arriving`] has its bytes
+//!   and its progress. Both depend only on the text, so the pieces do not matter.
+//! - [`Routes`] finds the [`Page`] of a path.
+//! - A [`Reply`] is a [`Code`] and the bytes that a client gets.
 #![tactic(auto)]
 
 mod arriving;

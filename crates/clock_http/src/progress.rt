@@ -7,46 +7,47 @@ ghost use Rattle.clock_http.specs.Framing as spec;
 use crate::code::Code;
 use crate::head::{EndedHead, head_length, read_head};
 
-/// The most bytes of a head, its last line end included.
+/// The most bytes of a head, with its empty line.
 const HEAD_LIMIT: usize = 16_384;
 
-/// What is known of a text that may still grow. It borrows nothing, so it can be kept beside the bytes that have come.
+/// What is known of a text that may still grow. It borrows nothing, so it can be stored with the
+/// bytes.
 #[derive(Clone, Copy, Debug)]
 pub enum Progress {
-    /// No head ends among so many bytes, all that have come.
+    /// No head has ended in the text, which has this number of bytes.
     Unended(usize),
-    /// The head has ended, and its body has not come whole.
+    /// The head has ended, and its body is not whole.
     Waiting(EndedHead),
-    /// The request has come whole.
+    /// The request is whole.
     Complete(EndedHead),
     /// The text is refused.
     Refused(Code),
 }
 
-/// What is kept of a request's head. All parts are slices of its text.
+/// The parts of a request's head that this server uses, as slices of the request's text.
 #[derive(Clone, Copy, Debug)]
 pub struct Head<'a> {
-    /// The method, letter by letter.
+    /// The method, with its case.
     pub method: &'a [u8],
     /// The target up to the first `?`.
     pub path: &'a [u8],
-    /// What stands behind `Bearer` in the one `authorization` line.
+    /// What follows `Bearer` in the `authorization` line, if there is exactly one such line.
     pub token: Option<&'a [u8]>,
 }
 
-/// What the bytes that have come so far amount to.
+/// What the bytes that have arrived so far are.
 #[derive(Clone, Copy, Debug)]
 pub enum Framing<'a> {
-    /// Neither refused nor whole yet.
+    /// Neither a whole request nor refused.
     NeedMore,
-    /// A request, and its body. Bytes after the body are ignored.
+    /// A request with its body. Bytes after the body are ignored.
     Whole { head: Head<'a>, body: &'a [u8] },
-    /// No request, whatever follows.
+    /// Not a request, whatever follows.
     Refused(Code),
 }
 
 impl Head<'_> {
-    /// Whether the method is `PUT`, its letters compared with regard to case.
+    /// Returns whether the method is `PUT`. Methods are case-sensitive.
     pub fn is_put(&self) -> bool
         ensures { result ≡ same_bytes (codes "PUT") self.now.method.now }
     {
@@ -54,7 +55,7 @@ impl Head<'_> {
     }
 }
 
-/// The parts of an ended head.
+/// Returns the parts of a whole head as slices of `text`.
 pub(crate) fn head_in(text: &[u8], head: EndedHead) -> Head<'_>
     requires { IsHeadWithin (length text.now) head }
     ensures { shown_head result ≡ shown_ended text.now head }
@@ -66,7 +67,8 @@ pub(crate) fn head_in(text: &[u8], head: EndedHead) -> Head<'_>
     }
 }
 
-/// What is known where a head has ended in a text of so many bytes.
+/// Returns what is known of a text of `count` bytes whose head has ended: whether its body is
+/// whole.
 fn with_body(head: EndedHead, count: usize) -> Progress
     requires { IsHeadWithin count head }
     ensures shown { (text : List ℕ) → shown_progress text result
@@ -80,7 +82,7 @@ fn with_body(head: EndedHead, count: usize) -> Progress
     }
 }
 
-/// What is known of a text in whose first bytes no head ends.
+/// Returns what is known of a text. Requires that no head ends in its first `looked_at` bytes.
 fn read_on(text: &[u8], looked_at: usize) -> Progress
     requires within { looked_at ≤ length text.now }
     requires short { looked_at < spec.head_limit }
@@ -88,7 +90,7 @@ fn read_on(text: &[u8], looked_at: usize) -> Progress
     ensures { Knows text.now result }
 {
     let limit = text.len().min(HEAD_LIMIT);
-    // an empty line of four bytes may have begun among the last three
+    // an empty line has four bytes, so one may have begun in the last three
     match head_length(&text[..limit], looked_at.saturating_sub(3)) {
         Some(length) => match read_head(&text[..length]) {
             Ok(head) => with_body(head, text.len()),
@@ -100,16 +102,17 @@ fn read_on(text: &[u8], looked_at: usize) -> Progress
 }
 
 impl Progress {
-    /// What is known of no bytes.
+    /// Returns what is known of an empty text.
     pub fn new() -> Progress
         ensures { Knows [] result }
     {
         Progress::Unended(0)
     }
 
-    /// What is known of a text, by what was known of its beginning. What came before is not searched again: while no
-    /// head has ended, its end is looked for in what came since and three bytes before it, and afterwards only the
-    /// length of the text is asked for. A head is read when it has ended.
+    /// Returns what is known of `text`. Requires that this is known of a prefix of it. What was
+    /// searched before is not searched again: until the head ends, the search begins three bytes
+    /// before the new bytes; afterward only the length of the text counts. A head is read once,
+    /// when it has ended.
     pub fn advance(self, text: &[u8]) -> Progress
         requires { KnowsOfStart text.now self }
         ensures { Knows text.now result }
@@ -121,7 +124,8 @@ impl Progress {
         }
     }
 
-    /// How many bytes a text waits for of which this is known, with its head. With fewer it waits as before.
+    /// Returns the length of head and body that a waiting text must reach, and 0 if the text waits
+    /// for no body. A shorter text still waits.
     pub(crate) fn awaited(&self) -> usize
         ensures { (text : List ℕ) → KnowsOfStart text self.now → length text < result → Waits text self.now }
     {
@@ -131,14 +135,16 @@ impl Progress {
         }
     }
 
-    /// Whether a text of which this is known is still to grow: it is neither a whole request nor refused.
+    /// Returns whether a text of this progress needs more bytes: it is neither a whole request nor
+    /// refused.
     pub fn needs_more(self) -> bool
         ensures { (text : List ℕ) → Knows text self → result ≡ spec.needs_more text }
     {
         matches!(self, Progress::Unended(_) | Progress::Waiting(_))
     }
 
-    /// What the text is of which this is known. It takes no memory, and all slices are of the text.
+    /// Returns what `text` is. Requires that this is what is known of it. Allocates nothing; all
+    /// slices are of `text`.
     pub fn framing(self, text: &[u8]) -> Framing<'_>
         requires { Knows text.now self }
         ensures { IsFramed text.now result }
@@ -154,11 +160,17 @@ impl Progress {
     }
 }
 
-/// What a text is. It takes no memory, and all slices are of the text.
+/// Returns what `text` is. Allocates nothing; all slices are of `text`. Further bytes do not change
+/// a decision.
 ///
-/// Nothing is decided before the head has ended with CR LF CR LF, 16,384 bytes have come without an end, or the head's
-/// body has come whole. Then the first that applies is answered: 64 header lines, a head of the grammar, no transfer
-/// coding, one length of digits, up to 1,048,576. What is decided stays, whatever bytes follow.
+/// A text is undecided until its head ends with CR LF CR LF, and then until its body is whole.
+/// Errors, in this order:
+///
+/// - `LongHead`: no head ends in the first 16,384 bytes, or it has more than 64 header lines;
+/// - `BadHead`: the head is not of the grammar of HTTP;
+/// - `Coding`: there is a `transfer-encoding` line;
+/// - `BadLength`: there are several `content-length` lines, or its value is not digits only;
+/// - `LongBody`: the body has more than 1,048,576 bytes.
 pub fn frame(text: &[u8]) -> Framing<'_>
     ensures { IsFramed text.now result }
 {

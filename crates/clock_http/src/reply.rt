@@ -8,17 +8,20 @@ use itoa::Buffer;
 use std::alloc::Global;
 use std::marker::Model;
 
-/// The most bytes of a reply's head. So many stand before its page, and the head is written there once the page is.
+/// The most bytes of a reply's head. A page is written after this much space, and its head is then
+/// written into the space.
 const MOST_HEAD: usize = 256;
 
-/// What stands there until then.
+/// The space for a head: zeros.
 pub const HEADROOM: &[u8] = &[0; MOST_HEAD];
 
-/// The most bytes of each piece of a head that depends on the code or the page: a reason phrase has 31.
+/// The most bytes of each part of a head that depends on the code or the page. A reason phrase has
+/// up to 31.
 const LONGEST_PIECE: usize = 31;
 
-/// Room for a page of so many bytes that was asked for and refused, or that is more than a machine can count. One is
-/// made there alone: so who has one knows that so much was wanted. Contracts see the number of bytes.
+/// The error that memory for a page of `page` bytes was refused, or that a machine cannot count its
+/// bytes. Only [`text_with_room`] makes one, so a `NoRoom` proves that this much was requested. In
+/// contracts, it is this number of bytes.
 #[derive(Debug, Drop)]
 pub struct NoRoom {
     page: u128,
@@ -36,7 +39,8 @@ impl From<NoRoom> for NoMemory {
     }
 }
 
-/// A text of a head, with room behind it for a page of so many bytes. It is the only memory that the reply takes.
+/// Returns a text that begins with `head` and has capacity for `page` more bytes. A reply allocates
+/// no other memory. May return [`NoRoom`].
 pub fn text_with_room(alloc: Global, head: &[u8], page: u128) -> Result<Bounded<u8>, NoRoom>
     ensures head { IfOk result (λ text. text.items ≡ head.now) }
     ensures room { IfOk result (λ text. page ≤ text.room) }
@@ -50,7 +54,7 @@ pub fn text_with_room(alloc: Global, head: &[u8], page: u128) -> Result<Bounded<
     Ok(text)
 }
 
-/// A text from a place on.
+/// The bytes of a text from index `start` on.
 #[derive(Drop)]
 struct TextFrom {
     text: Text,
@@ -58,14 +62,14 @@ struct TextFrom {
     ghost within: { start ≤ length text },
 }
 
-/// Bytes that are always the same, or that were written.
+/// The bytes of a reply: constant, or written for it.
 #[derive(Drop)]
 enum ReplyBytes {
     Constant(&'static [u8]),
     Written(TextFrom),
 }
 
-/// What a request is answered with.
+/// The reply to a request: a code, and the bytes that the client gets.
 #[derive(Drop)]
 pub struct Reply {
     code: Code,
@@ -80,7 +84,8 @@ impl Model for Reply {
     ghost view = { λ r. record { code = r.code; bytes = shown_held r.held } };
 }
 
-/// The line that tells a page's methods, where another was asked for.
+/// Returns the `allow` line, which lists the methods of the page `allowed`. Empty without such a
+/// page.
 fn allow_bytes(allowed: Option<Page>) -> &'static [u8]
     ensures bytes { result.now ≡ allow_line allowed }
     ensures short { length result.now ≤ LONGEST_PIECE }
@@ -93,7 +98,8 @@ fn allow_bytes(allowed: Option<Page>) -> &'static [u8]
     }
 }
 
-/// The line that asks for a token, where one is missing, and the empty line.
+/// Returns the last lines of a head: if the code is `Token`, the line that asks for a token; then
+/// the empty line.
 fn last_lines(code: Code) -> &'static [u8]
     ensures bytes { result.now ≡ challenge_line code ++ codes "\r\n" }
     ensures short { length result.now ≤ LONGEST_PIECE }
@@ -105,7 +111,8 @@ fn last_lines(code: Code) -> &'static [u8]
     }
 }
 
-/// Writes bytes right before a place of a text, and tells where they begin.
+/// Overwrites the bytes before index `end` with `piece`, and returns the index at which they begin.
+/// Requires that they fit.
 fn put_before(text: &mut Text, end: usize, piece: &[u8]) -> usize
     requires room { length piece.now ≤ end }
     requires within { end ≤ length text.old }
@@ -119,7 +126,7 @@ fn put_before(text: &mut Text, end: usize, piece: &[u8]) -> usize
 }
 
 impl Reply {
-    /// A reply of bytes that are always the same. It takes no memory.
+    /// Makes a reply of constant bytes. Allocates nothing.
     pub fn constant(code: Code, bytes: &'static [u8]) -> Reply
         ensures { result ≡ record { code = code; bytes = bytes.now } }
     {
@@ -129,12 +136,13 @@ impl Reply {
         }
     }
 
-    /// The reply whose page stands behind the room for its head.
+    /// Makes the reply whose page follows the space for its head in `text`. `allowed` is the page
+    /// whose methods the reply lists. Requires at least [`HEADROOM`] in `text`. Allocates nothing.
     pub fn written(code: Code, allowed: Option<Page>, mut text: Text) -> Reply
         requires { MOST_HEAD ≤ length text }
         ensures { result ≡ record { code = code; bytes = reply_bytes code allowed (drop MOST_HEAD text) } }
     {
-        // the head is written from its end to its start
+        // from its end to its start, since the length of the head is only known at the end
         let page = text.len() - MOST_HEAD;
         let mut count = Buffer::new();
         let last = put_before(&mut text, MOST_HEAD, last_lines(code));
@@ -154,14 +162,14 @@ impl Reply {
         }
     }
 
-    /// What the reply says of its request.
+    /// Returns the code.
     pub fn code(&self) -> Code
         ensures { result ≡ self.now.code }
     {
         self.code
     }
 
-    /// The bytes of the reply, from the status line to the end of the page.
+    /// Returns the bytes of the reply, from the status line to the end of the page.
     pub fn bytes(&self) -> &[u8]
         ensures { result.now ≡ self.now.bytes }
     {

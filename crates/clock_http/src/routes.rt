@@ -9,28 +9,28 @@ use matchit::{InsertError, Router};
 use memchr::memrchr;
 use std::alloc::Global;
 
-/// What a path names.
+/// A page: what a path names.
 #[derive(Clone, Copy, Debug, PartialEq, Eq)]
 pub enum Page {
-    /// Whether the auction has ended, and its round.
+    /// The round, and whether the auction has ended.
     Status,
-    /// What is sold, and by which rules.
+    /// The public set-up.
     Products,
-    /// The sheet of a closed round.
+    /// The round results of a closed round.
     Sheet,
-    /// What a bidder holds.
+    /// The state of the bidder whose token the request has.
     Account,
-    /// A bidder's sheet of bids in force, and where it puts one.
+    /// The sheet in force of a bidder, and where it submits a sheet.
     Bids,
-    /// A bidder's results of a closed round.
+    /// The bidder results of a closed round.
     Slip,
     /// Where the operator closes a round.
     Close,
-    /// What all bidders hold.
+    /// The processed demands of all bidders, for the operator.
     Results,
 }
 
-/// Adds the routes of all pages to a router with none.
+/// Adds the routes of all pages. Requires an empty router.
 fn add_routes(router: &mut Router<Page>) -> Result<(), InsertError>
     requires { router.old ≡ [] }
     ensures { OnOk result (router.new ≡ routing.table) }
@@ -46,7 +46,7 @@ fn add_routes(router: &mut Router<Page>) -> Result<(), InsertError>
     Ok(())
 }
 
-/// Whether a method is this one, its letters compared with regard to case.
+/// Returns whether `method` is `wanted`. Methods are case-sensitive.
 fn is_method(method: &[u8], wanted: Method) -> bool
     ensures { result ≡ same_bytes wanted method.now }
 {
@@ -54,7 +54,7 @@ fn is_method(method: &[u8], wanted: Method) -> bool
 }
 
 impl Page {
-    /// Whether the page is for a method, whose letters are compared with regard to case.
+    /// Returns whether the page has this method. Methods are case-sensitive.
     pub fn has_method(self, method: &[u8]) -> bool
         ensures { result ≡ spec.has_method self method.now }
     {
@@ -66,7 +66,7 @@ impl Page {
     }
 }
 
-/// The routes of all pages, which are made once.
+/// The routes of all pages, which a server makes once.
 #[derive(Drop)]
 pub struct Routes {
     router: Router<Page>,
@@ -74,14 +74,14 @@ pub struct Routes {
 }
 
 impl Routes {
-    /// The routes of all pages.
+    /// Makes the routes of all pages. May return `NoMemory`.
     pub fn new(alloc: Global) -> Result<Routes, NoMemory> {
         let mut router = Router::new(alloc);
         add_routes(&mut router).or(Err(NoMemory))?;
         Ok(Routes { router })
     }
 
-    /// The page that a path names. It takes no memory.
+    /// Returns the page of a path, if there is one. Allocates nothing.
     pub fn page_of(&self, path: &[u8]) -> Option<Page>
         ensures { result ≡ spec.page_of path.now }
     {
@@ -91,7 +91,7 @@ impl Routes {
     }
 }
 
-/// What stands for `{n}` in a path that names a page by a route with it.
+/// Returns what follows the last slash of `path`: the part of it that matched `{n}`.
 pub fn last_segment(path: &[u8]) -> &[u8]
     ensures { result.now ≡ spec.last_segment path.now }
 {

@@ -1,8 +1,8 @@
--- What is known of a text that grows in a room made for it.
---     Waits text progress      it is what is known of the text, which needs more
---     WaitsBelow limit text progress      so does each text of fewer bytes that begins with it
---     IsFollowed room count progress quiet      it is known of the first so many bytes, and of each text of fewer that
---         begins with them
+-- What is known of a text that grows in a buffer with zeros after it.
+--     Waits text progress      the progress is what is known of the text, which needs more
+--     WaitsBelow limit text progress      so it is for each shorter text than this that begins with
+--         the text
+--     IsFollowed room count progress quiet      the invariant of `Arriving`
 use Rattle.std.specs.Prelude.{◌≡◌, ◌≤◌, ◌<◌, ◌+◌, ◌++◌, ℕ, true, List, take, length}
 use Rattle.clock_http.specs.declared.progress.Progress.{Progress}
 use Rattle.clock_http.specs.Framing.{needs_more}
@@ -13,12 +13,13 @@ pub record Waits (text : List ℕ) (progress : Progress) : Type 0 where
   pub knows : Knows text progress
   pub short : needs_more text ≡ true
 
--- each text of fewer bytes than so many that begins with this one waits as it does
+-- each text of fewer than `limit` bytes that begins with this one waits with this progress
 abbrev pub WaitsBelow : ℕ → List ℕ → Progress → Type 0
 WaitsBelow limit text progress = (more : List ℕ) → length (text ++ more) < limit → Waits (text ++ more) progress
 
--- the progress is what is known of the first so many bytes of the room, and of those below a length that begin with
--- them, for which there is a place
+-- The first `count` bytes of the buffer are the text, and the progress is what is known of it. A
+-- text of fewer than `quiet` bytes that begins with it fits in the buffer, and waits with this
+-- progress.
 pub record IsFollowed (room : List ℕ) (count : ℕ) (progress : Progress) (quiet : ℕ) : Type 0 where
   pub knows : Knows (take count room) progress
   pub below : WaitsBelow quiet (take count room) progress

@@ -3,7 +3,7 @@
 use Rattle.std.specs.Prelude.{List, ℕ, take, drop}
 use Rattle.clock_http.specs.Framing.{Known, unended, waiting, complete, refused, Framing, incomplete, refusal, whole}
 
--- what a text is of which this is known
+-- what a text is, if this is known of it
 abbrev pub framed : Known → List ℕ → Framing
 framed (unended n) text = incomplete
 framed (waiting head n body) text = incomplete

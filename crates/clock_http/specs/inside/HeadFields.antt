@@ -1,8 +1,8 @@
--- What the parts of a head show of its text while they are looked for.
---     Pairs      a name and a value for each header line
---     AreLinesOf text name pairs lines      so many lines have a name, and the value of the last one stands there
---     AreFieldsOf text pairs fields      each name's lines are those among all
---     shown_read text result      an ended head with its body's length, or why it is refused
+-- What the code has read of a head's lines.
+--     Pairs      name and value of each header line
+--     AreLinesOf text name pairs lines      the number of lines of a name, and their last value
+--     AreFieldsOf text pairs fields      the lines of the names that this server reads
+--     shown_read text result      a head with the length of its body, or why it is refused
 use Rattle.std.specs.Prelude.{◌≡◌, ℕ, List, [], ◌∷◌, codes, length, Result, Ok, Err}
 use Rattle.httparse.specs.Spans.{span_bytes, IsWithin}
 use Rattle.clock_http.specs.declared.code.Code.{Code}
@@ -13,17 +13,17 @@ use Rattle.clock_http.specs.HeaderLines.{values_of}
 use Rattle.clock_http.specs.Framing.{Head}
 use Rattle.clock_http.specs.Shown.{shown_ended}
 
--- a name and a value for each header line
+-- name and value of each header line
 abbrev pub Pairs : Type 0
 Pairs = List (List ℕ × List ℕ)
 
--- so many lines have a name, and the value of the last one stands there
+-- the count is the number of lines with this name; if there is one, the span covers its value
 pub record AreLinesOf (text name : List ℕ) (pairs : Pairs) (lines : HeaderLines) : Type 0 where
   pub count : lines.count ≡ length (values_of name pairs)
   pub only : (value : List ℕ) → values_of name pairs ≡ value ∷ [] → span_bytes text lines.value ≡ value
   pub within : IsWithin (length text) lines.value
 
--- each name's lines are those among all
+-- the lines of each name are counted
 pub record AreFieldsOf (text : List ℕ) (pairs : Pairs) (fields : Fields) : Type 0 where
   pub coding : AreLinesOf text (codes "transfer-encoding") pairs fields.coding
   pub length : AreLinesOf text (codes "content-length") pairs fields.length

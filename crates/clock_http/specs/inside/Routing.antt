@@ -1,5 +1,5 @@
--- The router's table, by which a path is looked up.
---     table      the eight routes, in the order in which matchit keeps them
+-- The router's table, in which a path is looked up.
+--     table      the eight routes, in the order in which matchit stores them
 --     page_at path      the page of the route that a path has
 use Rattle.std.specs.Prelude.{ℕ, List, [], Option, option_map, Result, Ok, Err, codes}
 use Rattle.matchit.specs.Rows.{RowsOf}
@@ -18,7 +18,7 @@ abbrev pub with_scan : Result Scan InsertError → Page → Table → Table
 with_scan (Err e) page routes = routes
 with_scan (Ok s) page routes = placed (s.pattern, route_from s page) routes
 
--- the table with one more route, in its place
+-- the table with one more route, sorted in
 abbrev pub with_route : List ℕ → Page → Table → Table
 with_route text page routes = with_scan (parse_route text) page routes
 

@@ -1,3 +1,4 @@
+-- An empty text is no number.
 use Rattle.std.proofs.Common.{rules, tests, ◌≡◌, Bool, true, ◌&&◌, nat_lt, length, sym, ap, ◌∙◌, arith}
 use Rattle.std.proofs.lemmas.Bool.Decides.{nat_tests}
 use Rattle.std.proofs.lemmas.Iterator.{YieldsList-from_slice}

@@ -1,3 +1,4 @@
+-- Digits are UTF-8, so only the parse can fail, and it fails from 2^64 on.
 use Rattle.clock_http.proofs.DecimalLaws.{digits_text, number_read}
 use Rattle.clock_http.proofs.ResultLaws.{fault_told, value_told}
 use Rattle.clock_http.proofs.decimal.number.Goals as goal

@@ -1,3 +1,4 @@
+-- Each turn of the loop passes a CR that begins no empty line.
 use Rattle.std.proofs.Common.{◌≡◌, ◌+◌, ◌-◌, true, false, length, sym, ◌∙◌, ap, arith, length-drop}
 use Rattle.clock_http.proofs.ScanLaws.{goes_on, stops, tail, in_tail, tail_tested, searched, at_end}
 use Rattle.clock_http.proofs.head.head_length.Goals as goal

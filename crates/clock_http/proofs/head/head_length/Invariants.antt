@@ -3,7 +3,7 @@ use Rattle.std.specs.Prelude.{option_map}
 use Rattle.clock_http.specs.Scans.{head_length as length_of_head}
 use Rattle.clock_http.proofs.head.head_length.Given as goal
 
--- no empty line begins before the place
+-- no empty line begins before this index
 abbrev pub invariant-returns : goal.invariant-returns
 invariant-returns l = record {
   within : l.from ≤ length l.text;

@@ -1,3 +1,4 @@
+-- Each turn of the loop counts one line, and checks the byte before its LF.
 use Rattle.std.proofs.Common.{◌+◌, Bool, cond, drop, arith, ap, sym, ◌∙◌}
 use Rattle.std.specs.Prelude.{◌||◌, not}
 use Rattle.std.proofs.Math.Bool.{or-true, or-false}

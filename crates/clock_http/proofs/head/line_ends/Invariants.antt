@@ -3,7 +3,7 @@ use Rattle.std.specs.Prelude.{◌||◌}
 use Rattle.clock_http.specs.Scans.{line_ends as count_of_line_ends, has_bare_line_feed, is_loose}
 use Rattle.clock_http.proofs.head.line_ends.Given as goal
 
--- the lines before the place, and those to come
+-- the lines before this index, and those to come
 abbrev pub invariant-lines : goal.invariant-lines
 invariant-lines l = record {
   within : l.from ≤ length l.text;

@@ -1,3 +1,4 @@
+-- The span that ends at the first question mark covers the path.
 use Rattle.std.proofs.Common.{rules, tests, ◌≡◌, ◌==◌, arith}
 use Rattle.std.proofs.lemmas.Grind.{common_steps}
 use Rattle.std.proofs.lemmas.Iterator.{YieldsList-from_slice}

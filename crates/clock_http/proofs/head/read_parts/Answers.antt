@@ -1,3 +1,4 @@
+-- If the parser finds no head, there is none. If it finds one, its spans cover the parts.
 use Rattle.std.proofs.Common.{rules, ◌≡◌, ℕ, List, Some, Result, Ok, Err, length, refl, sym, ap, subst, ◌∙◌}
 use Rattle.httparse.specs.declared.Error.{Error}
 use Rattle.httparse.specs.declared.Status.{Status}
@@ -44,7 +45,7 @@ returns-clause-shown c =
     refl refl c.path_of.ensures.shown (c.token.ensures.shown _ c.fields_of-fields.ensures)
     (sym c.in_ok-body.was ∙ c.body_length.ensures _ c.fields_of-fields.ensures)
 
--- a fault that is handed on
+-- an error that is passed on
 handed_on : (bytes : List ℕ) (result : Result EndedHead Code) (fault : Code) → IsErrAnd result (λ told. told ≡ fault)
     → Err fault ≡ head_with_length bytes → shown_read bytes result ≡ head_with_length bytes
 handed_on bytes (Ok head) fault told is = absurd told

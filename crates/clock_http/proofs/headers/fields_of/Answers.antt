@@ -1,3 +1,4 @@
+-- One turn of the loop adds one header line to each name.
 use Rattle.std.proofs.Common.{codes, arith}
 use Rattle.clock_http.proofs.HeaderLaws.{header_taken}
 use Rattle.clock_http.proofs.headers.fields_of.Goals as goal

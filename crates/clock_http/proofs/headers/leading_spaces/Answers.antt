@@ -1,3 +1,4 @@
+-- The first byte that is not a space follows the leading spaces.
 use Rattle.std.proofs.Common.{rules, tests, ◌≡◌, ◌≤◌, ◌+◌, ◌==◌, ℕ, suc, Bool, true, false, not, cond, ltb, List, [], ◌∷◌, Option, Some, None, length, drop, refl, ap, ◌∙◌, arith}
 use Rattle.std.proofs.lemmas.Bool.Decides.{nat_tests}
 use Rattle.std.proofs.lemmas.Iterator.{YieldsList-from_slice}
@@ -10,7 +11,7 @@ use Rattle.clock_http.proofs.headers.leading_spaces.Goals as goal
 abbrev is_other : ℕ → Bool
 is_other b = not (b == 32)
 
--- the first byte that is no space stands behind the spaces
+-- the first byte that is not a space follows the leading spaces
 behind : (text : List ℕ) → (position_or_len is_other text ≤ length text) × (drop (position_or_len is_other text) text ≡ skip_spaces text)
 behind [] = (omega arith, refl)
 behind (b ∷ rest) = by (behind rest) (b == 32) refl
@@ -24,7 +25,7 @@ behind (b ∷ rest) = by (behind rest) (b == 32) refl
         rw e (omega (arith, behind_rest.0), ap (λ (n : ℕ). drop n (b ∷ rest)) next ∙ behind_rest.1)
     by behind_rest false e = rw e (omega arith, refl)
 
--- as the result of a search tells it, or all bytes where none was found
+-- the index that a search finds, or the number of bytes if it finds none
 told : (at n : ℕ) (result : Option ℕ) → at ≤ n → result ≡ cond (ltb at n) (Some at) None → unwrap_or result n ≡ at
 told at n result within is = by (ltb at n) refl
   where

@@ -1,3 +1,4 @@
+-- By HeadLaws.
 use Rattle.clock_http.proofs.HeadLaws.{head_of_grammar}
 use Rattle.clock_http.proofs.laws.law_head_of_grammar.Goals as goal
 

@@ -1,3 +1,4 @@
+-- By Prefixes.
 use Rattle.clock_http.proofs.Prefixes.{one_head}
 use Rattle.clock_http.proofs.laws.law_one_head.Goals as goal
 

@@ -1,3 +1,4 @@
+-- The search finds the end of the head in the whole text, though it begins three bytes before the new ones.
 use Rattle.std.proofs.Common.{sym, ◌∙◌, arith}
 use Rattle.clock_http.proofs.ProgressLaws.{scan_from, known_unended, known_long, known_refused, known_headed, all_taken}
 use Rattle.clock_http.proofs.progress.read_on.Goals as goal

@@ -1,3 +1,4 @@
+-- The inserts, one after the other, make the table.
 use Rattle.std.proofs.Common.{codes, ◌∙◌, ap}
 use Rattle.clock_http.specs.declared.routes.Page.TheVariants.{Status, Products, Sheet, Account, Bids, Slip, Close, Results}
 use Rattle.clock_http.specs.inside.Routing.{with_route, table}

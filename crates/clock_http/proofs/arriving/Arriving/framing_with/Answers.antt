@@ -1,3 +1,4 @@
+-- The bytes are exactly a head, so with its body they are a whole request.
 use Rattle.std.proofs.Common.{◌≡◌, List, ℕ, length, sym, ◌∙◌, ap, subst, arith}
 use Rattle.std.proofs.lemmas.List.{length-take}
 use Rattle.clock_http.specs.Framing.{is_incomplete}

@@ -1,3 +1,4 @@
+-- The piece is appended, what is known is advanced, and the zeros added change neither.
 use Rattle.std.proofs.Common.{◌≡◌, ℕ, ◌+◌, ◌++◌, List, length, take, sym, subst, ap, ◌∙◌, arith, length-append}
 use Rattle.std.proofs.Math.Seq.{take-append_seam}
 use Rattle.clock_http.specs.Shown.{Knows}
@@ -5,7 +6,7 @@ use Rattle.clock_http.specs.inside.Followed.{WaitsBelow}
 use Rattle.clock_http.proofs.ProgressLaws.{knows_start}
 use Rattle.clock_http.proofs.arriving.Arriving.take_piece.Goals as goal
 
--- the bytes stand before the places that were made
+-- the bytes precede the zeros that were added
 taken : (c : goal.After-needs_more) → take c.len-self-inside.result c.make_places-self-inside.new.room.items ≡ c.append.new.room.items
 taken c =
     let text = c.append.new.room.items in

@@ -1,3 +1,4 @@
+-- The span of the only line covers its value.
 use Rattle.std.proofs.Common.{sym, ◌∙◌, codes, arith}
 use Rattle.clock_http.specs.HeaderLines.{values_of}
 use Rattle.clock_http.proofs.HeaderLaws.{one_length}

@@ -1,3 +1,4 @@
+-- The span of the only line covers its value, and the later part of it the token.
 use Rattle.std.proofs.Common.{sym, ◌∙◌, codes}
 use Rattle.clock_http.specs.HeaderLines.{values_of}
 use Rattle.clock_http.proofs.HeaderLaws.{one_token, token_at}

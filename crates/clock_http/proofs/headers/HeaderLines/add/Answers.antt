@@ -1,3 +1,4 @@
+-- A line of this name is counted, and another changes nothing.
 use Rattle.std.proofs.Common.{refl, ◌∙◌}
 use Rattle.clock_http.proofs.HeaderLaws.{named, line_added, line_passed}
 use Rattle.httparse.specs.Spans.{span_bytes}

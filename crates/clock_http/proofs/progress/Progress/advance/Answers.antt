@@ -1,3 +1,4 @@
+-- In each case, what is known of the prefix and the length of the text decide. Decisions are final.
 use Rattle.std.proofs.Common.{◌≡◌, ℕ, List, take, length, refl, sym, ◌∙◌, ap, subst, arith}
 use Rattle.clock_http.specs.Framing as spec
 use Rattle.clock_http.specs.declared.head.EndedHead.{EndedHead}
@@ -36,7 +37,7 @@ returns-in-Waiting c =
       within = c.with_body.ensures.within;
     }
 
--- what is decided of the beginning is decided of the text
+-- what is decided of a prefix is decided of the text
 decided_longer : (text : List ℕ) (n : ℕ) (progress : Progress) → ((looked : ℕ) → progress ≡ so_far.Unended looked → ⊥)
     → ((head : EndedHead) → progress ≡ so_far.Waiting head → ⊥) → Knows (take n text) progress → Knows text progress
 decided_longer text n (so_far.Unended looked) ended come knows = absurd (ended looked refl)

@@ -1,3 +1,4 @@
+-- A text shorter than head and body still waits.
 use Rattle.std.proofs.Common.{◌<◌, ◌+◌, take, length, sym, ◌∙◌, ap, subst, arith}
 use Rattle.clock_http.specs.Shown.{shown_progress, IsProgressWithin}
 use Rattle.clock_http.specs.inside.Followed.{Waits}

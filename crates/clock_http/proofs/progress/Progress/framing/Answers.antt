@@ -1,3 +1,4 @@
+-- In each case, what is known of a text gives its framing.
 use Rattle.std.proofs.Common.{inl, inr, sym, ◌∙◌, ap}
 use Rattle.clock_http.specs.Shown.{shown_progress}
 use Rattle.clock_http.proofs.ProgressLaws.{framed_of, whole_of}

@@ -1,3 +1,4 @@
+-- Exactly the texts without an end of a head or of a body need more.
 use Rattle.std.proofs.Common.{◌≡◌, ℕ, false, List, refl, inl, inr, sym, ◌∙◌, ap}
 use Rattle.clock_http.specs.declared.head.EndedHead.{EndedHead}
 use Rattle.clock_http.specs.declared.progress.Progress.{Progress}
@@ -13,7 +14,7 @@ returns-in-Unended c = λ text knows. elim c.in-Unended.is [
   | inr h ↦ needs_more_of text _ (ap (shown_progress text) (sym h.1) ∙ knows.is)
 ]
 
--- what neither is unended nor waits is decided
+-- a text that is neither unended nor waiting is decided
 decided : (text : List ℕ) (progress : Progress) → ((looked : ℕ) → progress ≡ so_far.Unended looked → ⊥)
     → ((head : EndedHead) → progress ≡ so_far.Waiting head → ⊥) → Knows text progress → false ≡ needs_more text
 decided text (so_far.Unended looked) ended come knows = absurd (ended looked refl)

@@ -1,3 +1,4 @@
+-- By computation, for an empty text.
 use Rattle.std.proofs.Common.{refl}
 use Rattle.clock_http.specs.Framing.{known}
 use Rattle.clock_http.proofs.progress.Progress.new.Goals as goal

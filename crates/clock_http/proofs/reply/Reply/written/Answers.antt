@@ -1,3 +1,4 @@
+-- Each part is written before the later ones, so the whole is the reply's bytes.
 use Rattle.std.proofs.Common.{◌≡◌, ◌-◌, List, ℕ, [], ◌++◌, length, drop, ap, sym, ◌∙◌, length-drop, codes, decimal}
 use Rattle.std.specs.Option.{unwrap_or}
 use Rattle.http.specs.StatusCode.{reason_phrase}

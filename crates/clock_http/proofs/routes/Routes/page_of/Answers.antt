@@ -1,3 +1,4 @@
+-- A path that is not UTF-8 has no page. For others, the look-up finds the page of the route.
 use Rattle.std.proofs.Common.{None, ◌∙◌}
 use Rattle.clock_http.proofs.ResultLaws.{fault_told, value_told}
 use Rattle.clock_http.proofs.RouteLaws.{page_seen, no_page}
