@@ -1,4 +1,4 @@
--- How the bytes of a request come, read by read.
+-- One more read of a request's bytes: each law of a sequence of reads holds for the longer sequence.
 use Rattle.std.proofs.Common.{◌≡◌, ℕ, ◌+◌, ◌≤◌, true, false, ◌||◌, List, [], Option, length, refl, ◌∙◌, arith}
 use Rattle.clock_device.specs.Streams.{HasRead}
 use Rattle.clock_device.proofs.Streams.{read_nothing, read_twice, same_bytes}
@@ -13,17 +13,17 @@ nothing_needs_more = refl
 pub nothing_read : (bytes : Option (List ℕ)) → HasRead bytes bytes []
 nothing_read bytes = read_nothing bytes bytes (same_bytes bytes)
 
--- there was no memory for any read
+-- memory was refused before any read
 pub no_room_at_first : (told : SourceTold) → IsUnread told → HasNoRoom (record { before = told; after = told })
 no_room_at_first told none =
     ([], [], record { read = nothing_read told.left; needed = nothing_needs_more; used = omega (arith, none.uncounted) }, none.unfailed)
 
--- what was told in between, before one further read
+-- the reads before one more
 module _ (reading : Reading) (mid : SourceTold) (front : List ℕ)
     (read : HasRead reading.before.left mid.left front) (needed : needs_more front ≡ true)
     (used : mid.calls ≤ length front + mid.interruptions) (unfailed : mid.has_failed ≡ false)
     (once : reading.after.calls ≤ mid.calls + 1) (kept : mid.interruptions ≤ reading.after.interruptions) where
-  -- one further read brought these bytes
+  -- one more read gave these bytes
   by_need : (last : List ℕ) → HasRead mid.left reading.after.left last → IsReadByNeed reading front last
   by_need last further = record {
     read = read_twice reading.before.left mid.left reading.after.left front last read further;
@@ -31,7 +31,7 @@ module _ (reading : Reading) (mid : SourceTold) (front : List ℕ)
     used = omega arith;
   }
 
-  -- there was no memory for them
+  -- memory for them was refused
   pub no_room : (last : List ℕ) → HasRead mid.left reading.after.left last → reading.after.has_failed ≡ (mid.has_failed || false)
       → HasNoRoom reading
   no_room last further fails = (front, last, by_need last further, fails ∙ rw unfailed refl)

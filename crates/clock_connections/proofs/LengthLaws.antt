@@ -1,5 +1,5 @@
--- How long a request can be that has arrived: a text that needs more is shorter than the longest head and the longest
--- body.
+-- The longest text that can arrive. A text that needs more is shorter than the longest head and the longest body
+-- together, and only one more piece is read.
 use Rattle.std.proofs.Common.{◌≡◌, ◌<◌, ◌≤◌, ◌+◌, ℕ, Bool, true, false, List, [], ◌∷◌, Option, Some, None, Result, Ok, Err, length, take, refl, inl, inr, cond, ap, arith, length-append}
 use Rattle.std.specs.Prelude.{codes, nat_lt}
 use Rattle.std.proofs.lemmas.List.{length-take}
@@ -70,7 +70,7 @@ short_of_more : (text : List ℕ) → needs_more text ≡ true → length text <
 unfolding framing
 short_of_more text needs = by_end (head_length (take head_limit text)) text refl needs
 
--- and what has arrived has at most one piece more
+-- so a text that has arrived has at most one more piece
 pub short_arrived : (reading : Reading) (text : List ℕ) → HasArrived reading text → length text < head_limit + body_limit + most_piece
 short_arrived reading text arrived =
     omega (arith, ap length arrived.2.is, length-append arrived.0 arrived.1, short_of_more arrived.0 arrived.2.by_need.needed, arrived.2.short)

@@ -1,4 +1,5 @@
--- Connections by number follow those that stand.
+-- The open connections of the code stay those of the numbers, event by event. Serial numbers are never reused, so a
+-- connection is never mistaken for a later one.
 use Rattle.std.proofs.Common.{◌≡◌, ◌≢◌, ◌<◌, ◌≤◌, ◌+◌, ℕ, Bool, true, false, cond, eqb, List, [], ◌∷◌, ◌++◌, length, get_or, set, ◌⊎◌}
 use Rattle.std.proofs.Common.{Option, Some, None, refl, sym, ◌∙◌, ap, subst, arith, inl, inr, eqb-true, length-append}
 use Rattle.std.specs.Prelude.{is_some, count_by, nat_lt, nat_le, ◌||◌}
@@ -11,9 +12,9 @@ use Rattle.clock_connections.specs.Connections.{most_connections, most_serials, 
 use Rattle.clock_connections.specs.Pieces.{Numbered, text_at}
 use Rattle.clock_connections.specs.inside.Numbers.{opened, conn_at, text_of_made, Stands}
 
--- ---- a connection is asked for
+-- ---- a client connects
 
--- one more than there are
+-- a list with one more item
 module _ {X : Type 0} (xs : List X) (x d : X) where
   pub pushed_before : (k : ℕ) → k < length xs → get_or (xs ++ x ∷ []) k d ≡ get_or xs k d
   pushed_before k lt = get_or_append_left xs (x ∷ []) d k lt
@@ -27,7 +28,7 @@ module _ {X : Type 0} (xs : List X) (x d : X) where
   pub pushed_past : (k : ℕ) → length xs < k → get_or (xs ++ x ∷ []) k d ≡ d
   pushed_past k lt = (let long = pushed_length in get_or_past (xs ++ x ∷ []) k d (omega arith))
 
--- a number is before the end, at it, or past it
+-- a number is below the length, equal to it, or above
 data Place (k n : ℕ) : Type 0 where
   is_before : k < n → Place k n
   is_end : k ≡ n → Place k n
@@ -43,7 +44,7 @@ place k n =
       ]
     ]
 
--- a made connection has a number before the end
+-- an opened connection has a number below the length
 pub made_before : (conns : List (Option Conn)) (number : ℕ) (conn : Conn) → conn_at conns number ≡ Some conn → number < length conns
 made_before conns number conn is =
     elim (cases_Bool (nat_lt number (length conns))) [
@@ -52,21 +53,21 @@ made_before conns number conn is =
           let bad : None ≡ Some conn = sym (get_or_past conns number None le) ∙ is in cc)
     ]
 
--- a connection that was given has a serial number that none before it had
+-- a new connection has another serial number than all before it
 pub serial_differs : (numbered : Numbered) (old new : ConnectionFields) (conns : List (Option Conn)) (conn other : Conn) (number : ℕ)
     → Stands numbered old conns → IsConnected old new conn → conn_at conns number ≡ Some other → other ≢ conn
 serial_differs numbered old new conns conn other number stands is at =
     λ same. (let lt = stands.earlier number other at in let e : other.serial ≡ conn.serial = ap (λ (c : Conn). c.serial) same in
     let s = is.serial in omega arith)
 
--- text of a made connection, after one more was given
+-- the text of an earlier connection after one more was opened
 pub text_kept : (numbered : Numbered) (old new : ConnectionFields) (conns : List (Option Conn)) (conn : Conn) (number : ℕ)
     → Stands numbered old conns → IsConnected old new conn → (o : Option Conn) → conn_at conns number ≡ o
     → text_of_made new o ≡ text_of_made old o
 text_kept numbered old new conns conn number stands is None at = refl
 text_kept numbered old new conns conn number stands is (Some other) at = is.others other (serial_differs numbered old new conns conn other number stands is at)
 
--- as many stand, and one more
+-- the number of open connections, and one more
 abbrev one_if : Option (List ℕ) → ℕ
 one_if o = cond (is_some o) 1 0
 
@@ -88,7 +89,7 @@ pushed_texts numbered new conns o t all kept last number = by (place number (len
     by (is_past lt) =
         ap (text_of_made new) (pushed_past conns o None number lt) ∙ sym (pushed_past numbered t None number (omega arith))
 
--- of the connections with one more, each is one of those or the last
+-- each connection of a longer list is one of the shorter or the last
 at_push : (conns : List (Option Conn)) (o : Option Conn) (number : ℕ) (conn : Conn) → conn_at (conns ++ o ∷ []) number ≡ Some conn
     → (conn_at conns number ≡ Some conn) ⊎ ((number ≡ length conns) × (o ≡ Some conn))
 at_push conns o number conn is = by (place number (length conns))
@@ -98,7 +99,7 @@ at_push conns o number conn is = by (place number (length conns))
     by (is_end end) = inr (end, sym (pushed_last conns o None number end) ∙ is)
     by (is_past lt) = absurd (let bad : None ≡ Some conn = sym (pushed_past conns o None number lt) ∙ is in cc)
 
--- no two of them are the same where the last is none of those before
+-- no two are the same if the last is none of those before
 pushed_apart : (conns : List (Option Conn)) (o : Option Conn)
     → ((one other : ℕ) (conn : Conn) → conn_at conns one ≡ Some conn → conn_at conns other ≡ Some conn → one ≡ other)
     → ((number : ℕ) (conn : Conn) → conn_at conns number ≡ Some conn → o ≢ Some conn)
@@ -118,7 +119,7 @@ pushed_apart conns o apart fresh one other conn at_one at_other =
 abbrev opened_if : Bool → Option (List ℕ)
 opened_if b = cond b (Some []) None
 
--- no connection is given where the hub is full
+-- no connection is opened if the limit is reached
 pub refused_stands : (numbered : Numbered) (connections : ConnectionFields) (conns : List (Option Conn)) → Stands numbered connections conns
     → is_full connections ≡ true → length conns < most_serials → Stands (numbered ++ opened numbered ∷ []) connections (conns ++ None ∷ [])
 refused_stands numbered connections conns stands full few =
@@ -145,7 +146,7 @@ refused_stands numbered connections conns stands full few =
               let le : most_serials ≤ connections.next = grind (arith, nat_tests) in let n = stands.few in let e = stands.all in omega arith)
         ]
 
--- a connection is given where the hub is not full
+-- a connection is opened if the limit is not reached
 pub connected_stands : (numbered : Numbered) (old new : ConnectionFields) (conns : List (Option Conn)) (conn : Conn) → Stands numbered old conns
     → IsConnected old new conn → Stands (numbered ++ opened numbered ∷ []) new (conns ++ Some conn ∷ [])
 connected_stands numbered old new conns conn stands is =
@@ -173,16 +174,16 @@ connected_stands numbered old new conns conn stands is =
               grind (arith, nat_tests) in ap opened_if less)
         ]
 
--- ---- what a connection has changes
+-- ---- the text of a connection changes
 
--- the text of one connection has become this, all else stays
+-- one connection has this text now, or none, and all else is unchanged
 pub record IsChanged (old new : ConnectionFields) (conn : Conn) (before now : Option (List ℕ)) : Type 0 where
   pub shown : text_of new conn ≡ now
   pub others : KeepsOthers old new conn
   pub next : new.next ≡ old.next
   pub count : standing_count new + one_if before ≡ standing_count old + one_if now
 
--- the texts by number, where that of one number is another
+-- the texts by number, if the text of one number changes
 changed_texts : (numbered : Numbered) (old new : ConnectionFields) (conns : List (Option Conn)) (number : ℕ) (conn : Conn) (before now : Option (List ℕ))
     → Stands numbered old conns → conn_at conns number ≡ Some conn → IsChanged old new conn before now
     → (other : ℕ) → text_of_made new (conn_at conns other) ≡ text_at (set numbered number now) other
@@ -222,7 +223,7 @@ changed_stands numbered old new conns number conn now stands at is =
       few = (let le = stands.few in let n = is.next in omega arith);
     }
 
--- a piece was taken and the connection stands
+-- a piece was appended, and the connection stays open
 pub taken_stands : (numbered : Numbered) (old new : ConnectionFields) (conns : List (Option Conn)) (number : ℕ) (conn : Conn) (text joined : List ℕ)
     → Stands numbered old conns → conn_at conns number ≡ Some conn → text_at numbered number ≡ Some text → IsTaken old new conn joined
     → Stands (set numbered number (Some joined)) new conns
@@ -248,7 +249,7 @@ gone_stands numbered old new conns number conn text stands at has is =
       count = (let c = is.count in let e : one_if (text_at numbered number) ≡ 1 = ap one_if has in omega arith);
     })
 
--- a connection of a number stands with the text of the number
+-- an open connection has the text of its number
 pub standing_text : (numbered : Numbered) (connections : ConnectionFields) (conns : List (Option Conn)) (number : ℕ) (conn : Conn)
     → Stands numbered connections conns → conn_at conns number ≡ Some conn → text_of connections conn ≡ text_at numbered number
 standing_text numbered connections conns number conn stands at = ap (text_of_made connections) (sym at) ∙ stands.texts number

@@ -1,4 +1,4 @@
--- While one connection changes, the texts of those that stand still need more.
+-- While one connection changes, the texts of all open connections still need more: the others are unchanged.
 use Rattle.std.proofs.Common.{◌≡◌, ◌≢◌, Bool, true, false, List, [], ℕ, Option, Some, None, Result, Ok, Err, IfOk, OnErr, is_some}
 use Rattle.std.proofs.Common.{refl, sym, ◌∙◌, ap, subst, true≢false}
 use Rattle.clock_http.specs.Framing.{needs_more}
@@ -8,7 +8,7 @@ use Rattle.clock_connections.specs.declared.connections.HubFault.{HubFault}
 use Rattle.clock_connections.specs.Connections.{ConnectionFields, IsConnected, KeepsOthers, text_of}
 use Rattle.clock_connections.specs.inside.Waiting.{AllNeedMore}
 
--- one connection has changed, and its text needs more where it still stands
+-- one connection has changed, and its text needs more if it is still open
 pub keeps_waiting : (old new : ConnectionFields) (conn : Conn) → AllNeedMore old → KeepsOthers old new conn
     → ((text : List ℕ) → text_of new conn ≡ Some text → needs_more text ≡ true) → AllNeedMore new
 keeps_waiting old new conn before others here other text at = by (needs_more text) refl
@@ -27,17 +27,17 @@ text_in (Some text) = text
 pub same_text : (o : Option (List ℕ)) (a b : List ℕ) → o ≡ Some a → o ≡ Some b → a ≡ b
 same_text o a b one other = ap text_in (sym one ∙ other)
 
--- where the connection stands with this text, which needs more
+-- the connection is open with this text, which needs more
 pub waits_with : (new : ConnectionFields) (conn : Conn) (here : List ℕ) → text_of new conn ≡ Some here → needs_more here ≡ true
     → (text : List ℕ) → text_of new conn ≡ Some text → needs_more text ≡ true
 waits_with new conn here stands more text at = ap needs_more (same_text (text_of new conn) text here at stands) ∙ more
 
--- where it does not stand
+-- the connection is not open
 pub waits_no_more : (new : ConnectionFields) (conn : Conn) → text_of new conn ≡ None
     → (text : List ℕ) → text_of new conn ≡ Some text → needs_more text ≡ true
 waits_no_more new conn gone text at = absurd (true≢false (sym (ap is_some (sym gone ∙ at))))
 
--- a connection was made, or nothing has changed
+-- a connection was opened, or nothing has changed
 pub connect_keeps : (r : Result Conn HubFault) (old new : ConnectionFields) → AllNeedMore old
     → IfOk r (IsConnected old new) → OnErr r (new ≡ old) → AllNeedMore new
 connect_keeps (Ok conn) old new before made same =

@@ -1,8 +1,9 @@
--- How the bytes of a request come out of a source. Own limits: 2,000,000 reads, of 16,384 bytes at most.
---     IsReadByNeed reading front last      bytes that still needed more were read, and then these by the last read
---     HasArrived reading text      the text was read: it is decided, or the input ended behind it
---     IsNotRead reading      no request was read: a read failed, or all were made
---     HasNoRoom      bytes were read, and there was no memory for them
+-- How the bytes of a request are read from a source. Own limits: 2,000,000 reads, each of at most
+-- 16,384 bytes.
+--     IsReadByNeed reading front last      bytes that needed more were read, and then `last`
+--     HasArrived reading text      the text was read: it is decided, or the input ended after it
+--     IsNotRead reading      no request was read: a read failed, or the limit was reached
+--     HasNoRoom reading      memory for the bytes was refused
 --     EndsArrival reading result      how reading a request ends
 use Rattle.std.specs.Prelude.{◌≡◌, ◌≤◌, ◌⊎◌, ◌+◌, ◌++◌, ℕ, List, [], length, Option, true, false, Result, Ok, Err}
 use Rattle.clock_device.specs.Streams.{HasRead, IsReadOut}
@@ -12,15 +13,15 @@ use Rattle.clock_http.specs.Framing.{needs_more, IsDecided}
 use Rattle.clock_connections.specs.declared.arrival.Unread.{Unread}
 use Rattle.clock_connections.specs.declared.arrival.Unread.TheVariants as unread
 
--- how many reads are made at most
+-- the most reads
 abbrev pub most_request_reads : ℕ
 most_request_reads = 2000000
 
--- how many bytes one read brings at most
+-- the most bytes that one read returns
 abbrev pub most_piece : ℕ
 most_piece = 16384
 
--- the bytes before the last read still needed more, and each earlier read took one at least or was interrupted
+-- the bytes before the last read needed more, and each earlier read gave one or was interrupted
 pub record IsReadByNeed (reading : Reading) (front last : List ℕ) : Type 0 where
   pub read : HasRead reading.before.left reading.after.left (front ++ last)
   pub needed : needs_more front ≡ true
@@ -30,7 +31,7 @@ pub record IsReadByNeed (reading : Reading) (front last : List ℕ) : Type 0 whe
 abbrev pub IsLast : Option (List ℕ) → List ℕ → List ℕ → Type 0
 IsLast left text last = IsDecided text ⊎ ((last ≡ []) × IsReadOut left)
 
--- the text was read, and its last bytes by the last read
+-- the text was read, its last bytes by the last read
 pub record Arrives (reading : Reading) (text front last : List ℕ) : Type 0 where
   pub is : text ≡ front ++ last
   pub by_need : IsReadByNeed reading front last
@@ -38,26 +39,26 @@ pub record Arrives (reading : Reading) (text front last : List ℕ) : Type 0 whe
   pub ends : IsLast reading.after.left text last
   pub unfailed : reading.after.has_failed ≡ false
 
--- the text was read: it is decided, or the input ended behind it
+-- the text was read: it is decided, or the input ended after it
 abbrev pub HasArrived : Reading → List ℕ → Type 0
 HasArrived reading text = (front : List ℕ) × (last : List ℕ) × Arrives reading text front last
 
--- bytes that still need more were read, and these and interruptions used the reads up
+-- bytes that need more were read, and every read gave one of them or was interrupted
 pub record UsesReads (reading : Reading) (text : List ℕ) : Type 0 where
   pub read : HasRead reading.before.left reading.after.left text
   pub needed : needs_more text ≡ true
   pub used : reading.after.calls ≤ length text + reading.after.interruptions
 
--- no request was read: bytes that still needed more came, and then a read failed; or all reads were made
+-- bytes that needed more were read, and then a read failed or the limit was reached
 abbrev pub IsNotRead : Reading → Type 0
 IsNotRead reading =
     HasFailedRead (λ text. IsReadByNeed reading text []) reading ⊎ RunsOutOfReads (UsesReads reading) most_request_reads reading
 
--- there was no memory for the bytes, or for those that the last read brought
+-- memory was refused: for a first buffer, or for the bytes of the last read
 abbrev pub HasNoRoom : Reading → Type 0
 HasNoRoom reading = (front : List ℕ) × (last : List ℕ) × IsReadByNeed reading front last × (reading.after.has_failed ≡ false)
 
--- how reading a request ends; an interrupted read is no end, so it is tried again
+-- how reading a request ends; interrupted reads are retried
 abbrev pub EndsArrival : Reading → Result (List ℕ) Unread → Type 0
 EndsArrival reading (Ok text) = HasArrived reading text
 EndsArrival reading (Err unread.Read) = IsNotRead reading

@@ -1,9 +1,9 @@
--- The requests that pieces over connections are.
---     Numbered      the connections by number, each with its text so far while it stands
+-- The requests that pieces over connections make up.
+--     Numbered      the connections by number, each with its text so far while it is open
 --     completed numbered event      the request that an event completes
 --     after numbered event      the connections after an event
---     requests_of events      the requests of a list of events, in the order in which they are complete
--- Connections are numbered from 0 as they are asked for, those that are refused too.
+--     requests_of events      the requests of a list of events, in the order of their completion
+-- Connections are numbered from 0 in the order in which clients connect. Refused ones count.
 use Rattle.std.specs.Prelude.{ℕ, ◌++◌, List, [], ◌∷◌, Option, Some, None, option_map, option_and_then, if◌then◌else◌, nat_lt}
 use Rattle.std.specs.Prelude.{is_some, count_by, slice_index_or, slice_set}
 use Rattle.clock_http.specs.Framing.{needs_more}
@@ -11,21 +11,21 @@ use Rattle.clock_connections.specs.Connections.{most_connections}
 use Rattle.clock_connections.specs.declared.connections.Event.{Event}
 use Rattle.clock_connections.specs.declared.connections.Event.TheVariants.{Connect, Piece, Finish}
 
--- for each number the pieces that came, joined; nothing where the connection was refused, or its request is complete
+-- for each number its pieces, joined; `None` if the connection was refused or its request completed
 abbrev pub Numbered : Type 0
 Numbered = List (Option (List ℕ))
 
 abbrev pub text_at : Numbered → ℕ → Option (List ℕ)
 text_at numbered number = slice_index_or numbered number None
 
--- the request that an event completes: a piece the one that needs no more with it, and the end of input any that stands
+-- the request that an event completes: a piece one that then needs no more, and an end any text
 abbrev pub completed : Numbered → Event → Option (ℕ × List ℕ)
 completed numbered Connect = None
 completed numbered (Piece number piece) = option_and_then
     (λ text. if needs_more (text ++ piece) then None else Some (number, text ++ piece)) (text_at numbered number)
 completed numbered (Finish number) = option_map (λ text. (number, text)) (text_at numbered number)
 
--- the connections after an event: a new one has no bytes, unless too many stand, and a text stands until it is complete
+-- the connections after an event; a new one is refused if 256 are open
 abbrev pub after : Numbered → Event → Numbered
 after numbered Connect =
     numbered ++ (if nat_lt (count_by is_some numbered) most_connections then Some [] else None) ∷ []
@@ -37,7 +37,7 @@ abbrev pub and_then : Option (ℕ × List ℕ) → List (ℕ × List ℕ) → Li
 and_then None later = later
 and_then (Some request) later = request ∷ later
 
--- the requests that events complete, from some connections on
+-- the requests that events complete, given the connections before them
 abbrev pub requests_from : Numbered → List Event → List (ℕ × List ℕ)
 requests_from numbered [] = []
 requests_from numbered (event ∷ events) = and_then (completed numbered event) (requests_from (after numbered event) events)

@@ -7,18 +7,18 @@ use clock_device::{NoMemory, Source, Stop, room_for_read};
 use clock_http::Arriving;
 use std::alloc::Global;
 
-/// How many reads are made at most.
+/// The most reads for one request.
 const MOST_READS: u64 = 2_000_000;
 
-/// How many bytes one read asks for at most.
+/// The most bytes that one read may return.
 const PIECE: usize = 16_384;
 
 /// Why no request was read.
 #[derive(Clone, Copy, Debug, PartialEq, Eq)]
 pub enum Unread {
-    /// A read failed, or all reads were made.
+    /// A read failed, or the limit of reads was reached.
     Read,
-    /// There was no memory for the bytes.
+    /// Out of memory for the bytes.
     Memory,
 }
 
@@ -30,8 +30,9 @@ impl From<NoMemory> for Unread {
     }
 }
 
-/// Reads until the bytes decide what the request is, or the input ends. An interrupted read is tried again, and
-/// 2,000,000 reads are made at most.
+/// Reads until the bytes are a whole request or refused, or the input ends. Retries interrupted
+/// reads; makes 2,000,000 reads at most. Requires a source without earlier reads. Errors: `Read`.
+/// May return `Memory`, also after some reads.
 pub fn read_request<R: Source>(alloc: Global, source: &mut R) -> Result<Arriving, Unread>
     requires { IsUnread (R.told source.old) }
     ensures arrival { EndsArrival (record { before = R.told source.old; after = R.told source.new }) result }

@@ -10,17 +10,17 @@ use std::alloc::Global;
 use std::marker::Model;
 use thiserror::Error;
 
-/// The most connections that stand at once.
+/// The most connections that are open at once.
 const MOST_CONNECTIONS: usize = 256;
 
-/// A connection of a hub. A hub never gives one twice.
+/// The identifier of a connection. No two connections of these `Connections` have the same one.
 #[derive(Clone, Copy, Debug, PartialEq, Eq)]
 pub struct Conn {
     slot: usize,
     serial: u64,
 }
 
-/// A connection that stands: its serial number, and the request on its way over it.
+/// An open connection: its serial number, and the bytes of its request so far.
 #[derive(Drop)]
 pub struct Partial {
     serial: u64,
@@ -33,11 +33,11 @@ impl Model for Partial {
     ghost view = { λ p. record { serial = p.serial; text = p.text } };
 }
 
-/// Why a connection was not made, or a piece not taken. Nothing has changed.
+/// Why a connection was not opened, or a piece not appended. Nothing has changed.
 ///
-/// - `Full`: 256 connections stand, or the serial numbers have come to their end.
-/// - `NoMemory`: there was no memory.
-/// - `Unknown`: the connection does not stand: it is another hub's, or its request was answered.
+/// - `Full`: 256 connections are open, or all serial numbers are used.
+/// - `NoMemory`: out of memory.
+/// - `Unknown`: the connection is not open: it was never opened here, or its request was answered.
 #[derive(Clone, Copy, Debug, PartialEq, Eq, Error)]
 pub enum HubFault {
     #[error("no more connections")]
@@ -56,7 +56,7 @@ impl From<NoMemory> for HubFault {
     }
 }
 
-/// The connections that stand, each with its request on its way.
+/// The open connections, each with the bytes of its request so far.
 #[derive(Drop)]
 pub struct Connections {
     alloc: Global,
@@ -71,7 +71,7 @@ impl Model for Connections {
 }
 
 impl Connections {
-    /// None yet. It takes no memory.
+    /// Creates a value without connections. Allocates nothing.
     pub fn new(alloc: Global) -> Connections
         ensures { result ≡ record { slots = []; next = 0 } }
     {
@@ -82,7 +82,8 @@ impl Connections {
         }
     }
 
-    /// A connection with no bytes, which has the next serial number.
+    /// Opens a connection with the next serial number and without bytes. Errors: `Full`, or
+    /// `NoMemory`; then nothing has changed.
     pub fn connect(&mut self) -> Result<Conn, HubFault>
         ensures connected { IfOk result (IsConnected self.old self.new) }
         ensures fault { IfErr result (IsConnectFault self.old) }
@@ -99,7 +100,7 @@ impl Connections {
         Ok(Conn { slot, serial })
     }
 
-    /// Whether a connection stands.
+    /// Returns whether a connection is open.
     #[inline(always)]
     pub fn stands(&self, conn: Conn) -> bool
         ensures { result ≡ is_some (text_of self.now conn) }
@@ -109,7 +110,9 @@ impl Connections {
             .is_some_and(|partial| partial.serial == conn.serial)
     }
 
-    /// Takes a piece, or nothing of it, and tells whether the text of its connection still needs more.
+    /// Appends `piece` to the connection's request, all of it or nothing, and returns whether the
+    /// request needs more bytes. Requires an open connection. May return `NoMemory`; then nothing
+    /// has changed.
     #[inline(always)]
     pub fn take(&mut self, conn: Conn, piece: &[u8]) -> Result<bool, NoMemory>
         requires { IsSome (text_of self.old conn) }
@@ -122,8 +125,9 @@ impl Connections {
         self.slab[conn.slot].text.take(piece)
     }
 
-    /// What the text of a connection is with a piece that has its whole body, where its head alone has come. The piece
-    /// is not taken.
+    /// Returns the framing of the connection's bytes followed by `piece`, if the bytes are exactly
+    /// a head and `piece` has its whole body. Otherwise returns `None`. Requires an open
+    /// connection. Appends nothing.
     pub fn framing_with<'a>(&'a self, conn: Conn, piece: &'a [u8]) -> Option<Framing<'a>>
         requires { IsSome (text_of self.now conn) }
         ensures is { (text : List ℕ) → text_of self.now conn ≡ Some text
@@ -134,7 +138,7 @@ impl Connections {
         self.slab[conn.slot].text.framing_with(piece)
     }
 
-    /// Takes a connection out, and gives its request.
+    /// Closes a connection and returns the bytes of its request. Requires an open connection.
     pub fn remove(&mut self, conn: Conn) -> Arriving
         requires { IsSome (text_of self.old conn) }
         ensures text { text_of self.old conn ≡ Some result }
@@ -144,14 +148,15 @@ impl Connections {
     }
 }
 
-/// What comes of connections, which are numbered from 0 as they are asked for, those that are refused too.
+/// An event on a connection. Connections are numbered from 0 in the order of their `Connect`
+/// events, and refused ones count.
 ///
-/// - `Connect`: one more is asked for. It is refused where 256 stand.
+/// - `Connect`: a client connects. Refused if 256 connections are open.
 /// - `Piece`: bytes of a connection's request.
 /// - `Finish`: the end of a connection's input.
 ///
-/// A piece and an end do nothing where the connection was refused, its request was answered, or it was not asked for
-/// yet.
+/// A piece or an end has no effect if the connection was refused, its request was answered, or it
+/// has not connected yet.
 #[derive(Drop)]
 pub enum Event {
     Connect,

@@ -1,7 +1,7 @@
-//! Requests on their way, before anyone knows whose they are.
+//! Requests while they arrive, before it is known whose they are.
 //!
-//! [`Connections`] holds what has come over each connection that stands, an [`Event`] is what comes next, and
-//! [`read_request`] reads one request out of a source, as far as it is needed.
+//! [`Connections`] has the bytes so far of each open connection, an [`Event`] says what happens
+//! next, and [`read_request`] reads one request from a source, no further than necessary.
 #![tactic(auto)]
 
 mod arrival;

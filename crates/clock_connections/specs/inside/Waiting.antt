@@ -1,10 +1,10 @@
--- Connections of which no request is complete.
---     AllNeedMore connections      the text of each that stands needs more
+-- Connections without a complete request.
+--     AllNeedMore connections      the text of each open connection needs more
 use Rattle.std.specs.Prelude.{◌≡◌, ℕ, true, List, Some}
 use Rattle.clock_http.specs.Framing.{needs_more}
 use Rattle.clock_connections.specs.declared.connections.Conn.{Conn}
 use Rattle.clock_connections.specs.Connections.{ConnectionFields, text_of}
 
--- the text of each connection that stands needs more
+-- the text of each open connection needs more
 abbrev pub AllNeedMore : ConnectionFields → Type 0
 AllNeedMore connections = (conn : Conn) (text : List ℕ) → text_of connections conn ≡ Some text → needs_more text ≡ true

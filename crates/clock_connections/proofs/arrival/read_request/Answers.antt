@@ -1,3 +1,5 @@
+-- Each turn of the loop makes one read, whose bytes extend those so far. It ends as the first read does that completes
+-- the request, fails, or finds no memory.
 use Rattle.std.proofs.Common.{◌≡◌, [], List, ℕ, sym, subst, ap, ◌∙◌, arith}
 use Rattle.std.proofs.lemmas.Result.{err_from_is_err_and}
 use Rattle.clock_device.specs.Streams.{HasRead}

@@ -4,7 +4,7 @@ use Rattle.clock_http.specs.Framing.{needs_more}
 use Rattle.clock_connections.specs.Arrivals.{most_piece}
 use Rattle.clock_connections.proofs.arrival.read_request.Given as goal
 
--- the bytes so far were read and need more; each read took one of them or was interrupted, and none has failed
+-- the bytes so far need more; each read gave one of them or was interrupted, and none has failed
 abbrev pub invariant-loop-read : goal.invariant-loop-read
 invariant-loop-read g l = record {
   room : 0 < vec_len l.piece;
