@@ -1,6 +1,6 @@
--- What is remembered of the calls that were made on a source or a sink. Own rule: a count stays at the greatest u64.
+-- What a source or a sink counts of its calls. Own rule: a count stays at the greatest u64.
 --     count_after     a count after one more call
---     interruptions_after     how many reads were interrupted, after one more
+--     interruptions_after     the number of interrupted reads, after one more read
 --     is_failed_read     the read has failed
 use Rattle.std.specs.Prelude.{ℕ, ◌+◌, ◌-◌, ◌^◌, min, Bool, true, false, Result, Ok, Err}
 use Rattle.clock_device.specs.declared.stream.Stop.{Stop}
@@ -10,7 +10,7 @@ use Rattle.clock_device.specs.declared.stream.Stop.TheVariants.{Interrupted, Fai
 abbrev pub count_after : ℕ → ℕ
 count_after calls = min (calls + 1) (2 ^ 64 - 1)
 
--- a read that was interrupted has not failed
+-- an interrupted read has not failed
 abbrev pub is_failure : Stop → Bool
 is_failure Interrupted = false
 is_failure Failed = true
@@ -20,7 +20,7 @@ abbrev pub is_failed_read : {N : Type 0} → Result N Stop → Bool
 is_failed_read (Ok n) = false
 is_failed_read (Err stop) = is_failure stop
 
--- how many reads were interrupted, after a read that ended so
+-- the number of interrupted reads after a read with this result
 abbrev pub interruptions_after : {N : Type 0} → ℕ → Result N Stop → ℕ
 interruptions_after interruptions (Err Interrupted) = count_after interruptions
 interruptions_after interruptions _ = interruptions

@@ -1,9 +1,9 @@
--- A sink that keeps its bytes in memory.
+-- A sink that stores its bytes in memory.
 use Rattle.std.specs.Prelude.{◌==◌, ◌-◌, ◌||◌, ◌++◌, ℕ, Bool, false, List, [], length, take, min, Option, Some, None, if◌then◌else◌, is_some, not}
 use Rattle.clock_device.specs.Calls.{count_after}
 use Rattle.clock_device.specs.Told.{SinkTold}
 
--- what it has taken, its room in all, how much one write takes at most, the write at which it fails, and what was done
+-- the bytes written, the most in all, the most of one write, the write that fails, and the counts
 pub record SinkState : Type 0 where
   pub taken : List ℕ
   pub room : ℕ
@@ -12,11 +12,11 @@ pub record SinkState : Type 0 where
   pub calls : ℕ
   pub has_failed : Bool
 
--- what it tells
+-- what it reports
 abbrev pub sink_told : SinkState → SinkTold
 sink_told s = record { taken = Some s.taken; calls = s.calls; has_failed = s.has_failed }
 
--- no write was made yet
+-- without writes so far
 abbrev pub new_sink : ℕ → ℕ → Option ℕ → SinkState
 new_sink room piece stop = record {
   taken = [];
@@ -27,21 +27,21 @@ new_sink room piece stop = record {
   has_failed = false;
 }
 
--- the write of this number, counted from 0, is the one that fails
+-- the write with this index, from 0, is the one that fails
 abbrev pub is_stop_at : Option ℕ → ℕ → Bool
 is_stop_at None call = false
 is_stop_at (Some k) call = k == call
 
--- so many bytes, where there is at least one
+-- the count, if it is above 0
 abbrev pub some_above_zero : ℕ → Option ℕ
 some_above_zero count = if count == 0 then None else Some count
 
--- how many of so many bytes a write takes, or none where it fails: at its stop, without room, or without a byte to take
+-- how many bytes a write of `offered` bytes writes; None if it fails: at its stop, or if that is 0
 abbrev pub write_count : SinkState → ℕ → Option ℕ
 write_count s offered = if is_stop_at s.stop s.calls then None
     else some_above_zero (min (min s.piece (s.room - length s.taken)) offered)
 
--- how many bytes that are, and none where the write fails
+-- the number of bytes written, 0 if the write fails
 abbrev pub count_or_zero : Option ℕ → ℕ
 count_or_zero None = 0
 count_or_zero (Some count) = count

@@ -6,7 +6,7 @@ use crate::stream::{Failed, Sink, write_all};
 use itoa::Buffer;
 
 impl Items<u8> {
-    /// Adds a number in plain decimal.
+    /// Appends `number` in decimal. May return `NoMemory`; then nothing was appended.
     pub fn push_number(&mut self, number: u64) -> Result<(), NoMemory>
         ensures ok { OnOk result (self.new ≡ self.old ++ decimal number) }
         ensures err { OnErr result (self.new ≡ self.old) }
@@ -15,7 +15,8 @@ impl Items<u8> {
         self.extend_from_slice(buffer.format(number).as_bytes())
     }
 
-    /// Adds a number in plain decimal, or a dash where there is none.
+    /// Appends `number` in decimal, or a dash for `None`. May return `NoMemory`; then nothing was
+    /// appended.
     pub fn push_or_dash(&mut self, number: Option<u64>) -> Result<(), NoMemory>
         ensures ok { OnOk result (self.new ≡ self.old ++ number_or_dash number) }
         ensures err { OnErr result (self.new ≡ self.old) }
@@ -28,7 +29,7 @@ impl Items<u8> {
 }
 
 impl Bounded<u8> {
-    /// Adds a number in plain decimal, which has 20 digits at most. There is room for these.
+    /// Appends `number` in decimal: 20 digits at most. Requires capacity for 20 more bytes.
     pub fn push_number(&mut self, number: u64)
         requires { 20 ≤ self.old.room }
         ensures items { self.new.items ≡ self.old.items ++ decimal number }
@@ -38,7 +39,7 @@ impl Bounded<u8> {
     }
 }
 
-/// Writes a number in plain decimal, or a front of it where a write fails.
+/// Writes `number` in decimal, or a prefix of its digits if a write fails.
 pub fn write_number<W: Sink>(sink: &mut W, number: u64) -> Result<(), Failed>
     ensures bytes { WritesText (W.told sink.old).taken (W.told sink.new).taken (decimal number) result }
     ensures failed { (W.told sink.new).has_failed ≡ ((W.told sink.old).has_failed || is_err result) }
@@ -46,9 +47,11 @@ pub fn write_number<W: Sink>(sink: &mut W, number: u64) -> Result<(), Failed>
     write_all(sink, Buffer::new().format(number).as_bytes())
 }
 
-/// Writes bytes right before a place of others, and tells where they begin. So a text of several pieces is written from
-/// its end to its start, numbers among them by itoa's `write_digits`, and then copied at once: by itself each piece would
-/// be a call, and a look at the room that is left.
+/// Overwrites the bytes before index `end` with `piece`, and returns the index at which they begin.
+/// Requires that they fit.
+///
+/// A text of several pieces is so written from its end to its start, and then copied at once. To
+/// append each piece by itself would cost a call and a check of capacity for each.
 #[inline(always)]
 pub fn put_before(bytes: &mut [u8], end: usize, piece: &[u8]) -> usize
     requires room { length piece.now ≤ end }

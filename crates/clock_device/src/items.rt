@@ -7,15 +7,16 @@ use std::marker::Model;
 use std::ops::{DerefSlice, DerefSliceMut};
 use thiserror::Error;
 
-/// A list that owns its items, and is read as a slice of them is. Contracts see the list of the items.
+/// A list that owns its items and can be read as a slice. In contracts, it is the list of its
+/// items.
 ///
-/// The lists of the auction are this type under names of their own, as [`Text`] for bytes.
+/// The crates above name it after its items, such as [`Text`] for bytes.
 #[derive(Clone, Drop)]
 pub struct Items<T> {
     held: Vec<T>,
 }
 
-/// Bytes, as a name, a page or a document.
+/// Bytes, such as those of a name, a page, or a document.
 pub type Text = Items<u8>;
 
 impl<T> Model for Items<T> {
@@ -27,14 +28,15 @@ impl<T> Model for Items<T> {
 }
 
 impl<T> Items<T> {
-    /// No items. It takes no memory yet.
+    /// Creates an empty list. Allocates nothing.
     pub fn new(alloc: Global) -> Items<T>
         ensures { result ≡ [] }
     {
         Items::from_vec(Vec::new(alloc))
     }
 
-    /// No items yet, and room for so many: with it, adding them takes no memory.
+    /// Creates an empty list with capacity for `capacity` items, which can then be added without
+    /// further allocation. May return `NoMemory`.
     pub fn with_capacity(alloc: Global, capacity: usize) -> Result<Bounded<T>, NoMemory>
         ensures { IfOk result (λ list. list ≡ record { items = []; room = capacity }) }
     {
@@ -43,14 +45,15 @@ impl<T> Items<T> {
         })
     }
 
-    /// The items of a vector, which is taken over and not copied.
+    /// Makes a list of a vector's items, without a copy.
     pub fn from_vec(items: Vec<T>) -> Items<T>
         ensures { result ≡ items.items }
     {
         Items { held: items }
     }
 
-    /// Adds an item at the end, or drops it where there is no memory.
+    /// Adds an item at the end. May return `NoMemory`; then the item is dropped, and the list is
+    /// unchanged.
     pub fn push(&mut self, item: T) -> Result<(), NoMemory>
     where
         T: Drop,
@@ -61,28 +64,28 @@ impl<T> Items<T> {
         Ok(())
     }
 
-    /// How many items there are.
+    /// Returns the number of items.
     pub fn len(&self) -> usize
         ensures { result ≡ length self.now }
     {
         self.held.len()
     }
 
-    /// Whether there is no item.
+    /// Returns whether there is no item.
     pub fn is_empty(&self) -> bool
         ensures { IsTrue result ↔ (self.now ≡ []) }
     {
         self.held.is_empty()
     }
 
-    /// The items in order.
+    /// Returns the items in order.
     pub fn as_slice(&self) -> &[T]
         ensures { result.now ≡ self.now }
     {
         self.held.as_slice()
     }
 
-    /// The items in order, to be changed in their places.
+    /// Returns the items in order, for changes in place.
     pub fn as_mut_slice(&mut self) -> &mut [T]
         ensures* writes_back { sem 𝓛 (lends_slice T.row self.entry result) }
         ensures value { result.now ≡ self.old }
@@ -90,7 +93,7 @@ impl<T> Items<T> {
         self.held.as_mut_slice()
     }
 
-    /// Puts an item in the place of another, which is dropped.
+    /// Replaces the item at index `place`, and drops the old one. Requires that there is one.
     pub fn set(&mut self, place: usize, item: T)
     where
         T: Drop,
@@ -121,14 +124,15 @@ impl<T> DerefSliceMut for Items<T> {
 }
 
 impl<T: Copy> Items<T> {
-    /// A list of its own with the items of a slice.
+    /// Copies the items of a slice. May return `NoMemory`.
     pub fn from_slice(alloc: Global, items: &[T]) -> Result<Items<T>, NoMemory>
         ensures { IfOk result (λ copy. copy ≡ items.now) }
     {
         Ok(Items::from_vec(Vec::from_slice(alloc, items)?))
     }
 
-    /// Adds the items of a slice at the end, all of them or none.
+    /// Appends the items of a slice, all or none. May return `NoMemory`; then the list is
+    /// unchanged.
     pub fn extend_from_slice(&mut self, items: &[T]) -> Result<(), NoMemory>
         ensures ok { OnOk result (self.new ≡ self.old ++ items.now) }
         ensures err { OnErr result (self.new ≡ self.old) }
@@ -137,7 +141,7 @@ impl<T: Copy> Items<T> {
         Ok(())
     }
 
-    /// An equal list.
+    /// Returns a copy of the list. May return `NoMemory`.
     pub fn copy(&self, alloc: Global) -> Result<Items<T>, NoMemory>
         ensures { IfOk result (λ copy. copy ≡ self.now) }
     {
@@ -146,7 +150,7 @@ impl<T: Copy> Items<T> {
 }
 
 impl Items<u64> {
-    /// So many zeros.
+    /// Returns a list of `count` zeros. May return `NoMemory`.
     pub fn zeros(alloc: Global, count: usize) -> Result<Items<u64>, NoMemory>
         ensures { IfOk result (λ zeros. zeros ≡ replicate count 0) }
     {
@@ -154,8 +158,8 @@ impl Items<u64> {
     }
 }
 
-/// A list with room for so many items more, all of which was taken when it was made: adding an item takes no memory and
-/// cannot fail. Contracts see the items, and how many more there is room for.
+/// A list with capacity that is allocated when it is made, so that adding an item allocates nothing
+/// and cannot fail. In contracts, it is its items and the number of items that can be added.
 #[derive(Drop)]
 pub struct Bounded<T> {
     held: Vec<T>,
@@ -168,7 +172,7 @@ impl<T> Model for Bounded<T> {
 }
 
 impl<T> Bounded<T> {
-    /// Adds an item at the end. There is room for it.
+    /// Adds an item at the end. Requires capacity for it. Allocates nothing.
     pub fn push(&mut self, item: T)
     where
         T: Drop,
@@ -179,14 +183,14 @@ impl<T> Bounded<T> {
         self.held.push(item).unwrap();
     }
 
-    /// The items in order.
+    /// Returns the items in order.
     pub fn as_slice(&self) -> &[T]
         ensures { result.now ≡ self.now.items }
     {
         self.held.as_slice()
     }
 
-    /// The list of its items. Room that is left stays with it.
+    /// Makes a list of the items, without a copy. Unused capacity stays allocated.
     pub fn into_items(self) -> Items<T>
         ensures { result ≡ self.items }
     {
@@ -196,7 +200,7 @@ impl<T> Bounded<T> {
 }
 
 impl<T: Copy> Bounded<T> {
-    /// Adds the items of a slice at the end. There is room for them.
+    /// Appends the items of a slice. Requires capacity for them. Allocates nothing.
     pub fn extend_from_slice(&mut self, items: &[T])
         requires { length items.now ≤ self.old.room }
         ensures items { self.new.items ≡ self.old.items ++ items.now }
@@ -206,8 +210,8 @@ impl<T: Copy> Bounded<T> {
     }
 }
 
-/// A growth was refused: there was no memory for it. The values that the call was to change are as they were, though room
-/// that was taken before the refusal may stay theirs.
+/// The error of a refused allocation. The values that the call would have changed have their old
+/// contents, although their capacity may have grown.
 #[derive(Clone, Copy, Debug, PartialEq, Eq, Error)]
 #[error("out of memory")]
 pub struct NoMemory;

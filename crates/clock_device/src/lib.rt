@@ -1,4 +1,5 @@
-//! Owned lists, bytes in and out, and want of memory: what most crates of the auction stand on.
+//! Lists, input and output of bytes, and the out-of-memory error: the base of all other crates of
+//! the auction.
 #![tactic(auto)]
 
 mod decimal;

@@ -9,7 +9,8 @@ use crate::stream::{Failed, Sink, Source, Stop};
 use std::alloc::Global;
 use std::marker::Model;
 
-/// A [`Source`] of bytes in memory: it gives at most `piece` bytes a read, and may stop at one read, counted from 0.
+/// A [`Source`] of bytes in memory, for tests. A read returns at most `piece` bytes. `stop` is the
+/// index of a read, from 0, that stops instead, and how.
 #[derive(Drop)]
 pub struct ListSource<'a> {
     left: &'a [u8],
@@ -36,7 +37,7 @@ impl<'a> Model for ListSource<'a> {
 }
 
 impl<'a> ListSource<'a> {
-    /// The bytes, of which no read was made yet.
+    /// Makes a source of these bytes, without reads so far. Requires `piece` above 0.
     pub fn new(bytes: &'a [u8], piece: usize, stop: Option<(u64, Stop)>) -> ListSource<'a>
         requires { 1 ≤ piece }
         ensures { result ≡ new_source bytes.now piece stop }
@@ -55,7 +56,8 @@ impl<'a> ListSource<'a> {
 impl Source for ListSource<'_> {
     ghost told = { λ source. source_told source };
 
-    /// Fails only where its stop stands. Behind the bytes that it gives the buffer stays as it was.
+    /// Stops only at the read that `stop` names. Leaves the buffer unchanged after the bytes that
+    /// it returns.
     fn read(&mut self, buffer: &mut [u8]) -> Result<usize, Stop>
         ensures within { ReadsAtMost result buffer.new }
         ensures bytes { ReadConsumes (Some self.old.left) (Some self.new.left) result buffer.new }
@@ -89,8 +91,8 @@ impl Source for ListSource<'_> {
     }
 }
 
-/// A [`Sink`] that keeps its bytes in memory: it has room for `room` bytes, takes at most `piece` bytes a write, and may
-/// fail at one write, counted from 0.
+/// A [`Sink`] in memory, for tests. It accepts `room` bytes in all, and at most `piece` bytes a
+/// write. `stop` is the index of a write, from 0, that fails.
 #[derive(Drop)]
 pub struct ListSink {
     taken: Vec<u8>,
@@ -117,7 +119,8 @@ impl Model for ListSink {
 }
 
 impl ListSink {
-    /// An empty sink, on which no write was made yet. Its writes take no memory.
+    /// Makes an empty sink, without writes so far. Requires `piece` above 0. May return `NoMemory`;
+    /// its writes allocate nothing.
     pub fn new(
         alloc: Global,
         room: usize,
@@ -137,7 +140,7 @@ impl ListSink {
         })
     }
 
-    /// The bytes that it has taken.
+    /// Returns the bytes written to it.
     pub fn bytes(&self) -> &[u8]
         ensures { result.now ≡ self.now.taken }
     {
@@ -148,7 +151,7 @@ impl ListSink {
 impl Sink for ListSink {
     ghost told = { λ sink. sink_told sink };
 
-    /// Fails where its stop stands, where it is full, and where there is no byte to take.
+    /// Fails at the write that `stop` names, if the sink is full, and if `bytes` is empty.
     fn write(&mut self, bytes: &[u8]) -> Result<usize, Failed>
         ensures within { CountsTaken result bytes.now }
         ensures bytes { WriteAppends (Some self.old.taken) (Some self.new.taken) result bytes.now }

@@ -7,31 +7,32 @@ use std::alloc::Global;
 use std::io::{ErrorKind, Read, Write};
 use thiserror::Error;
 
-/// Why a read gave no bytes. Nothing was taken from the source.
+/// Why a read returned no bytes. The source still has all of them.
 #[derive(Clone, Copy, Debug, PartialEq, Eq, Error)]
 pub enum Stop {
-    /// A signal came before a byte did. The read may be tried again.
+    /// A signal arrived before any byte. The read may be retried.
     #[error("interrupted")]
     Interrupted,
-    /// The source could not be read.
+    /// The source failed.
     #[error("the read failed")]
     Failed,
 }
 
-/// A write took no byte: the sink failed, or was interrupted, or is full, or there was no byte to take.
+/// The error of a write that wrote no byte: the sink failed, was interrupted, or is full, or there
+/// was no byte to write.
 #[derive(Clone, Copy, Debug, PartialEq, Eq, Error)]
 #[error("the write failed")]
 pub struct Failed;
 
-/// Where bytes come from.
+/// A source of bytes.
 ///
-/// Contracts see the bytes that reads will still give, where the source tells them; how many reads were made and how many
-/// of them were interrupted, numbers that stay at the greatest `u64`; and whether one of them failed.
+/// In contracts, a source reports the bytes still to be read, if it knows them; the numbers of
+/// reads and of interrupted reads, which stay at the greatest `u64`; and whether a read has failed.
 pub trait Source {
     ghost told: { Self → SourceTold };
 
-    /// Puts the next bytes at the front of the buffer and answers how many, which is 0 for a buffer that is not empty
-    /// exactly where no byte is left. Behind those bytes the buffer may hold anything.
+    /// Reads the next bytes into the start of the buffer, and returns their number. For a nonempty
+    /// buffer this is 0 only at the end of the bytes. The rest of the buffer may have any content.
     fn read(&mut self, buffer: &mut [u8]) -> Result<usize, Stop>
         ensures within { ReadsAtMost result buffer.new }
         ensures bytes { ReadConsumes (told self.old).left (told self.new).left result buffer.new }
@@ -40,21 +41,21 @@ pub trait Source {
         ensures failed { (told self.new).has_failed ≡ ((told self.old).has_failed || is_failed_read result) };
 }
 
-/// Room for one read of so many bytes.
+/// Allocates a buffer of `size` bytes. May return `NoMemory`.
 pub fn room_for_read(alloc: Global, size: usize) -> Result<Vec<u8>, NoMemory>
     ensures { IfOk result (λ room. vec_len room ≡ size) }
 {
     Ok(vec![in alloc; 0; size]?)
 }
 
-/// Where bytes go.
+/// A sink of bytes.
 ///
-/// Contracts see the bytes that it has taken, where the sink tells them; how many writes were made, a number that stays at
-/// the greatest `u64`; and whether one of them failed.
+/// In contracts, a sink reports the bytes written to it, if it knows them; the number of writes,
+/// which stays at the greatest `u64`; and whether a write has failed.
 pub trait Sink {
     ghost told: { Self → SinkTold };
 
-    /// Takes bytes from the front of these, at least one, and answers how many it took.
+    /// Writes some of the bytes, from their start and at least one, and returns their number.
     fn write(&mut self, bytes: &[u8]) -> Result<usize, Failed>
         ensures within { CountsTaken result bytes.now }
         ensures bytes { WriteAppends (told self.old).taken (told self.new).taken result bytes.now }
@@ -62,7 +63,7 @@ pub trait Sink {
         ensures failed { (told self.new).has_failed ≡ ((told self.old).has_failed || is_err result) };
 }
 
-/// Writes all of the bytes, or a front of them where a write fails.
+/// Writes all bytes, or a prefix of them if a write fails.
 pub fn write_all<W: Sink>(sink: &mut W, bytes: &[u8]) -> Result<(), Failed>
     ensures bytes { WritesText (W.told sink.old).taken (W.told sink.new).taken bytes.now result }
     ensures failed { (W.told sink.new).has_failed ≡ ((W.told sink.old).has_failed || is_err result) }
@@ -74,9 +75,10 @@ pub fn write_all<W: Sink>(sink: &mut W, bytes: &[u8]) -> Result<(), Failed>
     Ok(())
 }
 
-/// Anything that std reads from, as a [`Source`].
+/// A [`Source`] that reads from a reader of std.
 ///
-/// It tells the bytes that the reader tells: those of a slice or a list, and none of a file or a socket.
+/// It reports the bytes that the reader reports: a slice or a list knows them, a file or a socket
+/// does not.
 #[derive(Drop)]
 pub struct FromReader<R> {
     reader: R,
@@ -86,7 +88,7 @@ pub struct FromReader<R> {
 }
 
 impl<R: Read> FromReader<R> {
-    /// The reader, on which no read was made through this yet.
+    /// Makes a source of a reader, without reads so far.
     pub fn new(reader: R) -> FromReader<R>
         ensures told { ⟦<FromReader<R> as Source>⟧.told result ≡ unread (R.remaining reader) }
         ensures unread { IsUnread (⟦<FromReader<R> as Source>⟧.told result) }
@@ -124,9 +126,9 @@ impl<R: Read> Source for FromReader<R> {
     }
 }
 
-/// Anything that std writes to, as a [`Sink`].
+/// A [`Sink`] that writes to a writer of std.
 ///
-/// It tells the bytes that the writer tells: those of a `Vec`, and none of a file or a socket.
+/// It reports the bytes that the writer reports: a `Vec` knows them, a file or a socket does not.
 #[derive(Drop)]
 pub struct ToWriter<W> {
     writer: W,
@@ -135,7 +137,7 @@ pub struct ToWriter<W> {
 }
 
 impl<W: Write> ToWriter<W> {
-    /// The writer, on which no write was made through this yet.
+    /// Makes a sink of a writer, without writes so far.
     pub fn new(writer: W) -> ToWriter<W>
         ensures told { ⟦<ToWriter<W> as Sink>⟧.told result ≡ unused (W.contents writer) }
         ensures unused { IsUnused (⟦<ToWriter<W> as Sink>⟧.told result) }
@@ -151,7 +153,7 @@ impl<W: Write> ToWriter<W> {
 impl<W: Write> Sink for ToWriter<W> {
     ghost told = { λ sink. record { taken = W.contents sink.writer; calls = sink.calls; has_failed = sink.has_failed } };
 
-    /// A writer that is interrupted, or takes no byte, has failed.
+    /// Fails also if the writer is interrupted or accepts no byte.
     fn write(&mut self, bytes: &[u8]) -> Result<usize, Failed> {
         self.calls = self.calls.saturating_add(1);
         match self.writer.write(bytes) {

@@ -1,3 +1,4 @@
+-- Each turn of the loop writes the next bytes after those so far.
 use Rattle.std.proofs.Common.{List, ℕ, subst, arith, rules, length-drop}
 use Rattle.std.proofs.lemmas.List.{take_rest}
 use Rattle.clock_device.specs.Streams.{HasWritten}

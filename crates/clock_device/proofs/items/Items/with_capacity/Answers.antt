@@ -1,3 +1,4 @@
+-- The vector's capacity is the one requested.
 use Rattle.std.proofs.Common.{refl}
 use Rattle.std.proofs.Math.Nat.{sub-zero}
 use Rattle.clock_device.proofs.items.Items.with_capacity.Goals as goal

@@ -1,3 +1,4 @@
+-- The kind of the error decides what is counted.
 use Rattle.std.proofs.Common.{sym}
 use Rattle.std.proofs.Math.Bool.{or-true}
 use Rattle.clock_device.proofs.stream.FromReaderSource.read.Goals as goal
