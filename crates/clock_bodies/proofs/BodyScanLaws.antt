@@ -1,4 +1,4 @@
--- What is read quickly of a body is what the body means.
+-- The value that the reader by bytes finds means the body that it returns. So both readers agree.
 use Rattle.std.proofs.Common.{◌≡◌, ℕ, List, [], ◌∷◌, map, Option, Some, option_map}
 use Rattle.std.proofs.Common.{refl, ap, ◌∙◌}
 use Rattle.json.specs.Token.{Token}

@@ -1,8 +1,8 @@
--- What the body of a sheet means, over the values that serde_json reads. (Own format.)
+-- What the body of a sheet means, in terms of the JSON values that serde_json reads (own format).
 --     bid_of value, put_of value      the bid, the sheet that a JSON value means
 --     meant_by meaning value      what a value means, or the first fault of its bytes
---     put_body bytes      what bytes mean as a sheet, or their first fault
--- An object has exactly the keys that are shown: each is looked up, and there are no more members than these.
+--     put_body bytes      the sheet that bytes mean, or their first fault
+-- An object must have exactly the keys shown: each is looked up, and the members are counted.
 use Rattle.std.specs.Prelude.{ℕ, List, Option, Some, None, option_and_then, Result, Err, if◌then◌else◌, codes}
 use Rattle.serde_json.specs.Data.{Data}
 use Rattle.clock_terms.specs.Faults.{or_fault}
@@ -27,11 +27,11 @@ put_of value = do
   bids ← option_and_then (each bid_of) (items_at (codes "bids") value)
   if has_members 2 value then Some (record { round = round; bids = bids }) else None
 
--- what a JSON value means, where there is one
+-- what the JSON value of bytes means, if they are one
 abbrev pub meant_by : {A : Type 0} → (Data → Option A) → Option Data → Result A BodyFault
 meant_by meaning None = Err NotJson
 meant_by meaning (Some value) = or_fault Shape (meaning value)
 
--- what bytes mean as a sheet, or their first fault
+-- the sheet that bytes mean, or their first fault
 unfoldable pub put_body : List ℕ → Result PutBody BodyFault
 put_body bytes = meant_by put_of (json bytes)

@@ -1,9 +1,9 @@
--- What the body of a closing means, over the values that serde_json reads. (Own format.)
---     tie_of value, increments_of value, close_of value      the tie number, the increments, the closing that a JSON
---         value means
---     close_body bytes      what bytes mean as a closing, or their first fault
---     is_of_version version increments, in_version version body      the form of a closing is that of the set-up's
---         version
+-- What the body of a closing means, in terms of the JSON values that serde_json reads (own format).
+--     tie_of value, increments_of value, close_of value      the tie-breaking number, the
+--         increments, the closing that a JSON value means
+--     close_body bytes      the closing that bytes mean, or their first fault
+--     is_of_version version increments, in_version version body      a closing has the form of the
+--         set-up's version
 use Rattle.std.specs.Prelude.{ℕ, ◌==◌, not, Bool, List, Option, Some, None, option_and_then, option_map, Result, Ok, Err, if◌then◌else◌, codes}
 use Rattle.serde_json.specs.Data.{Data, Items, no_items, item}
 use Rattle.serde_json.specs.Find.{as_array}
@@ -29,7 +29,7 @@ tie_from _ = None
 abbrev pub tie_of : Data → Option Tie
 tie_of value = option_and_then tie_from (as_array value)
 
--- the numbers of a list, where there is no single one
+-- the single increment, or without one the numbers of the list
 abbrev pub or_each : Option ℕ → Option Items → Option Increments
 or_each (Some increment) items = Some (Single increment)
 or_each None items = option_map PerProduct (option_and_then (each number_from) items)
@@ -38,7 +38,7 @@ or_each None items = option_map PerProduct (option_and_then (each number_from) i
 abbrev pub increments_of : Data → Option Increments
 increments_of value = or_each (number_at (codes "increment") value) (items_at (codes "increments") value)
 
--- {"increment":N,"round":N,"ties":[TIE,..]}, or with increments; an object of three members has not both
+-- {"increment":N,"round":N,"ties":[TIE,..]}, or with increments; three members cannot have both
 unfoldable pub close_of : Data → Option CloseBody
 close_of value = do
   round ← number_at (codes "round") value
@@ -46,11 +46,11 @@ close_of value = do
   ties ← option_and_then (each tie_of) (items_at (codes "ties") value)
   if has_members 3 value then Some (record { round = round; increments = increments; ties = ties }) else None
 
--- what bytes mean as a closing, or their first fault
+-- the closing that bytes mean, or their first fault
 unfoldable pub close_body : List ℕ → Result CloseBody BodyFault
 close_body bytes = meant_by close_of (json bytes)
 
--- a set-up of the first version has one increment for all products, a later one has one for each
+-- version 1 has one increment for all products, a later version one for each
 abbrev pub is_of_version : ℕ → Increments → Bool
 is_of_version version (Single increment) = version == 1
 is_of_version version (PerProduct increments) = not (version == 1)

@@ -1,7 +1,7 @@
--- What a quick reading finds of a bid, a tie number and increments, in serde_json's terms.
+-- A bid, a tie-breaking number, and increments as the JSON values that the reader by bytes finds.
 --     bid_fields      a bid's keys, each with what was found
---     bid_data, tie_data      a whole bid and a whole tie number, as values
---     single_of, listed_of      the increment for all products, or those of each, where there are such
+--     bid_data, tie_data      a whole bid and a whole tie-breaking number, as values
+--     single_of, listed_of      the increment for all products; the increments of each
 use Rattle.std.specs.Prelude.{ℕ, List, [], ◌∷◌, Option, Some, None, option_map, codes}
 use Rattle.serde_json.specs.Data.{Data, object}
 use Rattle.clock_json.specs.Reading.{whole, numbers, Fields, members_of}
@@ -23,16 +23,16 @@ bid_fields found =
 abbrev pub bid_data : Bid → Data
 bid_data bid = object (members_of (bid_fields (record { price = Some bid.price; product = Some bid.product; quantity = Some bid.quantity })))
 
--- a tie number as a value
+-- a tie-breaking number as a value
 abbrev pub tie_data : Tie → Data
 tie_data tie = numbers (tie.bidder ∷ tie.product ∷ tie.number ∷ [])
 
--- the increment for all products, where there is one
+-- the increment for all products, if there is one
 abbrev pub single_of : Increments → Option ℕ
 single_of (Single increment) = Some increment
 single_of (PerProduct increments) = None
 
--- the increments of each product, where there are such
+-- the increments of each product, if there are such
 abbrev pub listed_of : Increments → Option (List ℕ)
 listed_of (Single increment) = None
 listed_of (PerProduct increments) = Some increments

@@ -1,8 +1,8 @@
--- What a quick reading finds of a closing, in serde_json's terms.
---     ties_data ties      a list of tie numbers, as a value
---     close_value increments round ties      a closing that names its round, or none, as a value
---     close_members found      its keys, where they are known
---     close_fields found, scanned_data close      its keys, each with what was found, and the value of a whole one
+-- A closing as the JSON value that the reader by bytes finds.
+--     ties_data ties      a list of tie-breaking numbers, as a value
+--     close_value increments round ties      a closing with or without its round, as a value
+--     close_members increment increments round ties      its keys, each with a value or none
+--     close_fields found, scanned_data close      its keys, each with what was found; a whole one
 --     close_data body      the value of a body
 use Rattle.std.specs.Prelude.{ℕ, List, [], ◌∷◌, map, Option, Some, option_map, codes}
 use Rattle.serde_json.specs.Data.{Data, object, array}
@@ -14,7 +14,7 @@ use Rattle.clock_bodies.specs.declared.close_body.FoundClose.{FoundClose}
 use Rattle.clock_bodies.specs.declared.close_body.ScannedClose.{ScannedClose}
 use Rattle.clock_bodies.specs.QuickBodies.{tie_data, single_of, listed_of}
 
--- a list of tie numbers as a value
+-- a list of tie-breaking numbers as a value
 abbrev pub ties_data : List Tie → Data
 ties_data ties = array (items_of (map tie_data ties))
 

@@ -1,4 +1,4 @@
-//! Bodies that are read byte by byte where they can be, and by a tree of their values where not.
+//! Bodies of requests, read byte by byte if possible, and otherwise by a tree of JSON values.
 ghost use Rattle.std.specs.Prelude.{◌≡◌, ◌≢◌, ◌≤◌, Option, Some, Ok, Err, IfOk, IfErr};
 ghost use Rattle.serde_json.specs.{Data.{Data}, View.{view}};
 ghost use Rattle.clock_json.specs.Tree.{json};
@@ -15,13 +15,14 @@ use thiserror::Error;
 /// Why a body is refused: the first of these that applies.
 #[derive(Clone, Copy, Debug, PartialEq, Eq, Error)]
 pub enum BodyFault {
-    /// The bytes are no JSON value.
+    /// The bytes are not a JSON value.
     #[error("not a JSON value")]
     NotJson,
-    /// The value is not the object that is asked for: a key is missing or strange, or a value is of another kind.
+    /// The value is not the required object: a key is missing or unknown, or a value is of another
+    /// kind.
     #[error("not of the shape that is asked for")]
     Shape,
-    /// There was no memory. It stands in place of any other answer.
+    /// Out of memory. Replaces any other result.
     #[error("out of memory")]
     NoMemory,
 }
@@ -34,17 +35,21 @@ impl From<NoMemory> for BodyFault {
     }
 }
 
-/// What a body is by a tree of values.
+/// A kind of body, defined by what JSON values mean.
 pub(crate) trait Body: Sized + Drop {
     /// What a value of JSON means.
     ghost meaning: { Data → Option Self };
 
-    /// The body that a value means, or none where it is of another shape.
+    /// Returns the body that `value` means, or `None` if it has another shape. May return
+    /// `NoMemory`.
     fn of_value(alloc: Global, value: &Value) -> Result<Option<Self>, NoMemory>
         ensures { IfOk result (λ body. body ≡ meaning (view value.now)) };
 }
 
-/// What bytes mean as a body, or their first fault, where the value that is read as a body means this body.
+/// Returns the body that `bytes` mean: by the reader `R`, which looks at bytes, or by a tree if `R`
+/// declines. Errors, in this order: `NotJson`, `Shape`. May return `NoMemory`, which then replaces
+/// any other result. In contracts, this holds if the value that `R` reads means the body that `R`
+/// returns.
 pub(crate) fn read_body<'v, R: PartReader<'v>>(
     alloc: Global,
     bytes: &'v [u8],

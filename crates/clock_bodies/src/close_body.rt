@@ -12,23 +12,24 @@ use clock_terms::Increments;
 use serde_json::Value;
 use std::alloc::Global;
 
-/// A closing of a round: `{"increment":N,"round":N,"ties":[[BIDDER,PRODUCT,NUMBER],..]}`, or `"increments":[N,..]` in
-/// place of `"increment":N`. Which of the two a set-up asks for, and which numbers, is not looked at here.
+/// The body of a closing: `{"increment":N,"round":N,"ties":[[BIDDER,PRODUCT,NUMBER],..]}`, or with
+/// `"increments":[N,..]` instead of `"increment":N`. Reading it checks neither the numbers nor
+/// which of the two the set-up requires.
 #[derive(Drop)]
 pub struct CloseBody {
-    /// The round that it closes.
+    /// The round to close.
     pub round: u64,
-    /// By how many percent prices rise.
+    /// The increments, in percent.
     pub increments: Increments,
-    /// Tie numbers, in the order given.
+    /// The tie-breaking numbers, in the order given.
     pub ties: Items<Tie>,
 }
 
-/// How a tie number is read, from a value of JSON or by bytes.
+/// Reads a tie-breaking number, from a JSON value or byte by byte.
 #[derive(Drop)]
 pub struct TieReader;
 
-/// A tie number is a list of a bidder, a product and a number.
+/// From a value: a list of a bidder, a product, and a number.
 impl<'v> PlainReader<'v> for TieReader {
     type Part = Tie;
 
@@ -47,7 +48,7 @@ impl<'v> PlainReader<'v> for TieReader {
     }
 }
 
-/// By bytes a tie number is read from a list of three numbers, each written in digits alone.
+/// Byte by byte: a list of three numbers, each written in digits only.
 impl<'v> PartReader<'v> for TieReader {
     type Part = Tie;
 
@@ -71,7 +72,8 @@ impl<'v> PartReader<'v> for TieReader {
     }
 }
 
-/// The increments of a closing, under either key, or none.
+/// Returns the increments of a closing: the number under `increment`, or the list under
+/// `increments`. `None` if there is neither. May return `NoMemory`.
 pub fn increments_of(alloc: Global, value: &Value) -> Result<Option<Increments>, NoMemory>
     ensures { IfOk result (λ increments. increments ≡ bodies.increments_of (view value.now)) }
 {
@@ -102,7 +104,8 @@ impl Body for CloseBody {
     }
 }
 
-/// What the body of a closing means, or its first fault. Numbers are whole and have at most 64 bits.
+/// Reads the body of a closing. Numbers are whole and below 2^64. Errors, in this order: `NotJson`,
+/// `Shape`. May return `NoMemory`, which then replaces any other result.
 #[tactic(auto, unfolding(crate::specs::CloseBodies::close_body))]
 pub fn read_close(alloc: Global, bytes: &[u8]) -> Result<CloseBody, BodyFault>
     ensures ok { IfOk result (λ body. bodies.close_body bytes.now ≡ Ok body) }
@@ -111,14 +114,15 @@ pub fn read_close(alloc: Global, bytes: &[u8]) -> Result<CloseBody, BodyFault>
     read_body::<CloseBody>(alloc, bytes)
 }
 
-/// Whether increments have the form of a set-up's version: one for all products in version 1, one for each later.
+/// Returns whether increments have the form of the set-up's version: one for all products in
+/// version 1, otherwise one for each.
 pub fn is_of_version(version: u64, increments: &Increments) -> bool
     ensures { result ≡ bodies.is_of_version version increments.now }
 {
     (version == 1) == matches!(increments, Increments::Single(_))
 }
 
-/// What was found of a closing so far.
+/// The members of a closing that were found so far.
 #[derive(Default, Drop)]
 pub struct FoundClose {
     increment: Option<u64>,
@@ -127,14 +131,14 @@ pub struct FoundClose {
     ties: Option<Items<Tie>>,
 }
 
-/// A closing that was read, which may name its round.
+/// A closing that was read, with or without its round.
 #[derive(Drop)]
 pub struct ScannedClose {
-    /// The round that it closes, where it names one.
+    /// The round to close, if the closing names it.
     pub round: Option<u64>,
-    /// By how many percent prices rise.
+    /// The increments, in percent.
     pub increments: Increments,
-    /// Tie numbers, in the order given.
+    /// The tie-breaking numbers, in the order given.
     pub ties: Items<Tie>,
 }
 
@@ -153,7 +157,7 @@ impl<'v> ScannedMembers<'v> for FoundClose {
 
     fn read(&mut self, alloc: Global, key: &[u8], scan: &mut Scan<'v>) -> Result<(), ScanStop> {
         if is_key(key, "ties") {
-            // no room is made ahead: a document of many closings would take it once for each
+            // reserves no memory: each closing of a long document would reserve it
             self.ties = Some(scanned_parts::<TieReader>(alloc, scan, 0)?);
         } else if is_key(key, "increments") {
             self.increments = Some(scan.numbers(alloc)?);
@@ -181,7 +185,7 @@ impl<'v> ScannedMembers<'v> for FoundClose {
     }
 }
 
-/// The body of a closing is read from one that names its round.
+/// As the body of a request, a closing must name its round.
 impl<'v> PartReader<'v> for CloseBody {
     type Part = CloseBody;
 

@@ -1,4 +1,5 @@
-//! The bodies of sheets and closings: what they mean as JSON, and their first faults.
+//! The bodies of the requests that submit a sheet or close a round: what they mean as JSON, and
+//! their first faults.
 #![tactic(auto)]
 
 mod body;

@@ -11,20 +11,20 @@ use clock_json::{PartReader, Scan, ScanStop, ScannedMembers, is_key, push, with_
 use serde_json::Value;
 use std::alloc::Global;
 
-/// A sheet that a bidder puts: `{"bids":[{"price":N,"product":N,"quantity":N},..],"round":N}`.
+/// The body of a sheet: `{"bids":[{"price":N,"product":N,"quantity":N},..],"round":N}`.
 #[derive(Drop)]
 pub struct PutBody {
-    /// The round that it is for.
+    /// The round of the sheet.
     pub round: u64,
-    /// Its bids, in the order given.
+    /// The bids, in the order given.
     pub bids: Items<Bid>,
 }
 
-/// How a bid is read, from a value of JSON or by bytes.
+/// Reads a bid, from a JSON value or byte by byte.
 #[derive(Drop)]
 pub struct BidReader;
 
-/// A bid is an object of price, product and quantity, whole numbers of at most 64 bits.
+/// From a value: an object of price, product, and quantity, whole numbers below 2^64.
 #[tactic(auto, unfolding(crate::specs::Bodies::bid_of))]
 impl<'v> PlainReader<'v> for BidReader {
     type Part = Bid;
@@ -41,7 +41,7 @@ impl<'v> PlainReader<'v> for BidReader {
     }
 }
 
-/// By bytes a bid is read from its members, where no key has an escape and each number is written in digits alone.
+/// Byte by byte: its members, if no key has an escape and each number is written in digits only.
 impl<'v> PartReader<'v> for BidReader {
     type Part = Bid;
 
@@ -70,7 +70,8 @@ impl Body for PutBody {
     }
 }
 
-/// What the body of a sheet means, or its first fault. Numbers are whole and have at most 64 bits.
+/// Reads the body of a sheet. Numbers are whole and below 2^64. Errors, in this order: `NotJson`,
+/// `Shape`. May return `NoMemory`, which then replaces any other result.
 #[tactic(auto, unfolding(crate::specs::Bodies::put_body))]
 pub fn read_put(alloc: Global, bytes: &[u8]) -> Result<PutBody, BodyFault>
     ensures ok { IfOk result (λ body. bodies.put_body bytes.now ≡ Ok body) }
@@ -79,14 +80,14 @@ pub fn read_put(alloc: Global, bytes: &[u8]) -> Result<PutBody, BodyFault>
     read_body::<FoundPut>(alloc, bytes)
 }
 
-/// How many bytes a bid and its comma take at least.
+/// The least number of bytes of a bid with its comma.
 const LEAST_BID: usize = 37;
 
-/// For how many bids room is taken ahead at most: for those of the longest sheet that can stand, and one more. The list
-/// is kept while the sheet is in force, however much white space its text had.
+/// The most bids for which memory is reserved before they are read: one more than a sheet may have.
+/// A sheet in force retains its list, so white space in its text must not enlarge that.
 const MOST_AHEAD: usize = 8_193;
 
-/// What was found of a bid so far.
+/// The members of a bid that were found so far.
 #[derive(Clone, Copy, Default)]
 struct FoundBid {
     price: Option<u64>,
@@ -133,8 +134,9 @@ impl<'v> ScannedMembers<'v> for FoundBid {
     }
 }
 
-/// The bids that are next, behind those of a list, as far as they are written without white space, their keys in the
-/// order of their bytes, and with a comma behind each. They are read by several bytes at a time.
+/// Reads the next bids that are written compactly, and appends them to `list`: without white space,
+/// with their keys sorted, and with a comma after each. They are read several bytes at a time. May
+/// stop with `NoMemory`.
 #[inline(never)]
 fn compact_bids(scan: &mut Scan<'_>, list: &mut Vec<Bid>) -> Result<(), ScanStop>
     ensures { OnOk result ((bids : List Bid) × (list.new.items ≡ list.old.items ++ bids)
@@ -151,7 +153,8 @@ fn compact_bids(scan: &mut Scan<'_>, list: &mut Vec<Bid>) -> Result<(), ScanStop
     Ok(())
 }
 
-/// The list of bids that is next, with room made at once for as many as there may be.
+/// Reads the next list of bids. Reserves memory once, for the most bids that the rest of the text
+/// can have.
 #[inline(never)]
 fn bids(alloc: Global, scan: &mut Scan<'_>) -> Result<Items<Bid>, ScanStop>
     ensures value { IfOk result (λ bids. Reads 2 scan.old (bids_data bids) scan.new) }
@@ -168,7 +171,7 @@ fn bids(alloc: Global, scan: &mut Scan<'_>) -> Result<Items<Bid>, ScanStop>
     Ok(Items::from_vec(list))
 }
 
-/// What was found of a sheet so far.
+/// The members of a sheet that were found so far.
 #[derive(Default, Drop)]
 struct FoundPut {
     round: Option<u64>,

@@ -1,4 +1,4 @@
--- The values of JSON that bodies are, as the quick readers find them.
+-- Sheets as the JSON values that the reader by bytes finds.
 use Rattle.std.specs.Prelude.{ℕ, List, [], ◌∷◌, map, Option, Some, option_map, codes}
 use Rattle.serde_json.specs.Data.{Data, object, array}
 use Rattle.clock_json.specs.Reading.{whole, items_of, Fields, members_of}

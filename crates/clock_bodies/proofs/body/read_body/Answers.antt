@@ -1,3 +1,4 @@
+-- If the reader by bytes reads a body, the bytes are a JSON value that means it.
 use Rattle.std.proofs.Common.{ap, ◌∙◌}
 use Rattle.clock_terms.specs.Faults.{or_fault}
 use Rattle.clock_json.proofs.JsonLaws.{json_value}

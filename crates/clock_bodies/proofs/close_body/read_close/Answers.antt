@@ -1,3 +1,4 @@
+-- The value that the reader by bytes finds means the closing.
 use Rattle.clock_bodies.specs.CloseBodies.{close_body}
 use Rattle.clock_bodies.proofs.BodyScanLaws.{close_means}
 use Rattle.clock_bodies.proofs.close_body.read_close.Goals as goal

@@ -1,3 +1,4 @@
+-- Each turn of the loop reads a bid and the compact ones that follow it; the list so far grows by these.
 use Rattle.std.proofs.Common.{◌≡◌, ◌∷◌, ◌++◌, [], length, map, sym, ap, subst, ◌∙◌, arith}
 use Rattle.json.specs.Token.{Token}
 use Rattle.clock_json.specs.Reading.{Reads}

@@ -1,3 +1,4 @@
+-- Each turn of the loop reads one more bid.
 use Rattle.std.proofs.Common.{◌∷◌, ◌++◌, [], refl, sym, ap, ◌∙◌}
 use Rattle.std.proofs.lemmas.List.{append-nil, append_assoc}
 use Rattle.clock_json.specs.Reading.{ReadsAll}

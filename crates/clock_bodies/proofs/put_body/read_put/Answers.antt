@@ -1,3 +1,4 @@
+-- The value that the reader by bytes finds means the sheet.
 use Rattle.clock_bodies.specs.Bodies.{put_body}
 use Rattle.clock_bodies.proofs.BodyScanLaws.{put_means}
 use Rattle.clock_bodies.proofs.put_body.read_put.Goals as goal

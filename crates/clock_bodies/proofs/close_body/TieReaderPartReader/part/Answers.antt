@@ -1,3 +1,4 @@
+-- The tokens read are those of a list of three numbers.
 use Rattle.std.proofs.Common.{◌≡◌, ◌∷◌, arith}
 use Rattle.json.specs.Token.{Token}
 use Rattle.clock_bodies.proofs.BodyScanLaws.{three_read}

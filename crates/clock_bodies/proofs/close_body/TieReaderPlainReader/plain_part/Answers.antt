@@ -1,3 +1,4 @@
+-- A list of another length than three is not a tie-breaking number.
 use Rattle.std.proofs.Common.{length, sym, ap, ◌∙◌}
 use Rattle.std.specs.Prelude.{option_and_then}
 use Rattle.clock_bodies.specs.CloseBodies.{tie_from}
