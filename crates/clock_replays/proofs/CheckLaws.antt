@@ -1,4 +1,5 @@
--- Laws of the checks of a replay rules.
+-- The checks of a replay document, one by one as the code makes them, are those of the definition, and a document that
+-- passes all is a replay. Comparing each price with the next shows that none is above an earlier one.
 use Rattle.std.proofs.Common.{◌≡◌, ℕ, ◌+◌, ◌<◌, ◌≤◌, All, ◌&&◌, ◌==◌, Bool, true, false, nat_le, if◌then◌else◌, List, [], ◌∷◌, zero, suc, length}
 use Rattle.std.proofs.Common.{get_or, drop, zip, None, Some, refl, sym, ap, subst, ◌∙◌, arith}
 use Rattle.std.specs.Prelude.{EachIndex}
@@ -26,7 +27,7 @@ use Rattle.clock_replays.specs.ReplayChecks.{never_rises, are_of_version, has_li
 same_count : (a b : ℕ) → a ≡ b → (a == b) ≡ true
 same_count a b h = grind (arith, nat_tests)
 
--- where the closings and the counts are good, the scripts decide
+-- if the closings and the counts have no fault, the scripts decide
 pub scripts_decide : (setup : SetupFields) (scripts : List Script) (closings : List Closing) {products : List Product} {bidders : List Bidder}
     → products ≡ setup.products → bidders ≡ setup.bidders → are_of_version setup.version closings ≡ true → length scripts ≡ length bidders
     → list_all (has_lists (length products)) scripts ≡ true
@@ -56,7 +57,7 @@ absorbed true b c h = refl
 absorbed false true c h = let e = h refl in cc
 absorbed false false c h = refl
 
--- a price that is not above the one before it is above none of those before
+-- a price that is not above the one before it is not above any earlier one
 no_rise : (price next : ℕ) (rest : List ℕ) → nat_le next price ≡ true → never_rises (price ∷ next ∷ rest) ≡ never_rises (next ∷ rest)
 no_rise price next rest h =
     ap (λ test. (test && list_all (λ p. nat_le p price) rest) && (list_all (λ p. nat_le p next) rest && never_rises rest)) h
@@ -66,14 +67,14 @@ no_test : (test : Bool) → (test && false) ≡ false
 no_test true = refl
 no_test false = refl
 
--- two prices that stand behind the first
+-- two prices after the first
 behind : (price : ℕ) (prices : List ℕ) (k d : ℕ) (test : Bool)
     → test ≡ nat_le (get_or (price ∷ prices) (suc k + 1) d) (get_or (price ∷ prices) (suc k) d) → test ≡ nat_le (get_or prices (k + 1) d) (get_or prices k d)
 behind price prices k d test is =
     let on : suc k + 1 ≡ suc (k + 1) = omega arith in
     subst (λ (n : ℕ). test ≡ nat_le (get_or (price ∷ prices) n d) (get_or prices k d)) on is
 
--- whether each price and the next are in order tells whether none is above an earlier one
+-- no price is above an earlier one exactly if none is above the one before it
 pub told_by_next : (prices : List ℕ) (told : Bool) → IsAllAdjacentAnswer (λ earlier later b. b ≡ nat_le later earlier) prices told → told ≡ never_rises prices
 told_by_next [] true each = refl
 told_by_next [] false rise = absurd (omega (arith, rise.1))
@@ -89,7 +90,7 @@ told_by_next (price ∷ next ∷ rest) false (suc k, within, rise) =
     ∙ ap (λ test. list_all (λ later. nat_le later price) (next ∷ rest) && test)
     (told_by_next (next ∷ rest) false (k, omega (arith, within), λ d. behind price (next ∷ rest) k d false (rise d)))
 
--- the test tells what the prices do
+-- prices that pass the test never rise
 pub falling_of_test : (prices : List ℕ) → never_rises prices ≡ true → NeverRises prices
 falling_of_test [] h = λ i j d lt within. absurd (omega arith)
 falling_of_test (price ∷ prices) h =
@@ -116,7 +117,7 @@ one_list : (bidder i : ℕ) (product : Product) (prices : List ℕ) (b : Bool) �
 unfolding limit_checks
 one_list bidder i product prices b is = rw is refl
 
--- the next limits are none
+-- the next limits have a fault
 pub limits_failed : (bidder : ℕ) (products : List Product) (limits : List (List ℕ)) (i : ℕ) (product : Product) (prices : List ℕ)
     → length limits ≡ length products → i < length limits → product ≡ get_or products i product → prices ≡ row_of limits i
     → are_limits product prices ≡ false
@@ -126,7 +127,7 @@ limits_failed bidder products limits i product prices same h first listed is =
     (omega (arith, length-zip products limits)) (zip_at products limits i product prices same h first (listed ∙ get_or_default limits i [] prices h))
     (one_list bidder i product prices false is)
 
--- the next limits are good
+-- the next limits have no fault
 pub limits_passed : (bidder : ℕ) (products : List Product) (limits : List (List ℕ)) (i : ℕ) (product : Product) (prices : List ℕ)
     → length limits ≡ length products → i < length limits → product ≡ get_or products i product → prices ≡ row_of limits i
     → are_limits product prices ≡ true
@@ -142,9 +143,9 @@ pub limits_end : (bidder : ℕ) (products : List Product) (limits : List (List �
     → first_fault (in_turn (limit_checks bidder) i (drop i (zip products limits))) ≡ None
 limits_end bidder products limits i h = turn_none (limit_checks bidder) (zip products limits) i (omega (arith, length-zip products limits))
 
--- ---- what the checks keep
+-- ---- what passes the checks
 
--- where none of three checks and of those after them fails
+-- if three checks pass, and all after them
 three_passed : {F : Type 0} (first second third : F) (a b c : Bool) (rest : List (F × Bool))
     → first_fault ((first, a) ∷ (second, b) ∷ (third, c) ∷ rest) ≡ None
     → (a ≡ true) × (b ≡ true) × (c ≡ true) × (first_fault rest ≡ None)
@@ -162,7 +163,7 @@ limits_of_checks bidder i product prices h = only (are_limits product prices) h
     only true h = refl
     only false h = cc
 
--- what good limits are
+-- limits without a fault
 pub record AreWithin (products : List Product) (limits : List (List ℕ)) : Type 0 where
   pub capped : EachIndex limits (λ product. length (row_of limits product) ≤ cap_of products product)
   pub falling : All NeverRises limits
@@ -207,7 +208,7 @@ scripts_within products i (script ∷ scripts) lists h =
     All-cons (IsScript products) script scripts (script_within products i script lists_both.0 both.0)
     (scripts_within products (i + 1) scripts lists_both.1 both.1)
 
--- what passes the checks is a replay
+-- a document that passes the checks is a replay
 pub replay_within : (replay : ReplayFields) → IsSetup replay.setup → first_fault (replay_checks replay) ≡ None → IsReplay replay
 unfolding replay_checks
 replay_within replay limits h =

@@ -1,4 +1,5 @@
--- Laws of what a replay document means.
+-- What a replay document means, case by case: of another shape, with a set-up that is refused, or decided by the other
+-- checks.
 use Rattle.std.proofs.Common.{◌≡◌, true, false, List, Option, Some, None, Result, Ok, Err, refl, ap}
 use Rattle.std.specs.Prelude.{codes, ok_or, option_and_then}
 use Rattle.serde_json.specs.Data.{Data}
@@ -16,7 +17,7 @@ use Rattle.clock_replays.specs.ReplayShape.{ReplayParts, script_of, closing_from
 use Rattle.clock_replays.specs.ReplayChecks.{replay_checks}
 use Rattle.clock_replays.specs.ReplayDocument.{replay_with, in_replay, replay_of}
 
--- a document whose parts and set-up are known is judged by its other checks
+-- a document with its shape and a set-up is decided by its other checks
 pub replay_at : (value : Data) (parts : ReplayParts) (setup : SetupFields) → parts_of value ≡ Some parts → setup_of parts.setup ≡ Ok setup
     → replay_of value ≡ unless (first_fault (replay_checks (replay_with setup parts))) (replay_with setup parts)
 unfolding replay_of
@@ -33,7 +34,7 @@ pub replay_setup : (value : Data) (parts : ReplayParts) (fault : ScriptFault) �
 unfolding replay_of
 replay_setup value parts fault read refused = rw (read, refused) refl
 
--- ---- a document of another shape, by what is not there
+-- ---- a document of another shape, by the part that is missing
 
 abbrev pub scripts_in : Data → Option (List Script)
 scripts_in value = option_and_then (each script_of) (items_at (codes "scripts") value)
@@ -59,14 +60,14 @@ pub other_members : (value setup : Data) (scripts : List Script) (closings : Lis
 unfolding parts_of
 other_members value setup scripts closings held known last other = replay_shape value (rw (held, known, last, other) refl)
 
--- the parts of a document that is of the shape
+-- the parts of a document that has its shape
 pub parts_read : (value setup : Data) (scripts : List Script) (closings : List Closing) → get (codes "setup") value ≡ Some setup
     → scripts_in value ≡ Some scripts → closings_in value ≡ Some closings → has_members 3 value ≡ true
     → parts_of value ≡ Some (record { setup = setup; scripts = scripts; closings = closings })
 unfolding parts_of
 parts_read value setup scripts closings held known last whole = rw (held, known, last, whole) refl
 
--- where a value is asked for by `ok_or`, there is none if that is an error
+-- if `ok_or` returns an error, there was no value
 pub not_there : {A E : Type 0} (read : Option A) (told fault : E) → Err fault ≡ ok_or read told → (read ≡ None) × (fault ≡ told)
 not_there None told fault is = (refl, cc)
 not_there (Some found) told fault is = absurd (cc)

@@ -1,16 +1,17 @@
--- Laws of rows that stand in one list, each with the place where it ends.
+-- Rows in one list, with the index at which each ends: where the row at an index begins and ends, and what one more row
+-- adds. By induction over the ends.
 use Rattle.std.proofs.Common.{◌≡◌, ℕ, ◌+◌, ◌-◌, ◌<◌, ◌≤◌, zero, suc, List, [], ◌∷◌, ◌++◌, length, take, drop, get_or, refl, sym, ap, subst, ◌∙◌, arith}
 use Rattle.std.proofs.lemmas.List.{take_all, drop_all, take-append-le, drop-append-le, length-append, length-drop}
 use Rattle.clock_replays.specs.EndedRows.{rows_from}
 use Rattle.clock_replays.specs.inside.EndedRows.{AreEnds}
 
--- there are as many rows as ends
+-- there is a row for each end
 pub length-rows : (start : ℕ) (ends numbers : List ℕ) → length (rows_from start ends numbers) ≡ length ends
 unfolding rows_from
 length-rows start [] numbers = refl
 length-rows start (end ∷ ends) numbers = ap (λ n. suc n) (length-rows end ends numbers)
 
--- a row begins where the one before it ends, the first at start
+-- a row begins where the one before it ends, and the first at start
 pub row_at : (start : ℕ) (ends numbers : List ℕ) (place : ℕ) → place < length ends
     → get_or (rows_from start ends numbers) place [] ≡ take (get_or ends place 0 - get_or (start ∷ ends) place 0) (drop (get_or (start ∷ ends) place 0) numbers)
 unfolding rows_from
@@ -18,7 +19,7 @@ row_at start [] numbers place within = absurd (omega arith)
 row_at start (end ∷ ends) numbers zero within = refl
 row_at start (end ∷ ends) numbers (suc place) within = row_at end ends numbers place (omega arith)
 
--- no place is past the last of them
+-- no end is after the last
 pub start_within : (start : ℕ) (ends : List ℕ) (whole : ℕ) → AreEnds start ends whole → start ≤ whole
 unfolding AreEnds
 start_within start [] whole are = omega (arith, are)
@@ -32,7 +33,7 @@ end_within start [] whole place are within = absurd (omega arith)
 end_within start (end ∷ ends) whole zero are within = (are.0, start_within end ends whole are.1)
 end_within start (end ∷ ends) whole (suc place) are within = end_within end ends whole place are.1 (omega arith)
 
--- behind the rows there is room for one more
+-- one more row leaves those before it unchanged
 pub rows_more : (start : ℕ) (ends numbers row : List ℕ) → AreEnds start ends (length numbers)
     → rows_from start (ends ++ length (numbers ++ row) ∷ []) (numbers ++ row) ≡ rows_from start ends numbers ++ row ∷ []
 unfolding rows_from AreEnds
@@ -51,18 +52,18 @@ rows_more start (end ∷ ends) numbers row are =
     (take-append-le (end - start) (drop start numbers) row (omega (arith, left, within)))
     ∙ ap (λ rows. take (end - start) (drop start numbers) ∷ rows) (rows_more end ends numbers row are.1)
 
--- behind the ends there may come one that is not before the last
+-- one more end may follow, if it is not before the last
 pub ends_more : (start : ℕ) (ends : List ℕ) (whole more : ℕ) → AreEnds start ends whole → whole ≤ more → AreEnds start (ends ++ more ∷ []) more
 unfolding AreEnds
 ends_more start [] whole more are above = (omega (arith, are, above), refl)
 ends_more start (end ∷ ends) whole more are above = (are.0, ends_more end ends whole more are.1 above)
 
--- of no rows
+-- no rows
 pub no_rows : (ends numbers : List ℕ) → ends ≡ [] → numbers ≡ [] → (rows_from 0 ends numbers ≡ []) × AreEnds 0 ends (length numbers)
 unfolding rows_from AreEnds
 no_rows ends numbers none empty = rw (none, empty) (refl, refl)
 
--- of one row more
+-- one more row
 pub one_more : (ends numbers row after : List ℕ) (end : ℕ) → AreEnds 0 ends (length numbers) → after ≡ numbers ++ row → end ≡ length after
     → (rows_from 0 (ends ++ end ∷ []) after ≡ rows_from 0 ends numbers ++ row ∷ []) × AreEnds 0 (ends ++ end ∷ []) (length after)
 one_more ends numbers row after end are is last =

@@ -1,4 +1,4 @@
--- The checks of replay documents, computed on small ones.
+-- Examples of the checks of replay documents.
 use Rattle.std.specs.Prelude.{◌≡◌, List, [], ◌∷◌, Some, None, refl}
 use Rattle.clock_terms.specs.declared.increments.Increments.TheVariants.{PerProduct}
 use Rattle.clock_terms.proofs.Examples.{one_product}

@@ -1,4 +1,5 @@
--- A set-up of version 1 means what it meant with version 1 only.
+-- Version 2 did not change what a set-up of version 1 means. Each part of the law computes, case by case, to what
+-- version 1 says.
 use Rattle.std.proofs.Common.{◌≡◌, ℕ, suc, zero, ◌≤◌, Bool, true, false, List, ◌∷◌, Option, Some, None, Err, codes, refl, ap, ◌∙◌, replicate, arith}
 use Rattle.std.specs.Prelude.{if◌then◌else◌, option_and_then, option_map}
 use Rattle.serde_json.specs.Data.{Data, Items, no_items, item}
@@ -40,7 +41,7 @@ setup_same value first = rw first (ap (λ (products : Option (List Product)).
     then Some (record { version = 1; limit = 100; requirement = requirement; operator = operator; products = products; bidders = bidders })
     else None)))) (listed_same (items_at (codes "products") value)))
 
--- a list of increments makes no closing of version 1
+-- a list of increments is not a closing of version 1
 no_list : (round : ℕ) (listed : Option (List ℕ)) (ties : Option (List Tie)) (count : Bool)
     → in_version 1 (or_fault Shape (option_map PerProduct listed >>= λ increments. (ties >>= λ ties.
     if count then Some (record { round = round; increments = increments; ties = ties }) else None)))
@@ -50,7 +51,7 @@ no_list round (Some list) None count = refl
 no_list round (Some list) (Some ties) true = refl
 no_list round (Some list) (Some ties) false = refl
 
--- a closing with one increment is one of version 1, and no other is
+-- a closing with one increment is a closing of version 1, and no other is
 closing_same : (round increment : Option ℕ) (items : Option Items) (ties : Option (List Tie)) (count : Bool)
     → in_version 1 (or_fault Shape (round >>= λ round. (or_each increment items >>= λ increments. (ties >>= λ ties.
     if count then Some (record { round = round; increments = increments; ties = ties }) else None))))
@@ -73,7 +74,7 @@ bodies_same : (bytes : List ℕ) → in_version 1 (close_body bytes) ≡ first_b
 unfolding close_body
 bodies_same bytes = body_same (json bytes)
 
--- a list of one increment for each product is accepted where the increment is
+-- a list of one increment for each product is accepted exactly if the increment is
 each_judged : (count increment : ℕ) → 1 ≤ count
     → are_increments count (PerProduct (replicate count increment)) ≡ are_increments count (Single increment)
 each_judged zero increment some = absurd (omega (arith, some))

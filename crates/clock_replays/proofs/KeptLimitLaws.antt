@@ -1,4 +1,5 @@
--- Laws of limits that are kept for the products that have some.
+-- Packed limits have the limits of each product: products with a row rise, so a search finds the row, and a product
+-- that is missed has none.
 use Rattle.std.proofs.Common.{◌≡◌, ◌≢◌, ℕ, ◌+◌, ◌-◌, ◌<◌, ◌≤◌, ◌==◌, zero, suc, List, [], ◌∷◌, ◌++◌, length, map, get_or, replicate, if◌then◌else◌, refl, sym, ap, ap₂, subst, ◌∙◌, append_assoc, append-nil, arith}
 use Rattle.std.proofs.lemmas.Bool.{ne_eqb, eq-eqb}
 use Rattle.std.proofs.lemmas.List.FromFn.{length-map-range_with_len, get_or-map-range_with_len, map-range_with_len_more, fill_by_all}
@@ -10,19 +11,19 @@ use Rattle.clock_replays.specs.inside.EndedRows.{AreEnds}
 use Rattle.clock_replays.specs.inside.KeptLimits.{AreRising}
 use Rattle.clock_replays.proofs.EndedRowLaws.{length-rows, one_more}
 
--- a product that comes first has the first row
+-- the first product with a row has the first one
 at_first : (limited : ℕ) (products row : List ℕ) (rows : List (List ℕ)) (product : ℕ) → limited ≡ product
     → limits_for (limited ∷ products) (row ∷ rows) product ≡ row
 unfolding limits_for
 at_first limited products row rows product same = ap (λ test. if test then row else limits_for products rows product) (eq-eqb limited product same)
 
--- every other product has none of it
+-- every other product has another row, or none
 behind : (limited : ℕ) (products row : List ℕ) (rows : List (List ℕ)) (product : ℕ) → limited ≢ product
     → limits_for (limited ∷ products) (row ∷ rows) product ≡ limits_for products rows product
 unfolding limits_for
 behind limited products row rows product other = ap (λ test. if test then row else limits_for products rows product) (ne_eqb limited product other)
 
--- a product that stands behind smaller ones has the row at its place
+-- a product after lower ones has the row at its index
 pub found : (products : List ℕ) (rows : List (List ℕ)) (product place : ℕ) → length products ≡ length rows
     → AllWithin (λ other. other < product) products 0 place → place < length products → get_or products place 0 ≡ product
     → limits_for products rows product ≡ get_or rows place []
@@ -44,7 +45,7 @@ none_before from (limited ∷ products) (row ∷ rows) count product rising belo
     behind limited products row rows product (λ same. omega (arith, same, rising.0, below))
     ∙ none_before (limited + 1) products rows count product rising.1 (omega (arith, rising.0, below))
 
--- from rises to the count
+-- the products are between `from` and the count
 from_within : (from : ℕ) (products : List ℕ) (count : ℕ) → AreRising from products count → from ≤ count
 unfolding AreRising
 from_within from [] count rising = rising
@@ -60,7 +61,7 @@ none_past from (limited ∷ products) (row ∷ rows) count product rising above 
     behind limited products row rows product (λ same. omega (arith, same, from_within (limited + 1) products count rising.1, above))
     ∙ none_past (limited + 1) products rows count product rising.1 above
 
--- a product has no row where smaller ones stand before a place, and a greater one or none stands there
+-- a product has no row if those before an index are lower, and the one there is higher or missing
 pub missing : (from : ℕ) (products : List ℕ) (rows : List (List ℕ)) (count product place : ℕ) → AreRising from products count
     → AllWithin (λ other. other < product) products 0 place → (place < length products → product < get_or products place 0)
     → limits_for products rows product ≡ []
@@ -83,7 +84,7 @@ at_least from (limited ∷ products) count zero rising within = rising.0
 at_least from (limited ∷ products) count (suc place) rising within =
     omega (arith, rising.0, at_least (limited + 1) products count place rising.1 (omega (arith, within)))
 
--- where a product is smaller, so are those before it
+-- if a product is lower, so are those before it
 smaller_up_to : (from : ℕ) (products : List ℕ) (count product place : ℕ) → AreRising from products count → place < length products
     → get_or products place 0 < product → AllWithin (λ other. other < product) products 0 (place + 1)
 unfolding AreRising
@@ -95,7 +96,7 @@ smaller_up_to from (limited ∷ products) count product (suc place) rising withi
 smaller_up_to from (limited ∷ products) count product (suc place) rising within smaller (suc k) d low high =
     smaller_up_to (limited + 1) products count product place rising.1 (omega (arith, within)) smaller k d (omega arith) (omega (arith, high))
 
--- where the one ahead of a place is smaller, or none stands there, only smaller ones stand before it
+-- if the product before an index is lower, so are all before it
 pub smaller_before : (products : List ℕ) (count product place : ℕ) → AreRising 0 products count → place ≤ length products
     → (0 < place → get_or products (place - 1) 0 < product) → AllWithin (λ other. other < product) products 0 place
 smaller_before products count product zero rising within ahead k d low high = absurd (omega (arith, high))
@@ -104,7 +105,7 @@ smaller_before products count product (suc place) rising within ahead k d low hi
     smaller_up_to 0 products count product place rising (omega (arith, within))
     (subst (λ (n : ℕ). get_or products n 0 < product) same (ahead (omega arith))) k d low (omega (arith, high))
 
--- a row more is none of another product
+-- one more row does not change other products
 others : (products : List ℕ) (rows : List (List ℕ)) (new : ℕ) (row : List ℕ) (product : ℕ) → length products ≡ length rows → new ≢ product
     → limits_for (products ++ new ∷ []) (rows ++ row ∷ []) product ≡ limits_for products rows product
 unfolding limits_for
@@ -114,7 +115,7 @@ others (limited ∷ products) [] new row product each other = absurd (omega (ari
 others (limited ∷ products) (first ∷ rows) new row product each other =
     ap (λ rest. if limited == product then first else rest) (others products rows new row product (omega (arith, each)) other)
 
--- it is that of its product
+-- one more row is that of its product
 own : (from : ℕ) (products : List ℕ) (rows : List (List ℕ)) (count : ℕ) (row : List ℕ) → AreRising from products count → length products ≡ length rows
     → limits_for (products ++ count ∷ []) (rows ++ row ∷ []) count ≡ row
 unfolding AreRising
@@ -126,7 +127,7 @@ own from (limited ∷ products) (first ∷ rows) count row rising each =
     (λ same. omega (arith, same, from_within (limited + 1) products count rising.1))
     ∙ own (limited + 1) products rows count row rising.1 (omega (arith, each))
 
--- with a row for the next product there is a list more
+-- one more row adds a list
 limits_more : (count : ℕ) (products : List ℕ) (rows : List (List ℕ)) (row : List ℕ) → AreRising 0 products count → length products ≡ length rows
     → limits_of (count + 1) (products ++ count ∷ []) (rows ++ row ∷ []) ≡ limits_of count products rows ++ row ∷ []
 limits_more count products rows row rising each =
@@ -150,7 +151,7 @@ unfolding AreRising
 rising_push from [] count rising = (rising, omega arith)
 rising_push from (limited ∷ products) count rising = (rising.0, rising_push (limited + 1) products count rising.1)
 
--- the lists with those of a row that was added for the next product, and that all are kept in order still
+-- the limits with one more row for the next product, and that all are in order
 pub row_pushed : (count end product : ℕ) (products ends prices row products_after ends_after prices_after known : List ℕ)
     → AreEnds 0 ends (length prices) × (length products ≡ length ends) × AreRising 0 products count
     → prices_after ≡ prices ++ row → end ≡ length known → known ≡ prices_after → ends_after ≡ ends ++ end ∷ []
@@ -192,7 +193,7 @@ limits_empty (suc more) count products rows rising =
     ∙ ap (λ last. limits_of count products rows ++ last ∷ []) (none_past 0 products rows count count rising (omega arith)))
     ∙ append_assoc (limits_of count products rows) ([] ∷ []) (replicate more [])
 
--- no products rise
+-- the empty list rises
 pub rising_none : (products : List ℕ) → products ≡ [] → AreRising 0 products 0
 unfolding AreRising
 rising_none products none = subst (λ (list : List ℕ). AreRising 0 list 0) (sym none) (omega arith)

@@ -1,4 +1,4 @@
--- What is read of a replay document without a tree is what the document means.
+-- The value that the reader by bytes finds means the replay that it returns. So both readers agree.
 use Rattle.std.proofs.Common.{◌≡◌, ℕ, List, Option, Some, None, option_map, refl, ap}
 use Rattle.std.specs.Str.{IsUtf8}
 use Rattle.serde_json.specs.Data.{Data}
@@ -64,7 +64,7 @@ parts_mean setup scripts closings =
       each_means closing_from closing_data (λ known. closing_means known.increments known.ties) closings,
     ) refl
 
--- a document that is the value of a replay is judged by what is looked at behind its set-up
+-- a document that is the value of a replay is decided by the checks after those of the set-up
 pub replay_read : (bytes : List ℕ) (found : HeldSetup × List Script × List Closing) → IsUtf8 bytes → read bytes ≡ Some (found_data found)
     → document_replay bytes ≡ unless (first_fault (replay_checks (all_of found))) (all_of found)
 unfolding document_replay

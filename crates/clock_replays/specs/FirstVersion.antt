@@ -1,7 +1,8 @@
--- What documents, closings and rules of version 1 mean, without a word of what version 2 adds.
---     first_product value, first_setup value      an item of "products" and a set-up, as version 1 has them
---     first_closing value, first_body bytes      the closing that a JSON value means, and that the bytes of a body mean
---     FirstVersion      the law that a set-up of version 1 means what it meant with version 1 only
+-- What documents, closings, and rules of version 1 mean, stated without version 2.
+--     first_product value, first_setup value      an item of "products" and a set-up of version 1
+--     first_closing value, first_body bytes      the closing that a JSON value means, and that the
+--         bytes of a body mean
+--     FirstVersion      the law: version 2 did not change what a set-up of version 1 means
 use Rattle.std.specs.Prelude.{◌≡◌, ◌↔◌, ℕ, ◌+◌, ◌*◌, ◌≤◌, ◌<◌, List, replicate, Option, Some, None, Result}
 use Rattle.std.specs.Prelude.{option_and_then, if◌then◌else◌, codes}
 use Rattle.serde_json.specs.Data.{Data}
@@ -49,13 +50,13 @@ first_closing value = do
   ties ← option_and_then (each tie_of) (items_at (codes "ties") value)
   if has_members 3 value then Some (record { round = round; increments = Single increment; ties = ties }) else None
 
--- what bytes mean as a closing of version 1, or their first fault
+-- the closing of version 1 that bytes mean, or their first fault
 abbrev pub first_body : List ℕ → Result CloseBody BodyFault
 first_body bytes = meant_by first_closing (json bytes)
 
--- a set-up of version 1 has a limit of 100 and granules of 1; its document and the bodies of its closings have the keys
--- of version 1 and no others; with such a limit activity is judged by the eligibility; with such a granule the clock
--- price is the least whole price that is high enough; and one increment means a list of it for each product
+-- A set-up of version 1 has a limit of 100 and granules of 1. Its document and closings have the
+-- keys of version 1 only. The activity limit is then the eligibility, the clock price the least
+-- whole price that is high enough, and one increment means a list of it for each product.
 pub record FirstVersion : Type 0 where
   pub setups : (setup : SetupFields) → IsSetup setup → setup.version ≡ 1 → IsOfFirstVersion setup
   pub documents : (value : Data) → number_at (codes "version") value ≡ Some 1 → fields_of value ≡ first_setup value

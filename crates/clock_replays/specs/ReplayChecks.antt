@@ -1,7 +1,8 @@
--- What is looked at in a replay document once its parts have their shape and its set-up is known.
---     never_rises prices      the test of NeverRises
---     are_of_version version closings, has_lists count script      the form of closings, the number of lists of limits
---     limit_checks, script_checks      the limits for a product, and those of a bidder
+-- The checks of a replay document that follow those of its shape and its set-up.
+--     never_rises prices      no price is above an earlier one, computed
+--     are_of_version version closings, has_lists count script      the form of closings, the number
+--         of lists of limits
+--     limit_checks, script_checks      the checks of the limits for a product, and of a bidder
 --     replay_checks replay      all checks, in order
 use Rattle.std.specs.Prelude.{ℕ, Bool, true, ◌&&◌, ◌==◌, List, [], ◌∷◌, length, zip, nat_le}
 use Rattle.std.specs.List.{list_all}
@@ -23,21 +24,21 @@ never_rises (price ∷ prices) = list_all (λ later. nat_le later price) prices 
 abbrev pub are_of_version : ℕ → List Closing → Bool
 are_of_version version closings = list_all (λ closing. is_of_version version closing.increments) closings
 
--- a sincere script has a list of limits for each of so many products
+-- a sincere script has `count` lists of limits, one for each product
 abbrev pub has_lists : ℕ → Script → Bool
 has_lists count (Literal sheets) = true
 has_lists count (Sincere limits) = length limits == count
 
--- the limits for a product are at most as many as its cap, and never rise
+-- the limits for a product are no more than its cap, and never rise
 unfoldable pub limit_checks : ℕ → ℕ → Product × List ℕ → List (ScriptFault × Bool)
 limit_checks bidder product line = (Limits bidder product, nat_le (length line.1) line.0.cap && never_rises line.1) ∷ []
 
--- the limits of a sincere bidder by rising product
+-- the limits of a sincere script, product by product
 unfoldable pub script_checks : List Product → ℕ → Script → List (ScriptFault × Bool)
 script_checks products bidder (Literal sheets) = []
 script_checks products bidder (Sincere limits) = in_turn (limit_checks bidder) 0 (zip products limits)
 
--- the form of the closings, the number of scripts, then that of the lists of limits, then the limits by rising bidder
+-- in order: the form of closings, the number of scripts, the number of lists of limits, the limits
 unfoldable pub replay_checks : ReplayFields → List (ScriptFault × Bool)
 replay_checks replay =
     (Shape, are_of_version replay.setup.version replay.closings)

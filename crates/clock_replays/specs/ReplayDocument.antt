@@ -1,6 +1,6 @@
--- What a replay document means: a replay, or the fault of the first check that fails. (Own format and own order.)
---     replay_of value      what a JSON value means as a replay
---     document_replay bytes      what bytes mean as a replay
+-- What a replay document means: a replay, or its first fault (own format and order).
+--     replay_of value      the replay that a JSON value means, or its first fault
+--     document_replay bytes      the replay that bytes mean, or their first fault
 use Rattle.std.specs.Prelude.{ℕ, List, Result, Ok, Err}
 use Rattle.serde_json.specs.Data.{Data}
 use Rattle.clock_setup.specs.declared.fault.SetupFault.{SetupFault}
@@ -18,19 +18,19 @@ use Rattle.clock_replays.specs.ReplayChecks.{replay_checks}
 abbrev pub replay_with : SetupFields → ReplayParts → ReplayFields
 replay_with setup parts = record { setup = setup; scripts = parts.scripts; closings = parts.closings }
 
--- a set-up's fault is one of the document that holds it
+-- a fault of the set-up is one of the document
 abbrev pub in_replay : Result SetupFields SetupFault → Result SetupFields ScriptFault
 in_replay (Ok setup) = Ok setup
 in_replay (Err fault) = Err (Setup fault)
 
--- the shape, then the set-up, then the checks above
+-- the shape first, then the set-up, then the other checks
 unfoldable pub replay_of : Data → Result ReplayFields ScriptFault
 replay_of value = do
   parts ← or_fault Shape (parts_of value)
   setup ← in_replay (setup_of parts.setup)
   unless (first_fault (replay_checks (replay_with setup parts))) (replay_with setup parts)
 
--- what the bytes of a replay document mean
+-- the replay that bytes mean, or their first fault
 unfoldable pub document_replay : List ℕ → Result ReplayFields ScriptFault
 document_replay bytes = do
   value ← or_fault NotJson (json bytes)

@@ -1,7 +1,7 @@
--- The shape of a replay document: exactly these keys, each with a value of its kind. (Own format.)
---     sheet_of value      one sheet of a literal script, or none
+-- The shape of a replay document: exactly these keys, each with a value of its kind (own format).
+--     sheet_of value      a sheet of a literal script, or none
 --     script_of value, closing_from value      an item of "scripts" and of "closings"
---     parts_of value      the whole document, with its set-up not yet read and nothing compared
+--     parts_of value      the whole document, before its set-up is read or parts are compared
 use Rattle.std.specs.Prelude.{ℕ, List, Option, Some, None, option_and_then, option_map, is_some, if◌then◌else◌, codes}
 use Rattle.std.specs.Str.{bytes_eq}
 use Rattle.serde_json.specs.Data.{Data}
@@ -14,18 +14,18 @@ use Rattle.clock_replays.specs.declared.replay.Script.{Script}
 use Rattle.clock_replays.specs.declared.replay.Script.TheVariants.{Literal, Sincere}
 use Rattle.clock_replays.specs.declared.replay.Closing.{Closing}
 
--- what a replay document has: any value for the set-up, the scripts and the closings
+-- the parts of a replay document: any value for the set-up, the scripts, and the closings
 pub record ReplayParts : Type 0 where
   pub setup : Data
   pub scripts : List Script
   pub closings : List Closing
 
--- null where there is no sheet, or [BID,..]
+-- null for no sheet, or [BID,..]
 unfoldable pub sheet_of : Data → Option (Option (List Bid))
 sheet_of value =
     if is_some (as_null value) then Some None else option_map Some (option_and_then (each bid_of) (as_array value))
 
--- what the kind of a script asks for: "sheets":[SHEET,..], or "limits":[[N,..],..]
+-- the member that a kind requires: "sheets":[SHEET,..], or "limits":[[N,..],..]
 abbrev pub script_by_kind : List ℕ → Data → Option Script
 script_by_kind kind value =
     if bytes_eq kind (codes "literal") then option_map Literal (option_and_then (each sheet_of) (items_at (codes "sheets") value))
@@ -37,7 +37,7 @@ script_of value = do
   kind ← text_at (codes "kind") value
   if has_members 2 value then script_by_kind kind value else None
 
--- {"increment":N,"ties":[TIE,..]}, or with "increments":[N,..]; an object of two members has not both
+-- {"increment":N,"ties":[TIE,..]}, or with "increments":[N,..]; two members cannot have both
 unfoldable pub closing_from : Data → Option Closing
 closing_from value = do
   increments ← increments_of value

@@ -1,5 +1,5 @@
-//! Replay documents: a set-up, a script for each bidder, and the closings in order. What a document means, and its
-//! first fault.
+//! Replay documents, which describe a rehearsal: a set-up, a script for each bidder, and the
+//! closings in order. What a document means, and its first fault.
 #![tactic(auto)]
 
 mod first_version;

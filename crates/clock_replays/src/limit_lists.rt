@@ -1,4 +1,4 @@
-//! The limits of a sincere bidder, which are mostly none.
+//! The limits of a sincere script, packed, since a bidder has none for most products.
 ghost use Rattle.std.specs.Prelude.{◌≡◌, ℕ, ◌<◌, ◌≤◌, List, [], ◌++◌, ◌∷◌, length, replicate, slice_index, IfOk, OnOk};
 ghost use Rattle.clock_terms.specs.Demands.{row_of};
 ghost use Rattle.clock_replays.specs.{EndedRows.{rows_from}, KeptLimits.{limits_of}};
@@ -11,8 +11,9 @@ use clock_terms::Amounts;
 use std::alloc::Global;
 use std::marker::Model;
 
-/// The limits for so many products. Most have none: those of the others stand as rows in one list, by rising product,
-/// each with its product and with the place where it ends beside it.
+/// The limits for `count` products. Only products with limits have a row: `products` has their
+/// numbers, rising; `prices` has all rows, one after the other; `ends` has the index at which each
+/// ends.
 #[derive(Drop)]
 struct LimitRows {
     count: usize,
@@ -21,7 +22,7 @@ struct LimitRows {
     prices: Vec<u64>,
 }
 
-/// A product or a place in a list, in four bytes. One of 2^32 or above has no room.
+/// Returns a product's number or an index in four bytes. Returns `NoMemory` from 2^32 on.
 fn short_of(number: usize) -> Result<u32, NoMemory>
     ensures { IfOk result (λ short. short ≡ number) }
 {
@@ -29,7 +30,7 @@ fn short_of(number: usize) -> Result<u32, NoMemory>
 }
 
 impl LimitRows {
-    /// Those for no product.
+    /// Creates limits for no products. Allocates nothing.
     fn new(alloc: Global) -> LimitRows
         ensures none { kept_limits result ≡ [] }
         ensures kept { AreKept result }
@@ -42,7 +43,7 @@ impl LimitRows {
         }
     }
 
-    /// The lists of these limits, in memory that just holds them.
+    /// Copies the limits into memory of exactly their size. May return `NoMemory`.
     fn lists(&self, alloc: Global) -> Result<LimitLists, NoMemory>
         requires { AreKept self.now }
         ensures { IfOk result (λ lists. lists ≡ kept_limits self.now) }
@@ -56,7 +57,8 @@ impl LimitRows {
         Ok(LimitLists { rows })
     }
 
-    /// Adds that the next products, so many, have no limits.
+    /// Adds `count` products without limits. Returns `NoMemory` if there are too many products to
+    /// count.
     fn push_empty(&mut self, count: usize) -> Result<(), NoMemory>
         requires { AreKept self.old }
         ensures limits { OnOk result (kept_limits self.new ≡ kept_limits self.old ++ replicate count []) }
@@ -66,7 +68,8 @@ impl LimitRows {
         Ok(())
     }
 
-    /// Adds the limits for the next product.
+    /// Adds the limits for the next product. May return `NoMemory`, also for more products or
+    /// prices than four bytes can count.
     fn push(&mut self, limits: &[u64]) -> Result<(), NoMemory>
         requires { AreKept self.old }
         ensures limits { OnOk result (kept_limits self.new ≡ kept_limits self.old ++ limits.now ∷ []) }
@@ -84,8 +87,9 @@ impl LimitRows {
         Ok(())
     }
 
-    /// The place of the first row that is of no lesser product, or how many rows there are. It is looked for from a
-    /// place on where the row ahead of that is of a lesser product, and else from the first.
+    /// Returns the index of the first row that is not for a lower product, or the number of rows.
+    /// Searches from index `from` if the row before it is for a lower product, otherwise from the
+    /// first.
     #[inline(always)]
     fn place_of(&self, product: usize, from: usize) -> usize
         requires { AreKept self.now }
@@ -104,11 +108,10 @@ impl LimitRows {
     }
 }
 
-/// For each product a list of prices that never rises: the one at place k, from 0, is the price in whole dollars up to
-/// which block k is wanted.
+/// For each product a list of prices, in whole dollars: block k, from 0, is wanted up to price k.
 ///
-/// Contracts see the list of these lists, and nothing of how it is kept: a bidder has limits for few of the products,
-/// and only for those a row is kept. The rows stand by rising product.
+/// In contracts, it is the list of these lists, however it is packed. A bidder has limits for few
+/// products, and only these have a row.
 #[derive(Drop)]
 pub struct LimitLists {
     rows: LimitRows,
@@ -123,7 +126,7 @@ impl Model for LimitLists {
 }
 
 impl LimitLists {
-    /// The limits of some lists.
+    /// Packs these lists, one for each product. May return `NoMemory`.
     pub fn from_lists(alloc: Global, lists: &[Amounts]) -> Result<LimitLists, NoMemory>
         ensures { IfOk result (λ limits. limits ≡ lists.now) }
     {
@@ -134,15 +137,16 @@ impl LimitLists {
         rows.lists(alloc)
     }
 
-    /// How many lists there are.
+    /// Returns the number of products.
     pub fn count(&self) -> usize
         ensures { result ≡ length self.now }
     {
         self.rows.count
     }
 
-    /// The limits for a product. Where products are asked for by rising number they are found sooner from where the
-    /// last ones were: that place is left in `from`, which is 0 at first. Any number there gives the same limits.
+    /// Returns the limits for `product`. Requires a product of these lists. Start with 0 in `from`,
+    /// and pass it again for the next product: this is fast for rising products. The number does
+    /// not change the result.
     #[inline(always)]
     pub fn list(&self, product: usize, from: &mut usize) -> &[u64]
         requires { product < length self.now }
@@ -155,7 +159,7 @@ impl LimitLists {
         if place == products.len() || products[place] as usize != product {
             return &[];
         }
-        // A row begins where the one before it ends.
+        // a row begins where the one before it ends
         let ends = rows.ends.as_slice();
         let start = if place == 0 {
             0
@@ -166,7 +170,8 @@ impl LimitLists {
     }
 }
 
-/// The limits that are next. Most are empty, and so all those are passed at once that follow a list.
+/// Reads the next lists of limits. Most are empty; all empty lists that follow another are read at
+/// once.
 pub(crate) fn limit_lists(alloc: Global, scan: &mut Scan<'_>) -> Result<LimitLists, ScanStop>
     ensures value { IfOk result (λ limits. Reads 2 scan.old (rows limits) scan.new) }
     ensures shorter { OnOk result (length scan.new < length scan.old) }

@@ -1,5 +1,5 @@
-//! How a replay document is read: by bytes, where no text has an escape and each number is written in digits alone, and
-//! else by a tree of values, which decides every text.
+//! Reading replay documents: byte by byte, if no text has an escape and each number is written in
+//! digits only, and otherwise by a tree of JSON values, which decides every text.
 ghost use Rattle.std.specs.{Prelude.{◌≡◌, ◌≢◌, ◌&&◌, Ok, IfOk, IfErr, true, Some, length, nat_le}, List.{list_all}};
 ghost use Rattle.serde_json.specs.View.{view};
 ghost use Rattle.clock_terms.specs.{Faults.{IsRefusal, first_fault, unless}, Limits.{IsSetup}};
@@ -21,7 +21,7 @@ use clock_setup::{HeldSetup, Product, Setup, SetupFault, setup_of};
 use serde_json::Value;
 use std::alloc::Global;
 
-/// A sheet of a literal script is read as a list of bids, or as `null` where there is none.
+/// Reads a sheet of a literal script: a list of bids, or `null` for no sheet.
 #[derive(Drop)]
 struct SheetReader;
 
@@ -61,7 +61,7 @@ impl<'v> ValueReader<'v> for SheetReader {
     }
 }
 
-/// What was found of a script so far.
+/// The members of a script that were found so far.
 #[derive(Default, Drop)]
 struct FoundScript<'v> {
     kind: Option<&'v str>,
@@ -103,7 +103,7 @@ impl<'v> ScannedMembers<'v> for FoundScript<'v> {
     }
 }
 
-/// What a bidder does is read by its kind.
+/// Reads a script by its kind.
 #[derive(Drop)]
 struct ScriptReader;
 
@@ -130,7 +130,7 @@ impl<'v> ValueReader<'v> for ScriptReader {
     }
 }
 
-/// How a round is closed is read from a closing that names no round, or from a value under two keys.
+/// Reads how a round is closed: a closing that does not name its round.
 #[derive(Drop)]
 struct ClosingReader;
 
@@ -170,7 +170,7 @@ impl<'v> ValueReader<'v> for ClosingReader {
     }
 }
 
-/// What was found of a replay so far.
+/// The members of a replay document that were found so far.
 #[derive(Default, Drop)]
 struct FoundReplay {
     closings: Option<Closings>,
@@ -210,7 +210,7 @@ impl<'v> ScannedMembers<'v> for FoundReplay {
     }
 }
 
-/// Whether each closing has the form of the version.
+/// Returns whether each closing has the form of the set-up's version.
 fn are_of_version(version: u64, closings: &[Closing]) -> bool
     ensures { result ≡ rules.are_of_version version closings.now }
 {
@@ -219,7 +219,7 @@ fn are_of_version(version: u64, closings: &[Closing]) -> bool
         .all(|closing| is_of_version(version, &closing.increments))
 }
 
-/// Whether each sincere script has a list of limits for each of so many products.
+/// Returns whether each sincere script has `count` lists of limits.
 fn have_lists(count: usize, scripts: &[Script]) -> bool
     ensures { result ≡ list_all (rules.has_lists count) scripts.now }
 {
@@ -229,14 +229,15 @@ fn have_lists(count: usize, scripts: &[Script]) -> bool
     })
 }
 
-/// Whether limits never rise and are at most as many as a product's cap.
+/// Returns whether limits never rise, and are no more than the product's cap.
 fn are_limits(product: &Product, limits: &[u64]) -> bool
     ensures { result ≡ (nat_le (length limits.now) product.now.cap && rules.never_rises limits.now) }
 {
     limits.len() as u64 <= product.cap && limits.is_sorted_by(|earlier, later| later <= earlier)
 }
 
-/// The first fault of a bidder's script: the least product for which its limits are none.
+/// Returns the first fault of a bidder's script: the first product whose limits rise or are too
+/// many. Requires that a sincere script has a list for each product.
 #[tactic(auto, unfolding(crate::specs::ReplayChecks::script_checks))]
 fn script_fault(bidder: u64, products: &[Product], script: &Script) -> Option<ScriptFault>
     requires { rules.has_lists (length products.now) script.now ≡ true }
@@ -255,12 +256,12 @@ fn script_fault(bidder: u64, products: &[Product], script: &Script) -> Option<Sc
     None
 }
 
-/// The first fault of a replay whose parts have their shape and whose set-up is one.
+/// Returns the first fault of a replay document that has its shape and a valid set-up.
 #[tactic(auto, unfolding(crate::specs::ReplayChecks::replay_checks))]
 fn replay_fault(setup: &Setup, scripts: &[Script], closings: &[Closing]) -> Option<ScriptFault>
     ensures fault { result ≡ first_fault (rules.replay_checks
         (record { setup = setup.now; scripts = scripts.now; closings = closings.now })) }
-    // For the caller, who has no call of its own that tells it.
+    // for the caller, which makes no other call that states this
     ensures limits { IsSetup setup.now }
     ensures held { result ≢ Some (ScriptFault.Setup SetupFault.NoMemory) }
 {
@@ -282,7 +283,8 @@ fn replay_fault(setup: &Setup, scripts: &[Script], closings: &[Closing]) -> Opti
     None
 }
 
-/// The replay of a set-up, or the first fault of what is looked at behind it.
+/// Makes the replay of these parts, or returns the first fault of the checks after those of the
+/// set-up.
 fn judged(setup: Setup, scripts: Scripts, closings: Closings) -> Result<Replay, ScriptFault>
     ensures ok { let all : ReplayFields = record { setup = setup; scripts = scripts; closings = closings } in
         IfOk result (λ replay. unless (first_fault (rules.replay_checks all)) all ≡ Ok replay) }
@@ -300,7 +302,8 @@ fn judged(setup: Setup, scripts: Scripts, closings: Closings) -> Result<Replay, 
     }
 }
 
-/// The replay that a JSON value means, or its first fault.
+/// Returns the replay that a JSON value means, or its first fault. May return `NoMemory`, which
+/// then replaces any other result.
 fn replay_in(alloc: Global, value: &Value) -> Result<Replay, ScriptFault>
     ensures ok { IfOk result (λ replay. replay_of (view value.now) ≡ Ok replay) }
     ensures err { IfErr result (IsRefusal ScriptFault.NoMemory (replay_of (view value.now))) }
@@ -319,17 +322,18 @@ fn replay_in(alloc: Global, value: &Value) -> Result<Replay, ScriptFault>
     }
 }
 
-/// The replay that the bytes of a document mean, or the document's first fault.
+/// Reads a replay document. Errors: the first fault, in the order of [`ScriptFault`]. May return
+/// `NoMemory`, which then replaces any other result.
 ///
-/// The document is `{"closings":[CLOSING,..],"scripts":[SCRIPT,..],"setup":SETUP}` with a script for each bidder and a
-/// set-up as [`read_setup`](clock_setup::read_setup) reads it. A closing is `{"increment":N,"ties":[[B,P,N],..]}`, in
-/// version 2 with `"increments":[N,..]` in place of `"increment"`. A script is
-/// `{"kind":"literal","sheets":[SHEET,..]}`, where a sheet is null or a list of bids
-/// `{"price":N,"product":N,"quantity":N}`, or `{"kind":"sincere","limits":[[N,..],..]}` with a list of limits for each
-/// product, which never rises and is at most as long as the product's cap.
+/// The document is `{"closings":[CLOSING,..],"scripts":[SCRIPT,..],"setup":SETUP}`:
 ///
-/// [`ScriptFault`] has the faults in the order in which they are looked at. Nothing is kept of a document that is
-/// refused.
+/// - SETUP is as [`read_setup`](clock_setup::read_setup) reads it.
+/// - There is a SCRIPT for each bidder. It is `{"kind":"literal","sheets":[SHEET,..]}` or
+///   `{"kind":"sincere","limits":[[N,..],..]}`.
+/// - A SHEET is null or a list of bids `{"price":N,"product":N,"quantity":N}`.
+/// - There are limits for each product. They never rise, and are no more than its cap.
+/// - A CLOSING is `{"increment":N,"ties":[[B,P,N],..]}`, in version 2 with `"increments":[N,..]`
+///   instead of `"increment"`.
 #[tactic(auto, unfolding(crate::specs::ReplayDocument::document_replay))]
 pub fn read_replay(alloc: Global, bytes: &[u8]) -> Result<Replay, ScriptFault>
     ensures ok { IfOk result (λ replay. document_replay bytes.now ≡ Ok replay) }

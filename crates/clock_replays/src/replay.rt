@@ -14,44 +14,48 @@ use thiserror::Error;
 /// The bids of a sheet, in the order given.
 pub type BidList = Items<Bid>;
 
-/// The sheets of a bidder, by rising round from round 1: the bids of each, or none where it puts no sheet.
+/// The sheets of a bidder, from round 1: the bids of each, or none without a sheet.
 pub type SheetList = Items<Option<BidList>>;
 
-/// What a scripted bidder does in each round.
+/// What a scripted bidder submits in each round.
 #[derive(Drop)]
 pub enum Script {
-    /// It puts the sheet of the round, if there is one. Rounds past the list have none.
+    /// The sheet of the round, if there is one. Rounds after the last sheet have none.
     Literal(SheetList),
-    /// It puts a sheet in every round, which asks for the blocks that are worth more to it than their price.
+    /// A sheet in every round, made from the prices up to which each block is wanted.
     Sincere(LimitLists),
 }
 
-/// A script for each bidder, in the order of the bidders' numbers.
+/// A script for each bidder, in the order of the set-up.
 pub type Scripts = Items<Script>;
 
-/// The closing of a round by the operator. Whether its increments and tie numbers are good is not looked at before it
-/// is made.
+/// How the operator closes a round. Its increments and tie-breaking numbers are checked only at the
+/// closing.
 #[derive(Drop)]
 pub struct Closing {
-    /// By how many percent prices rise, in the form of the set-up's version.
+    /// The increments, in percent, in the form of the set-up's version.
     pub increments: Increments,
-    /// The tie numbers of the round, in the order given.
+    /// The tie-breaking numbers of the round, in the order given.
     pub ties: Items<Tie>,
 }
 
-/// The closings by rising round, from round 1.
+/// The closings, from round 1.
 pub type Closings = Items<Closing>;
 
-/// An auction to be played: its set-up, what each bidder does, and how each round is closed. The type keeps that there
-/// is a script for each bidder; that a sincere one has for each product a list of limits which never rises and is at
-/// most as long as the product's cap; and that the closings have the form of the set-up's version.
+/// A rehearsal: its set-up, a script for each bidder, and how each round is closed. The type
+/// ensures that:
+///
+/// - there is a script for each bidder;
+/// - a sincere script has a list of limits for each product, which never rises and is no longer
+///   than the product's cap;
+/// - the closings have the form of the set-up's version.
 #[derive(Drop)]
 pub struct Replay {
-    /// What the auction is set up with.
+    /// The set-up of the auction.
     pub setup: Setup,
-    /// One for each bidder.
+    /// A script for each bidder.
     pub scripts: Scripts,
-    /// One for each round; there may be more of them than rounds, or fewer.
+    /// A closing for each round. There may be more of them than rounds, or fewer.
     pub closings: Closings,
 }
 
@@ -63,28 +67,28 @@ impl Model for Replay {
     ghost invariant = { λ r. IsReplay (record { setup = r.setup; scripts = r.scripts; closings = r.closings }) };
 }
 
-/// Why a replay document is refused: the first of its faults. A fault of the set-up is never `NoMemory`.
+/// Why a replay document is refused: its first fault. A fault of the set-up is never `NoMemory`.
 #[derive(Clone, Copy, Debug, PartialEq, Eq, Error)]
 pub enum ScriptFault {
-    /// The bytes are no JSON value.
+    /// The bytes are not a JSON value.
     #[error("not a JSON value")]
     NotJson,
-    /// The document is of another shape. Two parts of the shape are looked at only once the set-up is known: that the
-    /// closings have the form of its version, before the scripts are counted, and that a sincere script has a list of
-    /// limits for each product, after that.
+    /// The document has another shape. Two parts of its shape are checked only after the set-up. First,
+    /// the closings must have the form of its version. Then, after the count of scripts, each sincere
+    /// script must have a list of limits for each product.
     #[error("not of the shape of a replay")]
     Shape,
-    /// The value under `setup` is no set-up.
+    /// The value under `setup` is not a set-up.
     #[error("the set-up is refused")]
     Setup(SetupFault),
     /// There is not one script for each bidder.
     #[error("not one script for each bidder")]
     Scripts,
-    /// The limits of a bidder for a product rise somewhere, or are more than the product's cap: of all such the least
-    /// bidder, and its least product.
+    /// The limits of a bidder for a product rise, or are more than its cap: the first such bidder,
+    /// and its first such product.
     #[error("limits rise or are more than the cap")]
     Limits(u64, u64),
-    /// There was no memory. It stands in place of any other answer.
+    /// Out of memory. Replaces any other result.
     #[error("out of memory")]
     NoMemory,
 }

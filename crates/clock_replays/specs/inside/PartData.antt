@@ -1,6 +1,6 @@
--- The values of JSON that the parts of a replay document are, in serde_json's terms.
+-- The parts of a replay document as the JSON values that the reader by bytes finds.
 --     script_fields, found_script      the keys of a script, each with what was found
---     sheet_data, script_data, closing_data      a whole one, as a value
+--     sheet_data, script_data, closing_data      a whole part, as a value
 use Rattle.std.specs.Prelude.{ℕ, List, [], ◌∷◌, map, Option, Some, None, option_map, codes}
 use Rattle.serde_json.specs.Data.{Data, null, string, object, array}
 use Rattle.clock_json.specs.Reading.{rows, items_of, Fields, members_of}
@@ -38,6 +38,6 @@ abbrev pub script_data : Script → Data
 script_data (Literal sheets) = object (members_of (script_fields (Some (codes "literal")) None (Some sheets)))
 script_data (Sincere limits) = object (members_of (script_fields (Some (codes "sincere")) (Some limits) None))
 
--- a closing as a value, which names no round
+-- a closing as a value, without its round
 abbrev pub closing_data : Closing → Data
 closing_data closing = close_value closing.increments None closing.ties

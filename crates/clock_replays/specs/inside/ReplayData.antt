@@ -1,4 +1,4 @@
--- The values of JSON that whole replay documents are, as the quick reader finds them.
+-- Whole replay documents as the JSON values that the reader by bytes finds.
 use Rattle.std.specs.Prelude.{List, [], ◌∷◌, map, Option, Some, option_map, codes}
 use Rattle.serde_json.specs.Data.{Data, object, array}
 use Rattle.clock_json.specs.Reading.{items_of, Fields, members_of}
@@ -9,7 +9,7 @@ use Rattle.clock_replays.specs.declared.replay.Closing.{Closing}
 use Rattle.clock_replays.specs.declared.read.FoundReplay.{FoundReplay}
 use Rattle.clock_replays.specs.inside.PartData.{script_data, closing_data}
 
--- a replay's keys, each with its value where one was found
+-- a replay's keys, each with its value if one was found
 abbrev pub replay_fields : Option (List Closing) → Option (List Script) → Option Data → Fields
 replay_fields closings scripts setup =
     (codes "closings", option_map (λ list. array (items_of (map closing_data list))) closings)
@@ -17,11 +17,11 @@ replay_fields closings scripts setup =
     ∷ (codes "setup", setup)
     ∷ []
 
--- what was found of a replay
+-- a replay's keys, each with what was found
 abbrev pub found_replay : FoundReplay → Fields
 found_replay found = replay_fields found.closings found.scripts (option_map (λ held. setup_data held.setup) found.held)
 
--- a replay document as a value, over the value of its set-up
+-- a replay document as a value, given the value of its set-up
 abbrev pub replay_data : Data → List Script → List Closing → Data
 replay_data setup scripts closings = object (members_of (replay_fields (Some closings) (Some scripts) (Some setup)))
 

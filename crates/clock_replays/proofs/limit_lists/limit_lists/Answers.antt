@@ -1,3 +1,4 @@
+-- Each turn of the loop reads a list and the empty ones that follow it.
 use Rattle.std.proofs.Common.{◌≡◌, ◌∷◌, ◌++◌, [], List, ℕ, length, map, replicate, sym, ap, subst, ◌∙◌, arith}
 use Rattle.clock_json.specs.Reading.{Token, numbers, rows, Reads}
 use Rattle.clock_json.specs.inside.Reading.{HasItems}

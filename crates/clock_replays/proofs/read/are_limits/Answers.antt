@@ -1,3 +1,4 @@
+-- Comparing each price with the next decides whether none is above an earlier one.
 use Rattle.std.proofs.Common.{length, nat_le, rules}
 use Rattle.std.proofs.lemmas.Bool.{le-leb}
 use Rattle.std.proofs.lemmas.List.Sorted.{answers_always}

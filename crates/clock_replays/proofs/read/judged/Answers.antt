@@ -1,3 +1,4 @@
+-- A document that passes the checks is a replay.
 use Rattle.std.proofs.Common.{◌≡◌, Some, None, sym, ap}
 use Rattle.clock_terms.specs.Faults.{first_fault, unless}
 use Rattle.clock_replays.specs.Replays.{ReplayFields}

@@ -1,3 +1,4 @@
+-- If the reader by bytes reads a replay, the document means it, up to the checks after the set-up.
 use Rattle.std.proofs.Common.{◌≡◌, Ok, IfOk, IfErr, sym, subst}
 use Rattle.clock_terms.specs.Faults.{IsRefusal}
 use Rattle.clock_replays.specs.declared.replay.ScriptFault.TheVariants.{NoMemory}

@@ -1,3 +1,4 @@
+-- The checks in their order; the loop makes those of one script each turn.
 use Rattle.std.proofs.Common.{◌≡◌, true, length, None, sym, ap, ◌∙◌, rules}
 use Rattle.std.specs.List.{list_all}
 use Rattle.clock_terms.specs.Faults.{first_fault}

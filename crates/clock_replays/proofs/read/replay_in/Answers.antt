@@ -1,3 +1,4 @@
+-- The first part that is missing or refused decides the fault.
 use Rattle.std.proofs.Common.{◌≡◌, ◌≢◌, true, false, Some, None, Ok, Err, IfOk, IfErr, ap, sym, subst, ◌∙◌, rules}
 use Rattle.std.specs.Prelude.{codes}
 use Rattle.std.proofs.lemmas.Result.{err_from_is_err_and}

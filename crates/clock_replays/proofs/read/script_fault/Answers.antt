@@ -1,3 +1,4 @@
+-- Each turn of the loop checks the limits for one product.
 use Rattle.std.proofs.Common.{◌≡◌, ◌<◌, ◌≤◌, true, false, length, sym, ◌∙◌, rules}
 use Rattle.clock_replays.proofs.CheckLaws.{are_limits, limits_failed, limits_passed, limits_end}
 use Rattle.clock_replays.proofs.read.script_fault.Goals as goal

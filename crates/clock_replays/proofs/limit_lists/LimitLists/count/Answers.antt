@@ -1,3 +1,4 @@
+-- There is a list for each product.
 use Rattle.std.proofs.Common.{List, ℕ, length, sym, ap, ◌∙◌}
 use Rattle.std.proofs.lemmas.List.FromFn.{length-map-range_with_len}
 use Rattle.clock_replays.specs.EndedRows.{rows_from}

@@ -1,3 +1,4 @@
+-- Each turn of the loop adds one list.
 use Rattle.std.proofs.Common.{◌≡◌, ◌∷◌, ◌++◌, [], List, ℕ, take, get_or, sym, ap, ◌∙◌}
 use Rattle.std.proofs.lemmas.List.{take_more}
 use Rattle.clock_replays.proofs.limit_lists.LimitLists.from_lists.Goals as goal

@@ -1,3 +1,4 @@
+-- The search finds the row of the product, if it has one, and the ends give its prices.
 use Rattle.std.proofs.Common.{◌≡◌, ◌-◌, ◌<◌, ◌≤◌, List, ℕ, [], ◌∷◌, length, get_or, take, drop, sym, ap, ◌∙◌, arith, rules}
 use Rattle.std.proofs.lemmas.List.FromFn.{length-map-range_with_len, get_or-map-range_with_len}
 use Rattle.clock_terms.specs.Demands.{row_of}
@@ -20,7 +21,7 @@ listed rows lists product same below =
     let within : product < rows.count = omega (arith, length-map-range_with_len limits 0 rows.count, ap length same, below) in
     sym (get_or-map-range_with_len limits 0 rows.count product product [] within (omega arith)) ∙ ap (λ (all : List (List ℕ)). row_of all product) same
 
--- the ends of a row, where the lists are read as slices
+-- the ends of a row, read from slices
 bounds : {products_read products ends_read ends prices_read prices : List ℕ} (place : ℕ) → products_read ≡ products → ends_read ≡ ends → prices_read ≡ prices
     → place ≤ length products → (place ≡ length products_read → ⊥) → length products ≡ length ends → AreEnds 0 ends (length prices)
     → (get_or (0 ∷ ends_read) place 0 ≤ get_or ends_read place 0) × (get_or ends_read place 0 ≤ length prices_read)

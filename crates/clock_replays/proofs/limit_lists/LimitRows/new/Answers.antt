@@ -1,3 +1,4 @@
+-- By computation, for no rows.
 use Rattle.std.proofs.Common.{length, sym, ap, ◌∙◌}
 use Rattle.clock_replays.proofs.EndedRowLaws.{no_rows}
 use Rattle.clock_replays.proofs.KeptLimitLaws.{rising_none}

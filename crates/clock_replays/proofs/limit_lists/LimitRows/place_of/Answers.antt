@@ -1,3 +1,4 @@
+-- If the row before `from` is for a lower product, so are all before it.
 use Rattle.std.proofs.Common.{◌-◌, ◌<◌, ◌≤◌, ℕ, List, length, get_or, sym, subst, arith, rules}
 use Rattle.std.specs.List.{AllWithin}
 use Rattle.clock_replays.specs.inside.KeptLimits.{AreRising}

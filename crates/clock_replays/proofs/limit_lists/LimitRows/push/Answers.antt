@@ -1,3 +1,4 @@
+-- One more row, for the next product.
 use Rattle.clock_replays.proofs.KeptLimitLaws.{row_pushed}
 use Rattle.clock_replays.proofs.limit_lists.LimitRows.push.Goals as goal
 

@@ -1,3 +1,4 @@
+-- Products without a row have no limits.
 use Rattle.std.proofs.Common.{◌≡◌, ◌+◌, ap, ◌∙◌, arith, rules}
 use Rattle.clock_replays.specs.EndedRows.{rows_from}
 use Rattle.clock_replays.specs.KeptLimits.{limits_of}

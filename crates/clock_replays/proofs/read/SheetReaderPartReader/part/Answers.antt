@@ -1,3 +1,4 @@
+-- A `null` shortens the rest of the text.
 use Rattle.std.proofs.Common.{◌≡◌, subst}
 use Rattle.std.specs.Bool.{MatchBool}
 use Rattle.serde_json.specs.Data.{null}
