@@ -73,9 +73,9 @@ pub enum ScriptFault {
     /// The bytes are not a JSON value.
     #[error("not a JSON value")]
     NotJson,
-    /// The document has another shape. Two parts of its shape are checked only after the set-up. First,
-    /// the closings must have the form of its version. Then, after the count of scripts, each sincere
-    /// script must have a list of limits for each product.
+    /// The document has another shape. Two parts of its shape are checked only after the set-up.
+    /// First, the closings must have the form of its version. Then, after the count of scripts,
+    /// each sincere script must have a list of limits for each product.
     #[error("not of the shape of a replay")]
     Shape,
     /// The value under `setup` is not a set-up.

@@ -1,4 +1,5 @@
--- The requests of a group: they wait, their heads come, then their bodies.
+-- The requests of a group, sent heads first and then bodies, have the replies that they would have one after the other.
+-- A connection changes no other, and a head by itself changes no house.
 use Rattle.std.proofs.Common.{◌≡◌, ◌≢◌, ℕ, ◌+◌, ◌<◌, ◌≤◌, Bool, true, false, eqb, List, [], ◌∷◌, ◌++◌, length, drop, get_or, ◌⊎◌, inl, inr, Some}
 use Rattle.std.proofs.Common.{Result, Ok, Err, refl, sym, ◌∙◌, ap, subst, eqb-true, true≢false, arith}
 use Rattle.std.specs.Prelude.{if◌then◌else◌, nat_lt}
@@ -26,7 +27,7 @@ use Rattle.clock_sim.proofs.StepLaws.{Texts, Step, IsOnWay, next_at, goes_on, st
 conn_at : List Request → ℕ → Request → Conn
 conn_at group k other = (get_or group k other).conn
 
--- the connections of two places are two
+-- the connections at two indexes are different
 two_conns : (group : List Request) (k i : ℕ) (other : Request) → AreApart group → k < length group → i < length group → k ≢ i
     → (get_or group k other).conn ≢ (get_or group i other).conn
 two_conns group k i other apart below here differs = λ same.
@@ -36,7 +37,7 @@ two_conns group k i other apart below here differs = λ same.
       | inr more ↦ (let le : i ≤ k = grind (arith, nat_tests) in let lt : i < k = omega arith in let before = apart i k other lt below in omega arith)
     ]
 
--- only the connection at one place has changed
+-- only the connection at one index has changed
 pub one_changed : (group : List Request) (i from next : ℕ) (one : Request) (old new : ConnectionFields) (text after : ℕ → Request → List ℕ)
     → AreApart group → i < length group → one ≡ get_or group i one → KeepsOthers old new one.conn → from ≤ next → StandFrom from old group text
     → ((k : ℕ) (other : Request) → next ≤ k → k ≢ i → after k other ≡ text k other) → (next ≤ i → text_of new one.conn ≡ Some (after i one))
@@ -57,7 +58,7 @@ one_changed group i from next one old new text after apart here is others le sta
 
 -- ---- heads
 
--- the heads up to a place have come
+-- the heads before an index were sent
 abbrev pub heads_to : ℕ → ℕ → Request → List ℕ
 heads_to i k one = if nat_lt k i then one.head else []
 
@@ -88,13 +89,13 @@ head_came group i one initial old new fed is_group here is stand is_fed =
 
 -- ---- bodies
 
--- what came over the connection at a place
+-- the bytes of the connection at an index
 pub head_at : (connections : ConnectionFields) (group : List Request) (i : ℕ) (one : Request) → i < length group → one ≡ get_or group i one
     → StandFrom i connections group (λ k w. w.head) → text_of connections one.conn ≡ Some one.head
 head_at connections group i one here is stand =
     subst (λ (w : Request). text_of connections w.conn ≡ Some w.head) (sym is) (stand i one (omega arith) here)
 
--- the others keep their heads
+-- the others still have their heads
 pub heads_kept : (old new : ConnectionFields) (group : List Request) (i : ℕ) (one : Request) → AreApart group → i < length group → one ≡ get_or group i one
     → StandFrom i old group (λ k w. w.head) → KeepsOthers old new one.conn → StandFrom (i + 1) new group (λ k w. w.head)
 heads_kept old new group i one apart here is stand others =
@@ -116,14 +117,14 @@ module _ (whole : Step) (group : List Request) (i : ℕ) (one : Request) (initia
       goes_on whole (one_step initial.setup one) (after_group initial.setup (drop (i + 1) group)) initial now next done before_body
       (subst (λ (setup : SetupFields). MakesStep (one_step setup one) now next (Ok done)) before.setup made)
 
-  -- one is refused
+  -- a request is refused
   pub body_refused : {U T : Type 0} (fault : SimFault) → MakesStep {T = U} (one_step now.setup one) now next (Err fault)
       → MakesStep {T = T} whole initial next (Err fault)
   body_refused {U = U} {T = T} fault made =
       stops {U = U} {T = T} whole (one_step initial.setup one) (after_group initial.setup (drop (i + 1) group)) initial now next fault before_body
       (subst (λ (setup : SetupFields). MakesStep {T = U} (one_step setup one) now next (Err fault)) before.setup made)
 
--- ---- one more waits
+-- ---- one more request waits
 
 pub ended_ok : (answer : Result Texts SimFault) → answer >>= (λ sent. Ok sent) ≡ answer
 ended_ok (Ok sent) = refl

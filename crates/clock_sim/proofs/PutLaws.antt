@@ -1,4 +1,4 @@
--- A sheet closes no round: a text that begins with the method PUT asks for no closing.
+-- A sheet closes no round: a text that begins with the method PUT is no closing, whatever it is otherwise.
 use Rattle.std.proofs.Common.{◌≡◌, ℕ, suc, Bool, true, false, List, [], ◌∷◌, take, drop, Option, Some, None, Result, Ok, Err, codes, refl, sym, ap, subst}
 use Rattle.std.specs.Prelude.{option_map, if◌then◌else◌}
 use Rattle.clock_terms.specs.Limits.{SetupFields}
@@ -30,7 +30,7 @@ use Rattle.clock_scripts.specs.ScriptedRequests.{scripted_put}
 
 -- ---- the method of a head
 
--- the word and the space that the text begins with
+-- the text begins with this word and space
 abbrev begun : List ℕ → List ℕ
 begun rest = 80 ∷ 85 ∷ 84 ∷ 32 ∷ rest
 
@@ -80,7 +80,7 @@ ended_or_not : (short : Bool) → IsPutFraming (if short then framed_as.incomple
 ended_or_not true = tt
 ended_or_not false = tt
 
--- the head ends behind its method
+-- the head ends after its method
 abbrev behind : Option ℕ → Option ℕ
 behind found = option_map suc (option_map suc (option_map suc (option_map suc found)))
 
@@ -92,13 +92,13 @@ begun_framing : (rest : List ℕ) → IsPutFraming (framing (begun rest))
 unfolding framing
 begun_framing rest = at_end rest (head_length (take 16380 rest))
 
--- ---- what is asked for
+-- ---- what the request asks for
 
 abbrev IsNoClosing : Ask → Type 0
 IsNoClosing (asked.close body) = ⊥
 IsNoClosing _ = Unit {0}
 
--- the command leaves the closed rounds
+-- the command does not change the closed rounds
 abbrev Leaves : SetupFields → Command → Type 0
 Leaves setup command = (auction : Auction) → (after_command setup auction command).closed ≡ auction.closed
 

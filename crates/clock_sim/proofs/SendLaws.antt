@@ -1,4 +1,4 @@
--- A request that comes in pieces is answered as its whole text is.
+-- A request that arrives in pieces has the same reply as its whole text: what is decided at its head stays decided.
 use Rattle.std.proofs.Common.{◌≡◌, ℕ, false, List, ◌∷◌, ◌++◌, Option, ◌⊎◌, inl, inr, sym, ◌∙◌, ap, subst}
 use Rattle.std.specs.Prelude.{option_and_then}
 use Rattle.clock_house.specs.House.{HouseFields, StandsFor}
@@ -14,7 +14,7 @@ use Rattle.clock_front.specs.Hubs.{HubFields, IsFed, IsAnswered}
 use Rattle.clock_connections.specs.declared.connections.Conn.{Conn}
 use Rattle.clock_front.specs.declared.hub.Fed.TheVariants.{More}
 
--- a piece came, and then the input ended
+-- a piece arrived, and then the input ended
 pub ended_after : (old mid new : HubFields) (conn : Conn) (text : List ℕ) (reply : Answer) → IsFed old mid conn text More → IsAnswered mid new conn text reply
     → IsAnswered old new conn text reply
 ended_after old mid new conn text reply fed answered = record {
@@ -32,14 +32,14 @@ ended_after old mid new conn text reply fed answered = record {
 abbrev request_from : Option Head → Framing → Request
 request_from found is = record { token = option_and_then (λ head. head.token) found; ask = ask_of is }
 
--- what is decided of the first piece is asked for by the whole text
+-- if the first piece is decided, the whole text is the same request
 same_request : IsDecidedOnce → HasOneHead → (head body : List ℕ) → IsDecided head → request_of (head ++ body) ≡ request_of head
 unfolding request_of
 same_request once one_head head body decided =
     ap (λ (found : Option Head). request_from found (framing (head ++ body))) (one_head head body decided)
     ∙ ap (λ (is : Framing). request_from (head_in head) is) (once head body decided)
 
--- a request that is answered at its first piece is answered as its whole text is
+-- a request that is answered at its first piece has the reply of its whole text
 pub answered_early : IsDecidedOnce → HasOneHead → (head body : List ℕ) (answer : Answer) (old new : HouseFields) → needs_more head ≡ false
     → AnswersText head answer old new → AnswersText (head ++ body) answer old new
 answered_early once one_head head body answer old new less answered texts stands =

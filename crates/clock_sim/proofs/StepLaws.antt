@@ -1,4 +1,5 @@
--- Steps of a rehearsal, one after the other.
+-- Steps of a rehearsal, one after the other: if each is made, so is the whole, and the first fault is that of the
+-- whole.
 use Rattle.std.proofs.Common.{◌≡◌, ◌≢◌, ℕ, ◌+◌, ◌<◌, ◌≤◌, Bool, true, false, List, [], ◌∷◌, length, drop, get_or, Option, None, Result, Ok, Err}
 use Rattle.std.proofs.Common.{refl, sym, ◌∙◌, ap, subst, inl, inr}
 use Rattle.std.specs.Prelude.{MatchResult, OnOk, IfErr, if◌then◌else◌}
@@ -27,7 +28,7 @@ Texts = List (List ℕ)
 abbrev pub Step : Type 0
 Step = Texts → Result Texts SimFault
 
--- what is left of a list begins with the item at its place
+-- what is left of a list begins with the item at its index
 pub next_at : {A : Type 0} (list : List A) (i : ℕ) (one : A) → i < length list → one ≡ get_or list i one → drop i list ≡ one ∷ drop (i + 1) list
 next_at {A = A} list i one below is = drop_more list i one below ∙ ap (λ (first : A). first ∷ drop (i + 1) list) (sym is)
 
@@ -51,7 +52,7 @@ request_done text answer old new sender round answered is texts stands =
       | inr none ↦ absurd (let same : Memory ≡ Done = sym (ap (λ (one : Answer). one.code) none.0.is) ∙ is in cc)
     ]
 
--- a request whose reply is another one, but for want of memory
+-- a request with another reply, except out of memory
 pub request_refused : (text : List ℕ) (answer : Answer) (old new : HouseFields) (sender : Option ℕ) (round : ℕ) → AnswersText text answer old new
     → answer.code ≢ Done → answer.code ≢ Memory → (texts : Texts) → StandsForTexts texts old
     → after_request old.setup texts sender round text ≡ Err (refused_by sender round answer.code)
@@ -82,7 +83,7 @@ sent text answer code old new sender round result answered same is told = record
   comes = sent_by text answer old new sender round result answered (subst (λ one. IsTold one (refused_by sender round one) result) is told);
 }
 
--- where there was no memory, nothing is told
+-- out of memory, nothing is claimed
 pub out_of_memory : {T : Type 0} (step : Step) (old new : HouseFields) → new.setup ≡ old.setup → MakesStep {T = T} step old new (Err NoMemory)
 out_of_memory step old new same = record { setup = same; comes = λ texts stands other. absurd (other refl) }
 
@@ -104,7 +105,7 @@ round_closed old new closing text round result is at sent = record {
       subst P same (sent.comes texts stands);
 }
 
--- ---- steps in turn
+-- ---- one step after the other
 
 -- a step that is made, and one after it
 pub and_then : {U T : Type 0} (first second : Step) (old mid new : HouseFields) (done : U) (result : Result T SimFault)
@@ -117,7 +118,7 @@ and_then first second old mid new done result one two = record {
       subst P (sym made.is) (two.comes made.texts made.stands);
 }
 
--- where the first step has a fault, there is none after it
+-- if the first step has a fault, the second is not made
 pub no_further : {U T : Type 0} (first second : Step) (old new : HouseFields) (fault : SimFault)
     → MakesStep {T = U} first old new (Err fault) → MakesStep {T = T} (λ texts. first texts >>= second) old new (Err fault)
 no_further first second old new fault one = record {
@@ -125,7 +126,7 @@ no_further first second old new fault one = record {
   comes = λ texts stands other. ap (λ answer. answer >>= second) (one.comes texts stands other);
 }
 
--- the sheets of a round were put, and it is closed
+-- the sheets of a round were submitted, and it is closed
 pub puts_then_close : {U T : Type 0} (scripts : List Script) (closing : Closing) (old mid new : HouseFields) (done : U) (result : Result T SimFault)
     → MakesStep (after_puts old.setup 0 scripts) old mid (Ok done) → MakesStep (after_close mid.setup closing) mid new result
     → MakesStep (after_round old.setup scripts closing) old new result
@@ -133,7 +134,7 @@ puts_then_close scripts closing old mid new done result puts closed =
     and_then (after_puts old.setup 0 scripts) (after_close old.setup closing) old mid new done result puts
     (subst (λ (setup : SetupFields). MakesStep (after_close setup closing) mid new result) puts.setup closed)
 
--- ---- steps on their way
+-- ---- some steps made, and others left
 
 pub record IsOnWay (whole rest : Step) (initial now : HouseFields) : Type 0 where
   pub setup : now.setup ≡ initial.setup
@@ -145,7 +146,7 @@ begins whole initial = record {
   comes = λ texts stands. record { texts = texts; stands = stands; same = refl };
 }
 
--- what is left, said in another way
+-- what is left, in other words
 pub left_as : (whole rest other : Step) (initial now : HouseFields) → ((texts : Texts) → rest texts ≡ other texts) → IsOnWay whole rest initial now
     → IsOnWay whole other initial now
 left_as whole rest other initial now alike before = record {
@@ -154,7 +155,7 @@ left_as whole rest other initial now alike before = record {
       let way = before.comes texts stands in record { texts = way.texts; stands = way.stands; same = sym (alike way.texts) ∙ way.same };
 }
 
--- one step of the rest is made
+-- one step of those left is made
 pub goes_on : {U : Type 0} (whole step rest : Step) (initial now next : HouseFields) (done : U)
     → IsOnWay whole (λ texts. step texts >>= rest) initial now → MakesStep step now next (Ok done) → IsOnWay whole rest initial next
 goes_on whole step rest initial now next done before made = record {
@@ -165,7 +166,7 @@ goes_on whole step rest initial now next done before made = record {
       record { texts = one.texts; stands = one.stands; same = ap (λ answer. answer >>= rest) (sym one.is) ∙ way.same };
 }
 
--- one step of the rest has a fault
+-- one step of those left has a fault
 pub stops : {U T : Type 0} (whole step rest : Step) (initial now next : HouseFields) (fault : SimFault)
     → IsOnWay whole (λ texts. step texts >>= rest) initial now → MakesStep {T = U} step now next (Err fault)
     → MakesStep {T = T} whole initial next (Err fault)
@@ -176,7 +177,7 @@ stops whole step rest initial now next fault before made = record {
       sym way.same ∙ ap (λ answer. answer >>= rest) (made.comes way.texts way.stands other);
 }
 
--- where the rest goes on until the auction has ended, the test is that of the house
+-- whether the auction has ended is what the house says
 ended_as : (initial now : HouseFields) (texts : Texts) (ended : Bool) → now.setup ≡ initial.setup → StandsForTexts texts now → (standing_in now).ended ≡ ended
     → (standing initial.setup.products (rounds_after initial.setup texts)).ended ≡ ended
 ended_as initial now texts ended same stands e =
@@ -204,7 +205,7 @@ goes_past : (whole rest : Step) (initial now : HouseFields) → IsOnWay whole (u
     → IsOnWay whole rest initial now
 goes_past whole rest initial now before going = until_over whole rest initial now false before going
 
--- where the auction has not ended after a step, it goes on
+-- if the auction has not ended after a step, it continues
 goes_on_after : {T : Type 0} (step : Step) (old new : HouseFields) (done : T) → IsGoing old → MakesStep step old new (Ok done)
     → (standing_in new).ended ≡ false → IsGoing new
 goes_on_after step old new done before made going =
@@ -226,7 +227,7 @@ ends_there : {T : Type 0} (whole rest : Step) (initial now : HouseFields) (done 
 ends_there whole rest initial now done before over =
     ends whole (λ (texts : Texts). Ok texts) initial now done (until_over whole rest initial now true before over) (λ texts. refl)
 
--- a last step is made, and its end is a fault
+-- a last step is made, and then the answer is a fault
 spent : {U T : Type 0} (whole step : Step) (initial now next : HouseFields) (done : U) (fault : SimFault)
     → IsOnWay whole (λ texts. step texts >>= (λ put. Err fault)) initial now → MakesStep step now next (Ok done)
     → MakesStep {T = T} whole initial next (Err fault)
@@ -241,7 +242,7 @@ spent whole step initial now next done fault before made =
 module _ (whole : Step) (scripts : List Script) (closings : List Closing) (i : ℕ) (closing : Closing) (initial now next : HouseFields)
     (below : i < length closings) (is : closing ≡ get_or closings i closing)
     (before : IsOnWay whole (rehearsed initial.setup scripts (drop i closings)) initial now) where
-  -- those behind this one
+  -- the closings after this one
   abbrev pub others : Step
   others = rehearsed initial.setup scripts (drop (i + 1) closings)
 
@@ -254,7 +255,7 @@ module _ (whole : Step) (scripts : List Script) (closings : List Closing) (i : �
       goes_on whole (after_round initial.setup scripts closing) (until_end initial.setup others) initial now next done begun
       (subst (λ (setup : SetupFields). MakesStep (after_round setup scripts closing) now next (Ok done)) before.setup made)
 
-  -- a round is played, and the auction goes on
+  -- a round is played, and the auction continues
   pub round_passed : {U : Type 0} (done : U) → MakesStep (after_round now.setup scripts closing) now next (Ok done) → (standing_in next).ended ≡ false
       → IsGoing now → IsOnWay whole others initial next × IsGoing next
   round_passed done made going was_going = (
@@ -262,12 +263,12 @@ module _ (whole : Step) (scripts : List Script) (closings : List Closing) (i : �
     goes_on_after (after_round now.setup scripts closing) now next done was_going made going,
   )
 
-  -- it is the last
+  -- the round is the last
   pub round_ends : {U T : Type 0} (done : U) (over : T) → MakesStep (after_round now.setup scripts closing) now next (Ok done) → (standing_in next).ended ≡ true
       → MakesStep whole initial next (Ok over)
   round_ends done over made ended = ends_there whole others initial next over (played done made) ended
 
-  -- it is refused
+  -- the round has a fault
   pub round_refused : {U T : Type 0} (fault : SimFault) → MakesStep {T = U} (after_round now.setup scripts closing) now next (Err fault)
       → MakesStep {T = T} whole initial next (Err fault)
   round_refused {U = U} {T = T} fault made =
@@ -295,7 +296,7 @@ module _ (whole : Step) (scripts : List Script) (closings : List Closing) (i : �
 -- ---- the report
 
 module _ (old new : HouseFields) (scripts : List Script) (closings : List Closing) where
-  -- a rehearsal that is played to its end comes to a report
+  -- a rehearsal that is played to its end has a report
   pub reported : {U : Type 0} (result : Result U SimFault) → StandsForTexts [] old → MakesStep (rehearsed old.setup scripts closings) old new result
       → OnOk result (simulated (replay_of old scripts closings) ≡ Ok (report_of new.setup new.closed))
   reported (Ok done) stands made =
@@ -305,7 +306,7 @@ module _ (old new : HouseFields) (scripts : List Script) (closings : List Closin
       ∙ ap (λ (closed : List ClosedRound). Ok (report_of new.setup closed)) (sym end.stands.closed)
   reported (Err fault) stands made = tt
 
-  -- or its fault is told
+  -- otherwise its fault is returned
   pub faulted : {U : Type 0} (result : Result U SimFault) → StandsForTexts [] old → MakesStep (rehearsed old.setup scripts closings) old new result
       → IfErr result (IsRefusal NoMemory (simulated (replay_of old scripts closings)))
   faulted (Ok done) stands made = tt

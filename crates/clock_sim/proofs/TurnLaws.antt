@@ -1,4 +1,5 @@
--- The bidders' turns: each puts its sheet, whose request waits for others or is sent after those that wait.
+-- The bidders' turns: each submits its sheet, whose request waits or is sent after the waiting ones. A sheet closes no
+-- round, so the script gives the same sheet before and after the waiting requests are answered.
 use Rattle.std.proofs.Common.{◌≡◌, ℕ, ◌+◌, ◌<◌, ◌≤◌, List, [], ◌∷◌, ◌++◌, Vec, true, length, drop, get_or, Option, Some, None, Result, Ok, Err, refl, sym, ◌∙◌}
 use Rattle.std.proofs.Common.{ap, subst, All, arith}
 use Rattle.std.specs.Prelude.{MatchResult, OnOk, option_map}
@@ -33,9 +34,9 @@ use Rattle.clock_sim.proofs.GroupLaws.{ended_ok, joined_group, one_step, with_on
 use Rattle.clock_sim.proofs.PutLaws.{scripted_closes_none}
 use Rattle.clock_sim.proofs.WrittenLaws.{kept_if, none_wait, one_more, reads_as, still_twice, still_wait}
 
--- ---- steps with requests that wait
+-- ---- steps with waiting requests
 
--- a part of the steps is made, and the rest of it is left before the others
+-- a part of a step is made, and its rest is left before the others
 pub way_goes_on : {U : Type 0} (whole part left rest : Step) (initial now next : HouseFields) (done : U)
     → IsOnWay whole (λ texts. part texts >>= rest) initial now → MakesWay part left now next (Ok done)
     → IsOnWay whole (λ texts. left texts >>= rest) initial next
@@ -57,7 +58,7 @@ way_stops whole part left rest initial now next fault before made = record {
       sym way.same ∙ ap (λ (answer : Result Texts SimFault). answer >>= rest) (made.comes way.texts way.stands other);
 }
 
--- a part of the steps is made, and then a part of what was left
+-- a part of the steps is made, and then a part of those left
 pub way_then : {U T : Type 0} (whole left last : Step) (old mid new : HouseFields) (done : U) (result : Result T SimFault)
     → MakesWay whole left old mid (Ok done) → MakesWay left last mid new result → MakesWay whole last old new result
 way_then {T = T} whole left last old mid new done result one two = record {
@@ -76,7 +77,7 @@ on_ok : {T : Type 0} (P : Type 0) (result : Result T SimFault) → P → OnOk re
 on_ok P (Ok done) is = is
 on_ok P (Err fault) is = tt
 
--- one more waits
+-- one more request waits
 pub one_waits : {T : Type 0} (group waiting : List Request) (one : Request) (text : List ℕ) (old new : HouseFields) (done : T) → new ≡ old
     → waiting ≡ group ++ one ∷ [] → text_in one ≡ text
     → MakesWay (with_request old.setup group one.bidder one.round text) (after_group old.setup waiting) old new (Ok done)
@@ -116,7 +117,7 @@ group_closes_none setup (one ∷ group) texts end close is =
     ∙ ap (rounds_after setup) (sent_text setup texts parts.0 (Some one.bidder) one.round (text_in one) parts.1)
     ∙ close 0 one (omega arith) setup texts
 
--- where a step closes no round, the auction goes on
+-- if a step closes no round, the auction continues
 still_going : {T : Type 0} (step : Step) (old new : HouseFields) (done : T) → IsGoing old → MakesStep step old new (Ok done)
     → ((texts end : Texts) → step texts ≡ Ok end → rounds_after old.setup end ≡ rounds_after old.setup texts) → IsGoing new
 still_going step old new done before made none =
@@ -143,9 +144,9 @@ going_after_one bidder round text old new (Ok done) closes before made =
     (λ texts end is. ap (rounds_after old.setup) (sent_text old.setup texts end (Some bidder) round text is) ∙ closes old.setup texts)
 going_after_one bidder round text old new (Err fault) closes before made = tt
 
--- ---- a group that is sent
+-- ---- a group is sent
 
--- a request that is written stands behind those that wait
+-- a request is written after the waiting ones
 still_under_way : (hub : HubFields) (group next : Group) → IsUnderWay hub group → StillWait group next → IsUnderWay hub next
 still_under_way hub group next before keeps =
     let kept = keeps before.waits.written in record {
@@ -153,7 +154,7 @@ still_under_way hub group next before keeps =
       going = before.going;
     }
 
--- where there was no memory, nothing is told
+-- out of memory, nothing is claimed
 pub no_memory_under_way : {T : Type 0} (steps : Step) (old new : HubFields) (group : Group) → new.house.setup ≡ old.house.setup
     → ComesUnderWay {T = T} steps old new group (Err NoMemory)
 no_memory_under_way steps old new group same = record {
@@ -161,7 +162,7 @@ no_memory_under_way steps old new group same = record {
   way = record { setup = same; comes = λ texts stands other. absurd (other refl) };
 }
 
--- steps that were made, behind which no request waits
+-- the steps were made, and no request waits
 pub all_sent : {T : Type 0} (steps : Step) (next : Group) (old new : HubFields) (result : Result T SimFault) → MakesStep steps old.house new.house result
     → OnOk result (requests_in next ≡ []) → OnOk result (IsGoing new.house) → ComesUnderWay steps old new next result
 all_sent steps next old new (Ok done) made none going = record {
@@ -182,7 +183,7 @@ all_sent steps next old new (Err fault) made none going = record {
   way = record { setup = made.setup; comes = made.comes };
 }
 
--- the requests that waited were sent, and then one more of a bidder by itself
+-- the waiting requests were sent, and then one more of a bidder by itself
 pub sent_alone : {U T : Type 0} (group next : Group) (bidder round : ℕ) (text : List ℕ) (old mid new : HubFields) (done : U) (result : Result T SimFault)
     → IsUnderWay old group → ClosesNoRound text → MakesStep (after_group old.house.setup (requests_in group)) old.house mid.house (Ok done)
     → requests_in next ≡ [] → MakesStep (λ texts. after_request mid.house.setup texts (Some bidder) round text) mid.house new.house result
@@ -195,7 +196,7 @@ sent_alone {T = T} group next bidder round text old mid new done result before c
     (subst (λ (setup : SetupFields). MakesStep (last setup) mid.house new.house result) made.setup sent))
     (on_ok (requests_in next ≡ []) result none) (going_after_one bidder round text mid.house new.house result closes going sent)
 
--- a request that waited was refused
+-- a waiting request was refused
 pub refused_before : {U T : Type 0} (group next : Group) (bidder round : ℕ) (text : List ℕ) (old new : HubFields) (fault : SimFault)
     → MakesStep {T = U} (after_group old.house.setup (requests_in group)) old.house new.house (Err fault)
     → ComesUnderWay {T = T} (with_request old.house.setup (requests_in group) bidder round text) old new next (Err fault)
@@ -208,7 +209,7 @@ refused_before group next bidder round text old new fault made = record {
   };
 }
 
--- a request that needs its body waits, over a connection that was made for it
+-- a request that needs its body waits, on a connection opened for it
 pub joined : {T : Type 0} (done : T) (old new : HubFields) (group : Group) (waiting : Vec Waiting Global) (one : Waiting)
     → IsNext old group one.written → needs_more (head_in group.text.items one.written) ≡ true → IsConnected old.connections new.connections one.conn
     → new.house ≡ old.house → waiting.items ≡ group.waiting.items ++ one ∷ []
@@ -231,7 +232,7 @@ joined done old new group waiting one next needs connected front more =
           old.house new.house done front is refl;
     }
 
--- and where the group is full all are sent
+-- if the group is full, it is sent
 pub sent_full : {U T : Type 0} (done : U) (steps : Step) (old mid new : HubFields) (group next : Group) (result : Result T SimFault)
     → ComesUnderWay steps old mid group (Ok done) → MakesStep (after_group mid.house.setup (requests_in group)) mid.house new.house result
     → OnOk result (requests_in next ≡ []) → ComesUnderWay steps old new next result
@@ -245,7 +246,7 @@ sent_full {T = T} done steps old mid new group next result one made none =
           (subst (λ (setup : SetupFields). MakesWay (after_group setup waiting) (after_group setup left) mid.house new.house result) one.way.setup sent.way);
     }
 
--- the sheet that a script gives is the same before and after the requests of the group
+-- the script gives the same sheet before and after the requests of the group
 module _ (old : HouseFields) (group : List Request) (bidder : ℕ) (script : Script) (close : All (λ one. ClosesNoRound (text_in one)) group) where
   abbrev given : List ClosedRound → Texts → Option (List ℕ) → Result Texts SimFault
   given closed texts put = after_request_if old.setup texts (Some bidder) (standing old.setup.products closed).round put
@@ -272,7 +273,7 @@ module _ (old : HouseFields) (group : List Request) (bidder : ℕ) (script : Scr
     };
   }
 
-  -- the sheet is given as this text
+  -- this sheet is given
   put_waits : {T : Type 0} (new : HouseFields) (rest : Step) (text : List ℕ) (round : ℕ) (result : Result T SimFault)
       → scripted_put old.setup old.closed bidder script ≡ Some text → round ≡ (standing_in old).round
       → MakesWay (λ texts. after_group old.setup group texts >>= (λ sent. after_request old.setup sent (Some bidder) round text)) rest old new result
@@ -289,7 +290,7 @@ module _ (old : HouseFields) (group : List Request) (bidder : ℕ) (script : Scr
         subst P same (made.comes texts stands);
   }
 
--- ---- a bidder's turn, before which there is room for its request
+-- ---- a bidder's turn, with capacity for its request
 
 module _ (hub : HubFields) (group room : Group) (text : Vec ℕ Global) (house : HouseFields) (bidder : ℕ) (script : Script) (written : Option Written)
     (before : IsUnderWay hub group) (has_room : StillWait group room) (same : house ≡ hub.house)
@@ -307,7 +308,7 @@ module _ (hub : HubFields) (group room : Group) (text : Vec ℕ Global) (house :
       ap (λ (now : HouseFields). scripted_put now.setup now.closed bidder script) (sym same)
       ∙ reads_as room.text.items text.items (scripted_put house.setup house.closed bidder script) written writes
 
-  -- what was written comes next
+  -- what was written is next
   pub written_next : (one : Written) → written ≡ Some one → IsNext hub grown one
   written_next one is =
       let made = subst (WritesIf room.text.items text.items (scripted_put house.setup house.closed bidder script)) is writes in record {
@@ -342,7 +343,7 @@ module _ (hub : HubFields) (group room : Group) (text : Vec ℕ Global) (house :
 
 -- ---- bidder after bidder
 
--- the requests that wait, and then the sheets of the bidders from this one on
+-- the waiting requests, and then the sheets of the bidders from this one on
 abbrev pub then_puts : SetupFields → List Request → ℕ → List Script → Step
 then_puts setup group i scripts texts = after_group setup group texts >>= after_puts setup i scripts
 
@@ -354,7 +355,7 @@ in_turn setup i script rest (Err fault) = refl
 module _ (whole : Step) (scripts : List Script) (group waiting : List Request) (i : ℕ) (script : Script) (initial now next : HouseFields)
     (below : i < length scripts) (is : script ≡ get_or scripts i script)
     (before : IsOnWay whole (then_puts initial.setup group i (drop i scripts)) initial now) where
-  -- the turn, and those behind it
+  -- the turn, and those after it
   abbrev turn : SetupFields → Step
   turn setup texts = after_group setup group texts >>= after_put setup i script
 
@@ -376,7 +377,7 @@ module _ (whole : Step) (scripts : List Script) (group waiting : List Request) (
       way_goes_on whole (turn initial.setup) (after_group initial.setup waiting) behind initial now next done before_turn
       (subst (λ (setup : SetupFields). MakesWay (turn setup) (after_group setup waiting) now next (Ok done)) before.setup made)
 
-  -- a request was refused in it
+  -- a request was refused in the turn
   pub turn_refused : {U T : Type 0} (fault : SimFault)
       → MakesWay {T = U} (λ texts. after_group now.setup group texts >>= after_put now.setup i script) (after_group now.setup waiting) now next (Err fault)
       → MakesStep {T = T} whole initial next (Err fault)
@@ -396,7 +397,7 @@ first_turn setup group scripts initial same none = record {
   };
 }
 
--- after the last turn the requests that wait are sent
+-- after the last turn the waiting requests are sent
 pub last_sent : {T : Type 0} (whole : Step) (scripts : List Script) (group : List Request) (i : ℕ) (initial now new : HouseFields) (result : Result T SimFault)
     → length scripts ≤ i → IsOnWay whole (then_puts initial.setup group i (drop i scripts)) initial now
     → MakesStep (after_group now.setup group) now new result → MakesStep whole initial new result

@@ -1,4 +1,4 @@
--- The requests that wait, by the text in which they stand.
+-- The waiting requests, by the text that they are in. What is appended to the text does not change them.
 use Rattle.std.proofs.Common.{◌≡◌, ℕ, ◌+◌, ◌-◌, ◌<◌, ◌≤◌, List, Vec, [], ◌∷◌, ◌++◌, All, length, take, drop, map, get_or, Option, Some, None, Result, Ok, Err}
 use Rattle.std.proofs.Common.{refl, sym, ◌∙◌, ap, ap₂, subst, subst₂, arith, append-nil}
 use Rattle.std.specs.Prelude.{option_map}
@@ -19,7 +19,7 @@ use Rattle.clock_sim.specs.inside.Steps.{MakesStep}
 use Rattle.clock_sim.proofs.GroupLaws.{body_done, body_refused, empty_group, head_at, heads_kept, one_step}
 use Rattle.clock_sim.proofs.StepLaws.{IsOnWay, Step}
 
--- a piece stands in a longer text still
+-- a piece of a text is a piece of a longer one
 kept : (old new more : List ℕ) (from to : ℕ) → new ≡ old ++ more → from ≤ to → to ≤ length old
     → take (to - from) (drop from new) ≡ take (to - from) (drop from old)
 kept old new more from to is order within =
@@ -42,7 +42,7 @@ module _ (old new : List ℕ) (grows : Grows old new) where
       ap₂ (λ (request : Request) (others : List Request). request ∷ others) first
       (requests_kept waiting (All-tail (λ (w : Waiting). IsWrittenIn old w.written) one waiting all))
 
--- so those that wait still do
+-- so the waiting requests are unchanged
 pub still_wait : (group : Group) (text : Vec ℕ Global) → Grows group.text.items text.items → StillWait group (record group { text = text })
 still_wait group text grows = λ all. (
   requests_kept group.text.items text.items grows group.waiting.items all,
@@ -56,14 +56,14 @@ none_of : (waiting : List Waiting) → length waiting ≡ 0 → waiting ≡ []
 none_of [] none = refl
 none_of (one ∷ waiting) none = absurd (omega (arith, none))
 
--- where none waits the text may be another
+-- if none waits, any text will do
 pub still_none : (group : Group) (text : Vec ℕ Global) → length group.waiting.items ≡ 0 → StillWait group (record group { text = text })
 still_none group text empty = (let none = none_of group.waiting.items empty in λ all. (
   ap (λ (waiting : List Waiting). map (request_in text.items) waiting) none ∙ ap (λ (waiting : List Waiting). map (request_in group.text.items) waiting) (sym none),
   λ k other below. absurd (omega (arith, below, empty)),
 ))
 
--- the text has grown where one was written, if there is a request
+-- the text is longer by what was written, if a request was
 pub kept_if : (old new : List ℕ) (text : Option (List ℕ)) (written : Option Written) → WritesIf old new text written → Grows old new
 kept_if old new text None is = record { more = []; is = is.1 ∙ sym (append-nil old) }
 kept_if old new text (Some one) is = is.1.grows
@@ -73,14 +73,14 @@ pub reads_as : (old new : List ℕ) (text : Option (List ℕ)) (written : Option
 reads_as old new text None is = is.0
 reads_as old new text (Some one) is = is.0
 
--- one after the other
+-- one change after the other
 pub still_twice : (first second third : Group) → StillWait first second → StillWait second third → StillWait first third
 still_twice first second third one two = λ all.
     let now = one all in
     let then_ = two now.1 in
     (then_.0 ∙ now.0, then_.1)
 
--- one more waits
+-- one more request waits
 pub one_more : (text : List ℕ) (waiting next : List Waiting) (one : Waiting) → next ≡ waiting ++ one ∷ []
     → map (request_in text) next ≡ map (request_in text) waiting ++ request_in text one ∷ []
 one_more text waiting next one is = ap (λ (list : List Waiting). map (request_in text) list) is ∙ map-append (request_in text) waiting (one ∷ [])
@@ -94,9 +94,9 @@ none_wait connections group none =
       written = λ k other below. absurd (omega (arith, below, count, ap (λ (list : List Request). length list) none));
     }
 
--- ---- the request at a place
+-- ---- the request at an index
 
--- what stands past the end of the list
+-- the value after the end of the list
 abbrev pub no_waiting : Waiting
 no_waiting = record {
   bidder = 0;
@@ -117,9 +117,9 @@ request_at group i below =
       sym (get_or-map f group.waiting.items i no_waiting (f (waiting_at group.waiting.items i)) below),
     )
 
--- ---- the body of the request at a place is sent
+-- ---- the body of the request at an index is sent
 
--- what the call for it tells, by the list that is walked and the bytes that are passed
+-- what the contract of the call says, by the list of the loop and the bytes passed
 abbrev pub IsMade : {U : Type 0} → ℕ → HubFields → HubFields → Result U SimFault → List Waiting → List ℕ → Type 0
 IsMade i old new result waiting body =
     (head : List ℕ) → text_of old.connections (waiting_at waiting i).conn ≡ Some head
@@ -147,7 +147,7 @@ module _ (whole : Step) (group : Group) (i : ℕ) (waiting : List Waiting) (body
       is ∙ ap (λ (list : List Waiting). body_in group.text.items (waiting_at list i).written) same in
       subst₂ (IsMade i old new result) same same_body made this.head headed
 
-  -- it is done, and the requests behind it are left
+  -- the request is done, and those after it are left
   pub sent_in_turn : {U : Type 0} (done : U) → IsMade i old new (Ok done) waiting body → AreApart (requests_in group)
       → ((head : List ℕ) → text_of old.connections (waiting_at waiting i).conn ≡ Some head
       → KeepsOthers old.connections new.connections (waiting_at waiting i).conn)
@@ -162,7 +162,7 @@ module _ (whole : Step) (group : Group) (i : ℕ) (waiting : List Waiting) (body
             (subst KeepsThem same keeps this.head headed),
       )
 
-  -- it is refused
+  -- the request is refused
   pub refused_in_turn : {T : Type 0} (U : Type 0) (fault : SimFault) → IsMade {U = U} i old new (Err fault) waiting body → MakesStep {T = T} whole initial new.house (Err fault)
   refused_in_turn {T = T} U fault made =
       body_refused whole (requests_in group) i this initial old.house new.house placed.0 placed.1 before {U = U} {T = T} fault

@@ -1,7 +1,7 @@
-//! How a replay is played.
+//! Rehearsals: auctions with scripted bidders.
 //!
-//! [`simulate`] plays a [`Replay`]: each sheet and closing is sent to the front as the bytes of a live request, so that
-//! a scripted bidder takes the path of a live one.
+//! [`simulate`] plays a [`Replay`]. It sends each sheet and closing to the front as the bytes of a
+//! live request, so a scripted bidder takes the same path as a live one.
 #![tactic(auto)]
 
 mod rounds;

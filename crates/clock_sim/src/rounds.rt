@@ -1,5 +1,8 @@
-//! The rounds of a replay: the sheet of each bidder, then the closing. A request is sent over a connection of its own,
-//! its head before its body. Sheets go in groups: their connections stand at once, all heads come before the first body.
+//! The rounds of a rehearsal: the sheet of each bidder, then the closing.
+//!
+//! Each request has a connection of its own, and its head is sent before its body. Sheets are sent
+//! in groups: all connections of a group are open at once, and all heads come before the first
+//! body.
 
 ghost use Rattle.std.specs.Prelude.{◌≡◌, ◌<◌, [], ◌++◌, Some, ℕ, List, length, true, IfErr, OnOk};
 ghost use Rattle.clock_connections.specs.Connections.{text_of, KeepsOthers};
@@ -18,10 +21,10 @@ use clock_replays::{Closing, Script};
 use clock_scripts::{Written, write_close, write_put};
 use std::alloc::Global;
 
-/// How many requests a group has at most.
+/// The most requests of a group.
 const MOST_WAITING: usize = 64;
 
-/// A bidder's request in a round, where it stands, and the connection over which it is sent.
+/// A bidder's request in a round, where it is in the group's text, and its connection.
 #[derive(Drop)]
 struct Waiting {
     bidder: u64,
@@ -30,7 +33,8 @@ struct Waiting {
     conn: Conn,
 }
 
-/// The requests of a group, and the text in which they stand. Its memory is used again from group to group.
+/// The requests of a group that are not sent yet, and the text that they are in. Groups reuse its
+/// memory, one after the other.
 #[derive(Drop)]
 struct Group {
     text: Vec<u8>,
@@ -38,7 +42,8 @@ struct Group {
 }
 
 impl Group {
-    /// The head of each request that waits comes, in order.
+    /// Sends the heads of the waiting requests, in order. Requires that nothing was sent on their
+    /// connections.
     fn feed_heads<P: Processor>(&self, hub: &mut Hub<P>) -> Result<(), HubFault>
         requires { Waits hub.old.connections self.now }
         ensures house { hub.new.house ≡ hub.old.house }
@@ -50,7 +55,8 @@ impl Group {
         Ok(())
     }
 
-    /// The body of each request that waits comes, in order, and each request is answered.
+    /// Sends the bodies of the waiting requests, in order, and reads the replies. Requires that
+    /// their heads were sent. Stops at the first reply that is not `done`.
     fn send_bodies<P: Processor>(&self, hub: &mut Hub<P>) -> Result<(), SimFault>
         requires heads { StandFrom 0 hub.old.connections (requests_in self.now) (λ k one. one.head) }
         requires apart { AreApart (requests_in self.now) }
@@ -66,7 +72,8 @@ impl Group {
         Ok(())
     }
 
-    /// Sends the requests that wait: none does then. What is written stays.
+    /// Sends the waiting requests. After that none waits; their text stays. Stops at the first
+    /// reply that is not `done`.
     fn send_all<P: Processor>(&mut self, hub: &mut Hub<P>) -> Result<(), SimFault>
         requires { Waits hub.old.connections self.old }
         ensures step { MakesStep (after_group hub.old.house.setup (requests_in self.old)) hub.old.house
@@ -82,7 +89,8 @@ impl Group {
     }
 }
 
-/// What the code of a reply is told as: a refusal as the fault of a bidder, or of the operator.
+/// Returns the fault of a reply that is not `done`: that of the bidder `sender`, or without one
+/// that of the operator.
 fn told(code: Code, sender: Option<u64>, round: u64) -> Result<(), SimFault>
     ensures step { IsTold code (rules.refused_by sender round code) result }
     ensures held { IfErr result rules.HasRefusalCode }
@@ -95,7 +103,8 @@ fn told(code: Code, sender: Option<u64>, round: u64) -> Result<(), SimFault>
     }
 }
 
-/// Sends the body of a request whose head has come over a connection.
+/// Sends the body of a request whose head was sent on `conn`, and reads the reply. Returns the
+/// fault of the reply if it is not `done`.
 fn send_body<P: Processor>(
     hub: &mut Hub<P>,
     conn: Conn,
@@ -117,7 +126,8 @@ fn send_body<P: Processor>(
     told(reply.code(), sender, round)
 }
 
-/// Sends a request over a connection of its own. One that is refused at its head is answered before its body.
+/// Sends a request on a connection of its own, and reads the reply. If the head is refused, the
+/// body is not sent.
 fn send<P: Processor>(
     hub: &mut Hub<P>,
     sender: Option<u64>,
@@ -138,8 +148,9 @@ fn send<P: Processor>(
     }
 }
 
-/// A bidder puts the sheet that its script gives, if any: the request joins the group, which is sent where it is full.
-/// One that is answered at its head goes by itself, after those that wait.
+/// Submits the sheet that a bidder's script gives, if any. The request joins the group, which is
+/// sent when it is full. A request that is answered at its head is sent by itself, after the
+/// waiting ones. Requires a bidder of the set-up, and an auction that has not ended.
 fn put_scripted<P: Processor>(
     hub: &mut Hub<P>,
     group: &mut Group,
@@ -182,7 +193,8 @@ fn put_scripted<P: Processor>(
     Ok(())
 }
 
-/// The bidders put their sheets, in the order of their numbers.
+/// Submits the sheets of all bidders, in the order of the set-up. Stops at the first reply that is
+/// not `done`.
 fn put_all<P: Processor>(
     hub: &mut Hub<P>,
     group: &mut Group,
@@ -193,7 +205,7 @@ fn put_all<P: Processor>(
     ensures step { MakesStep (rules.after_puts hub.old.house.setup 0 scripts.now) hub.old.house hub.new.house result }
     ensures held { IfErr result rules.HasRefusalCode }
 {
-    // the bidders are few enough to be numbered
+    // the law bounds the number of bidders, so that each fits in 32 bits
     hub.front().house().law_of_house();
     group.waiting.clear();
     for (bidder, script) in scripts.iter().enumerate() {
@@ -202,7 +214,7 @@ fn put_all<P: Processor>(
     group.send_all(hub)
 }
 
-/// The operator closes the current round. The text of the request takes the place of what was written before.
+/// Closes the current round. The request overwrites `text`.
 fn close_scripted<P: Processor>(
     hub: &mut Hub<P>,
     text: &mut Vec<u8>,
@@ -219,7 +231,8 @@ fn close_scripted<P: Processor>(
     send(hub, None, round, head, &text[written.body..written.head])
 }
 
-/// Plays round after round until the end of the auction: in each the bidders put their sheets, and it is closed.
+/// Plays round after round until the auction ends: in each, the bidders submit their sheets and the
+/// operator closes it. Returns the first fault, or `ClosingsSpent` if no closing is left.
 pub(crate) fn play<P: Processor>(
     alloc: Global,
     hub: &mut Hub<P>,

@@ -17,20 +17,21 @@ use clock_reports::{Report, final_text, report_so_far};
 use std::alloc::Global;
 use thiserror::Error;
 
-/// Why a replay has no report: the first fault in the order of its events. A code here is neither [`Code::Done`] nor
-/// [`Code::Memory`].
+/// Why a rehearsal has no report: its first fault, in the order of the requests. The codes are
+/// never [`Code::Done`] or [`Code::Memory`].
 #[derive(Clone, Copy, Debug, PartialEq, Eq, Error)]
 pub enum SimFault {
-    /// The sheet of a bidder, by its number from 0, was refused in a round, and why.
+    /// The sheet of a bidder, by its number, was refused in a round with this code.
     #[error("bidder {0} was refused in round {1}")]
     Refused(u64, u64, Code),
-    /// The closing of a round was refused, and why.
+    /// The closing of a round was refused with this code.
     #[error("the closing of round {0} was refused")]
     Closing(u64, Code),
-    /// The auction goes on, and no closing is left. The sheets of its current round have been put.
+    /// The auction has not ended, and no closing is left. The sheets of the current round were
+    /// submitted.
     #[error("no closing is left")]
     ClosingsSpent,
-    /// There was no memory. It stands in place of any other answer.
+    /// Out of memory. Replaces any other result.
     #[error("out of memory")]
     NoMemory,
 }
@@ -43,8 +44,8 @@ impl From<NoMemory> for SimFault {
     }
 }
 
-/// A replay's connections are its own, fewer than 256 stand, and fewer are made than there are serial numbers: what a
-/// hub refuses, it refuses for want of memory.
+/// A rehearsal uses only its own connections, fewer than 256 at once, and fewer in all than there
+/// are serial numbers. So its hub refuses one only if it is out of memory.
 impl From<HubFault> for SimFault {
     ghost from_gives = { λ _ fault. fault ≡ NoMemory };
 
@@ -53,7 +54,7 @@ impl From<HubFault> for SimFault {
     }
 }
 
-/// Plays an auction before its first request, to its end.
+/// Plays an auction to its end. Requires that the front has answered no request.
 fn play_out<P: Processor>(
     alloc: Global,
     hub: &mut Hub<P>,
@@ -72,7 +73,8 @@ fn play_out<P: Processor>(
     play(alloc, hub, scripts, closings)
 }
 
-/// Plays an auction before its first request, and makes its report.
+/// Plays an auction to its end, and makes its report. Requires that the front has answered no
+/// request.
 fn played<P: Processor>(
     alloc: Global,
     hub: &mut Hub<P>,
@@ -90,8 +92,9 @@ fn played<P: Processor>(
     Ok(report_so_far(alloc, hub.front().house())?)
 }
 
-/// Plays an auction before its first request, and writes the text of its report, which needs nothing of the scripts and
-/// closings: they are let go before.
+/// Plays an auction to its end, and writes the text of its report. Requires that the front has
+/// answered no request. Scripts and closings are dropped before the text is written, to free their
+/// memory.
 fn text_played<P: Processor>(
     alloc: Global,
     hub: &mut Hub<P>,
@@ -112,7 +115,7 @@ fn text_played<P: Processor>(
     Ok(final_text(alloc, hub.front().house())?)
 }
 
-/// Plays an auction as [`simulate`] does, with its rounds settled by a processor.
+/// Plays an auction like [`simulate`], with `processor` for bid processing.
 pub fn simulate_with<P: Processor + Drop>(
     alloc: Global,
     replay: &Replay,
@@ -126,18 +129,22 @@ pub fn simulate_with<P: Processor + Drop>(
     let setup = replay.setup.copy(alloc)?;
     let mut hub = Hub::new(alloc, Front::new(alloc, setup, processor)?);
     let report = played(alloc, &mut hub, replay);
-    // let go by a call: at the end of the scope it would be proved part by part
+    // `drop` here keeps the proof small: at the end of the scope each part would be proved to be
+    // dropped
     drop(hub);
     report
 }
 
-/// Plays an auction: in each round the bidders, in the order of their numbers, put the sheets that their scripts give,
-/// and then the next closing is made, until the auction ends; the closings that are left are not used.
+/// Plays an auction, and returns its report. In each round the bidders submit the sheets that their
+/// scripts give, in the order of the set-up; then the next closing is made. This repeats until the
+/// auction ends; further closings are ignored.
 ///
-/// Each sheet and closing is sent as the bytes of a live request over a connection of its own, so that it takes the
-/// path of a live bidder's. Sheets go in groups of at most 64: all connections of a group are made, then all heads are
-/// fed, then all bodies; one whose body is too long is answered at its head, and goes by itself. The first fault in the
-/// order of the requests is answered: one that is refused, or that the auction goes on and no closing is left.
+/// Each sheet and closing is sent as the bytes of a live request, on a connection of its own.
+/// Sheets are sent in groups of at most 64: a group's connections are opened, then all heads are
+/// sent, then all bodies. A sheet that is too long is refused at its head, and is sent by itself.
+///
+/// Errors: the first in the order of the requests, either a refusal or that no closing is left. May
+/// return `NoMemory`, which then replaces any other result.
 pub fn simulate(alloc: Global, replay: &Replay) -> Result<Report, SimFault>
     ensures ok { IfOk result (λ report. rules.simulated replay.now ≡ Ok report) }
     ensures report { IfOk result IsReport }
@@ -147,8 +154,9 @@ pub fn simulate(alloc: Global, replay: &Replay) -> Result<Report, SimFault>
     simulate_with(alloc, replay, Woken)
 }
 
-/// The text of the report of [`simulate`], written from the auction that was played: no sheet is copied, and the replay
-/// is let go before the text is written. The refusals are the same.
+/// Plays an auction, and returns the text of the report of [`simulate`]. Errors are those of
+/// [`simulate`]. Takes the replay so as to copy no sheet, and to free it before the text is
+/// written.
 pub fn replay_text(alloc: Global, replay: Replay) -> Result<Text, SimFault>
     ensures ok { IfOk result (λ text. rules.played_text replay ≡ Ok text) }
     ensures err { IfErr result (IsRefusal SimFault.NoMemory (rules.played_text replay)) }
@@ -156,7 +164,7 @@ pub fn replay_text(alloc: Global, replay: Replay) -> Result<Text, SimFault>
 {
     let mut hub = Hub::new(alloc, Front::new(alloc, replay.setup, Woken)?);
     let text = text_played(alloc, &mut hub, replay.scripts, replay.closings);
-    // let go by a call, as above
+    // like the `drop` in `simulate_with`
     drop(hub);
     text
 }

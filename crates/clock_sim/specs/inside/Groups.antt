@@ -1,20 +1,23 @@
--- Requests of a group, which are sent over connections that stand at once.
---     ClosesNoRound text      whatever was sent before, the text closes no round
---     Request, request_in text one, requests_in group      a request that waits, by the text of its group
---     AreWritten group, StillWait old group      all that wait stand in the text; the requests that wait are the same
---     text_in one, after_group setup group texts      the text of a request, and the requests of a group, answered one
---         after the other
---     with_request setup group bidder round text texts, with_put setup group bidder script texts      and then one more
---         of a bidder
---     with_turn setup group bidder round written texts      and then one that was written
---     StandFrom place connections group text      from a place on, each connection stands with these bytes
---     AreApart group      no two of the connections are one
---     IsGroup connections group      the requests wait, each over a connection of its own, over which nothing has come
---         yet
---     Waits connections group      those of a group do
---     IsUnderWay hub group      they do, and the auction goes on
---     IsNext hub group written      and a request that was written and closes no round may come behind them
---     ComesUnderWay steps old new group result      some steps were made but for the requests that wait
+-- Groups of requests that are sent over connections that are open at once.
+--     ClosesNoRound text      the text closes no round, whatever came before
+--     Request, request_in text one, requests_in group      a waiting request, by the text of its
+--         group
+--     AreWritten group, StillWait old group      the waiting requests are in the text; they are the
+--         same as before
+--     text_in one, after_group setup group texts      the text of a request; the texts after a
+--         group
+--     with_request setup group bidder round text texts, with_put setup group bidder script texts
+--         the texts after a group and one more request of a bidder
+--     with_turn setup group bidder round written texts      the texts after a group and a request
+--         that was written
+--     StandFrom place connections group text      from an index on, each connection has these bytes
+--     AreApart group      no two connections are the same
+--     IsGroup connections group      each request has an open connection of its own, without bytes
+--     Waits connections group      so do the requests of a group
+--     IsUnderWay hub group      they do, and the auction has not ended
+--     IsNext hub group written      a request that was written may join the group
+--     ComesUnderWay steps old new group result      these steps were made, except for the waiting
+--         requests
 use Rattle.std.specs.Prelude.{◌≡◌, ◌≤◌, ◌<◌, ℕ, List, [], ◌∷◌, ◌++◌, true, length, map, slice_index_or, Some, Result, Ok, OnOk, All}
 use Rattle.clock_terms.specs.Limits.{SetupFields}
 use Rattle.clock_terms.specs.Faults.{◌>>=◌}
@@ -31,11 +34,11 @@ use Rattle.clock_sim.specs.declared.simulation.SimFault.{SimFault}
 use Rattle.clock_sim.specs.Rehearsal.{rounds_after, after_request, after_put}
 use Rattle.clock_sim.specs.inside.Steps.{IsGoing, MakesWay}
 
--- the closed rounds are those before
+-- the closed rounds do not change
 abbrev pub ClosesNoRound : List ℕ → Type 0
 ClosesNoRound text = (setup : SetupFields) (texts : List (List ℕ)) → rounds_after setup (text ∷ texts) ≡ rounds_after setup texts
 
--- who sends a request in which round, over which connection, and its two pieces
+-- a request: bidder, round, connection, head, and body
 pub record Request : Type 0 where
   pub bidder : ℕ
   pub round : ℕ
@@ -43,7 +46,7 @@ pub record Request : Type 0 where
   pub head : List ℕ
   pub body : List ℕ
 
--- by the text in which it stands
+-- the request, by the text that it is in
 abbrev pub request_in : List ℕ → Waiting → Request
 request_in text one = record {
   bidder = one.bidder;
@@ -53,41 +56,41 @@ request_in text one = record {
   body = body_in text one.written;
 }
 
--- the requests that wait
+-- the waiting requests
 abbrev pub requests_in : Group → List Request
 requests_in group = map (request_in group.text.items) group.waiting.items
 
--- the requests that wait stand in the text
+-- the waiting requests are in the text
 abbrev pub AreWritten : Group → Type 0
 AreWritten group = All (λ one. IsWrittenIn group.text.items one.written) group.waiting.items
 
--- the requests that wait are the same
+-- the waiting requests are the same
 abbrev pub StillWait : Group → Group → Type 0
 StillWait old group = AreWritten old → (requests_in group ≡ requests_in old) × AreWritten group
 
--- the two pieces of a request
+-- head and body of a request
 abbrev pub text_in : Request → List ℕ
 text_in one = one.head ++ one.body
 
--- the requests are answered, one after the other
+-- the texts after the requests of a group, answered in order
 abbrev pub after_group : SetupFields → List Request → List (List ℕ) → Result (List (List ℕ)) SimFault
 after_group setup [] texts = Ok texts
 after_group setup (one ∷ group) texts = after_request setup texts (Some one.bidder) one.round (text_in one) >>= after_group setup group
 
--- the requests of a group, and then one more of a bidder
+-- the texts after a group and one more request of a bidder
 abbrev pub with_request : SetupFields → List Request → ℕ → ℕ → List ℕ → List (List ℕ) → Result (List (List ℕ)) SimFault
 with_request setup group bidder round text texts =
     after_group setup group texts >>= (λ sent. after_request setup sent (Some bidder) round text)
 
--- the requests of a group, and then the sheet that a bidder's script gives, if any
+-- the texts after a group and the sheet that a bidder's script gives, if any
 abbrev pub with_put : SetupFields → List Request → ℕ → Script → List (List ℕ) → Result (List (List ℕ)) SimFault
 with_put setup group bidder script texts = after_group setup group texts >>= after_put setup bidder script
 
--- the requests of a group, and then one that was written
+-- the texts after a group and a request that was written
 abbrev pub with_turn : SetupFields → Group → ℕ → ℕ → Written → List (List ℕ) → Result (List (List ℕ)) SimFault
 with_turn setup group bidder round written = with_request setup (requests_in group) bidder round (text_at group.text.items written)
 
--- from a place on, each connection stands with these bytes
+-- from an index on, the connection of each request is open with these bytes
 abbrev pub StandFrom : ℕ → ConnectionFields → List Request → (ℕ → Request → List ℕ) → Type 0
 StandFrom place connections group text =
     (k : ℕ) (other : Request) → place ≤ k → k < length group
@@ -99,7 +102,7 @@ AreApart group =
     (k j : ℕ) (other : Request) → k < j → j < length group
     → (slice_index_or group k other).conn.serial < (slice_index_or group j other).conn.serial
 
--- each request needs its body and closes no round, and its connection stands with no bytes
+-- each request needs its body and closes no round, and its connection is open without bytes
 pub record IsGroup (connections : ConnectionFields) (group : List Request) : Type 0 where
   pub stand : StandFrom 0 connections group (λ k one. [])
   pub apart : AreApart group
@@ -107,23 +110,24 @@ pub record IsGroup (connections : ConnectionFields) (group : List Request) : Typ
   pub need : All (λ one. needs_more one.head ≡ true) group
   pub close : All (λ one. ClosesNoRound (text_in one)) group
 
--- the requests of a group, which stand in its text
+-- the requests of a group, which are in its text
 pub record Waits (connections : ConnectionFields) (group : Group) : Type 0 where
   pub requests : IsGroup connections (requests_in group)
   pub written : AreWritten group
 
--- the requests of a group wait, and the auction goes on
+-- the requests of a group wait, and the auction has not ended
 pub record IsUnderWay (hub : HubFields) (group : Group) : Type 0 where
   pub waits : Waits hub.connections group
   pub going : IsGoing hub.house
 
--- behind the requests that wait one may come that was written and closes no round
+-- after the waiting requests, one may follow that was written and closes no round
 pub record IsNext (hub : HubFields) (group : Group) (written : Written) : Type 0 where
   pub under_way : IsUnderWay hub group
   pub within : IsWrittenIn group.text.items written
   pub closes : ClosesNoRound (text_at group.text.items written)
 
--- some steps were made but for the requests that wait now, and the auction goes on; or their fault is told
+-- the steps were made, except for the requests that wait now, and the auction has not ended; or
+-- their fault is returned
 pub record ComesUnderWay {T : Type 0} (steps : List (List ℕ) → Result (List (List ℕ)) SimFault) (old new : HubFields) (group : Group)
     (result : Result T SimFault) : Type 0 where
   pub under_way : OnOk result (IsUnderWay new group)

@@ -1,3 +1,4 @@
+-- The text that is written is that of the closing, and its reply decides the step.
 use Rattle.std.proofs.Common.{◌≡◌, ◌++◌, ℕ, List, refl, ap, ap₂, ◌∙◌}
 use Rattle.std.proofs.lemmas.Result.{err_from_is_err_and}
 use Rattle.clock_house.specs.House.{HouseFields, standing_in}

@@ -1,3 +1,4 @@
+-- Each turn of the loop is one bidder's; what waits after the last is sent.
 use Rattle.std.proofs.Common.{◌≡◌, List, [], length, map, ap, refl, sym, subst, arith}
 use Rattle.std.proofs.lemmas.Result.{err_from_is_err_and}
 use Rattle.clock_terms.specs.Limits.{SetupFields}

@@ -5,7 +5,7 @@ use Rattle.clock_sim.proofs.StepLaws.{IsOnWay}
 use Rattle.clock_sim.proofs.TurnLaws.{then_puts}
 use Rattle.clock_sim.proofs.rounds.put_all.Given as goal
 
--- the requests that wait are sent, and the bidders that are left put their sheets; the auction goes on
+-- the waiting requests are to be sent, and the bidders that are left to submit their sheets; the auction has not ended
 abbrev pub invariant-loop-bidder : goal.invariant-loop-bidder
 invariant-loop-bidder g l =
     IsOnWay (after_puts l.initial.hub.house.setup 0 l.scripts)

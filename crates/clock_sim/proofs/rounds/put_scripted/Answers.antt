@@ -1,3 +1,4 @@
+-- By cases: no sheet; a sheet that is answered at its head; one that waits; one that fills the group.
 use Rattle.std.proofs.Common.{◌≡◌, ◌==◌, ◌++◌, List, [], ◌∷◌, Bool, Option, Vec, ℕ, true, length, vec_len, eqb-true, Result, Ok, Err, ap, ap₂, refl, rules, subst, sym, ◌∙◌, arith}
 use Rattle.std.specs.Prelude.{IfSome, if◌then◌else◌, is_ok}
 use Rattle.std.specs.Result.{result_or}
@@ -15,7 +16,7 @@ use Rattle.clock_sim.proofs.WrittenLaws.{still_none}
 use Rattle.clock_sim.proofs.rounds.put_scripted.Goals.{then-is_empty, else-is_empty}
 use Rattle.clock_sim.proofs.rounds.put_scripted.Goals as goal
 
--- an answer that came through a change of its refusal was given
+-- a result whose error was mapped, and that is `Ok`, was `Ok` before
 was_ok : {T E D : Type 0} (result : Result T E) (other : D) (value : T) → result_or result (Err other) ≡ Ok value → is_ok result ≡ true
 was_ok (Ok given) other value is = refl
 was_ok (Err refused) other value is = absurd (cc)

@@ -1,3 +1,4 @@
+-- A request that is answered at its head has the reply of its whole text.
 use Rattle.std.proofs.Common.{◌≡◌, ◌++◌, ℕ, List, [], Some, ap, subst, ◌∙◌}
 use Rattle.clock_house.specs.House.{HouseFields}
 use Rattle.clock_front.specs.Fronts.{AnswersText}

@@ -1,3 +1,4 @@
+-- By cases: the body completes the request, or the input ends after it.
 use Rattle.std.proofs.Common.{◌++◌, subst}
 use Rattle.clock_front.specs.Hubs.{IsAnswered, IsFed}
 use Rattle.clock_front.specs.declared.hub.Fed.{Fed}

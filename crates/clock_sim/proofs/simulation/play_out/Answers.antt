@@ -1,3 +1,4 @@
+-- A rehearsal that is played to its end has the report of the house.
 use Rattle.clock_sim.proofs.StepLaws.{reported, faulted}
 use Rattle.clock_sim.proofs.simulation.play_out.Goals as goal
 

@@ -1,3 +1,4 @@
+-- The auction has ended, so its report can be made.
 use Rattle.std.proofs.Common.{◌≤◌, length, sym, subst, ◌∙◌}
 use Rattle.clock_house.specs.House.{HouseFields}
 use Rattle.clock_reports.proofs.RoundLaws.{some_closed}

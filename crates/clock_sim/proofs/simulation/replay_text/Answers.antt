@@ -1,3 +1,4 @@
+-- A replay has a script for each bidder.
 use Rattle.std.proofs.Common.{ap, subst, sym, ◌∙◌}
 use Rattle.clock_terms.specs.Limits.{SetupFields}
 use Rattle.clock_front.specs.Hubs.{HubFields}

@@ -1,3 +1,4 @@
+-- Each turn of the loop sends one head, and changes only its connection.
 use Rattle.std.proofs.Common.{◌≡◌, ◌++◌, ℕ, List, length, Some, ◌∙◌, ap, subst₂, arith}
 use Rattle.clock_connections.specs.Connections.{text_of}
 use Rattle.clock_front.specs.Hubs.{IsFed}

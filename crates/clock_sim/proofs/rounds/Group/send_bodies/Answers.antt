@@ -1,3 +1,4 @@
+-- Each turn of the loop sends one body; the first refusal is that of the group.
 use Rattle.std.proofs.Common.{ℕ, List, ap}
 use Rattle.clock_scripts.specs.Pieces.{body_in}
 use Rattle.std.proofs.lemmas.Result.{err_from_is_err_and}
