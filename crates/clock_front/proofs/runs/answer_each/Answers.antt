@@ -1,3 +1,4 @@
+-- Proves that the loop gives a run, by the invariant of RunLaws.
 use Rattle.std.proofs.Common.{◌≡◌, ◌+◌, ◌++◌, ◌<◌, ℕ, List, [], ◌∷◌, length, get_or, take, refl, sym, ◌∙◌, ap, subst, arith}
 use Rattle.std.proofs.lemmas.List.{take_all, take_more}
 use Rattle.clock_terms.specs.Limits.{SetupFields, IsSetup}

@@ -1,3 +1,4 @@
+-- Proves that the loop gives a run over the requests of the events, by the invariant of EventLaws.
 use Rattle.std.proofs.Common.{◌≡◌, List, ◌+◌, refl, sym, ◌∙◌, ap, subst, arith}
 use Rattle.clock_terms.specs.Limits.{SetupFields, IsSetup}
 use Rattle.clock_house.specs.History.{history}

@@ -1,3 +1,4 @@
+-- Proves what serving a stream did, from how its request was read and how its reply was written.
 use Rattle.std.proofs.Common.{List, ℕ, refl, sym, subst, ◌∙◌}
 use Rattle.clock_device.proofs.Streams.{same_bytes}
 use Rattle.clock_device.specs.Streams.{HasWritten, HasWrittenFront}

@@ -1,3 +1,4 @@
+-- Proves that the loop builds the initial eligibilities, and a list without sheets.
 use Rattle.std.proofs.Common.{◌++◌, ◌∷◌, [], ℕ, List, map, take, ap, sym, subst, ◌∙◌, arith, get_or}
 use Rattle.std.specs.Prelude.{None}
 use Rattle.std.proofs.lemmas.List.{map-append, take_more}

@@ -1,3 +1,4 @@
+-- Proves that no sheet is in force after the loop.
 use Rattle.std.proofs.Common.{◌≡◌, length, arith}
 use Rattle.std.specs.Prelude.{None}
 use Rattle.std.proofs.lemmas.List.FromFn.{fill_by_all}

@@ -3,6 +3,7 @@ use Rattle.std.specs.Prelude.{None}
 use Rattle.clock_house.specs.inside.OpenRounds.{no_slip}
 use Rattle.clock_house.proofs.house.take_slips.Given as goal
 
+-- The bidders so far have their next eligibility, and no sheet in force.
 abbrev pub invariant-loop-bidder : goal.invariant-loop-bidder
 invariant-loop-bidder l = record {
   eligibilities : length l.eligibilities ≡ length l.slips;

@@ -1,3 +1,4 @@
+-- Proves that the loop stops at a product with excess demand, or that there is none.
 use Rattle.std.proofs.Common.{length, sym, ap, arith}
 use Rattle.std.specs.Prelude.{not}
 use Rattle.clock_posting.specs.Posting.{has_excess}

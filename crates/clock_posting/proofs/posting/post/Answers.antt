@@ -1,3 +1,4 @@
+-- Proves that the input of a later round's posting fits together, and that its result is the posting of the rules.
 use Rattle.std.proofs.Common.{◌≡◌, subst, rules}
 use Rattle.std.specs.Prelude.{All, Any, IfSome}
 use Rattle.std.proofs.lemmas.Result.{IfOk-weaker}

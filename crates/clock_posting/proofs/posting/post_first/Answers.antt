@@ -1,3 +1,4 @@
+-- Proves that the input of round 1's posting fits together, and that its result is the posting of the rules.
 use Rattle.std.proofs.Common.{◌≡◌, ◌∙◌, subst, rules}
 use Rattle.std.specs.Prelude.{All}
 use Rattle.clock_terms.specs.Limits.{SetupFields, IsProduct}

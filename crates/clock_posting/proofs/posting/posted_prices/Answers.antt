@@ -1,3 +1,4 @@
+-- Proves that the loop ends with the posted prices: the least ones, raised by each reduction that was applied.
 use Rattle.std.proofs.Common.{◌≡◌, List, ℕ, length, get_or, ◌∙◌, ap, sym, arith, zero-add}
 use Rattle.std.specs.Prelude.{fold, max}
 use Rattle.std.proofs.lemmas.List.{drop_all}

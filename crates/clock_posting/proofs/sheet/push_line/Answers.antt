@@ -1,3 +1,4 @@
+-- Proves the bytes of a product's line, field by field from its end.
 use Rattle.std.proofs.Common.{◌≡◌, ◌++◌, ◌-◌, List, ℕ, ap, codes, decimal, drop, length-drop, rules, take, ◌∙◌}
 use Rattle.std.proofs.lemmas.List.{take_all}
 use Rattle.clock_device.specs.Decimal.{number_or_dash}

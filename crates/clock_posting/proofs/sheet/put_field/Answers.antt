@@ -1,3 +1,4 @@
+-- Proves that a field fits, as a number has at most 20 digits.
 use Rattle.std.proofs.Common.{◌≤◌, arith, decimal, length, rules}
 use Rattle.std.proofs.lemmas.Fmt.{length-decimal-le}
 use Rattle.clock_posting.proofs.sheet.put_field.Goals.{in-Some, in-None}

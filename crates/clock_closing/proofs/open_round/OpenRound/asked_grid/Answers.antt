@@ -1,3 +1,4 @@
+-- Proves that the loop builds the requested demands row by row, from the checks that each sheet in force has passed.
 use Rattle.std.proofs.Common.{◌≡◌, ◌++◌, ◌∷◌, ◌<◌, [], ℕ, List, All, length, ap, sym, subst, ◌∙◌, arith}
 use Rattle.std.specs.Prelude.{map}
 use Rattle.std.specs.List.{range_with_len}

@@ -1,3 +1,4 @@
+-- Proves that a closing returns what the rules say, from its two checks and the result of the steps after them.
 use Rattle.std.proofs.Common.{◌≡◌, List, ap, sym, ◌∙◌}
 use Rattle.std.proofs.lemmas.Result.{err_from_is_err_and}
 use Rattle.clock_terms.specs.Limits.{SetupFields}

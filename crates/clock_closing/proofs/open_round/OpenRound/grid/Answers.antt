@@ -1,3 +1,4 @@
+-- Proves that the copy has the demands before the round, as the joined list of contracts has them.
 use Rattle.std.proofs.Common.{◌≡◌, ℕ, List, ap, subst, ◌∙◌}
 use Rattle.std.specs.Prelude.{IfOk}
 use Rattle.clock_closing.specs.OpenRound.{OpenRoundFields}

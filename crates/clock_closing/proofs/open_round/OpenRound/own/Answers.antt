@@ -1,3 +1,4 @@
+-- Proves that a bidder's entries in the two borrowed lists are its entry in the joined list of contracts.
 use Rattle.std.proofs.Common.{length, ap, ◌∙◌, arith}
 use Rattle.clock_closing.specs.OpenRound.{OpenRoundFields, holding_at}
 use Rattle.clock_closing.proofs.Held.{held_at, held_many}

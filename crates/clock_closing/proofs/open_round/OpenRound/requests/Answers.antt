@@ -1,3 +1,5 @@
+-- Proves that the loop collects all bidders' requests, and that no two of them have the same bidder, product, and
+-- index.
 use Rattle.std.proofs.Common.{◌≡◌, ℕ, List, ◌++◌, ap, sym, ◌∙◌, arith}
 use Rattle.std.specs.Prelude.{flat_map}
 use Rattle.std.specs.List.{range_with_len}

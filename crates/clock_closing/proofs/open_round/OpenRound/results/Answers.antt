@@ -1,3 +1,5 @@
+-- Proves that the results are those of the rules, for round 1 by its requested demands, for later rounds by bid
+-- processing.
 use Rattle.std.proofs.Common.{◌≡◌, ◌≢◌, ◌≤◌, ap, sym, ◌∙◌, arith}
 use Rattle.std.proofs.lemmas.List.Sorted.{All-permutation}
 use Rattle.clock_posting.specs.PostedPrice.{IsWithinPrices}

@@ -1,3 +1,5 @@
+-- Proves that these requests can be processed, and that the result is the one of the rules, since the board is that of
+-- the round.
 use Rattle.std.proofs.Common.{◌≡◌, ℕ, List, ap, sym, subst, length, ◌∙◌}
 use Rattle.std.proofs.lemmas.List.{length-map}
 use Rattle.std.proofs.lemmas.Result.{IfOk-weaker}

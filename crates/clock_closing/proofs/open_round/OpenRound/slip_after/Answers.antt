@@ -1,3 +1,4 @@
+-- Proves that a bidder's results are those of the rules, part by part.
 use Rattle.std.proofs.Common.{refl, ap}
 use Rattle.clock_closing.specs.Holdings.{Holding}
 use Rattle.clock_closing.proofs.open_round.OpenRound.slip_after.Goals as goal

@@ -1,3 +1,4 @@
+-- Proves that a posting with the bidder results is the closed round, and that its refusal refuses the closing.
 use Rattle.std.proofs.lemmas.Result.{err_from_is_err_and}
 use Rattle.clock_closing.proofs.Posts.{round-made, round-refused, round-no_memory}
 use Rattle.clock_closing.proofs.open_round.OpenRound.with_slips.Goals as goal

@@ -1,3 +1,4 @@
+-- Proves the code of a request that is refused for its head or its length, from the contract of `answer_framed`.
 use Rattle.std.proofs.Common.{◌∙◌}
 use Rattle.clock_front.proofs.front.Front.answer.Goals as goal
 

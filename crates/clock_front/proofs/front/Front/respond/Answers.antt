@@ -1,3 +1,4 @@
+-- Proves the code of a refused or incomplete request, from the right response to it.
 use Rattle.std.proofs.Common.{ap, ◌∙◌, inl, sym}
 use Rattle.clock_http.specs.Framing.{is_incomplete}
 use Rattle.clock_http.specs.Replies.{Answer}

@@ -1,3 +1,5 @@
+-- Proves the response to a request, by its framing: incomplete, refused, or whole. A right response is private, by
+-- PrivateLaws.
 use Rattle.std.proofs.Common.{◌≡◌, ap, refl, sym, subst, ◌∙◌, rules}
 use Rattle.std.specs.Prelude.{IfErr, IfOk, None}
 use Rattle.clock_terms.specs.Limits.{IsSetup}

@@ -1,3 +1,4 @@
+-- Proves that a page or a refusal is a right response, since its request is no command.
 use Rattle.std.proofs.Common.{rules}
 use Rattle.clock_front.proofs.ReplyLaws.{unchanged_right}
 use Rattle.clock_front.proofs.front.answering.answer_request.Goals as goal

@@ -1,3 +1,5 @@
+-- Proves the response to a closing, case by case with the laws of ReplyLaws: no closing in the body, closed, or
+-- refused.
 use Rattle.std.proofs.Common.{◌≡◌, Bool, List, Result, Ok, Err, ap, sym, subst, ◌∙◌, rules}
 use Rattle.clock_terms.specs.Limits.{SetupFields}
 use Rattle.clock_order.specs.declared.ties.Tie.{Tie}

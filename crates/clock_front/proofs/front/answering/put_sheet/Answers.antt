@@ -1,3 +1,4 @@
+-- Proves the response to a sheet, case by case with the laws of ReplyLaws: no sheet in the body, accepted, or refused.
 use Rattle.std.proofs.Common.{ℕ, length, ap, subst, sym, ◌∙◌, rules}
 use Rattle.clock_house.specs.Command.{put}
 use Rattle.clock_house.specs.House.{IsFollowedBy}

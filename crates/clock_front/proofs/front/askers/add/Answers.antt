@@ -1,3 +1,4 @@
+-- Proves what the table finds after one more token.
 use Rattle.std.proofs.Common.{List, ℕ, cond, ap, ◌∙◌}
 use Rattle.clock_http.specs.Heads.{same_bytes}
 use Rattle.clock_front.specs.inside.HeldTokens.{found}

@@ -1,3 +1,4 @@
+-- Proves that the look-up finds whose the token is by the set-up, since the table agrees with it on every token.
 use Rattle.std.proofs.Common.{Option, length, ap, subst, sym, ◌∙◌}
 use Rattle.std.specs.Prelude.{unwrap_or}
 use Rattle.clock_front.specs.Askers.{holder}

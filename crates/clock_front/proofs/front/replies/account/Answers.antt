@@ -1,3 +1,4 @@
+-- Proves that the page of an account has the values of the rules, part by part.
 use Rattle.std.proofs.Common.{ap, ◌∙◌, ℕ, Bool, None}
 use Rattle.clock_http.specs.declared.code.Code.TheVariants.{Done}
 use Rattle.clock_front.specs.Outcomes.{with_page}

@@ -1,3 +1,4 @@
+-- Proves that each constant reply has the bytes of the refusal with its code, by computing these.
 use Rattle.std.proofs.Common.{◌≡◌, List, ℕ, ap, sym, ◌∙◌}
 use Rattle.std.specs.Fmt.{digits}
 use Rattle.clock_http.specs.Replies.{Answer, reply_bytes}

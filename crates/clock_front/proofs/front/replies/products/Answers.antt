@@ -1,3 +1,4 @@
+-- Proves that a copy of the stored page is the page of products.
 use Rattle.std.proofs.Common.{◌++◌, List, ℕ, ap, replicate, ◌∙◌}
 use Rattle.clock_terms.specs.Limits.{public_setup}
 use Rattle.clock_views.specs.PublicPages.{products_value}

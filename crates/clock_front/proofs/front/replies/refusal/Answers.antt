@@ -1,3 +1,4 @@
+-- Proves the bytes of a refusal, from those of its page.
 use Rattle.std.proofs.Common.{ap, ◌∙◌}
 use Rattle.clock_views.specs.Refusals.{Shown}
 use Rattle.clock_views.specs.RefusalPage.{refusal_value}

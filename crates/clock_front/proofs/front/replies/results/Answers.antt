@@ -1,3 +1,4 @@
+-- Proves the bytes of the page of all results.
 use Rattle.clock_views.specs.OperatorPages.{results_value}
 use Rattle.clock_front.proofs.PageLaws.{written_page}
 use Rattle.clock_front.proofs.front.replies.results.Goals as goal

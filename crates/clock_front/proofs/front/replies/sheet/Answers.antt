@@ -1,3 +1,4 @@
+-- Proves that the page of a closed round has its round results.
 use Rattle.std.proofs.Common.{ap, ◌∙◌, ℕ, Option, None}
 use Rattle.std.specs.Prelude.{option_map, option_and_then}
 use Rattle.clock_terms.specs.Limits.{SetupFields, public_setup}

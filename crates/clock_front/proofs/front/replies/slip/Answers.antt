@@ -1,3 +1,4 @@
+-- Proves that the page of a bidder's results has those of the closed round.
 use Rattle.std.proofs.Common.{ap, ◌∙◌, ℕ, Option}
 use Rattle.std.specs.Prelude.{option_map, option_and_then}
 use Rattle.clock_house.specs.History.{slip_of, round_at}

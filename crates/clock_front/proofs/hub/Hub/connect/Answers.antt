@@ -1,3 +1,4 @@
+-- Proves that all open connections still need more after one more was opened.
 use Rattle.clock_connections.proofs.WaitingLaws.{connect_keeps}
 use Rattle.clock_front.proofs.hub.Hub.connect.Goals as goal
 

@@ -1,3 +1,4 @@
+-- Proves what a piece led to, from its two steps: it is appended, and then the request is answered if it is complete.
 use Rattle.std.proofs.Common.{◌≡◌, ◌++◌, Some, IsSome, is_some, refl, sym, ◌∙◌, ap, subst, rules}
 use Rattle.clock_connections.specs.Connections.{text_of}
 use Rattle.clock_connections.proofs.WaitingLaws.{keeps_waiting, waits_no_more}

@@ -1,3 +1,4 @@
+-- Proves what a piece led to that completes a request: it is answered as if the piece had been appended.
 use Rattle.std.proofs.Common.{◌++◌, IsSome, rules}
 use Rattle.clock_connections.specs.Connections.{text_of}
 use Rattle.clock_connections.proofs.WaitingLaws.{keeps_waiting, waits_no_more}

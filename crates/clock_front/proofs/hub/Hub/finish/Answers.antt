@@ -1,3 +1,4 @@
+-- Proves that a request whose input ends was cut short, since every open connection needs more.
 use Rattle.std.proofs.Common.{IsSome, rules}
 use Rattle.clock_connections.specs.Connections.{text_of}
 use Rattle.clock_front.proofs.ConnectionLaws.{some_text}

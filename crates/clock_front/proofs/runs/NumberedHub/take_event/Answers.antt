@@ -1,3 +1,5 @@
+-- Proves that an event leaves the connections by number in agreement with the hub, and answers the request that it
+-- completes. By the event, and what the hub returned for it.
 use Rattle.std.proofs.Common.{◌++◌, ℕ, List, [], ◌∷◌, Option, None, refl, sym, subst}
 use Rattle.clock_connections.specs.declared.connections.Conn.{Conn}
 use Rattle.clock_connections.specs.declared.connections.Event.{Event}

@@ -1,3 +1,4 @@
+-- Proves that the sheet returned is the bidder's sheet in force, and follows from its view.
 use Rattle.std.proofs.Common.{◌<◌, length, ap, ◌∙◌, arith}
 use Rattle.std.proofs.lemmas.List.{get_or_read}
 use Rattle.std.specs.Prelude.{None}

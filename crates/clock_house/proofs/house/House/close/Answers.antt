@@ -1,3 +1,4 @@
+-- Proves that preparing and then committing a closing closes the round, and that a refusal is that of preparing.
 use Rattle.std.proofs.Common.{ap}
 use Rattle.std.proofs.lemmas.Result.{err_from_is_err_and}
 use Rattle.std.specs.Prelude.{Ok, Err}

@@ -1,3 +1,5 @@
+-- Proves that the house after a closing stands for one more command, and that what it stores agrees with its closed
+-- rounds.
 use Rattle.std.proofs.Common.{◌≡◌, ℕ, ◌+◌, ◌≤◌, List, [], ◌∷◌, ◌++◌, Bool, true, false, not, refl, ap, sym, subst, ◌∙◌, arith, length}
 use Rattle.std.specs.Prelude.{Option, None, map, reverse, is_ok, if◌then◌else◌, unwrap_or}
 use Rattle.std.specs.List.{range_with_len}

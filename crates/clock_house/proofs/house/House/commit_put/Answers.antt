@@ -1,3 +1,4 @@
+-- Proves that the house stands for one more command after a sheet is put in force.
 use Rattle.std.proofs.Common.{◌∷◌, refl, arith}
 use Rattle.clock_house.specs.Command.{put}
 use Rattle.clock_house.proofs.Kept.{stands_sheets}

@@ -1,3 +1,4 @@
+-- Proves that the stored demands are those of the rules, for each bidder.
 use Rattle.std.proofs.Common.{length, ◌∙◌}
 use Rattle.std.specs.Prelude.{reverse}
 use Rattle.std.specs.List.{range_with_len}

@@ -1,3 +1,4 @@
+-- Proves the laws of a house, from its invariant and the laws of the history.
 use Rattle.std.proofs.Common.{refl}
 use Rattle.clock_house.proofs.Sound.{sound}
 use Rattle.clock_house.proofs.Kept.{stands_sound, stands_going, stands_sheets}

@@ -1,3 +1,4 @@
+-- Proves that allocating memory for one more round changes nothing else.
 use Rattle.std.proofs.Common.{refl}
 use Rattle.clock_house.proofs.Kept.{kept_in_room}
 use Rattle.clock_house.proofs.house.House.make_room.Goals as goal

@@ -1,3 +1,4 @@
+-- Proves that what a new house stores agrees with an auction without closed rounds.
 use Rattle.std.proofs.Common.{[], ◌∙◌, refl}
 use Rattle.clock_house.proofs.Rows.{first_eligibilities, first_demands}
 use Rattle.clock_house.proofs.house.House.new.Goals as goal

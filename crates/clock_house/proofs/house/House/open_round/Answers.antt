@@ -1,3 +1,4 @@
+-- Proves that the stored parts make up the open round of the history, and that it is in order.
 use Rattle.std.proofs.Common.{◌≡◌, false, sym, subst, ◌∙◌}
 use Rattle.std.specs.Prelude.{reverse}
 use Rattle.clock_closing.specs.OpenRound.{IsOpenRound}

@@ -1,3 +1,4 @@
+-- Proves that the bidder's stored entries are what the rules say, within its limits, and follow from its view.
 use Rattle.std.proofs.Common.{◌≡◌, ℕ, List, get_or, length, ap, sym, subst, ◌∙◌, arith}
 use Rattle.clock_closing.specs.inside.OpenRound.{eligibilities_of, grid_of}
 use Rattle.clock_house.specs.Standing.{Standing}

@@ -1,3 +1,5 @@
+-- Proves that preparing returns what the rules say, check by check, since the memory allocated for the round changes no
+-- closing.
 use Rattle.std.proofs.Common.{ap, sym, ◌∙◌, rules}
 use Rattle.clock_closing.specs.declared.fault.CloseFault.TheVariants as close_faults
 use Rattle.clock_house.specs.Standing.{Standing}

@@ -1,3 +1,4 @@
+-- Proves that checking a copy of the bids is checking the bids.
 use Rattle.std.proofs.Common.{List, subst}
 use Rattle.clock_bids.specs.declared.sheet.Bid.{Bid}
 use Rattle.clock_house.specs.House.{AnswersPut, AnswersByView, put_fault_in}

@@ -1,3 +1,5 @@
+-- Proves that checking a sheet returns what the rules say, check by check, and that this follows from the bidder's
+-- view.
 use Rattle.std.proofs.Common.{◌≢◌, ℕ, ap, sym, subst, ◌∙◌, length, rules}
 use Rattle.std.specs.Prelude.{Some, Ok, Err}
 use Rattle.clock_house.specs.declared.fault.PutFault.TheVariants as put_faults

@@ -1,3 +1,4 @@
+-- Proves that the result is that of preparing the sheet.
 use Rattle.clock_house.proofs.house.House.put_sheet.Goals as goal
 
 pub returns-clause-answer : goal.returns-clause-answer

@@ -1,3 +1,4 @@
+-- Proves that the current round follows from every bidder's view.
 use Rattle.std.proofs.Common.{ap, ◌∙◌}
 use Rattle.clock_house.specs.Standing.{Standing}
 use Rattle.clock_house.proofs.Seen.{standing_seen}

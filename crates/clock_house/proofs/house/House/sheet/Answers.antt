@@ -1,3 +1,4 @@
+-- Proves that the round results returned are those of the closed round, and follow from every bidder's view.
 use Rattle.std.proofs.Common.{ap, sym, ◌∙◌, rules}
 use Rattle.std.specs.Prelude.{option_map}
 use Rattle.clock_house.specs.History.{ClosedRound}

@@ -1,3 +1,4 @@
+-- Proves that the results returned are the bidder's of the closed round, and follow from its view.
 use Rattle.std.proofs.Common.{◌≡◌, ◌<◌, ℕ, List, [], length, get_or, ap, sym, ◌∙◌, arith, rules}
 use Rattle.std.specs.Prelude.{Some, option_map}
 use Rattle.std.proofs.lemmas.List.{get_or_read}

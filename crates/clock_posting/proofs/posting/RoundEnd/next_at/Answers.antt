@@ -1,3 +1,4 @@
+-- Proves that the clock price in the next prices is the next clock price of the product.
 use Rattle.std.proofs.Common.{◌≡◌, ◌<◌, ◌∙◌, sym, ap, length, get_or, List, Some, arith}
 use Rattle.std.proofs.lemmas.List.{get_or_read}
 use Rattle.clock_terms.specs.declared.prices.PricePair.{PricePair}

@@ -1,3 +1,4 @@
+-- Proves the laws of the posting, from its parts.
 use Rattle.std.proofs.Common.{rules}
 use Rattle.clock_posting.specs.declared.posting.Posting.{Posting}
 use Rattle.clock_posting.specs.Posting.{IsPosting}

@@ -1,3 +1,4 @@
+-- Proves that the loop builds the next prices, or stops at the first product whose next clock price would be too high.
 use Rattle.std.proofs.Common.{◌≡◌, ℕ, ◌+◌, ◌-◌, ◌<◌, Bool, false, Some, None, List, [], ◌∷◌, ◌++◌, length, get_or, map, ap, sym, subst, ◌∙◌, arith, length-append}
 use Rattle.std.specs.Prelude.{is_none, unwrap_or, All, if◌then◌else◌}
 use Rattle.std.specs.List.{position_from, range_with_len}
