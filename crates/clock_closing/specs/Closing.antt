@@ -91,12 +91,8 @@ closed_round setup now increments result = record {
   slips = slips_after setup now result.grid;
 }
 
--- The round that a closing adds, or its first fault. The faults in order, which is our own:
--- - the auction has ended;
--- - it is for another round than the current one;
--- - an increment is not 1 to 50 percent, or there is not one for each product;
--- - the tie-breaking numbers have a fault;
--- - the auction would continue, and a next clock price would be too high.
+-- The round that a closing adds, or its first fault: the end, another round, an increment, the
+-- tie-breaking numbers, or a next clock price that is too high. The order is our own.
 abbrev pub closing : PublicSetup → OpenRound → ℕ → Increments → List Tie → Result ClosedRound CloseFault
 closing setup now round increments ties = let result = round_result setup.products now ties in
     unless (first_fault ((close_faults.Ended, not now.standing.ended)

@@ -1,8 +1,7 @@
 -- The check of a part, as one of the checks of the whole.
 use Rattle.std.specs.Prelude.{List, [], ◌∷◌, Bool, false, Option, Some, None}
 
--- The check of a part. It fails if the part has a fault, and then reports that fault as one of the
--- whole.
+-- The check of a part of the whole. It fails if the part has a fault, and reports that fault.
 abbrev pub fault_check : {F G : Type 0} → (F → G) → Option F → List (G × Bool)
 fault_check told None = []
 fault_check told (Some fault) = (told fault, false) ∷ []

@@ -20,8 +20,7 @@ use Rattle.clock_posting.specs.Posting.{IsRising}
 use Rattle.clock_closing.specs.Standing.{Standing}
 use Rattle.clock_closing.specs.Holdings.{Holding, holdings_of}
 
--- The input of a closing: the state of the auction, each bidder's eligibility and processed
--- demands, and each bidder's sheet in force.
+-- The auction's state, each bidder's eligibility and processed demands, and the sheets in force.
 pub record OpenRound : Type 0 where
   pub standing : Standing
   pub holdings : List Holding
@@ -39,16 +38,14 @@ holding_at holdings bidder = slice_index_or holdings bidder (record { eligibilit
 abbrev pub bids_at : List (Option (List Bid)) → ℕ → List Bid
 bids_at sheets bidder = unwrap_or (slice_index_or sheets bidder None) []
 
--- There is a demand for each product, none above its cap. The activity is within the eligibility,
--- and that is at most 10^12 bidding units.
+-- A demand for each product, within its cap; activity within eligibility; and that bounded.
 pub record IsWithinLimits (products : List Product) (holding : Holding) : Type 0 where
   pub row : IsRow products holding.demands
   pub within : activity products holding.demands ≤ holding.eligibility
   pub most : holding.eligibility ≤ most_eligibility
 
--- Each product has prices: a start-of-round price from one dollar to the highest price, and a clock
--- price not below it. From round 2, the clock price is higher, and each round before has raised the
--- sum of the start-of-round prices by a dollar at least.
+-- Prices are ordered, from one dollar to the highest price. From round 2 the clock price is higher,
+-- and each closed round from the second has raised the sum of the start-of-round prices.
 pub record HasSoundPrices (products : List Product) (now : Standing) : Type 0 where
   pub numbered : 1 ≤ now.round
   pub pairs : length now.prices ≡ length products

@@ -2,8 +2,7 @@
 use Rattle.std.specs.Prelude.{ℕ, List, Bool}
 use Rattle.clock_terms.specs.declared.prices.PricePair.{PricePair}
 
--- Whether the auction has ended, the current round, and the prices of that round: start-of-round
--- price and clock price for each product.
+-- Whether the auction has ended, the current round, and each product's prices in it.
 pub record Standing : Type 0 where
   pub ended : Bool
   pub round : ℕ

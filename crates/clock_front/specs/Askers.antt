@@ -20,13 +20,11 @@ abbrev pub holder : List (List ℕ × Asker) → List ℕ → Asker
 holder [] token = Nobody
 holder (entry ∷ entries) token = if same_bytes token entry.0 then entry.1 else holder entries token
 
--- Who sent a request with this token, or with none: the operator, a bidder, or no one of the
--- set-up. The operator's token is compared first, then each bidder's.
+-- Who sent a request with this token, or with none. The operator's token is compared first.
 abbrev pub asker : SetupFields → Option (List ℕ) → Asker
 asker setup None = Nobody
 asker setup (Some token) = holder ((setup.operator, Operator) ∷ bidder_tokens 0 setup.bidders) token
 
--- The operator and all bidders have different tokens. Every set-up that was read from a document
--- does.
+-- No token of the set-up occurs twice. Every set-up that was read has this property.
 abbrev pub HasOwnTokens : SetupFields → Type 0
 HasOwnTokens setup = AreDistinct (setup.operator ∷ map (λ bidder. bidder.token) setup.bidders)

@@ -19,8 +19,7 @@ use Rattle.clock_front.specs.declared.front.response.Effect.{Effect}
 use Rattle.clock_front.specs.declared.front.response.Effect.TheVariants.{Nothing, Sheet, Closing}
 use Rattle.clock_front.specs.declared.front.response.Response.{Response}
 
--- A sheet without a fault becomes the bidder's sheet in force. A sheet with a fault changes
--- nothing.
+-- A sheet without a fault becomes the bidder's sheet in force. A refused one changes nothing.
 abbrev pub put_effect : Option PutFault → Effect
 put_effect None = Sheet
 put_effect (Some fault) = Nothing
@@ -30,8 +29,7 @@ abbrev pub close_effect : ℕ → Result ClosedRound CloseFault → Effect
 close_effect round (Ok closed) = Closing round
 close_effect round (Err fault) = Nothing
 
--- What a command changes in the current state of the house. Only sheets and closings change
--- anything.
+-- What a command changes now. Only sheets and closings change anything.
 abbrev pub effect_in : HouseFields → Command → Effect
 effect_in house (put bidder round bids) = put_effect (put_fault_in house bidder round bids)
 effect_in house (close round increments ties) = close_effect round (closing_in house round increments ties)
@@ -41,23 +39,20 @@ effect_in house other = Nothing
 abbrev pub effect : SetupFields → List (List ℕ) → List ℕ → Effect
 effect setup texts text = effect_in (house_after setup (commands_of setup texts)) (text_command setup text)
 
--- The response to what a sender asks for is right. Its reply and its effect are those that follow
--- from the old house. The new house stands for the commands of the old one and then this command. If
--- the effect is `Nothing`, it stands for the commands of the old one.
+-- The reply and the effect follow from the old house. The new house stands for one more command; if
+-- the effect is `Nothing`, it also stands for the commands of the old one.
 pub record IsRightFor (who : Asker) (ask : Ask) (old new : HouseFields) (response : Response) : Type 0 where
   pub reply : response.reply ≡ answer_of (outcome old who ask)
   pub effect : response.effect ≡ effect_in old (command_of old.setup who ask)
   pub followed : IsFollowedBy (command_of old.setup who ask) old new
   pub still : response.effect ≡ Nothing → StandsStill old new
 
--- The response to the bytes of a request is right: their token says who sent it, the rest what it
--- asks for.
+-- The right response to the bytes of a request, by their token and what they ask for.
 abbrev pub IsRightResponse : List ℕ → HouseFields → HouseFields → Response → Type 0
 IsRightResponse text old new response =
     IsRightFor (asker old.setup (request_of text).token) (request_of text).ask old new response
 
--- The response to a request is right; or it is the out-of-memory reply, and the house stands for
--- the same commands as before.
+-- The right response; or out of memory, and the house stands for the same commands as before.
 abbrev pub RespondsTo : List ℕ → Response → HouseFields → HouseFields → Type 0
 RespondsTo text response old new =
     IsRightResponse text old new response

@@ -29,8 +29,7 @@ text_command setup text = command_of setup (asker setup (request_of text).token)
 abbrev pub commands_of : SetupFields → List (List ℕ) → List Command
 commands_of setup texts = map (text_command setup) texts
 
--- The auction that commands have made, as a house shows it: the closed rounds, and each bidder's
--- sheet in force.
+-- The auction that commands have made, as a house shows it.
 abbrev pub house_after : SetupFields → List Command → HouseFields
 house_after setup commands = record {
   setup = setup;
@@ -39,8 +38,8 @@ house_after setup commands = record {
   spare = 0;
 }
 
--- The one right reply to a request that comes after the requests `texts`. It is computed: by the
--- state of the auction after them, by the request's token, and by what it asks for.
+-- The one right reply to a request that comes after the requests `texts`: computed from the auction
+-- that they have made, the token of the request, and what it asks for.
 abbrev pub reply : SetupFields → List (List ℕ) → List ℕ → Answer
 reply setup texts text =
     answer_of (outcome (house_after setup (commands_of setup texts)) (asker setup (request_of text).token) (request_of text).ask)
@@ -57,8 +56,7 @@ right_answer house text = answer_of (outcome house (asker house.setup (request_o
 abbrev pub IsCutShort : Answer → Type 0
 IsCutShort answer = (answer ≡ cut_short) ⊎ (answer ≡ no_memory)
 
--- The request was answered out of memory, and did need memory. A request that is refused for its
--- head or for its length needs none.
+-- Answered out of memory. A request that is refused for its head or its length needs no memory.
 pub record IsStruckOut (text : List ℕ) (answer : Answer) : Type 0 where
   pub is : answer ≡ no_memory
   pub needs : (code : Code) → framing text ≡ refusal code → ⊥
@@ -70,9 +68,8 @@ IsDoneBy text answer old new =
     ((answer ≡ right_answer old text) × IsFollowedBy (text_command old.setup text) old new)
     ⊎ (IsStruckOut text answer × StandsStill old new)
 
--- What a reply means for every list of requests that the house stands for. Either it is the right
--- reply after them, and then the house stands for this request too. Or the request was answered out
--- of memory, and the house stands for the list as before.
+-- For every list of requests that the house stands for: the right reply after them, and it then
+-- stands for this one too; or out of memory, and it stands for the list as before.
 abbrev pub AnswersText : List ℕ → Answer → HouseFields → HouseFields → Type 0
 AnswersText text answer old new = (texts : List (List ℕ)) → StandsForTexts texts old
     → ((answer ≡ reply old.setup texts text) × StandsForTexts (text ∷ texts) new)

@@ -45,8 +45,7 @@ pub record SeesTheSame (one two : SetupFields) (bidder other_number : ℕ) (past
   pub view : text_view one bidder past ≡ text_view two other_number other_past
 
 -- The reply to a bidder's own request is computed from what the bidder sees, without any rival. It
--- is also the reply in every other run in which a bidder sees the same. That run's set-up need only
--- have different tokens for all, as every set-up that was read has.
+-- is also the reply in every other run, with distinct tokens, in which a bidder sees the same.
 pub record IsPrivate (setup : SetupFields) (bidder : ℕ) (past : List (List ℕ)) (text : List ℕ) (one : Answer) : Type 0 where
   pub from_view : one ≡ answer (public_setup setup) (bidder_at setup bidder) (text_view setup bidder past) text
   pub elsewhere : (other : SetupFields) (other_number : ℕ) (other_past : List (List ℕ)) → HasOwnTokens other → other_number < length other.bidders

@@ -51,15 +51,13 @@ answer_of (done value) = with_page code.Done None value
 answer_of (refused shown) = with_page shown.code None (refusal_value shown)
 answer_of (not_allowed page) = with_page code.Method (Some page) (refusal_value (alone code.Method))
 
--- A page for bidders. A request without a valid token is refused for its token, the operator's for
--- its role.
+-- A page only for bidders. No valid token is refused as `token`, the operator as `role`.
 abbrev pub to_bidder : Asker → (ℕ → Outcome) → Outcome
 to_bidder Nobody told = refused (alone code.Token)
 to_bidder Operator told = refused (alone code.Role)
 to_bidder (Bidder bidder) told = told bidder
 
--- A page for the operator. A request without a valid token is refused for its token, a bidder's for
--- its role.
+-- A page only for the operator. No valid token is refused as `token`, a bidder as `role`.
 abbrev pub to_operator : Asker → Outcome → Outcome
 to_operator Nobody told = refused (alone code.Token)
 to_operator (Bidder bidder) told = refused (alone code.Role)
@@ -84,8 +82,7 @@ page_or_no_round (Some value) = done value
 
 -- ---- replies to changes
 
--- The reply to a sheet: accepted, with its round and number of bids, or refused for its first
--- fault.
+-- The reply to a sheet: accepted, with its round and number of bids, or its first fault.
 abbrev pub put_outcome : PutBody → Option PutFault → Outcome
 put_outcome body None = done (accepted_value body.round (length body.bids))
 put_outcome body (Some fault) = refused (shown_put fault)
@@ -107,8 +104,7 @@ close_to house (Ok body) = close_outcome body.round (closing_in house body.round
 
 -- ---- the reply to each request
 
--- The reply to a sender who asks for this, by the house. Pages for everyone do not depend on the
--- sender.
+-- The reply to a sender who asks for this. Pages for everyone do not depend on the sender.
 abbrev pub told : HouseFields → Asker → Ask → Outcome
 told house asker (asked.turned_away why) = refused (alone why)
 told house asker (asked.no_method page) = not_allowed page
@@ -125,8 +121,7 @@ told house asker (asked.slip segment) =
 told house asker (asked.close body) = to_operator asker (close_to house (in_version house.setup.version body))
 told house asker asked.results = to_operator asker (done (results_value house))
 
--- The reply to a sender who asks for this, by the current state of the house. It does not depend on
--- how much memory the house has allocated for further rounds.
+-- The reply by the house's state. It does not depend on memory allocated for further rounds.
 abbrev pub outcome : HouseFields → Asker → Ask → Outcome
 outcome house asker ask =
     told (record { setup = house.setup; closed = house.closed; sheets = house.sheets; spare = 0 }) asker ask
@@ -143,8 +138,7 @@ abbrev pub close_command : Result CloseBody BodyFault → Command
 close_command (Err fault) = command.other
 close_command (Ok body) = command.close body.round body.increments body.ties
 
--- The command that a request is: a bidder's sheet, or the operator's closing. Every other request
--- changes nothing.
+-- A bidder's sheet, or the operator's closing. Every other request changes nothing.
 abbrev pub command_of : SetupFields → Asker → Ask → Command
 command_of setup (Bidder bidder) (asked.put body) = put_command bidder body
 command_of setup Operator (asked.close body) = close_command (in_version setup.version body)

@@ -16,9 +16,8 @@ use Rattle.clock_bodies.specs.declared.put_body.PutBody.{PutBody}
 use Rattle.clock_bodies.specs.declared.close_body.CloseBody.{CloseBody}
 use Rattle.clock_bodies.specs.declared.body.BodyFault.{BodyFault}
 
--- What a request asks for: a refusal, for its bytes or its path, or for its method; a page; or a
--- change, which is a bidder's sheet (`put`) or a closing. The body of a change is read here, but a
--- fault of it is reported only to a sender who may make that change.
+-- What a request asks for: a refusal, by its bytes, path, or method; a page; or a sheet or closing.
+-- A fault in the body of these two is reported only to a sender who may make the change.
 pub data Ask : Type 0 where
   turned_away : Code → Ask
   no_method : Page → Ask
@@ -59,7 +58,6 @@ ask_of incomplete = turned_away CutShort
 ask_of (refusal code) = turned_away code
 ask_of (whole head body) = ask_by_route (page_of head.path) head body
 
--- The token of a request and what it asks for. The token is read from the head, even if the body is
--- refused or cut short.
+-- The token of a request, even if its body is refused or cut short, and what it asks for.
 unfoldable pub request_of : List ℕ → Request
 request_of text = record { token = option_and_then (λ head. head.token) (head_in text); ask = ask_of (framing text) }

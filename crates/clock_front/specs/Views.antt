@@ -30,15 +30,13 @@ use Rattle.clock_front.specs.Requests as asked
 use Rattle.clock_front.specs.Outcomes.{Outcome, done, refused, not_allowed, answer_of, body_code, page_or_no_round, put_outcome}
 use Rattle.clock_front.specs.Fronts.{text_command, commands_of}
 
--- The request is the bidder's own: the token in its head is the bidder's. The path does not matter,
--- nor whether the request is refused.
+-- The request has the bidder's token, on whatever path, and even if it is refused.
 abbrev pub is_own : Bidder → List ℕ → Bool
 is_own row text = option_map_or (same_bytes row.token) (request_of text).token false
 
 -- ---- what a bidder sees
 
--- What a bidder sees of one request: its own request; or an accepted closing, as the round results
--- and this bidder's results.
+-- An own request; or an accepted closing, as the round results and this bidder's results.
 pub data SeenText : Type 0 where
   own : List ℕ → SeenText
   seen_close : RoundSheet → Slip → SeenText

@@ -12,28 +12,24 @@ pub use Rattle.clock_closing.specs.OpenRound.{IsWithinLimits, HasSoundPrices, Is
 use Rattle.clock_closing.specs.Results.{demands_of}
 use Rattle.clock_house.specs.History.{ClosedRound, Auction, standing, holding}
 
--- The most rounds that an auction can have. Each round from 2 raises some price by a dollar at
--- least, and no price can exceed the highest one.
+-- The most rounds of an auction. Each from round 2 raises some price by a dollar at least.
 abbrev pub most_rounds : ℕ
 most_rounds = most_products * highest_price + 2
 
--- The closed rounds, newest first, are numbered without a gap from 1. Each has results for each
--- bidder, and a line for each product.
+-- Closed rounds, newest first, are numbered from 1. Each has results for all bidders and products.
 abbrev pub AreNumbered : ℕ → ℕ → List ClosedRound → Type 0
 AreNumbered bidders products [] = Unit {0}
 AreNumbered bidders products (round ∷ rounds) =
     (round.sheet.round ≡ suc (length rounds)) × (length round.slips ≡ bidders) × (length round.sheet.lines ≡ products) × AreNumbered bidders products rounds
 
--- If a product's aggregate demand is at least its supply after the earlier round, it is after the
--- later one.
+-- If aggregate demand was at least supply after the earlier round, it is after the later one.
 abbrev pub StaysSupplied : List Product → ClosedRound → ClosedRound → Type 0
 StaysSupplied products later earlier =
     (product : ℕ) → supply_of products product ≤ total_of (demands_of earlier.slips) product
     → supply_of products product ≤ total_of (demands_of later.slips) product
 
--- Rounds are numbered from 1. Each bidder is within its caps and its eligibility. If the auction
--- has not ended, its prices are in order. A product that was once fully demanded stays so. The
--- number of rounds is bounded.
+-- Rounds are numbered and bounded, and each bidder is within its caps and its eligibility. Prices
+-- are in order until the end, and aggregate demand that has reached supply stays there.
 pub record IsSound (setup : SetupFields) (auction : Auction) : Type 0 where
   pub numbered : AreNumbered (length setup.bidders) (length setup.products) auction.closed
   pub within : (bidder : ℕ) → bidder < length setup.bidders → IsWithinLimits setup.products (holding setup auction.closed bidder)

@@ -22,8 +22,7 @@ use Rattle.clock_house.specs.declared.fault.PutFault.TheVariants as put_faults
 abbrev pub first_standing : List Product → Standing
 first_standing products = record { ended = false; round = 1; prices = opening_prices products }
 
--- After a round with these results, the next round has the posted prices as start-of-round prices,
--- and the next clock prices. If the auction has ended, the current round stays the last one.
+-- The next round starts at the posted prices. At the end, the current round stays the last one.
 abbrev pub standing_after : RoundSheet → Standing
 standing_after sheet = record {
   ended = sheet.ended;
@@ -31,8 +30,7 @@ standing_after sheet = record {
   prices = map next_pair sheet.lines;
 }
 
--- The first fault of a sheet: the auction has ended, it is for another round than the current one,
--- or its bids have a fault.
+-- The first fault: the auction has ended, the round is not the current one, or the bids have one.
 abbrev pub put_fault : PublicSetup → Standing → Holding → ℕ → List Bid → Option PutFault
 put_fault setup standing holding round bids = first_fault ((put_faults.Ended, not standing.ended)
     ∷ (put_faults.WrongRound standing.round, round == standing.round)

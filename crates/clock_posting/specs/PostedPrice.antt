@@ -16,8 +16,7 @@ abbrev pub is_reduction : Kind → Bool
 is_reduction Reduction = true
 is_reduction Increase = false
 
--- The request reduces this product's demand, and was applied at least in part: less of it is left
--- than it asked for.
+-- A reduction of this product that was applied at least in part: less is left than it asked for.
 abbrev pub is_applied_reduction : ℕ → Change → ℕ → Bool
 is_applied_reduction product change left =
     is_reduction change.kind && (change.product == product) && nat_lt left change.amount
@@ -27,9 +26,8 @@ abbrev pub highest_or : ℕ → List ℕ → ℕ
 highest_or other [] = other
 highest_or other (price ∷ prices) = fold max price prices
 
--- The posted price of a product. With excess demand it is the clock price. Without, it is the
--- highest price of its reductions that were applied at least in part, or the start-of-round price
--- if there are none. Our own rule for the case without excess demand.
+-- The clock price with excess demand. Without, the highest price of a reduction that was applied at
+-- least in part, or the start-of-round price if there is none, which is our own rule.
 abbrev pub posted_price : List Product → List PricePair → List Change → List ℕ → List (List ℕ) → ℕ → ℕ
 posted_price products prices changes left grid product =
     if has_excess products grid product then (prices_at prices product).clock
