@@ -1,4 +1,5 @@
--- What clap promises of a parse, said of the program's own grammar.
+-- What clap's contracts promise of a parse, applied to the program's own grammar. The commands are built option by
+-- option, and their rules are those of the grammar.
 use Rattle.std.proofs.Common.{◌≡◌, ◌≢◌, ◌∷◌, [], inl, inr, true, List, Option, None, refl, subst, ap₂, ◌∙◌}
 use Rattle.std.specs.Prelude.{IfErr, IfOk, Result, Ok, Err}
 use Rattle.clap.specs.Words.{AddsArg, AddsSubcommand, App, FailsBy, HasKind, HasMatchesOf, Kinds, Rule, Text, fault_of, is_simple, is_simple_and_free}
@@ -49,7 +50,7 @@ is_some_kind [] error (inl memory) other none = other memory
 is_some_kind [] error (inr among) other none = among
 is_some_kind (kind ∷ kinds) error has other none = cc
 
--- how clap ends with these words
+-- how clap's parse of these words ends
 module _ (app : App) (is_grammar : app ≡ grammar) (words : List Text) where
   pub none_refused : (result : Result ArgMatches Error) → (is_simple_and_free app ≡ true → FailsBy (fault_of app words) result)
       → IfOk result (λ found. fault_of grammar words ≡ [])

@@ -1,4 +1,4 @@
--- Reading an option as a number and looking at its limits gives what the definition says of its text.
+-- An option's number, parsed and then compared with its limits, is the number that the definition gives for its text.
 use Rattle.std.proofs.Common.{◌≡◌, ◌≤◌, ℕ, Bool, List, Option, Some, None, Ok, Err, Result, nat_le, ◌&&◌, cond, option_and_then}
 use Rattle.std.proofs.Common.{true, false, refl, sym, subst, ◌∙◌}
 use Rattle.std.proofs.lemmas.Bool.{leb-true, le-leb}
@@ -49,7 +49,7 @@ module _ {E : Type 0} (gives : List ℕ → Result ℕ E → Type 0) (parses : (
   number_read None r none some = rw (none refl) refl
   number_read (Some t) r none some = read_at t r (some t refl)
 
-  -- a number within the limits is kept, and no other
+  -- a number within the limits is returned, and no other
   pub kept : (text : Option (List ℕ)) (r : Option ℕ) (n : ℕ) → r ≡ Some n → is_within least most n ≡ true → (text ≡ None → r ≡ None)
       → ((t : List ℕ) → text ≡ Some t → ReadsOne gives t r) → Some n ≡ option_and_then (number_from least most) text
   kept text r n is test none some =

@@ -1,4 +1,4 @@
--- What the options of `serve` tell, option by option.
+-- The arguments of `serve` are the values of its options. Option by option.
 use Rattle.std.proofs.Common.{◌≡◌, ℕ, List, Option, Some, codes, refl}
 use Rattle.clap.specs.Words.{Row, Text, first_of}
 use Rattle.clock_words.specs.Words.{most_port, most_served, number_of, serving_from}

@@ -1,9 +1,10 @@
--- What the words after the program's name ask for. How words are read is clap's own definition: `fault_of` lists the
--- ways in which a grammar refuses words, and `subcommand_of` is the command that they name, with what each option has.
+-- What the program's arguments, its words, ask for. How they are parsed is clap's own definition:
+-- `fault_of` lists the reasons for which a grammar refuses words, and `subcommand_of` is the
+-- command that they name, with the values of its options.
 --     grammar      the program's commands and options
---     given words      the words, or those that stand for none
---     asked_by words      what the words ask for, where they are not refused
---     job_of words      the job that the words ask for, where they ask for one
+--     given words      the words, or those that replace an empty list
+--     asked_by words      what the words ask for, unless they are refused
+--     job_of words      the job that the words ask for, if they ask for one
 use Rattle.std.specs.Prelude.{ℕ, true, List, [], ◌∷◌, Option, Some, None, codes, if◌then◌else◌, option_and_then, option_map}
 use Rattle.std.specs.Str.{bytes_eq}
 use Rattle.std.specs.Str.Parse.{digits_value, without_leading_plus}
@@ -20,19 +21,19 @@ use Rattle.clock_words.specs.declared.words.Asked.{Asked}
 use Rattle.clock_words.specs.declared.words.Asked.TheVariants as case
 use Rattle.clock_words.specs.declared.words.Job.TheVariants.{Prices, Opening, Replay}
 
--- an option of one value that may be left out, as `--journal FILE`
+-- an optional option with one value, such as `--journal FILE`
 abbrev pub option_rule : Text → Rule
 option_rule name = record (new_rule name) { long = Some name; value_names = 1 }
 
--- an option that must be given, as `--setup FILE`
+-- a required option, such as `--setup FILE`
 abbrev pub needed_rule : Text → Rule
 needed_rule name = record (option_rule name) { required = true }
 
--- the same with a number, which is 1 or more
+-- a required option whose value is a number from 1 to `most`
 abbrev pub number_rule : Text → ℕ → Rule
 number_rule name most = record (needed_rule name) { parser = Some (parser.Unsigned 1 most) }
 
--- `--increment N`, within its limits, and 10 where it is not given
+-- `--increment N`, within its limits, with 10 as its default
 abbrev pub increment_option : Rule
 increment_option = record (option_rule (codes "increment")) {
   parser = Some (parser.Unsigned least_increment most_increment);
@@ -43,11 +44,11 @@ increment_option = record (option_rule (codes "increment")) {
 abbrev pub prices_grammar : App
 prices_grammar = with_rule (new_app (codes "prices")) increment_option
 
--- a port is a number of 16 bits other than 0
+-- a port has 16 bits and is not 0
 abbrev pub most_port : ℕ
 most_port = 65535
 
--- how many connections `serve` takes at most
+-- the most connections that `serve` can be asked to serve (own limit)
 abbrev pub most_served : ℕ
 most_served = 1000000
 
@@ -57,11 +58,11 @@ serve_grammar =
     with_rule (with_rule (with_rule (with_rule (new_app (codes "serve")) (needed_rule (codes "setup")))
     (number_rule (codes "port") most_port)) (number_rule (codes "connections") most_served)) (option_rule (codes "journal"))
 
--- a command of two files, as `audit --setup FILE --journal FILE`
+-- a command on two files, such as `audit --setup FILE --journal FILE`
 abbrev pub files_grammar : Text → App
 files_grammar name = with_rule (with_rule (new_app name) (needed_rule (codes "setup"))) (needed_rule (codes "journal"))
 
--- the words begin with a command, and not with the program's own name, or ask for help or the version
+-- words begin with a command, not with the program's name, or ask for help or the version
 abbrev pub asks_for_a_command : Shape → Shape
 asks_for_a_command shape = record shape { no_binary_name = true; subcommand_required = true; has_version = true }
 
@@ -69,7 +70,7 @@ asks_for_a_command shape = record shape { no_binary_name = true; subcommand_requ
 abbrev pub program_alone_grammar : App
 program_alone_grammar = on_top asks_for_a_command (new_app (codes "clock_auction"))
 
--- the commands, one of which must be named
+-- the program, with its commands
 abbrev pub grammar : App
 grammar =
     with_subcommand (with_subcommand (with_subcommand (with_subcommand (with_subcommand (with_subcommand
@@ -77,53 +78,53 @@ grammar =
     (new_app (codes "opening")).top) (new_app (codes "replay")).top) serve_grammar.top)
     (files_grammar (codes "journal")).top) (files_grammar (codes "audit")).top
 
--- no word stands for `prices --increment 10`
+-- an empty list is replaced by `prices --increment 10`
 abbrev pub given : List Text → List Text
 given [] = codes "prices" ∷ codes "--increment" ∷ codes "10" ∷ []
 given (word ∷ words) = word ∷ words
 
--- the number that a text writes, where it is within the limits
+-- the number that a text writes, if it is within the limits
 abbrev pub number_from : ℕ → ℕ → Text → Option ℕ
 number_from least most text =
     if is_unsigned_in least most text then Some (digits_value 10 (without_leading_plus text)) else None
 
--- the number that an option has, where it is within the limits
+-- the number that an option has, if it is within the limits
 abbrev pub number_of : Text → ℕ → ℕ → List Row → Option ℕ
 number_of name least most options = option_and_then (number_from least most) (one_of name options)
 
--- what `serve` is told: the set-up's file, the port, how many connections, and the journal's file if there is to be one
+-- the arguments of `serve`: set-up file, port, number of connections, journal file if any
 pub record ServingTold : Type 0 where
   pub setup : Text
   pub port : ℕ
   pub connections : ℕ
   pub journal : Option Text
 
--- what `journal` and `audit` are told: the file of the set-up and that of the journal
+-- the arguments of `journal` and `audit`: set-up file and journal file
 pub record FilesTold : Type 0 where
   pub setup : Text
   pub journal : Text
 
--- what a run is asked for: a job, or what is to be done with files
+-- what a run is asked for: a job, or a command on files
 pub data AskedTold : Type 0 where
   job : Job → AskedTold
   serve : ServingTold → AskedTold
   journal : FilesTold → AskedTold
   audit : FilesTold → AskedTold
 
--- what the options of `serve` tell
+-- the arguments of `serve`, from its options
 abbrev pub serving_from : List Row → Option ServingTold
 serving_from options =
     option_and_then (λ setup. option_and_then (λ port. option_map (λ connections.
     record { setup = setup; port = port; connections = connections; journal = first_of (codes "journal") options })
     (number_of (codes "connections") 1 most_served options)) (number_of (codes "port") 1 most_port options)) (first_of (codes "setup") options)
 
--- what the options of the other two tell
+-- the arguments of `journal` or `audit`, from its options
 abbrev pub files_from : List Row → Option FilesTold
 files_from options =
     option_and_then (λ setup. option_map (λ file. record { setup = setup; journal = file }) (first_of (codes "journal") options))
     (first_of (codes "setup") options)
 
--- what a command asks for, with what its options have
+-- what a command with these options asks for
 abbrev pub asked_named : Text → List Row → Option AskedTold
 asked_named name options =
     if bytes_eq name (codes "prices")
@@ -133,12 +134,12 @@ asked_named name options =
     else (if bytes_eq name (codes "journal") then option_map journal (files_from options)
     else (if bytes_eq name (codes "audit") then option_map audit (files_from options) else None)))))
 
--- what the command that was met asks for
+-- what the parsed command asks for
 abbrev pub asked_met : Option (Text × List Row) → Option AskedTold
 asked_met None = None
 asked_met (Some met) = asked_named met.0 met.1
 
--- the same as the code has it
+-- the arguments of `serve`, as the code has them
 abbrev pub serving_told : Serving → ServingTold
 serving_told serving = record {
   setup = serving.setup.now;
@@ -156,16 +157,16 @@ asked_told (case.Serve serving) = serve (serving_told serving)
 asked_told (case.Journal files) = journal (files_told files)
 asked_told (case.Audit files) = audit (files_told files)
 
--- what is meant, and nothing where the words may be refused
+-- the value, or none if there is a reason to refuse
 abbrev pub unless_refused : {A : Type 0} → Kinds → Option A → Option A
 unless_refused [] meant = meant
 unless_refused (kind ∷ kinds) meant = None
 
--- what some words ask for, and nothing where clap refuses them
+-- what words ask for, or nothing if clap refuses them
 abbrev pub asked_meant : List Text → Option AskedTold
 asked_meant words = unless_refused (fault_of grammar words) (asked_met (subcommand_of grammar words))
 
--- what the words after the program's name ask for
+-- what the program's arguments ask for
 abbrev pub asked_by : List Text → Option AskedTold
 asked_by words = asked_meant (given words)
 
@@ -176,7 +177,7 @@ job_in (serve serving) = None
 job_in (journal files) = None
 job_in (audit files) = None
 
--- the job that the words after the program's name ask for, where they ask for one
+-- the job that the program's arguments ask for, if they ask for one
 abbrev pub job_of : List Text → Option Job
 job_of words = option_and_then job_in (asked_by words)
 
@@ -186,7 +187,7 @@ IsJob (Prices increment) = IsIncrement increment
 IsJob Opening = Unit {0}
 IsJob Replay = Unit {0}
 
--- and so is that of what is asked for
+-- so is the increment of what is asked for
 abbrev pub IsAsked : Asked → Type 0
 IsAsked (case.Job one) = IsJob one
 IsAsked (case.Serve serving) = Unit {0}

@@ -1,4 +1,4 @@
-//! The commands and options of the program, as clap is told of them.
+//! The commands and options of the program, as clap's builder defines them.
 ghost use Rattle.std.specs.Prelude.{IfOk};
 ghost use Rattle.clap.specs.Words.{App, new_app, with_subcommand};
 ghost use Rattle.clock_words.specs.Words.{files_grammar, grammar, needed_rule, number_rule, option_rule, prices_grammar, program_alone_grammar, serve_grammar};
@@ -12,16 +12,16 @@ use clap::{Arg, Command};
 use clock_money::{LEAST_INCREMENT, MOST_INCREMENT};
 use std::alloc::{AllocError, Global};
 
-/// What is said of the file that each command on files takes.
+/// The help text of the option `--setup`.
 static SETUP_FILE: &str = "The set-up document";
 
 /// The highest port.
 pub const MOST_PORT: u64 = 65_535;
 
-/// How many connections `serve` takes at most.
+/// The most connections that `serve` can be asked to serve.
 pub const MOST_SERVED: u64 = 1_000_000;
 
-/// An option of one value, which may be left out.
+/// Makes an optional option with one value.
 fn option<'a>(alloc: Global, name: &'a str, value: &'a str, help: &'a str) -> Arg<'a>
     ensures { IsOption (option_rule name.now) result }
 {
@@ -31,14 +31,14 @@ fn option<'a>(alloc: Global, name: &'a str, value: &'a str, help: &'a str) -> Ar
         .help(help)
 }
 
-/// An option of a file, which must be given.
+/// Makes a required option whose value is a file.
 fn needed_option<'a>(alloc: Global, name: &'a str, help: &'a str) -> Arg<'a>
     ensures { IsOption (needed_rule name.now) result }
 {
     option(alloc, name, "FILE", help).required(true)
 }
 
-/// An option of a number from 1 on, which must be given.
+/// Makes a required option whose value is a number from 1 to `most`.
 fn number_option<'a>(alloc: Global, name: &'a str, most: u64, help: &'a str) -> Arg<'a>
     ensures { IsOption (number_rule name.now most) result }
 {
@@ -47,14 +47,14 @@ fn number_option<'a>(alloc: Global, name: &'a str, most: u64, help: &'a str) -> 
         .value_parser(ValueParser::Unsigned(1, most))
 }
 
-/// A command without options.
+/// Makes a command without options.
 fn named<'a>(alloc: Global, name: &'a str, about: &'a str, help: &'a str) -> Command<'a>
     ensures { IsCommand (new_app name.now) result }
 {
     Command::new(alloc, name).about(about).after_help(help)
 }
 
-/// The program with one command more.
+/// Adds a command to the program.
 fn with_command<'a>(
     program: Result<Command<'a>, AllocError>,
     command: Result<Command<'a>, AllocError>,
@@ -65,7 +65,7 @@ fn with_command<'a>(
     program?.subcommand(command?)
 }
 
-/// `prices` and its option.
+/// Makes the command `prices` with its option.
 fn prices_command<'a>(alloc: Global) -> Result<Command<'a>, AllocError>
     ensures { IfOk result (IsCommand prices_grammar) }
 {
@@ -77,7 +77,7 @@ fn prices_command<'a>(alloc: Global) -> Result<Command<'a>, AllocError>
     named(alloc, "prices", about, PRICES_HELP).arg(increment)
 }
 
-/// `serve` and its options.
+/// Makes the command `serve` with its options.
 fn serve_command<'a>(alloc: Global) -> Result<Command<'a>, AllocError>
     ensures { IfOk result (IsCommand serve_grammar) }
 {
@@ -92,7 +92,7 @@ fn serve_command<'a>(alloc: Global) -> Result<Command<'a>, AllocError>
         .arg(option(alloc, "journal", "FILE", kept))
 }
 
-/// A command of a set-up document and a journal.
+/// Makes a command on a set-up file and a journal.
 fn files_command<'a>(
     alloc: Global,
     name: &'a str,
@@ -107,7 +107,7 @@ fn files_command<'a>(
         .arg(needed_option(alloc, "journal", kept))
 }
 
-/// The program without its commands.
+/// Makes the program without its commands.
 fn program_alone<'a>(alloc: Global) -> Result<Command<'a>, AllocError>
     ensures { IfOk result (IsCommand program_alone_grammar) }
 {
@@ -119,7 +119,7 @@ fn program_alone<'a>(alloc: Global) -> Result<Command<'a>, AllocError>
         .bin_name("clock_auction")
 }
 
-/// The program's commands.
+/// Makes the program with its commands. Errors: an allocation was refused.
 pub fn program<'a>(alloc: Global) -> Result<Command<'a>, AllocError>
     ensures { IfOk result (IsCommand grammar) }
 {

@@ -1,6 +1,6 @@
-//! What `--help` says of the program and of each command.
+//! The texts that `--help` prints after the options.
 
-/// The program's own.
+/// For the program.
 pub static PROGRAM_HELP: &str = "\
 `prices`, `opening` and `replay` read a document from standard input: `clock_auction prices < FILE`.
 `serve`, `journal` and `audit` read the files that their options name.

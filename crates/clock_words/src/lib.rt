@@ -1,4 +1,4 @@
-//! What the words after the program's name ask for: its commands and options, as clap reads them.
+//! The program's arguments: its commands and options, which clap parses.
 #![tactic(auto)]
 
 mod commands;

@@ -1,4 +1,4 @@
-//! What the words after the program's name ask for.
+//! What the program's arguments ask for.
 ghost use Rattle.std.specs.Prelude.{◌≡◌, ◌≢◌, None, map, option_map, IfSome, IfOk, IfErr};
 ghost use Rattle.clock_terms.specs.Limits.{IsWithin};
 ghost use Rattle.clap.specs.Words.{first_of, found_of, kind_of, rows_of, subcommand_rows_of};
@@ -11,10 +11,10 @@ use clock_money::{LEAST_INCREMENT, MOST_INCREMENT};
 use clock_terms::is_within;
 use std::alloc::Global;
 
-/// What the words ask the program to do.
+/// A command that reads a document from standard input and prints a text.
 #[derive(Clone, Copy)]
 pub enum Job {
-    /// Price lines for a set-up document, with clock prices at this increment in percent.
+    /// The price lines of a set-up document, with clock prices at this increment in percent.
     Prices(u64),
     /// The lines of round 1 for an opening document.
     Opening,
@@ -22,20 +22,20 @@ pub enum Job {
     Replay,
 }
 
-/// What `serve` is told.
+/// The arguments of `serve`.
 #[derive(Clone, Copy)]
 pub struct Serving<'a> {
     /// The file of the set-up document.
     pub setup: &'a str,
     /// The port of 127.0.0.1.
     pub port: u16,
-    /// How many connections are served.
+    /// The number of connections to serve.
     pub connections: u64,
-    /// The file of the journal, where there is to be one.
+    /// The file of the journal, if there is to be one.
     pub journal: Option<&'a str>,
 }
 
-/// The files that tell of an auction.
+/// The arguments of `journal` and `audit`.
 #[derive(Clone, Copy)]
 pub struct Files<'a> {
     /// The file of the set-up document.
@@ -44,23 +44,23 @@ pub struct Files<'a> {
     pub journal: &'a str,
 }
 
-/// What the words ask for.
+/// What the arguments ask for.
 #[derive(Clone, Copy)]
 pub enum Asked<'a> {
-    /// A document on standard input is answered.
+    /// Answer a document on standard input.
     Job(Job),
-    /// An auction is served.
+    /// Serve an auction.
     Serve(Serving<'a>),
-    /// What a journal holds is printed.
+    /// Print the requests in a journal.
     Journal(Files<'a>),
-    /// An auction is recounted from its journal.
+    /// Recount an auction from its journal.
     Audit(Files<'a>),
 }
 
-/// What a run without any word does.
+/// The arguments that replace an empty list.
 static WITHOUT_WORDS: [&str; 3] = ["prices", "--increment", "10"];
 
-/// The number that an option is given, where it is within the limits.
+/// Returns the number that an option has, if it is from `least` to `most`.
 fn number_in(options: &ArgMatches, name: &str, least: u64, most: u64) -> Option<u64>
     ensures value { result ≡ number_of name.now least most (rows_of (found_of options.now)) }
     ensures limits { IfSome result (IsWithin least most) }
@@ -71,7 +71,7 @@ fn number_in(options: &ArgMatches, name: &str, least: u64, most: u64) -> Option<
     }
 }
 
-/// The words, or those that stand for none.
+/// Returns the arguments, or those that replace an empty list.
 fn words_given<'a>(words: &'a [&'a str]) -> &'a [&'a str]
     ensures { map (λ word. word.now) result.now ≡ given (map (λ word. word.now) words.entry.now) }
 {
@@ -82,14 +82,14 @@ fn words_given<'a>(words: &'a [&'a str]) -> &'a [&'a str]
     }
 }
 
-/// The text that an option is given.
+/// Returns the text that an option has.
 fn text_in<'a>(options: &ArgMatches<'a>, name: &str) -> Option<&'a str>
     ensures { option_map (λ text. text.now) result ≡ first_of name.now (rows_of (found_of options.now)) }
 {
     options.get_str(name)
 }
 
-/// What the options of `serve` tell.
+/// Returns the arguments of `serve`, from its options.
 fn serving_with<'a>(options: &ArgMatches<'a>) -> Option<Serving<'a>>
     ensures { option_map serving_told result ≡ serving_from (rows_of (found_of options.now)) }
 {
@@ -104,7 +104,7 @@ fn serving_with<'a>(options: &ArgMatches<'a>) -> Option<Serving<'a>>
     })
 }
 
-/// What the options of `journal` or `audit` tell.
+/// Returns the arguments of `journal` or `audit`, from its options.
 fn files_with<'a>(options: &ArgMatches<'a>) -> Option<Files<'a>>
     ensures { option_map files_told result ≡ files_from (rows_of (found_of options.now)) }
 {
@@ -113,7 +113,7 @@ fn files_with<'a>(options: &ArgMatches<'a>) -> Option<Files<'a>>
     Some(Files { setup, journal })
 }
 
-/// What the matches ask for, where it is anything.
+/// Returns what parsed arguments ask for, if anything.
 fn asked_in<'a>(matches: &ArgMatches<'a>) -> Option<Asked<'a>>
     ensures met { option_map asked_told result ≡ asked_met (subcommand_rows_of matches.now) }
     ensures limits { IfSome result IsAsked }
@@ -133,8 +133,8 @@ fn asked_in<'a>(matches: &ArgMatches<'a>) -> Option<Asked<'a>>
     }
 }
 
-/// What the words after the program's name ask for, or `None` or an error where it is nothing. An error's text says what
-/// is wrong with the words, or is the help that they ask for.
+/// Parses the program's arguments. Errors: clap refuses them, or was asked for help or the version;
+/// its text says so, or is the help. An error of the kind `OutOfMemory` replaces any other result.
 pub fn read_words<'a>(alloc: Global, words: &'a [&'a str]) -> Result<Option<Asked<'a>>, Error>
     ensures ok { IfOk result (λ asked. option_map asked_told asked ≡ asked_by (map (λ word. word.now) words.entry.now)) }
     ensures limits { IfOk result (λ asked. IfSome asked IsAsked) }
@@ -143,7 +143,7 @@ pub fn read_words<'a>(alloc: Global, words: &'a [&'a str]) -> Result<Option<Aske
 {
     let matches = program(alloc)?.try_get_matches_from(words_given(words))?;
     let asked = asked_in(&matches);
-    // let go by a call: at the end of the scope it would be proved part by part
+    // `drop` here keeps the proof small: at the end of the scope it would be proved part by part
     drop(matches);
     Ok(asked)
 }

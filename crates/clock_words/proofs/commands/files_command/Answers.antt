@@ -1,3 +1,4 @@
+-- Adding the options one by one gives the grammar of the command.
 use Rattle.std.proofs.Common.{codes}
 use Rattle.clap.specs.Words.{new_app}
 use Rattle.clock_words.specs.Words.{needed_rule}

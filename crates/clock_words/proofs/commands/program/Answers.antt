@@ -1,3 +1,4 @@
+-- Adding the commands one by one gives the grammar of the program.
 use Rattle.std.proofs.Common.{codes}
 use Rattle.clap.specs.Words.{new_app}
 use Rattle.clock_words.specs.Words.{files_grammar, prices_grammar, program_alone_grammar, serve_grammar}

@@ -1,3 +1,4 @@
+-- Adding the options one by one gives the grammar of `serve`.
 use Rattle.std.proofs.Common.{codes}
 use Rattle.clap.specs.Words.{new_app}
 use Rattle.clock_words.specs.Words.{most_port, most_served, needed_rule, number_rule, option_rule}

@@ -1,3 +1,4 @@
+-- Adding a command to a program adds it to its grammar.
 use Rattle.clock_words.proofs.Grammar.{with_below}
 use Rattle.clock_words.proofs.commands.with_command.Goals as goal
 

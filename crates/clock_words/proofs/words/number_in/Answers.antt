@@ -1,3 +1,4 @@
+-- By cases: a number within the limits, or none.
 use Rattle.std.proofs.Common.{◌∙◌, sym}
 use Rattle.std.specs.Str.Parse.{ParsesUnsigned, ExplainsUnsignedError, HasUnsignedDigitsIfOk}
 use Rattle.clock_words.proofs.NumberText.{kept, left_out, none_read}

@@ -1,3 +1,4 @@
+-- clap refuses the words exactly if their faults are not empty, and otherwise names the command.
 use Rattle.std.proofs.Common.{◌∙◌, Ok, Err, ap, map}
 use Rattle.std.proofs.lemmas.Result.{err_from_is_err_and}
 use Rattle.clap.specs.Words.{fault_of, kind_of}

@@ -1,3 +1,4 @@
+-- Option by option.
 use Rattle.std.specs.Prelude.{option_map}
 use Rattle.clap.specs.Words.{found_of, rows_of}
 use Rattle.clock_words.proofs.Told.{serving_is}
