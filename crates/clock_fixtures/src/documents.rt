@@ -1,4 +1,4 @@
-//! Documents of small set-ups.
+//! Documents of small set-ups, for tests.
 
 /// One product A of two blocks, and the bidders X and Y.
 pub const ONE_PRODUCT: &str = r#"{
@@ -30,7 +30,7 @@ pub const TWO_PRODUCTS: &str = r#"{
   ]
 }"#;
 
-/// Four products whose opening prices stand at the edges of rounding and of the highest price.
+/// Four products with opening prices at the edges of rounding and of the highest price.
 pub const PRICE_EDGES: &str = r#"{
   "version": 1,
   "requirement": 95,
@@ -47,7 +47,7 @@ pub const PRICE_EDGES: &str = r#"{
   ]
 }"#;
 
-/// The two products in version 2, where clock prices of A are multiples of 25 dollars.
+/// Like [`TWO_PRODUCTS`], in version 2: clock prices of A are multiples of 25 dollars.
 pub const GRANULES_AND_INCREMENTS: &str = r#"{
   "version": 2,
   "limit": 100,
@@ -64,8 +64,8 @@ pub const GRANULES_AND_INCREMENTS: &str = r#"{
   ]
 }"#;
 
-/// Two products A and B of four blocks each, and the bidders X and Z, whose sheets may ask for a quarter more activity
-/// than their eligibility from round 2 on.
+/// Two products A and B of four blocks each, and the bidders X and Z. From round 2, their requested
+/// activity may be 125 percent of their eligibility.
 pub const ACTIVITY_LIMIT: &str = r#"{
   "version": 2,
   "limit": 125,
@@ -81,19 +81,20 @@ pub const ACTIVITY_LIMIT: &str = r#"{
   ]
 }"#;
 
-/// The one product where it opens at the highest price.
+/// Like [`ONE_PRODUCT`], but opening at the highest price.
 pub const AT_THE_HIGHEST: &str = r#"{"version":1,"requirement":95,"operator":"OPERATOROPERATOR",
 "products":[{"name":"A","units":1,"supply":2,"cap":2,"opening":1000000000000}],
 "bidders":[{"name":"X","token":"XXXXXXXXXXXXXXXX","eligibility":10},
 {"name":"Y","token":"YYYYYYYYYYYYYYYY","eligibility":10}]}"#;
 
-/// The same where the price can rise once more by one percent, and then stands at the one below.
+/// Like [`ONE_PRODUCT`], but one increment of 1 percent leads to the price just below the highest.
 pub const BELOW_THE_HIGHEST: &str = r#"{"version":1,"requirement":95,"operator":"OPERATOROPERATOR",
 "products":[{"name":"A","units":1,"supply":2,"cap":2,"opening":990099009900}],
 "bidders":[{"name":"X","token":"XXXXXXXXXXXXXXXX","eligibility":10},
 {"name":"Y","token":"YYYYYYYYYYYYYYYY","eligibility":10}]}"#;
 
-/// Two products A and B of four blocks each, the bidders X and Z, and an activity limit of 100 percent.
+/// Two products A and B of four blocks each, the bidders X and Z, and an activity limit of 100
+/// percent.
 pub const NO_HIGHER_LIMIT: &str =
     r#"{"version":2,"limit":100,"requirement":100,"operator":"OPERATOROPERATOR",
 "products":[{"name":"A","units":2,"supply":4,"cap":4,"opening":100,"granule":1},
@@ -101,8 +102,8 @@ pub const NO_HIGHER_LIMIT: &str =
 "bidders":[{"name":"X","token":"XXXXXXXXXXXXXXXX","eligibility":8},
 {"name":"Z","token":"ZZZZZZZZZZZZZZZZ","eligibility":8}]}"#;
 
-/// Two products A and B of seven blocks each, the bidders X and Z of eligibility 10, and an activity limit of 125
-/// percent.
+/// Two products A and B of seven blocks each, the bidders X and Z of eligibility 10, and an activity
+/// limit of 125 percent.
 pub const SEVEN_BLOCKS: &str =
     r#"{"version":2,"limit":125,"requirement":100,"operator":"OPERATOROPERATOR",
 "products":[{"name":"A","units":1,"supply":7,"cap":7,"opening":100,"granule":1},

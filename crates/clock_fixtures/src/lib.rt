@@ -1,4 +1,5 @@
-//! What the tests of several crates stand on: documents of small set-ups, and a journal's disk in memory.
+//! What the tests of several crates share: documents of small set-ups, and a journal's disk in
+//! memory.
 #![tactic(auto)]
 
 mod documents;

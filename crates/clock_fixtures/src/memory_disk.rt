@@ -4,7 +4,8 @@ use clock_device::Failed;
 use clock_journal::Durable;
 use std::alloc::Global;
 
-/// A disk in memory. It takes so many bytes and no more, and its syncs fail from one on, counted from 0.
+/// A disk in memory, for tests. It has space for `room` bytes. Its first `syncs` syncs succeed, and
+/// all later ones fail.
 #[derive(Drop)]
 pub struct MemoryDisk {
     alloc: Global,
@@ -16,7 +17,7 @@ pub struct MemoryDisk {
 }
 
 impl MemoryDisk {
-    /// Nothing stands in it yet.
+    /// Creates an empty disk. Allocates nothing.
     pub fn new(alloc: Global, room: usize, syncs: u64) -> MemoryDisk
         ensures bytes { result.bytes.items ≡ [] }
         ensures synced { result.synced.items ≡ [] }
@@ -32,7 +33,7 @@ impl MemoryDisk {
         }
     }
 
-    /// What stands in it.
+    /// Returns the bytes on the disk.
     pub fn bytes(&self) -> &[u8]
         ensures { result.now ≡ self.now.bytes.items }
     {
