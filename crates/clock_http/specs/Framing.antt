@@ -104,8 +104,8 @@ head_in text = option_and_then (λ n. ok_head (ended_head (take n text))) (head_
 
 -- ---- what is known of a text that may still grow
 
--- Without an end of a head: the length of the text. Otherwise: a head with its length and its
--- body's, while the body is incomplete or once it is whole; or a refusal.
+-- Without an end of a head: the length of the text. With one: the head, its length and its body's,
+-- while the body is incomplete or when it is whole. Or a refusal.
 pub data Known : Type 0 where
   unended : ℕ → Known
   waiting : Head → ℕ → ℕ → Known

@@ -126,8 +126,7 @@ pub record IsNext (hub : HubFields) (group : Group) (written : Written) : Type 0
   pub within : IsWrittenIn group.text.items written
   pub closes : ClosesNoRound (text_at group.text.items written)
 
--- the steps were made, except for the requests that wait now, and the auction has not ended; or
--- their fault is returned
+-- the steps were made except for the waiting requests; or their fault is returned
 pub record ComesUnderWay {T : Type 0} (steps : List (List ℕ) → Result (List (List ℕ)) SimFault) (old new : HubFields) (group : Group)
     (result : Result T SimFault) : Type 0 where
   pub under_way : OnOk result (IsUnderWay new group)

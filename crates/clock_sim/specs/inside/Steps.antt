@@ -69,8 +69,7 @@ pub record IsLeft (rest : List (List ℕ) → Result (List (List ℕ)) SimFault)
   pub stands : StandsForTexts texts house
   pub same : rest texts ≡ answer
 
--- From any texts that the house stood for, the rest of the steps is left. Or their fault is
--- returned, or out of memory.
+-- from any texts of the house, the rest of the steps is left; or their fault, or out of memory
 pub record MakesWay {T : Type 0} (whole rest : List (List ℕ) → Result (List (List ℕ)) SimFault) (old new : HouseFields)
     (result : Result T SimFault) : Type 0 where
   pub setup : new.setup ≡ old.setup
