@@ -1,4 +1,4 @@
--- A posting that the price limit forbids has that fault.
+-- If a next clock price would be too high, posting round 1 has that fault.
 use Rattle.std.proofs.Common.{◌≡◌, ℕ, List, Option, Some, None, Err, refl}
 use Rattle.clock_posting.specs.Posting.{post_fault}
 use Rattle.clock_posting.specs.declared.posting.PostFault.TheVariants as post

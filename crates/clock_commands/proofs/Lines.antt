@@ -1,4 +1,4 @@
--- What stands behind a word.
+-- The words of a fault are written part by part: joining the parts gives the line.
 use Rattle.std.proofs.Common.{◌≡◌, ℕ, List, ◌++◌, Option, Some, None, refl, append_assoc}
 use Rattle.std.proofs.lemmas.List.{append-nil}
 use Rattle.clock_http.specs.declared.code.Code.{Code}
@@ -16,7 +16,7 @@ code_added text (Some code) = refl
 one_by_one : (words : Words) → text_of_words words ≡ words.0.now ++ (behind words.1 ++ (behind words.2 ++ code_behind words.3))
 one_by_one words = rw (code_added, number_added, number_added) (simp append_assoc)
 
--- the words in the order in which they are written, and what stands behind them
+-- the words in the order in which they are written, and what follows them
 pub line_of_words : (words : Words) (rest : List ℕ)
     → text_of_words words ++ rest ≡ words.0.now ++ (behind words.1 ++ (behind words.2 ++ (code_behind words.3 ++ rest)))
 line_of_words words rest = rw (one_by_one words) (simp append_assoc)

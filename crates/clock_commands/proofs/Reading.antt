@@ -1,4 +1,4 @@
--- How a read that stops the reading ends it.
+-- How the last read ends reading: it fails, gives one byte too many, or finds no memory for its bytes.
 use Rattle.std.proofs.Common.{◌≡◌, ℕ, ◌+◌, ◌≤◌, false, true, List, [], ◌++◌, Err, length, ◌∙◌, inl, arith}
 use Rattle.std.proofs.lemmas.List.{append-nil, length-append}
 use Rattle.clock_device.specs.Streams.{HasRead}
@@ -7,12 +7,12 @@ use Rattle.clock_device.specs.Told.{Reading, SourceTold}
 use Rattle.clock_commands.specs.Input.{IsReadingOf, Takes, most_bytes}
 use Rattle.clock_commands.specs.declared.fault.Fault.TheVariants as fault
 
--- what was told in between, before one further read
+-- the reads before one more
 module _ (reading : Reading) (mid : SourceTold) (document : List ℕ)
     (read : HasRead reading.before.left mid.left document) (few : length document ≤ most_bytes)
     (used : mid.calls ≤ length document + mid.interruptions) (unfailed : mid.has_failed ≡ false)
     (once : reading.after.calls ≤ mid.calls + 1) (kept : mid.interruptions ≤ reading.after.interruptions) where
-  -- with one further read, which gave these bytes
+  -- one more read, which gave these bytes
   took : (bytes : List ℕ) (others : ℕ) → HasRead mid.left reading.after.left bytes
       → reading.after.calls ≤ length (document ++ bytes) + reading.after.interruptions + others → Takes reading others (document ++ bytes)
   took bytes others further count =
@@ -29,7 +29,7 @@ module _ (reading : Reading) (mid : SourceTold) (document : List ℕ)
       let all : length (document ++ bytes) ≡ most_bytes + 1 = rw length-append long in
       ((document ++ bytes, took bytes 0 further (omega (arith, all)), all), fails ∙ unfailed)
 
-  -- there was no memory for its bytes
+  -- memory for its bytes was refused
   pub no_memory : (bytes : List ℕ) → HasRead mid.left reading.after.left bytes → length document + length bytes ≤ most_bytes
       → reading.after.has_failed ≡ mid.has_failed → IsReadingOf reading (Err fault.Memory)
   no_memory bytes further some fails =

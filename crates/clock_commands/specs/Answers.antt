@@ -1,4 +1,4 @@
--- What a job answers to a document: the text that it prints, or the document's fault. (Own formats.)
+-- What a job prints for a document, or the document's fault (own formats).
 --     answer_to job document     the answer
 use Rattle.std.specs.Prelude.{ℕ, List, Option, Some, None, Result, Ok, Err}
 use Rattle.clock_terms.specs.Limits.{SetupFields}
@@ -34,12 +34,12 @@ abbrev pub prices_of : ℕ → Result SetupFields SetupFault → Result (List �
 prices_of increment (Ok setup) = Ok (price_lines increment setup.products)
 prices_of increment (Err inner) = Err (fault.Setup inner)
 
--- a posting that no price limit forbids
+-- the text, unless a product's next clock price would be too high
 abbrev pub unless_limited : Option ℕ → List ℕ → Result (List ℕ) Fault
 unless_limited None text = Ok text
 unless_limited (Some product) text = Err (fault.PriceLimit product)
 
--- the lines of the sheet of round 1, where the opening prices are posted and one increment stands for all products
+-- The round results of round 1: opening prices are posted, and one increment is for all products.
 abbrev pub first_round : Opening → Result (List ℕ) Fault
 first_round opening =
     let products = opening.setup.products in
@@ -48,12 +48,12 @@ first_round opening =
     unless_limited (price_limit_fault products opening.grid posted increments)
     (sheet_text products (round_sheet 1 products (opening_prices products) opening.grid posted increments))
 
--- the lines of round 1 of the opening that was read
+-- the lines of round 1 of the opening document that was read
 abbrev pub opening_lines_of : Result Opening OpeningFault → Result (List ℕ) Fault
 opening_lines_of (Ok opening) = first_round opening
 opening_lines_of (Err inner) = Err (fault.Opening inner)
 
--- the report that was come to
+-- the text of the report, or the fault of the rehearsal
 abbrev pub played : Result ReportFields SimFault → Result (List ℕ) Fault
 played (Ok report) = Ok (report_text report)
 played (Err inner) = Err (fault.Simulation inner)
@@ -63,7 +63,7 @@ abbrev pub replay_lines_of : Result ReplayFields ScriptFault → Result (List �
 replay_lines_of (Ok replay) = played (simulated replay)
 replay_lines_of (Err inner) = Err (fault.Script inner)
 
--- what the job answers to the document
+-- the job's answer to the document
 abbrev pub answer_to : Job → List ℕ → Result (List ℕ) Fault
 answer_to (job.Prices increment) document = prices_of increment (document_setup document)
 answer_to job.Opening document = opening_lines_of (document_opening document)

@@ -1,8 +1,8 @@
--- The one line that a run shows of its fault. (Own format.)
+-- The one line that reports a fault (own format).
 --     fault_line fault     `fault: WORDS` and a line feed
 --     of_setup fault, of_opening fault, of_script fault      the fault of a document
---     of_journal fault      the fault of a journal that is not taken over
---     of_serving fault      the fault of a loop that has not served all connections
+--     of_journal fault      the fault of a file that is not accepted as the journal
+--     of_serving fault      why a server ended before it served all connections
 use Rattle.std.specs.Prelude.{ℕ, List, ◌++◌, codes, decimal}
 use Rattle.clock_setup.specs.declared.fault.Place.{Place}
 use Rattle.clock_setup.specs.declared.fault.Place.TheVariants as place
@@ -22,7 +22,7 @@ use Rattle.clock_http.specs.Codes.{text_of}
 use Rattle.clock_commands.specs.declared.fault.Fault.{Fault}
 use Rattle.clock_commands.specs.declared.fault.Fault.TheVariants as fault
 
--- where in a set-up the value stands
+-- the value of a set-up that is out of its limits
 abbrev pub place_words : Place → List ℕ
 place_words place.Requirement = codes "requirement"
 place_words place.Limit = codes "limit"
@@ -39,7 +39,7 @@ place_words (place.BidderName i) = codes "bidder_name " ++ decimal i
 place_words (place.Token i) = codes "token " ++ decimal i
 place_words (place.Eligibility i) = codes "eligibility " ++ decimal i
 
--- want of memory has one word, wherever it comes
+-- a fault of a set-up; out of memory has one word everywhere
 abbrev pub setup_words : SetupFault → List ℕ
 setup_words in_setup.NotJson = codes "setup_not_json"
 setup_words in_setup.Shape = codes "setup_shape"
@@ -68,7 +68,7 @@ script_words in_script.Scripts = codes "scripts"
 script_words (in_script.Limits bidder product) = codes "limits " ++ decimal bidder ++ (codes " " ++ decimal product)
 script_words in_script.NoMemory = codes "memory"
 
--- a sheet or a closing that was refused is told with the code of its reply
+-- a refused sheet or closing has the code of its reply
 abbrev pub simulation_words : SimFault → List ℕ
 simulation_words (in_simulation.Refused bidder round code) =
     codes "refused " ++ decimal bidder ++ (codes " " ++ decimal round) ++ (codes " " ++ text_of code)
@@ -76,7 +76,7 @@ simulation_words (in_simulation.Closing round code) = codes "closing " ++ decima
 simulation_words in_simulation.ClosingsSpent = codes "closings_spent"
 simulation_words in_simulation.NoMemory = codes "memory"
 
--- a document's fault, or want of memory while it was read
+-- the fault of a document, or out of memory while it was read
 abbrev pub of_setup : SetupFault → Fault
 of_setup in_setup.NoMemory = fault.Memory
 of_setup other = fault.Setup other
@@ -89,7 +89,7 @@ abbrev pub of_script : ScriptFault → Fault
 of_script in_script.NoMemory = fault.Memory
 of_script other = fault.Script other
 
--- the fault of a journal that is not taken over
+-- the fault of a file that is not accepted as the journal
 abbrev pub of_journal : JournalFault → Fault
 of_journal in_journal.NoMemory = fault.Memory
 of_journal other = fault.Recovery other
@@ -101,7 +101,7 @@ recovery_words (in_journal.Damaged place) = codes "journal_damaged " ++ decimal 
 recovery_words (in_journal.Refused place) = codes "journal_refused " ++ decimal place
 recovery_words in_journal.NoMemory = codes "memory"
 
--- the fault of a loop that has not served all connections
+-- why a server ended before it served all connections
 abbrev pub of_serving : ServeFault → Fault
 of_serving in_serving.Accept = fault.Accept
 of_serving in_serving.Journal = fault.Journal

@@ -1,2 +1,3 @@
--- What only proofs and private functions use: no clause of a public call cites it.
+-- Definitions that only proofs and private functions use: no clause of a public function cites
+-- them.
 pub mod Lines

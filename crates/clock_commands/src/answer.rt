@@ -14,7 +14,8 @@ use clock_terms::Product;
 use clock_words::Job;
 use std::alloc::Global;
 
-/// What the job prints of the document, or the document's fault.
+/// Returns what a job prints for a document, or the document's fault. Requires an increment within
+/// its limits. May return `Memory`, which then replaces any other result.
 pub fn answer(alloc: Global, job: Job, document: Text) -> Result<Text, Fault>
     requires { IsJob job }
     ensures ok { IfOk result (λ text. answer_to job document ≡ Ok text) }
@@ -27,7 +28,8 @@ pub fn answer(alloc: Global, job: Job, document: Text) -> Result<Text, Fault>
     }
 }
 
-/// The set-up that a document means, or the document's fault.
+/// Reads a set-up document. Errors: its first fault. May return `Memory`, which then replaces any
+/// other result.
 pub fn setup_in(alloc: Global, document: &[u8]) -> Result<Setup, Fault>
     ensures ok { IfOk result (λ setup. document_setup document.now ≡ Ok setup) }
     ensures err { IfErr result (IsRefusal Fault.Memory (read_in (document_setup document.now))) }
@@ -35,7 +37,8 @@ pub fn setup_in(alloc: Global, document: &[u8]) -> Result<Setup, Fault>
     Ok(read_setup(alloc, document)?)
 }
 
-/// The price lines of some products, with clock prices at this increment in percent.
+/// Returns the price lines of some products, with clock prices at `increment` percent. May return
+/// `NoMemory`.
 fn prices_text(alloc: Global, products: &[Product], increment: u64) -> Result<Text, NoMemory>
     requires increment { IsIncrement increment }
     requires limits { All IsProduct products.now }
@@ -48,7 +51,8 @@ fn prices_text(alloc: Global, products: &[Product], increment: u64) -> Result<Te
     Ok(text)
 }
 
-/// Adds the line of a product.
+/// Appends the price line of a product. May return `NoMemory`; then part of the line may be
+/// appended.
 fn push_line(text: &mut Text, product: &Product, increment: u64) -> Result<(), NoMemory>
     requires increment { IsIncrement increment }
     requires product { IsProduct product.now }
@@ -63,7 +67,8 @@ fn push_line(text: &mut Text, product: &Product, increment: u64) -> Result<(), N
     text.push(b'\n')
 }
 
-/// The lines of opening and next prices for the set-up that a document means, or its first fault.
+/// Returns the opening price and the clock price of round 2 of each product of a set-up document,
+/// or the document's fault.
 fn prices_answer(alloc: Global, increment: u64, document: &[u8]) -> Result<Text, Fault>
     requires { IsJob (Job.Prices increment) }
     ensures ok { IfOk result (λ text. answer_to (Job.Prices increment) document.now ≡ Ok text) }
@@ -75,7 +80,8 @@ fn prices_answer(alloc: Global, increment: u64, document: &[u8]) -> Result<Text,
     Ok(text?)
 }
 
-/// The lines of round 1, or the product that can have no next clock price.
+/// Returns the lines of round 1, or as an error the first product without a possible next clock
+/// price.
 fn first_lines(alloc: Global, opening: &Opening) -> Result<Text, Fault>
     requires increment { IsIncrement opening.now.increment }
     requires grid { IsGrid (length opening.now.setup.bidders) (length opening.now.setup.products) opening.now.grid }
@@ -96,7 +102,7 @@ fn first_lines(alloc: Global, opening: &Opening) -> Result<Text, Fault>
     }
 }
 
-/// The sheet of round 1 for the demands of an opening document, or its first fault.
+/// Returns the round results of round 1 for the demands of an opening document, or its fault.
 fn opening_answer(alloc: Global, document: &[u8]) -> Result<Text, Fault>
     ensures ok { IfOk result (λ text. answer_to Job.Opening document.now ≡ Ok text) }
     ensures err { IfErr result (IsRefusal Fault.Memory (answer_to Job.Opening document.now)) }
@@ -107,7 +113,8 @@ fn opening_answer(alloc: Global, document: &[u8]) -> Result<Text, Fault>
     lines
 }
 
-/// The report of the replay that a document means, which is let go before the auction is played.
+/// Returns the report of a replay document, or its fault. Frees the document before the auction is
+/// played.
 fn replay_answer(alloc: Global, document: Text) -> Result<Text, Fault>
     ensures ok { IfOk result (λ text. answer_to Job.Replay document ≡ Ok text) }
     ensures err { IfErr result (IsRefusal Fault.Memory (answer_to Job.Replay document)) }

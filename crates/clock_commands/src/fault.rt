@@ -13,40 +13,40 @@ use clock_serving::ServeFault;
 use clock_setup::{OpeningFault, Place, SetupFault};
 use clock_sim::{ScriptFault, SimFault};
 
-/// Why a run ended before its end. The cases stand in the order in which they are looked at, want of
-/// memory aside, which stands in place of any other. `Bind` and `Accept` come in `serve` alone, `File`
-/// and those of a journal where files are named.
+/// Why the program ended early. The faults are in the order in which they are checked; `Memory` can
+/// replace most others. `Bind` and `Accept` occur only in `serve`; `File` and the faults of a
+/// journal only in commands that name files.
 #[derive(Clone, Copy)]
 pub enum Fault {
-    /// The file of the set-up could not be opened.
+    /// The set-up file could not be opened.
     File,
     /// A read failed, or too many reads were made.
     Input,
-    /// There are more bytes than the program reads.
+    /// The input has more bytes than the program reads.
     LongInput,
-    /// The document is no set-up.
+    /// The document is not a set-up.
     Setup(SetupFault),
-    /// The document is no opening.
+    /// The document is not an opening document.
     Opening(OpeningFault),
-    /// The document is no replay.
+    /// The document is not a replay document.
     Script(ScriptFault),
-    /// A product, by its number, can have no next clock price.
+    /// The product with this number has no possible next clock price: it would be too high.
     PriceLimit(u64),
-    /// The replay did not come to its end.
+    /// A rehearsal had a refused request, or too few closings.
     Simulation(SimFault),
-    /// The journal could not be opened, made, read or added to.
+    /// The journal could not be opened, created, read, or extended.
     Journal,
-    /// Another server has the journal.
+    /// Another server uses the journal.
     JournalBusy,
-    /// The file is not taken over as the journal.
+    /// The file is not accepted as the journal.
     Recovery(JournalFault),
-    /// The port could not be listened on.
+    /// The port could not be opened.
     Bind,
     /// A write failed.
     Output,
-    /// A connection could not be taken.
+    /// A connection could not be accepted.
     Accept,
-    /// There was no memory.
+    /// Out of memory.
     Memory,
 }
 
@@ -113,11 +113,12 @@ impl From<ServeFault> for Fault {
     }
 }
 
-/// A word, up to two numbers, and the code of a reply, where there is one. Each stands behind a space.
+/// The words of a fault: a word, up to two numbers, and the code of a reply, separated by spaces.
 #[derive(Clone, Copy)]
 struct Words(&'static str, Option<u64>, Option<u64>, Option<Code>);
 
-/// Writes the line of a fault, `fault: WORDS` and a line feed. It takes no memory.
+/// Writes the line of a fault: `fault: WORDS` and a line feed, or a prefix of it if a write fails.
+/// Allocates nothing.
 pub fn write_fault<W: Sink>(sink: &mut W, fault: Fault) -> Result<(), Failed>
     ensures bytes { WritesText (W.told sink.old).taken (W.told sink.new).taken (fault_line fault) result }
     ensures failed { (W.told sink.new).has_failed ≡ ((W.told sink.old).has_failed || is_err result) }
@@ -131,7 +132,7 @@ pub fn write_fault<W: Sink>(sink: &mut W, fault: Fault) -> Result<(), Failed>
     write_all(sink, b"\n")
 }
 
-/// Writes a space and a number, where there is one.
+/// Writes a space and a number, if there is one.
 fn write_behind<W: Sink>(sink: &mut W, number: Option<u64>) -> Result<(), Failed>
     ensures bytes { WritesText (W.told sink.old).taken (W.told sink.new).taken (behind number) result }
     ensures failed { (W.told sink.new).has_failed ≡ ((W.told sink.old).has_failed || is_err result) }
@@ -143,7 +144,7 @@ fn write_behind<W: Sink>(sink: &mut W, number: Option<u64>) -> Result<(), Failed
     write_number(sink, number)
 }
 
-/// Writes a space and a code, where there is one.
+/// Writes a space and a code, if there is one.
 fn write_code_behind<W: Sink>(sink: &mut W, code: Option<Code>) -> Result<(), Failed>
     ensures bytes { WritesText (W.told sink.old).taken (W.told sink.new).taken (code_behind code) result }
     ensures failed { (W.told sink.new).has_failed ≡ ((W.told sink.old).has_failed || is_err result) }
@@ -155,7 +156,7 @@ fn write_code_behind<W: Sink>(sink: &mut W, code: Option<Code>) -> Result<(), Fa
     write_all(sink, code.text().as_bytes())
 }
 
-/// The words behind `fault:` for any fault.
+/// Returns the words after `fault:`.
 fn words_of(fault: Fault) -> Words
     ensures { text_of_words result ≡ fault_words fault }
 {
@@ -193,7 +194,7 @@ fn words_of(fault: Fault) -> Words
     }
 }
 
-/// The words for a fault of an opening document.
+/// Returns the words of a fault of an opening document.
 fn words_of_opening(fault: OpeningFault) -> Words
     ensures { text_of_words result ≡ opening_words fault }
 {
@@ -208,7 +209,7 @@ fn words_of_opening(fault: OpeningFault) -> Words
     }
 }
 
-/// The words for a fault of a replay document.
+/// Returns the words of a fault of a replay document.
 fn words_of_script(fault: ScriptFault) -> Words
     ensures { text_of_words result ≡ script_words fault }
 {
@@ -222,7 +223,7 @@ fn words_of_script(fault: ScriptFault) -> Words
     }
 }
 
-/// The words for a fault of a set-up document.
+/// Returns the words of a fault of a set-up document.
 fn words_of_setup(fault: SetupFault) -> Words
     ensures { text_of_words result ≡ setup_words fault }
 {
@@ -237,7 +238,7 @@ fn words_of_setup(fault: SetupFault) -> Words
     }
 }
 
-/// The words for a value of a set-up document that is out of its limits.
+/// Returns the words of a value of a set-up document that is out of its limits.
 fn words_of_range(place: Place) -> Words
     ensures { text_of_words result ≡ codes "setup_range " ++ place_words place }
 {

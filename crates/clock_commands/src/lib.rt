@@ -1,5 +1,5 @@
-//! The commands of the program that read one document and print one text: what each answers, its faults, and the line
-//! that is shown of a fault. They read and write by a source and two sinks, so that contracts see all bytes.
+//! The commands that read one document and print one text: their answers, their faults, and the
+//! line that reports a fault. They use a source and two sinks, so that contracts see all bytes.
 #![tactic(auto)]
 
 mod answer;

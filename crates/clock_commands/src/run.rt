@@ -13,22 +13,23 @@ use clock_device::{Sink, Source, Stop, Text, room_for_read, write_all};
 use clock_words::{Asked, Job, read_words};
 use std::alloc::Global;
 
-/// What is shown of good words that ask for `serve`, `journal` or `audit`, which are no commands on streams.
+/// The message for the commands `serve`, `journal`, and `audit`, which use files and ports instead
+/// of streams.
 static NOT_HERE: &str =
     "error: `serve`, `journal` and `audit` are done by the program itself, and not over streams\n";
 
-/// One run of the program: does what the words after its name ask for, with a document from the
-/// reader, and answers the exit status.
+/// Runs the command that the program's arguments name, with a document from `reader`, and returns
+/// the exit status:
 ///
-/// - 0: the writer has the whole text, and nothing is shown on `faults`.
-/// - 1: there was a fault. Its one line is shown on `faults`, and the writer has nothing, unless it
-///   is the writer that failed.
-/// - 2: the words ask for nothing that is done here, or for help. What clap says of that is shown on
-///   `faults`, and nothing is read or written. `serve`, `journal` and `audit` are not done here: the
-///   program's `main` takes them.
+/// - 0: `writer` has the whole answer, and `faults` has nothing.
+/// - 1: a fault. Its line is on `faults`, and `writer` has nothing, unless its own write failed.
+/// - 2: the arguments are refused, ask for help, or name a command that is not done here. The
+///   message is on `faults`; nothing was read or written. The program's `main` does `serve`,
+///   `journal`, and `audit`.
 ///
-/// At most 67,108,864 bytes are read, and one more to see that there are more, in at most
-/// 100,000,000 reads. A line that cannot be shown leaves the status as it is.
+/// Requires streams without earlier calls. Reads at most 67,108,864 bytes, and one more to find
+/// that there are more, in at most 100,000,000 reads. A message that cannot be written does not
+/// change the status.
 pub fn command<R: Source, W: Sink, F: Sink>(
     alloc: Global,
     words: &[&str],
@@ -71,7 +72,7 @@ pub fn command<R: Source, W: Sink, F: Sink>(
     }
 }
 
-/// What clap says of words that it refuses, where there is memory for them and for it.
+/// Returns clap's message for refused arguments, or `None` if out of memory.
 fn usage_of(alloc: Global, error: Error) -> Option<String>
     ensures { IfSome result (λ usage. kind_of error ≢ ErrorKind.OutOfMemory) }
 {
@@ -81,7 +82,7 @@ fn usage_of(alloc: Global, error: Error) -> Option<String>
     error.to_string(alloc).ok()
 }
 
-/// Reads the document, and prints the answer to it.
+/// Reads the document, and prints the job's answer to it.
 fn run<R: Source, W: Sink>(
     alloc: Global,
     job: Job,
@@ -100,16 +101,17 @@ fn run<R: Source, W: Sink>(
     write_all(writer, text.as_slice()).or(Err(Fault::Output))
 }
 
-/// How many bytes of input are read at most.
+/// The most bytes of input.
 const MOST_BYTES: usize = 67_108_864;
 
-/// How many reads are made at most.
+/// The most reads.
 const MOST_READS: u64 = 100_000_000;
 
-/// How many bytes one read asks for at most.
+/// The most bytes that one read may return.
 const PIECE: usize = 65_536;
 
-/// All bytes of the input. An interrupted read is tried again.
+/// Reads the whole input. Retries interrupted reads. Errors: `Input` if a read failed or too many
+/// were made, `LongInput` if there are more than 67,108,864 bytes. May return `Memory`.
 pub fn read_all<R: Source>(alloc: Global, reader: &mut R) -> Result<Text, Fault>
     requires { IsUnread (R.told reader.old) }
     ensures reading { IsReadingOf (record { before = R.told reader.old; after = R.told reader.new }) result }
@@ -137,7 +139,7 @@ pub fn read_all<R: Source>(alloc: Global, reader: &mut R) -> Result<Text, Fault>
     Err(Fault::Input)
 }
 
-/// Shows the line of a fault, or a front of it where it cannot all be shown.
+/// Writes the line of a fault, or a prefix of it if a write fails.
 pub fn show_fault<F: Sink>(fault: Fault, faults: &mut F)
     requires { IsUnused (F.told faults.old) }
     ensures { Shows (record { before = F.told faults.old; after = F.told faults.new }) (fault_line fault) }

@@ -1,6 +1,6 @@
--- What the words of a fault are made of.
---     behind number, code_behind code      a space and a number, or a code, where there is one
---     text_of_words words      a word, and what stands behind it
+-- The parts of a fault's words.
+--     behind number, code_behind code      a space and a number, or a code, if there is one
+--     text_of_words words      a word, and what follows it
 use Rattle.std.specs.Prelude.{ℕ, List, [], ◌++◌, Option, Some, None, codes, decimal}
 use Rattle.clock_http.specs.Codes.{text_of}
 use Rattle.clock_http.specs.declared.code.Code.{Code}
@@ -14,7 +14,7 @@ abbrev pub code_behind : Option Code → List ℕ
 code_behind None = []
 code_behind (Some code) = codes " " ++ text_of code
 
--- a text and what stands behind it, where something does
+-- a text and what follows it, if something does
 abbrev pub with_number : List ℕ → Option ℕ → List ℕ
 with_number text None = text
 with_number text (Some number) = text ++ behind (Some number)

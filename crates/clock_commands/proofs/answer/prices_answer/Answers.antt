@@ -1,3 +1,4 @@
+-- The products of a set-up are within their limits.
 use Rattle.std.proofs.Common.{subst, sym}
 use Rattle.std.specs.Prelude.{All, List}
 use Rattle.clock_terms.specs.Limits.{IsProduct}

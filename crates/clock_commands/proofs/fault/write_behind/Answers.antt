@@ -1,3 +1,4 @@
+-- The space and then the number are written.
 use Rattle.std.proofs.Common.{codes, decimal}
 use Rattle.clock_device.proofs.Streams.{both_written, first_failed}
 use Rattle.clock_commands.proofs.fault.write_behind.Goals as goal

@@ -1,3 +1,4 @@
+-- The space and then the code are written.
 use Rattle.std.proofs.Common.{codes}
 use Rattle.clock_device.proofs.Streams.{both_written}
 use Rattle.clock_http.specs.Codes.{text_of}

@@ -1,3 +1,4 @@
+-- The parts are written in order. If one fails, a prefix of the line was written.
 use Rattle.std.proofs.Common.{◌≡◌, ◌++◌, List, ℕ, codes, ap, sym, ◌∙◌}
 use Rattle.clock_commands.specs.FaultLines.{fault_words}
 use Rattle.clock_commands.specs.inside.Lines.{behind, code_behind}
@@ -8,7 +9,7 @@ use Rattle.clock_commands.specs.declared.fault.Fault.{Fault}
 use Rattle.clock_commands.specs.declared.fault.Words.{Words}
 use Rattle.clock_commands.proofs.fault.write_fault.Goals as goal
 
--- the line behind its first word, part by part
+-- the line after its first word, part by part
 parts : (fault : Fault) (words : Words) → text_of_words words ≡ fault_words fault → fault_words fault ++ codes "\n"
     ≡ words.0.now ++ (behind words.1 ++ (behind words.2 ++ (code_behind words.3 ++ codes "\n")))
 parts fault words is = ap (λ (text : List ℕ). text ++ codes "\n") (sym is) ∙ line_of_words words (codes "\n")

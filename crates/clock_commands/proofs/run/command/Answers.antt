@@ -1,3 +1,4 @@
+-- Each exit status is that of one of the endings.
 use Rattle.std.proofs.Common.{refl, rules}
 use Rattle.clock_commands.specs.Run.{stopped}
 use Rattle.clock_commands.specs.declared.fault.Fault.TheVariants as fault

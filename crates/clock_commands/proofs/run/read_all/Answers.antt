@@ -1,3 +1,4 @@
+-- The last read ends reading; the reads before it gave bytes or were interrupted.
 use Rattle.std.proofs.Common.{ℕ, List, ap, length, take, length-take, arith, rules}
 use Rattle.std.proofs.lemmas.Result.{err_from_is_err_and}
 use Rattle.clock_device.proofs.Streams.{read_nothing}

@@ -3,7 +3,7 @@ use Rattle.clock_device.specs.Streams.{HasRead}
 use Rattle.clock_commands.specs.Input.{most_bytes}
 use Rattle.clock_commands.proofs.run.read_all.Given as goal
 
--- the document so far was read, in so many reads, of which each took a byte or was interrupted, and none has failed
+-- the document so far was read; each read gave one of its bytes or was interrupted, and none has failed
 abbrev pub invariant-loop-call : goal.invariant-loop-call
 invariant-loop-call g l = record {
   room : 0 < vec_len l.piece;
