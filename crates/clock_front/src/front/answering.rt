@@ -72,8 +72,8 @@ fn put_sheet<P: Processor>(
     }
 }
 
-/// Reads the closing in a body, by the version of the set-up. In version 1 a closing has one increment
-/// for all products, in later versions one for each.
+/// Reads the closing in a body, by the version of the set-up. In version 1 a closing has one
+/// increment for all products, in later versions one for each.
 fn closing_of(alloc: Global, setup: &Setup, body: &[u8]) -> Result<CloseBody, BodyFault>
     ensures ok { IfOk result (λ closing. in_version setup.now.version (close_body body.now) ≡ Ok closing) }
     ensures err { IfErr result (λ fault. fault ≢ BodyFault.NoMemory
