@@ -91,9 +91,9 @@ impl<P: Processor> Hub<P> {
         Ok(Fed::Reply(complete(&mut self.front, &mut self.connections, conn)))
     }
 
-    /// Like `feed_on`, but for a piece that is not one byte. If the head has come and the piece is
-    /// the whole body, the request is answered without a copy of that piece. This is a function of
-    /// its own so that [`Hub::feed`] stays cheap for single bytes.
+    /// Like `feed_on`, but for a piece that is not one byte. If only the head has come and the piece
+    /// has the whole body, the request is answered without a copy of the piece. This is a function
+    /// of its own so that [`Hub::feed`] stays cheap for single bytes.
     #[inline(never)]
     fn feed_piece(&mut self, conn: Conn, piece: &[u8]) -> Result<Fed, NoMemory>
         requires { IsSome (text_of self.old.connections conn) }

@@ -157,7 +157,7 @@ pub(crate) fn slip<P>(
     Ok(Reply::written(Code::Done, None, text))
 }
 
-/// The processed demands of all bidders, for the operator.
+/// Each bidder's eligibility and processed demands, for the operator.
 #[tactic(auto, unfolding(clock_views::specs::OperatorPages::results_value))]
 pub(crate) fn results<P>(alloc: Global, house: &House<P>) -> Result<Reply, NoRoom>
     ensures { IsTold house.now who.Operator asked.results result }
