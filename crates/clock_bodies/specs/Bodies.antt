@@ -27,7 +27,7 @@ put_of value = do
   bids ← option_and_then (each bid_of) (items_at (codes "bids") value)
   if has_members 2 value then Some (record { round = round; bids = bids }) else None
 
--- what the JSON value of bytes means, if they are one
+-- what a value means as a body; without a value the fault is `NotJson`, without a meaning `Shape`
 abbrev pub meant_by : {A : Type 0} → (Data → Option A) → Option Data → Result A BodyFault
 meant_by meaning None = Err NotJson
 meant_by meaning (Some value) = or_fault Shape (meaning value)

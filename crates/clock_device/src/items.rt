@@ -10,7 +10,7 @@ use thiserror::Error;
 /// A list that owns its items and can be read as a slice. In contracts, it is the list of its
 /// items.
 ///
-/// The crates above name it after its items, such as [`Text`] for bytes.
+/// The lists of the auction have names of their own for this type, such as [`Text`] for bytes.
 #[derive(Clone, Drop)]
 pub struct Items<T> {
     held: Vec<T>,

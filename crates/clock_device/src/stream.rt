@@ -32,7 +32,7 @@ pub trait Source {
     ghost told: { Self → SourceTold };
 
     /// Reads the next bytes into the start of the buffer, and returns their number. For a nonempty
-    /// buffer this is 0 only at the end of the bytes. The rest of the buffer may have any content.
+    /// buffer this is 0 exactly if no byte is left. The rest of the buffer may have any content.
     fn read(&mut self, buffer: &mut [u8]) -> Result<usize, Stop>
         ensures within { ReadsAtMost result buffer.new }
         ensures bytes { ReadConsumes (told self.old).left (told self.new).left result buffer.new }

@@ -49,7 +49,7 @@ kept head = record {
   token = token_of (pairs_of head);
 }
 
--- a head, and the length of its body
+-- a head with the length of its body, or why that is refused
 abbrev pub and_length : RequestHead → Result ℕ Code → Result (Head × ℕ) Code
 and_length head (Err fault) = Err fault
 and_length head (Ok n) = Ok (kept head, n)
@@ -71,7 +71,7 @@ abbrev pub framed_head : ℕ → List ℕ → Result (Head × ℕ) Code → Fram
 framed_head n text (Err fault) = refusal fault
 framed_head n text (Ok read) = if nat_lt (length text) (n + read.1) then incomplete else whole read.0 (take read.1 (drop n text))
 
--- if the head has ended, after n bytes, or has not, and may still do so
+-- what a text is, given where its head ends; without an end it is incomplete or too long
 abbrev pub framed_at : Option ℕ → List ℕ → Framing
 framed_at None text = if nat_lt (length text) head_limit then incomplete else refusal LongHead
 framed_at (Some n) text = framed_head n text (length_read (ended_head (take n text)))

@@ -85,8 +85,8 @@ impl Arriving {
     }
 
     /// Appends `piece`, all of it or nothing, and returns whether the request still needs more
-    /// bytes. While more of a body is awaited, this only counts bytes. May return `NoMemory`; then
-    /// nothing was appended.
+    /// bytes. While more of a body is awaited, only the number of bytes is checked. May return
+    /// `NoMemory`; then nothing was appended.
     #[inline(always)]
     pub fn take(&mut self, piece: &[u8]) -> Result<bool, NoMemory>
         ensures ok { OnOk result (self.new ≡ self.old ++ piece.now) }

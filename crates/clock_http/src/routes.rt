@@ -12,7 +12,7 @@ use std::alloc::Global;
 /// A page: what a path names.
 #[derive(Clone, Copy, Debug, PartialEq, Eq)]
 pub enum Page {
-    /// The round, and whether the auction has ended.
+    /// The round, whether the auction has ended, and the set-up's version.
     Status,
     /// The public set-up.
     Products,

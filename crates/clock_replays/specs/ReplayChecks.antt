@@ -29,7 +29,7 @@ abbrev pub has_lists : ℕ → Script → Bool
 has_lists count (Literal sheets) = true
 has_lists count (Sincere limits) = length limits == count
 
--- the limits for a product are no more than its cap, and never rise
+-- a list of limits is no longer than the product's cap, and never rises
 unfoldable pub limit_checks : ℕ → ℕ → Product × List ℕ → List (ScriptFault × Bool)
 limit_checks bidder product line = (Limits bidder product, nat_le (length line.1) line.0.cap && never_rises line.1) ∷ []
 

@@ -229,7 +229,7 @@ fn have_lists(count: usize, scripts: &[Script]) -> bool
     })
 }
 
-/// Returns whether limits never rise, and are no more than the product's cap.
+/// Returns whether limits never rise, and their number is at most the product's cap.
 fn are_limits(product: &Product, limits: &[u64]) -> bool
     ensures { result ≡ (nat_le (length limits.now) product.now.cap && rules.never_rises limits.now) }
 {
@@ -331,7 +331,7 @@ fn replay_in(alloc: Global, value: &Value) -> Result<Replay, ScriptFault>
 /// - There is a SCRIPT for each bidder. It is `{"kind":"literal","sheets":[SHEET,..]}` or
 ///   `{"kind":"sincere","limits":[[N,..],..]}`.
 /// - A SHEET is null or a list of bids `{"price":N,"product":N,"quantity":N}`.
-/// - There are limits for each product. They never rise, and are no more than its cap.
+/// - A list of limits is for a product. It never rises, and is no longer than the product's cap.
 /// - A CLOSING is `{"increment":N,"ties":[[B,P,N],..]}`, in version 2 with `"increments":[N,..]`
 ///   instead of `"increment"`.
 #[tactic(auto, unfolding(crate::specs::ReplayDocument::document_replay))]

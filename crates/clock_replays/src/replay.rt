@@ -84,8 +84,8 @@ pub enum ScriptFault {
     /// There is not one script for each bidder.
     #[error("not one script for each bidder")]
     Scripts,
-    /// The limits of a bidder for a product rise, or are more than its cap: the first such bidder,
-    /// and its first such product.
+    /// A bidder's list of limits for a product rises, or is longer than the product's cap: the
+    /// first such bidder, and its first such product.
     #[error("limits rise or are more than the cap")]
     Limits(u64, u64),
     /// Out of memory. Replaces any other result.

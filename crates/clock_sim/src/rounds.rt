@@ -89,8 +89,8 @@ impl Group {
     }
 }
 
-/// Returns the fault of a reply that is not `done`: that of the bidder `sender`, or without one
-/// that of the operator.
+/// Returns the result of a request with this reply: `Ok` if it is done, `NoMemory` if it is out of
+/// memory, otherwise the refusal of the bidder `sender`, or without one of the operator.
 fn told(code: Code, sender: Option<u64>, round: u64) -> Result<(), SimFault>
     ensures step { IsTold code (rules.refused_by sender round code) result }
     ensures held { IfErr result rules.HasRefusalCode }

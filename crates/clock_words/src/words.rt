@@ -133,8 +133,9 @@ fn asked_in<'a>(matches: &ArgMatches<'a>) -> Option<Asked<'a>>
     }
 }
 
-/// Parses the program's arguments. Errors: clap refuses them, or was asked for help or the version;
-/// its text says so, or is the help. An error of the kind `OutOfMemory` replaces any other result.
+/// Parses the program's arguments, and returns what they ask for. If they ask for nothing, it
+/// returns `None` or an error. The error's text says what is wrong with them, or is the help or the
+/// version that they ask for. An error of the kind `OutOfMemory` replaces any other result.
 pub fn read_words<'a>(alloc: Global, words: &'a [&'a str]) -> Result<Option<Asked<'a>>, Error>
     ensures ok { IfOk result (λ asked. option_map asked_told asked ≡ asked_by (map (λ word. word.now) words.entry.now)) }
     ensures limits { IfOk result (λ asked. IfSome asked IsAsked) }
