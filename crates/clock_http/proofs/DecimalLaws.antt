@@ -1,4 +1,4 @@
--- Decimal digits are UTF-8, and std parses them to the number that they write. By induction over the digits.
+-- Decimal digits are UTF-8, and std parses them to the number that they write: its parser is a fold over them.
 use Rattle.std.proofs.Common.{◌≡◌, ℕ, zero, suc, ◌<◌, ◌^◌, true, List, [], ◌∷◌, length, Option}
 use Rattle.std.proofs.Common.{Result, Ok, Err, sym, subst, arith, rules}
 use Rattle.std.specs.Prelude.{IsTrue, nat_lt}

@@ -1,5 +1,6 @@
 -- The router's walk over its rows finds the row that matches a path, and the rows of our table match the paths of the
--- pages. Our patterns have at most a parameter at their end, so the walk needs no backtracking.
+-- pages. Our patterns have no catch-all, and a parameter only at the end. So the walk tries the next byte, and then a
+-- parameter.
 use Rattle.std.proofs.Common.{◌≡◌, ℕ, zero, suc, ◌-◌, Bool, true, false, cond, not, List, [], ◌∷◌, ◌++◌, length, drop, nat_eq}
 use Rattle.std.proofs.Common.{Option, Some, None, refl, sym, ◌∙◌, ap, subst, arith, eqb-true, eq-eqb}
 use Rattle.std.specs.Prelude.{option_map, find, ◌==◌, ◌&&◌, ◌||◌, ltb, nat_lt}

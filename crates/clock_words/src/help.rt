@@ -1,6 +1,6 @@
 //! The texts that `--help` prints after the options.
 
-/// For the program.
+/// The help of the program.
 pub static PROGRAM_HELP: &str = "\
 `prices`, `opening` and `replay` read a document from standard input: `clock_auction prices < FILE`.
 `serve`, `journal` and `audit` read the files that their options name.
@@ -12,7 +12,7 @@ Exit status:
      failed partway, or `serve` had already printed its first lines.
   2  Help or the version was printed, or the arguments were invalid. Standard error has the text.";
 
-/// For `prices`.
+/// The help of `prices`.
 pub static PRICES_HELP: &str = "\
 Reads a set-up document of version 1 or 2 from standard input.
 Prints a line `NAME OPENING CLOCK` for each product: its name, its opening price and the clock price of
@@ -24,7 +24,7 @@ Example:
   clock_auction prices --increment 25 < examples/one_product.json
   A 100 125";
 
-/// For `opening`.
+/// The help of `opening`.
 pub static OPENING_HELP: &str = "\
 Reads an opening document from standard input: a set-up, the demands of round 1 and an increment.
 Prints `round 1`, and a line `NAME START CLOCK POSTED DEMAND NEXT` for each product: its start-of-round,
@@ -38,7 +38,7 @@ Example:
   round 1
   A 100 100 100 3 110";
 
-/// For `replay`.
+/// The help of `replay`.
 pub static REPLAY_HELP: &str = "\
 Reads a replay document from standard input: a set-up, a script for each bidder, and the closings in order.
 Prints each round as `opening` does, then a line `won NAME DEMAND .. DEMAND PAY` for each bidder: how many
@@ -54,7 +54,7 @@ Example:
   ..
   won Dogwood 1 0 2 2980";
 
-/// For `serve`.
+/// The help of `serve`.
 pub static SERVE_HELP: &str = "\
 Reads a set-up document of version 1 or 2 from its file, and listens at the port of 127.0.0.1.
 Prints `ready PORT` when it listens. Serves connections one after the other, one request each, and ends
@@ -73,7 +73,7 @@ Example:
   clock_auction serve --setup examples/one_product.json --port 8105 --connections 100
   ready 8105";
 
-/// For `journal`.
+/// The help of `journal`.
 pub static JOURNAL_HELP: &str = "\
 Reads both files, and changes neither. Prints `setup HEX` with the digest of the set-up document. Then,
 for each logged request, prints a line `text NUMBER PLACE LENGTH HEX` with its number, the byte of the
@@ -91,7 +91,7 @@ Example:
   ..
   journal 3 993af9f0e05e..";
 
-/// For `audit`.
+/// The help of `audit`.
 pub static AUDIT_HELP: &str = "\
 Reads both files, and changes neither. Recounts the auction from them. Prints each closed round as `replay`
 does, followed by `closed ROUND HEX` with the digest of its closing. If the auction has ended, prints

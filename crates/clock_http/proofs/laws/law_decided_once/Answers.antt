@@ -1,4 +1,4 @@
--- By Prefixes.
+-- Prefixes proves the law.
 use Rattle.clock_http.proofs.Prefixes.{decided_once}
 use Rattle.clock_http.proofs.laws.law_decided_once.Goals as goal
 

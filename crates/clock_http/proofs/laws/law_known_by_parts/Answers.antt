@@ -1,4 +1,4 @@
--- By Prefixes.
+-- Prefixes proves the law.
 use Rattle.clock_http.proofs.Prefixes.{known_by_parts}
 use Rattle.clock_http.proofs.laws.law_known_by_parts.Goals as goal
 

@@ -1,4 +1,4 @@
--- By Prefixes.
+-- Prefixes proves the law.
 use Rattle.clock_http.proofs.Prefixes.{one_head}
 use Rattle.clock_http.proofs.laws.law_one_head.Goals as goal
 

@@ -1,4 +1,4 @@
--- By FirstVersionLaws.
+-- FirstVersionLaws proves the law.
 use Rattle.clock_replays.proofs.FirstVersionLaws.{of_first_version}
 use Rattle.clock_replays.proofs.first_version.law_of_first_version.Goals as goal
 

@@ -1,4 +1,4 @@
--- Each part is written before the later ones, so the whole is the reply's bytes.
+-- Each part is written in front of those that follow it, so the whole is the reply's bytes.
 use Rattle.std.proofs.Common.{◌≡◌, ◌-◌, List, ℕ, [], ◌++◌, length, drop, ap, sym, ◌∙◌, length-drop, codes, decimal}
 use Rattle.std.specs.Option.{unwrap_or}
 use Rattle.http.specs.StatusCode.{reason_phrase}
