@@ -102,8 +102,8 @@ pub const NO_HIGHER_LIMIT: &str =
 "bidders":[{"name":"X","token":"XXXXXXXXXXXXXXXX","eligibility":8},
 {"name":"Z","token":"ZZZZZZZZZZZZZZZZ","eligibility":8}]}"#;
 
-/// Two products A and B of seven blocks each, the bidders X and Z of eligibility 10, and an activity
-/// limit of 125 percent.
+/// Two products A and B of seven blocks each, the bidders X and Z of eligibility 10, and an
+/// activity limit of 125 percent.
 pub const SEVEN_BLOCKS: &str =
     r#"{"version":2,"limit":125,"requirement":100,"operator":"OPERATOROPERATOR",
 "products":[{"name":"A","units":1,"supply":7,"cap":7,"opening":100,"granule":1},
