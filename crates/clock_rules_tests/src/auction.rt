@@ -1,4 +1,4 @@
-//! An auction as data: what is done to it and what is seen of it, step by step.
+//! Auctions as data: steps that submit, close, or check what an auction shows.
 
 use crate::comparing::assert_is_at;
 use crate::settle::push_demands;
@@ -15,35 +15,35 @@ use clock_terms::KeptRow;
 use std::alloc::Global;
 use std::process::Abort;
 
-/// A bid: the product's number, the quantity and the price.
+/// A bid: product, quantity, and price.
 pub type Offer = (u64, u64, u64);
 
-/// A sheet of one bid: the bidder's number and the bid.
+/// A sheet of one bid: the bidder and the bid.
 pub type Single = (u32, Offer);
 
-/// A tie number: the bidder's number, the product's and the tie number.
+/// A tie-breaking number: bidder, product, and number.
 pub type Draw = (u64, u64, u64);
 
-/// The first bidders.
+/// The first bidders of the set-up.
 pub const X: u32 = 0;
 
 pub const Y: u32 = 1;
 
 pub const Z: u32 = 2;
 
-/// By how many percent a closing raises prices: all alike, or each product's.
+/// The increment of a closing, in percent: one for all products, or one for each.
 #[derive(Clone, Copy)]
 pub enum Rise<'a> {
     By(u64),
     Each(&'a [u64]),
 }
 
-/// What is done to an auction, or seen of it.
+/// A step of an auction: a command, or a check of what the auction shows.
 #[derive(Clone, Copy)]
 pub enum Step<'a> {
-    /// A bidder puts a sheet for the current round.
+    /// A bidder submits a sheet for the current round.
     Put(u32, &'a [Offer]),
-    /// Bidders put sheets of one bid for the current round, one after the other.
+    /// Bidders submit sheets of one bid for the current round, one after the other.
     PutEach(&'a [Single]),
     /// A bidder's sheet for a round is refused.
     RefusedPut(u32, u64, &'a [Offer], PutFault),
@@ -51,13 +51,13 @@ pub enum Step<'a> {
     Close(Rise<'a>, &'a [Draw]),
     /// A closing of a round is refused.
     RefusedClose(u64, Rise<'a>, &'a [Draw], CloseFault),
-    /// A closed round has these lines.
+    /// A closed round has these lines, one for each product.
     Lines(u64, &'a [u8]),
-    /// The bidders hold these eligibilities, and these demands, row by row.
+    /// Bidders have these eligibilities, and these demands, row by row.
     Hold(&'a [u64], &'a [u64]),
-    /// A bidder's slip of a round: activity, eligibility and demands.
+    /// A bidder's results of a round: activity, eligibility, and demands.
     Slip(u32, u64, u64, u64, &'a [u64]),
-    /// A bidder has these bids in force, or none.
+    /// A bidder has a sheet of these bids in force, or none.
     InForce(u32, Option<&'a [Offer]>),
     /// The current round, and whether the auction has ended.
     Stands(u64, bool),
@@ -65,13 +65,14 @@ pub enum Step<'a> {
     Reads(Page, &'a str),
 }
 
-/// What a play shows, the document of its set-up, and its steps.
+/// A case: what it shows, its set-up document, and its steps.
 pub type Play<'a> = (&'a str, &'a str, &'a [Step<'a>]);
 
-/// The step at which something is seen: what its play shows, and its number.
+/// The step of a failure: what its case shows, and the step's number.
 type At<'a> = (&'a str, usize);
 
-/// Takes the steps of each play on an auction of its own: once with the rescanned list and once with the event queue.
+/// Runs the steps of each case on an auction of its own: once with the rescanned list and once with
+/// the event queue.
 pub fn play_all(rt: &impl Abort, alloc: Global, plays: &[Play]) {
     for play in plays {
         assert_is_at(rt, play.0, play_with(rt, alloc, Plain, play), Some(()));
@@ -79,13 +80,13 @@ pub fn play_all(rt: &impl Abort, alloc: Global, plays: &[Play]) {
     }
 }
 
-/// An auction of a set-up document with this processor.
+/// Makes an auction of a set-up document with this processor.
 fn house_of<P: Processor + Drop>(alloc: Global, document: &str, processor: P) -> Option<House<P>> {
     let setup = read_setup(alloc, document.as_bytes()).ok()?;
     House::new(alloc, setup, processor).ok()
 }
 
-/// Takes the steps of a play on an auction with this processor, if there is memory for it.
+/// Runs the steps of a case on an auction with this processor. `None` if out of memory.
 fn play_with<P: Processor + Drop>(
     rt: &impl Abort,
     alloc: Global,
@@ -99,7 +100,7 @@ fn play_with<P: Processor + Drop>(
     taken
 }
 
-/// Takes the steps one after the other.
+/// Runs the steps one after the other.
 fn take_all<P: Processor>(
     rt: &impl Abort,
     alloc: Global,
@@ -113,7 +114,7 @@ fn take_all<P: Processor>(
     Some(())
 }
 
-/// Takes one step.
+/// Runs one step.
 fn take<P: Processor>(
     rt: &impl Abort,
     alloc: Global,
@@ -136,7 +137,7 @@ fn take<P: Processor>(
     }
 }
 
-/// Sees what a step shows, where nothing is done at it.
+/// Checks what a step shows, if it is a check.
 fn see<P: Processor>(
     rt: &impl Abort,
     alloc: Global,
@@ -160,7 +161,7 @@ fn see<P: Processor>(
     }
 }
 
-/// The bid of an offer.
+/// Makes the bid of an offer.
 pub fn bid_of(&(product, quantity, price): &Offer) -> Bid {
     Bid {
         product,
@@ -169,7 +170,7 @@ pub fn bid_of(&(product, quantity, price): &Offer) -> Bid {
     }
 }
 
-/// The tie number of a draw.
+/// Makes the tie-breaking number of a draw.
 pub fn tie_of(&(bidder, product, number): &Draw) -> Tie {
     Tie {
         bidder,
@@ -178,7 +179,7 @@ pub fn tie_of(&(bidder, product, number): &Draw) -> Tie {
     }
 }
 
-/// What is made of each row.
+/// Makes an item of each row.
 pub fn list_of<T: Drop, F: Fn(&(u64, u64, u64)) -> T>(
     alloc: Global,
     rows: &[(u64, u64, u64)],
@@ -193,7 +194,7 @@ pub fn list_of<T: Drop, F: Fn(&(u64, u64, u64)) -> T>(
     Some(list)
 }
 
-/// Puts a sheet of these bids.
+/// Submits a sheet of these bids.
 fn put_bids<P: Processor>(
     rt: &impl Abort,
     house: &mut House<P>,
@@ -205,7 +206,7 @@ fn put_bids<P: Processor>(
     house.put_sheet(bidder, round, bids)
 }
 
-/// Puts a sheet, which is answered so.
+/// Submits a sheet and asserts the answer.
 fn put<P: Processor>(
     rt: &impl Abort,
     alloc: Global,
@@ -222,7 +223,7 @@ fn put<P: Processor>(
     Some(())
 }
 
-/// Puts sheets of one bid for the current round.
+/// Submits sheets of one bid for the current round.
 fn put_each<P: Processor>(
     rt: &impl Abort,
     alloc: Global,
@@ -248,7 +249,7 @@ fn increments_of(alloc: Global, rise: Rise) -> Option<Increments> {
     }
 }
 
-/// What a house answers to a closing.
+/// The answer of an auction to a closing.
 fn close_house<P: Processor>(
     house: &mut House<P>,
     round: u64,
@@ -258,7 +259,7 @@ fn close_house<P: Processor>(
     house.close(round, increments, ties)
 }
 
-/// Closes a round, which is answered so.
+/// Closes a round and asserts the answer.
 fn close<P: Processor>(
     rt: &impl Abort,
     alloc: Global,
@@ -284,14 +285,14 @@ fn lines_of<P: Processor>(alloc: Global, house: &House<P>, round: u64) -> Option
     sheet_lines(alloc, house.setup(), sheet).ok()
 }
 
-/// Asserts that a text is this, if there is one.
+/// Asserts that there is a text, and that it is the expected one.
 fn reads(rt: &impl Abort, at: At, text: Option<Text>, expected: &[u8]) -> Option<()> {
     let text = text?;
     assert_is_at(rt, at, text.as_slice(), expected);
     Some(())
 }
 
-/// What a bidder holds, if there is one of this number.
+/// A bidder's eligibility and demands, if there is a bidder of this number.
 fn own_of<P: Processor>(house: &House<P>, bidder: u32) -> Option<Own<'_>> {
     if (bidder as usize) < house.setup().bidders.as_slice().len() {
         Some(house.own(bidder))
@@ -300,7 +301,7 @@ fn own_of<P: Processor>(house: &House<P>, bidder: u32) -> Option<Own<'_>> {
     }
 }
 
-/// The demands of the first bidders, row by row.
+/// The processed demands of the first bidders, row by row.
 fn demands_held<P: Processor>(alloc: Global, house: &House<P>, bidders: usize) -> Option<Amounts> {
     let mut all = Amounts::new(alloc);
     let mut bidder = 0u32;
@@ -311,7 +312,7 @@ fn demands_held<P: Processor>(alloc: Global, house: &House<P>, bidders: usize) -
     Some(all)
 }
 
-/// Asserts what bidders may demand, from the first on.
+/// Asserts the eligibilities of bidders, from the first.
 fn see_eligible<P: Processor>(
     rt: &impl Abort,
     house: &House<P>,
@@ -327,7 +328,7 @@ fn see_eligible<P: Processor>(
     Some(())
 }
 
-/// Asserts what bidders hold, from the first on: their eligibilities, and their demands, row by row.
+/// Asserts the eligibilities and the demands of bidders, from the first, row by row.
 fn see_held<P: Processor>(
     rt: &impl Abort,
     alloc: Global,
@@ -342,7 +343,7 @@ fn see_held<P: Processor>(
     Some(())
 }
 
-/// Whether these are the numbers that a closed round has kept.
+/// Whether a packed row has these numbers.
 fn is_kept(row: &KeptRow, numbers: &[u64]) -> bool {
     if row.len() != numbers.len() {
         return false;
@@ -355,7 +356,7 @@ fn is_kept(row: &KeptRow, numbers: &[u64]) -> bool {
     true
 }
 
-/// Asserts what the slip of a round tells a bidder: round, activity and eligibility, and demands.
+/// Asserts a bidder's results of a round: round, activity, eligibility, and demands.
 fn see_slip<P: Processor>(
     rt: &impl Abort,
     house: &House<P>,
@@ -372,7 +373,7 @@ fn see_slip<P: Processor>(
     Some(())
 }
 
-/// The bids that a bidder has in force, if there is one of this number.
+/// A bidder's sheet in force, if there is a bidder of this number.
 fn bids_of<P: Processor>(house: &House<P>, bidder: u32) -> Option<Option<&[Bid]>> {
     if (bidder as usize) >= house.setup().bidders.as_slice().len() {
         return None;
@@ -383,12 +384,12 @@ fn bids_of<P: Processor>(house: &House<P>, bidder: u32) -> Option<Option<&[Bid]>
     }
 }
 
-/// The bids of a sheet, where it is put.
+/// The bids of a sheet, if it is submitted.
 pub fn sheet_of(bids: &[Bid], is_put: bool) -> Option<&[Bid]> {
     if is_put { Some(bids) } else { None }
 }
 
-/// Asserts the bids that a bidder has in force.
+/// Asserts the bids of a bidder's sheet in force.
 fn see_in_force<P: Processor>(
     rt: &impl Abort,
     alloc: Global,

@@ -1,4 +1,4 @@
-//! The changes that sheets of small auctions ask for.
+//! Changes that sheets of small auctions ask for.
 
 ghost use Rattle.std.specs.Prelude.{◌≡◌, ◌≤◌, ◌<◌, length, All, IsTrue, IfOk};
 ghost use Rattle.clock_terms.specs.Limits.{IsRow};
@@ -14,7 +14,7 @@ use clock_setup::{Amounts, PricePair, Prices, Product, Row, Setup, read_setup};
 use std::alloc::Global;
 use std::process::Abort;
 
-/// The second round of an auction, in which each product's prices go from 100 to 110: its set-up document, and the
+/// A second round in which each product's prices go from 100 to 110: the set-up document, and the
 /// first bidder's eligibility and demands.
 type Round<'a> = (&'a str, u64, &'a [u64]);
 
@@ -53,7 +53,7 @@ fn are_prices(setup: &Setup, prices: &Prices) -> bool
     prices.as_slice().len() == setup.products.as_slice().len()
 }
 
-/// Whether each clock price is above its start price.
+/// Whether each clock price is above its start-of-round price.
 fn rise(prices: &Prices) -> bool
     ensures { IsTrue result → All (λ pair. pair.start < pair.clock) prices.now }
 {
@@ -63,7 +63,7 @@ fn rise(prices: &Prices) -> bool
         .all(|pair| pair.start.get() < pair.clock.get())
 }
 
-/// Whether each bid is for a product of a set-up.
+/// Whether each bid is for a product of the set-up.
 fn are_known(setup: &Setup, bids: &[Bid]) -> bool
     ensures { IsTrue result → All (λ bid. bid.product < length setup.now.products) bids.now }
 {
@@ -71,7 +71,7 @@ fn are_known(setup: &Setup, bids: &[Bid]) -> bool
     bids.iter().all(|bid| bid.product < products)
 }
 
-/// The row of these demands.
+/// Packs these demands into a row.
 fn row_of(rt: &impl Abort, alloc: Global, setup: &Setup, demands: &[u64]) -> Result<Row, NoMemory>
     ensures { IfOk result (IsRow setup.now.products) }
 {
@@ -79,7 +79,7 @@ fn row_of(rt: &impl Abort, alloc: Global, setup: &Setup, demands: &[u64]) -> Res
     Row::of(alloc, setup, demands)
 }
 
-/// What a bidder holds in the second round.
+/// A bidder's eligibility and demands in the second round.
 fn held(eligibility: u64, row: &Row) -> Own<'_>
     ensures { result.demands.now ≡ row.now }
 {
@@ -90,7 +90,7 @@ fn held(eligibility: u64, row: &Row) -> Own<'_>
     }
 }
 
-/// The changes that the first bidder asks for by a sheet of bids, if it may put this sheet.
+/// The changes that the first bidder's sheet asks for, if the sheet has no fault.
 fn asked_with(
     alloc: Global,
     setup: &Setup,
@@ -111,7 +111,7 @@ fn asked_with(
     changes.ok()
 }
 
-/// The same, or what it asks for without a sheet.
+/// The changes that the first bidder's sheet asks for, or a missing sheet.
 fn asked(
     rt: &impl Abort,
     alloc: Global,
@@ -131,7 +131,7 @@ fn asked(
     }
 }
 
-/// The same of what it holds in the second round.
+/// The changes of the first bidder, like [`asked`], in a second round.
 fn asked_in(
     rt: &impl Abort,
     alloc: Global,
@@ -146,7 +146,7 @@ fn asked_in(
     asked(rt, alloc, setup, &prices, held(round.1, &row), bids)
 }
 
-/// The same in the auction of a set-up document, by offers.
+/// The changes of the first bidder, like [`asked`], from a set-up document and offers.
 fn asked_by(
     rt: &impl Abort,
     alloc: Global,
@@ -161,10 +161,10 @@ fn asked_by(
     changes
 }
 
-/// A change that is asked for, and the place of its bid.
+/// An expected change, and the place of its bid in the chain.
 type Wanted = (Asked, u32);
 
-/// The changes of rows.
+/// Makes the changes of rows.
 fn wanted_changes(alloc: Global, rows: &[Wanted]) -> Option<Changes> {
     let mut changes = Changes::new(alloc);
     for (asked, place) in rows {
@@ -173,10 +173,11 @@ fn wanted_changes(alloc: Global, rows: &[Wanted]) -> Option<Changes> {
     Some(changes)
 }
 
-/// What a row shows, the round, the offers of a sheet or that there is none, and the changes that are asked for.
+/// A case: what it shows, the round, the offers of a sheet if there is one, and the changes that
+/// are expected.
 type Ask<'a> = (&'a str, Round<'a>, Option<&'a [Offer]>, &'a [Wanted]);
 
-/// The offers of a sheet, or that there is none, in a round come to the changes.
+/// Sheets of a round, and the changes they ask for.
 const ASKS: &[Ask<'static>] = &[
     (
         "a falling chain asks for a change at each bid",
@@ -226,7 +227,7 @@ const ASKS: &[Ask<'static>] = &[
     ),
 ];
 
-/// Asserts that the first bidder asks for the changes of a row.
+/// Asserts that the first bidder's sheet asks for the changes of a case.
 fn asks_for(rt: &impl Abort, alloc: Global, row: &Ask) -> Option<()> {
     let &(shows, round, offers, wanted) = row;
     let changes = asked_by(rt, alloc, &round, offers)?;
@@ -256,7 +257,7 @@ const CHAIN: [Bid; 2] = [
     },
 ];
 
-/// The demands that bids ask for.
+/// The requested demands of bids.
 fn demands_of(rt: &impl Abort, alloc: Global, bids: &[Bid]) -> Option<Amounts> {
     let setup = read_setup(alloc, TWO_PRODUCTS.as_bytes()).ok()?;
     assert!(rt; are_known(&setup, bids));
@@ -265,7 +266,7 @@ fn demands_of(rt: &impl Abort, alloc: Global, bids: &[Bid]) -> Option<Amounts> {
     demands.ok()
 }
 
-/// Bids ask for demands.
+/// Asserts the requested demands of bids.
 fn ask_for(rt: &impl Abort, alloc: Global, bids: &[Bid], expected: &[u64]) -> Option<()> {
     let demands = demands_of(rt, alloc, bids)?;
     assert_is(rt, demands.as_slice(), expected);

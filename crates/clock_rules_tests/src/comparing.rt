@@ -1,5 +1,5 @@
-//! Assertions in functions of their own, each of which is proved once: written out where it is used, one takes as many
-//! states as a whole small test.
+//! Assertions in functions of their own, each of which is proved once. Written out at its use, an
+//! assertion takes as much proof as a whole small test.
 
 use clock_device::Text;
 use std::fmt::Debug;
@@ -10,7 +10,7 @@ pub fn assert_is<T: Copy + PartialEq + Debug>(rt: &impl Abort, value: T, expecte
     assert_eq!(rt; value, expected);
 }
 
-/// The same of a row or a place, which is shown where it is not.
+/// Asserts that a value is the one expected. If it is not, the failure shows the label.
 pub fn assert_is_at<T: Copy + PartialEq + Debug, L: Copy + Debug>(
     rt: &impl Abort,
     label: L,
@@ -20,7 +20,7 @@ pub fn assert_is_at<T: Copy + PartialEq + Debug, L: Copy + Debug>(
     assert_eq!(rt; value, expected, "at {label:?}");
 }
 
-/// Asserts that a text could be made, and is the one expected.
+/// Asserts that a text could be allocated, and is the one expected.
 pub fn assert_reads<L: Copy + Debug>(
     rt: &impl Abort,
     label: L,

@@ -1,4 +1,4 @@
-//! A round, as a library's caller plays it.
+//! A round, as the caller of a library plays it.
 
 use crate::comparing::assert_is;
 use clock_bids::Bid;
@@ -9,7 +9,7 @@ use clock_setup::{Increments, read_setup};
 use std::process::Abort;
 use std::test::Fail;
 
-/// So many blocks of the product at a price.
+/// A bid for the one product.
 fn blocks(quantity: u64, price: u64) -> Bid {
     Bid {
         product: 0,
@@ -27,7 +27,7 @@ fn play(rt: &impl Abort, house: &mut House<Plain>) -> Result<(), Fail> {
     Ok(())
 }
 
-/// Reads what was posted, and what the first bidder holds.
+/// Checks the posted price and the first bidder's demand.
 fn read(rt: &impl Abort, house: &House<Plain>) -> Result<(), Fail> {
     assert!(rt; house.setup().bidders.as_slice().len() == 2);
     let sheet = house.sheet(1).ok_or("the round is not closed")?;
@@ -36,7 +36,7 @@ fn read(rt: &impl Abort, house: &House<Plain>) -> Result<(), Fail> {
     Ok(())
 }
 
-/// Plays a round, and reads what came of it.
+/// Plays a round and checks the result.
 fn play_and_read(rt: &impl Abort, house: &mut House<Plain>) -> Result<(), Fail> {
     play(rt, house)?;
     read(rt, house)

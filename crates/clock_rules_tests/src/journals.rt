@@ -1,4 +1,4 @@
-//! A journal in memory and in a file: its fronts, damaged bytes, and how it goes on.
+//! Journals in memory and in a file: each prefix, damaged bytes, and appending after a restart.
 
 ghost use Rattle.std.specs.Prelude.{◌≡◌, IsTrue, false};
 
@@ -10,7 +10,7 @@ use std::fs::{self, File, OpenOptions};
 use std::io::Write;
 use std::process::Abort;
 
-/// A machine that counts its texts.
+/// A machine that counts the requests of its journal.
 #[derive(Drop)]
 struct Count(u64);
 
@@ -31,14 +31,14 @@ const SETUP: Link = [7; 32];
 
 const OTHER: Link = [8; 32];
 
-/// How many texts a file is taken over with, and where they end.
+/// The number of requests that a journal is resumed with, and where they end.
 fn taken(bytes: &[u8], setup: &Link) -> Result<(u64, usize), JournalFault> {
     let mut count = Count(0);
     let recovered = recover(&mut count, setup, bytes)?;
     Ok((count.0, recovered.end))
 }
 
-/// Whether a journal is begun.
+/// Begins a journal. Returns whether it did.
 fn begins<D: Durable>(journal: &mut Journal<D>) -> bool
     requires { journal.old.has_failed ≡ false }
     ensures { IsTrue result → journal.new.has_failed ≡ false }
@@ -46,7 +46,7 @@ fn begins<D: Durable>(journal: &mut Journal<D>) -> bool
     journal.begin().is_ok()
 }
 
-/// Whether a journal takes two texts, of 5 and 3 bytes.
+/// Appends two requests, of 5 and 3 bytes. Returns whether both were appended.
 fn takes_two<D: Durable>(journal: &mut Journal<D>) -> bool
     requires { journal.old.has_failed ≡ false }
     ensures { IsTrue result → journal.new.has_failed ≡ false }
@@ -54,7 +54,7 @@ fn takes_two<D: Durable>(journal: &mut Journal<D>) -> bool
     journal.append(b"first").is_ok() && journal.append(b"two").is_ok()
 }
 
-/// The bytes of a journal, or none where a text was not taken.
+/// The bytes of a journal, or none if a request was not appended.
 fn bytes_if(alloc: Global, journal: &Journal<MemoryDisk>, is_taken: bool) -> Vec<u8> {
     let bytes = if is_taken {
         journal.disk().bytes()
@@ -67,8 +67,8 @@ fn bytes_if(alloc: Global, journal: &Journal<MemoryDisk>, is_taken: bool) -> Vec
     }
 }
 
-/// The bytes of a journal of three texts of 5, 3 and 4 bytes on a disk with so much room: 56 of the head, and 45, 43
-/// and 44 of records. There are none where not all are taken.
+/// The bytes of a journal of three requests of 5, 3, and 4 bytes on a disk of `room` bytes: 56 of
+/// the head, and 45, 43, and 44 of records. None if a request was not appended.
 fn file(alloc: Global, room: usize) -> Vec<u8> {
     let mut journal = Journal::new(MemoryDisk::new(alloc, room, 100), SETUP);
     let is_taken = begins(&mut journal)
@@ -94,7 +94,7 @@ fn a_file_of_another_kind_is_told(rt: HostRuntime) {
     assert_is(&rt, taken(b"", &SETUP), Ok((0, 0)));
 }
 
-/// How many texts a front of the file has, and where they end.
+/// The number of requests in a prefix of the file, and where they end.
 fn whole_in(length: usize) -> (u64, usize) {
     match length {
         0..56 => (0, 0),
@@ -105,7 +105,7 @@ fn whole_in(length: usize) -> (u64, usize) {
     }
 }
 
-/// Asserts how each front of the file is read.
+/// Asserts how each prefix of the file is read.
 fn fronts_are_read(rt: &impl Abort, bytes: &[u8]) {
     for length in 0..=188usize {
         let front = bytes.get(..length).unwrap_or(b"a shorter file");
@@ -119,7 +119,7 @@ fn each_front_is_read(rt: HostRuntime) {
     fronts_are_read(&rt, bytes.as_slice());
 }
 
-/// What is told where the byte at a place is damaged.
+/// The expected result if the byte at `place` is damaged.
 fn told_at(place: usize) -> Result<(u64, usize), JournalFault> {
     match place {
         0..24 => Err(JournalFault::Unknown),
@@ -127,19 +127,19 @@ fn told_at(place: usize) -> Result<(u64, usize), JournalFault> {
         56..101 => Err(JournalFault::Damaged(56)),
         101..144 => Err(JournalFault::Damaged(101)),
         144..152 => Err(JournalFault::Damaged(144)),
-        // the last record, behind which nothing stands, counts as torn
+        // the last record, with nothing after it, counts as torn
         _ => Ok((2, 144)),
     }
 }
 
-/// Turns a bit of the byte at a place.
+/// Flips a bit of the byte at `place`.
 fn turn(bytes: &mut [u8], place: usize) {
     if let Some(byte) = bytes.get_mut(place) {
         *byte ^= 1;
     }
 }
 
-/// Asserts what is told of each damaged byte of the file.
+/// Asserts the result for each damaged byte of the file.
 fn damage_is_told(rt: &impl Abort, bytes: &mut [u8]) {
     for place in 0..188usize {
         turn(bytes, place);
@@ -161,8 +161,8 @@ fn a_full_disk_is_told(rt: HostRuntime) {
     }
 }
 
-/// Takes over the bytes, goes on with them on a disk of their own, and adds a text. There are none where it is not
-/// taken.
+/// Resumes a journal of these bytes on a disk of its own, and appends a request. None if it is not
+/// appended.
 fn resumed(alloc: Global, bytes: &[u8]) -> Vec<u8> {
     let mut count = Count(0);
     let Ok(recovered) = recover(&mut count, &SETUP, bytes) else {
@@ -179,7 +179,8 @@ fn resumed(alloc: Global, bytes: &[u8]) -> Vec<u8> {
     bytes
 }
 
-/// How many texts there are once a front of the file has gone on, and where they end.
+/// The number of requests after a prefix of the file is resumed and appended to, and where they
+/// end.
 fn whole_after(length: usize) -> (u64, usize) {
     match length {
         0..101 => (1, 100),
@@ -189,7 +190,7 @@ fn whole_after(length: usize) -> (u64, usize) {
     }
 }
 
-/// Asserts that each front of the file goes on.
+/// Asserts that each prefix of the file is resumed and appended to.
 fn fronts_go_on(rt: &impl Abort, alloc: Global, bytes: &[u8]) {
     for length in 0..=188usize {
         let front = bytes.get(..length).unwrap_or(b"a shorter file");
@@ -206,14 +207,14 @@ fn each_front_goes_on(rt: HostRuntime) {
 
 const PATH: &str = "clock_journal.trial";
 
-/// A file of the system, opened for appending.
+/// Opens a file of the system for appending.
 fn opened(rt: &HostRuntime) -> Option<File> {
     let mut how = OpenOptions::new();
     how.read(true).append(true).create(true);
     how.open(rt, PATH).ok()
 }
 
-/// Whether a journal is begun in a file and takes two texts.
+/// Begins a journal in a file and appends two requests. Returns whether it did.
 fn is_written(file: Option<File>) -> bool {
     let Some(file) = file else {
         return false;
@@ -224,19 +225,19 @@ fn is_written(file: Option<File>) -> bool {
     is_taken
 }
 
-/// Whether the file is taken over with its two texts.
+/// Whether the file is resumed with its two requests.
 fn has_two(rt: &HostRuntime) -> Option<bool> {
     let bytes = fs::read(rt, PATH).ok()?;
     Some(taken(&bytes, &SETUP) == Ok((2, 144)))
 }
 
-/// Whether a file that is locked can't be locked again by who opens it anew.
+/// Whether a locked file that is opened again can't be locked again.
 fn is_locked(rt: &HostRuntime, file: &File) -> Option<bool> {
     file.try_lock().ok()?;
     Some(opened(rt)?.try_lock().is_err())
 }
 
-/// Whether a front of a third text is not taken over, and is gone once it is cut away.
+/// Whether a prefix of a third record does not count as a request, and is gone once it is cut off.
 fn is_torn(rt: &HostRuntime, file: &mut File) -> Option<bool> {
     let torn = b"\0\0\0\x05\0\0\0\x05 and a front of more";
     file.write_all(torn).ok()?;
@@ -247,7 +248,7 @@ fn is_torn(rt: &HostRuntime, file: &mut File) -> Option<bool> {
     Some(had_two && has_two(rt)? && length == 144)
 }
 
-/// Whether both hold of the file.
+/// The results of [`is_locked`] and [`is_torn`] for the file.
 fn is_locked_and_torn(rt: &HostRuntime) -> Option<(bool, bool)> {
     let mut file = opened(rt)?;
     let is_locked = is_locked(rt, &file);

@@ -1,6 +1,6 @@
-//! Tests of the crates below the front, each with the values that the rules and formats give: numbers and documents,
-//! sheets, whole rounds by steps, settlings with both processors, and pages. They stand here and not beside what they
-//! test, since a crate with tests of its own is proved twice.
+//! Tests of the crates that clock_front uses, with expected values from the rules and formats:
+//! numbers and documents, sheets, whole rounds by steps, bid processing with both processors, and
+//! pages. They are in a crate of their own since a crate with tests is proved twice.
 #![tactic(auto)]
 
 #[cfg(test)]

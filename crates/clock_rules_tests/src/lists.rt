@@ -1,4 +1,4 @@
-//! Lists, sources and sinks: each call once, on bytes in memory, and on std's readers and writers.
+//! Lists, sources, and sinks: each call once, on bytes in memory, and on std's readers and writers.
 use crate::comparing::assert_is;
 use clock_device::{
     Failed, FromReader, Items, ListSink, ListSource, NoMemory, Sink, Source, Stop, Text, ToWriter,
@@ -9,7 +9,7 @@ use std::io;
 use std::io::{ErrorKind, Read, Write};
 use std::process::Abort;
 
-/// Numbers that were put into a list one by one and together.
+/// A list whose numbers were added one by one and together.
 fn three(alloc: Global) -> Result<Items<u64>, NoMemory> {
     let mut list = Items::new(alloc);
     list.push(3u64)?;
@@ -17,23 +17,23 @@ fn three(alloc: Global) -> Result<Items<u64>, NoMemory> {
     Ok(list)
 }
 
-/// A list's copy.
+/// A copy of a list.
 fn copied(alloc: Global) -> Result<Items<u64>, NoMemory> {
     let list = three(alloc)?;
     list.copy(alloc)
 }
 
-/// A list of what is in a vector.
+/// A list of the items of a vector.
 fn taken(alloc: Global) -> Result<Items<u64>, NoMemory> {
     Ok(Items::from_vec(vec![in alloc; 7, 8]?))
 }
 
-/// So many zeros.
+/// A list of `count` zeros.
 fn zeros(alloc: Global, count: usize) -> Result<Items<u64>, NoMemory> {
     Ok(Items::zeros(alloc, count)?)
 }
 
-/// Three numbers, for which room was taken before.
+/// A list of three numbers, allocated before they are added.
 fn in_room(alloc: Global) -> Result<Items<u64>, NoMemory> {
     let mut list = Items::with_capacity(alloc, 3)?;
     list.push(3);
@@ -48,7 +48,7 @@ fn numbered(alloc: Global, number: u64) -> Result<Text, NoMemory> {
     Ok(text)
 }
 
-/// The same text with numbers or dashes behind.
+/// The text of [`numbered`], with numbers or dashes after it.
 fn dashed(alloc: Global, number: u64, numbers: &[Option<u64>]) -> Result<Text, NoMemory> {
     let mut text = numbered(alloc, number)?;
     for number in numbers {
@@ -57,14 +57,14 @@ fn dashed(alloc: Global, number: u64, numbers: &[Option<u64>]) -> Result<Text, N
     Ok(text)
 }
 
-/// A text of which a byte is put in the place of another.
+/// A text in which a byte is replaced.
 fn cut(alloc: Global) -> Result<Text, NoMemory> {
     let mut text = Text::from_slice(alloc, b"cat")?;
     text.set(1, b'u');
     Ok(text)
 }
 
-/// Asserts that a list could be made, and holds these items.
+/// Asserts that a list could be allocated, and has these items.
 fn holds<T: Copy + Drop + PartialEq + Debug>(
     rt: &impl Abort,
     list: Result<Items<T>, NoMemory>,
@@ -104,7 +104,7 @@ fn sum_of(numbers: &[u64]) -> u64 {
     sum
 }
 
-/// How a list is read: its length, whether it is empty, an item, and all of them.
+/// What the calls of a list return: its length, whether it is empty, an item, and the sum of all.
 fn read_list(list: &Items<u64>) -> (usize, bool, Option<u64>, u64) {
     let second = if list.len() > 1 { Some(list[1]) } else { None };
     (list.len(), list.is_empty(), second, sum_of(list))
@@ -117,10 +117,10 @@ fn a_list_is_read_as_a_slice(rt: HostRuntime) {
     assert_is(&rt, read_list(&Items::new(rt.alloc())), (0, true, None, 0));
 }
 
-/// A read of so many bytes at most into four: its answer, and the four bytes then.
+/// A read into four bytes: its most bytes, the answer, and the four bytes then.
 type Given<'a> = (usize, Result<usize, Stop>, &'a [u8]);
 
-/// Asserts what the reads of a source give, one after the other.
+/// Asserts what the reads of a source return, one after the other.
 fn gives<S: Source>(rt: &impl Abort, source: &mut S, reads: &[Given]) {
     let mut buffer = *b"----";
     for &(room, answer, bytes) in reads {
@@ -132,14 +132,14 @@ fn gives<S: Source>(rt: &impl Abort, source: &mut S, reads: &[Given]) {
 /// A write of bytes, and its answer.
 type Taken<'a> = (&'a [u8], Result<usize, Failed>);
 
-/// Asserts what the writes to a sink are answered, one after the other.
+/// Asserts what the writes to a sink return, one after the other.
 fn takes<S: Sink>(rt: &impl Abort, sink: &mut S, writes: &[Taken]) {
     for &(bytes, answer) in writes {
         assert_is(rt, sink.write(bytes), answer);
     }
 }
 
-/// Reads of `hello`, by two bytes at most.
+/// Reads of `hello`, at most two bytes each.
 const IN_PIECES: &[Given<'static>] = &[
     (4, Ok(2), b"he--"),
     (1, Ok(1), b"le--"),
@@ -180,7 +180,7 @@ fn a_list_source_stops_at_one_read(rt: HostRuntime) {
     }
 }
 
-/// Writes to a sink that has room for three bytes, and takes two at most.
+/// Writes to a sink of three bytes that takes at most two a write.
 const UNTIL_FULL: &[Taken<'static>] = &[
     (b"hello", Ok(2)),
     (b"", Err(Failed)),
@@ -188,7 +188,7 @@ const UNTIL_FULL: &[Taken<'static>] = &[
     (b"lo", Err(Failed)),
 ];
 
-/// Asserts what the writes to a list's sink are answered, and what it has then.
+/// Asserts what the writes to a list's sink return, and the bytes it has then.
 fn comes_to(rt: &impl Abort, sink: Result<ListSink, NoMemory>, writes: &[Taken], expected: &[u8]) {
     match sink {
         Ok(mut sink) => {
@@ -214,8 +214,8 @@ fn a_list_sink_fails_at_one_write(rt: HostRuntime) {
     comes_to(&rt, sink, AFTER_ONE, b"hello");
 }
 
-/// A reader and a writer that tell how many calls they have had: by the byte that a read gives,
-/// and by how many bytes a write takes.
+/// A reader and a writer that count their calls: a read gives one byte, the count, and a write
+/// takes as much as the count.
 #[derive(Drop)]
 struct Counter {
     calls: u8,
@@ -223,7 +223,7 @@ struct Counter {
     is_flaky: bool,
 }
 
-/// One that has had no calls.
+/// A counter without calls.
 fn counting(is_flaky: bool) -> Counter {
     Counter { calls: 0, is_flaky }
 }
@@ -266,7 +266,8 @@ fn a_reader_is_interrupted_or_fails(rt: HostRuntime) {
     gives(&rt, &mut FromReader::new(counting(true)), FLAKY);
 }
 
-/// How many bytes each call of the writer below takes, and the byte that a call of the reader gives.
+/// The number of bytes that each call of the writer takes, and the byte that a call of the reader
+/// gives.
 const CALLS: &[(usize, &[u8])] = &[
     (1, b"\x01---"),
     (2, b"\x02---"),

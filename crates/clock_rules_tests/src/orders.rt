@@ -1,4 +1,4 @@
-//! Ties and the order of processing in two small auctions.
+//! Tie-breaking numbers and the order of processing in two small auctions.
 
 ghost use Rattle.std.specs.Prelude.{◌≡◌, ◌≢◌, AllPairs, IfOk, IfSome};
 ghost use Rattle.clock_terms.specs.Requests.{AreApart};
@@ -13,7 +13,7 @@ use clock_setup::read_setup;
 use clock_terms::{Change, Changes, Kind};
 use std::alloc::Global;
 
-/// A reduction by a block: of a product, at a price between a start price and a clock price.
+/// A reduction by a block: the product, the start-of-round price, the price, and the clock price.
 type Reduction = (u32, u64, u64, u64);
 
 /// The change that a bidder's reduction asks for.
@@ -44,7 +44,7 @@ fn both(alloc: Global, first: &Change, second: &Change) -> Result<Changes, NoMem
     Ok(changes)
 }
 
-/// The tie numbers of a list, in the auction of a set-up document, or their fault.
+/// The tie-breaking numbers of a list, in the auction of a set-up document, or their fault.
 fn ties_of(alloc: Global, document: &str, draws: &[Draw]) -> Option<Result<Ties, TieFault>> {
     let draws = list_of(alloc, draws, tie_of)?;
     let setup = read_setup(alloc, document.as_bytes()).ok()?;
@@ -53,7 +53,7 @@ fn ties_of(alloc: Global, document: &str, draws: &[Draw]) -> Option<Result<Ties,
     Some(ties)
 }
 
-/// The bidder of the first of some changes.
+/// The bidder of the first change.
 fn first_bidder(changes: &[Change]) -> Option<u32> {
     Some(changes.first()?.bidder)
 }
@@ -67,7 +67,7 @@ fn first_of(alloc: Global, ties: &Ties, x: &Reduction, y: &Reduction) -> Option<
     first_bidder(list.as_slice())
 }
 
-/// The same with the tie numbers of a list.
+/// The bidder whose reduction is first, like [`first_of`], with the tie-breaking numbers of a list.
 fn first_in(
     alloc: Global,
     document: &str,
@@ -80,12 +80,14 @@ fn first_in(
     first
 }
 
-/// Reductions of bidder 0 and bidder 1 at the same point: of products with other prices, and of one product.
+/// Reductions of bidder 0 and bidder 1 at equal price points: of products with other prices, and of
+/// one product.
 const OF_TWO: (Reduction, Reduction) = ((0, 100, 105, 110), (1, 1000, 1050, 1100));
 
 const OF_ONE: (Reduction, Reduction) = ((0, 100, 104, 110), (0, 100, 104, 110));
 
-/// A set-up document, the tie numbers of a list, the reductions, and whose is processed first.
+/// A set-up document, the tie-breaking numbers of a list, the reductions, and the bidder whose is
+/// processed first.
 const ORDERS: &[(&str, &[Draw], (Reduction, Reduction), u32)] = &[
     (TWO_PRODUCTS, &[(0, 0, 2), (1, 1, 1)], OF_TWO, 1),
     (TWO_PRODUCTS, &[], OF_TWO, 0),
@@ -101,18 +103,18 @@ fn changes_go_by_point_and_then_by_tie_number_and_bidder(rt: HostRuntime) {
     }
 }
 
-/// Lists of tie numbers, and their faults in the auction of one product.
+/// Lists of tie-breaking numbers, and their faults in the auction of one product.
 const FAULTY: &[(&[Draw], TieFault)] = &[
     (&[(0, 1, 5)], TieFault::Range(0)),
     (&[(0, 0, 1), (0, 0, 2)], TieFault::Repeated(1)),
 ];
 
-/// The fault of a list of tie numbers, if it has one.
+/// The fault of a list of tie-breaking numbers, if it has one.
 fn fault_of(alloc: Global, draws: &[Draw]) -> Option<TieFault> {
     ties_of(alloc, ONE_PRODUCT, draws)?.err()
 }
 
-/// The fault of a list of so many tie numbers, one like the other.
+/// The fault of a list of `count` equal tie-breaking numbers.
 fn fault_of_many(alloc: Global, count: usize) -> Option<TieFault> {
     let Ok(many) = vec![in alloc; (0, 1, 5); count] else {
         return None;

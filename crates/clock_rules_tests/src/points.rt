@@ -11,7 +11,7 @@ fn a_price_outside_has_no_point(rt: HostRuntime) {
     }
 }
 
-/// How the points of two start prices, prices and clock prices compare.
+/// How two price points compare, each given by start-of-round price, price, and clock price.
 fn compared(one: [u64; 3], other: [u64; 3]) -> Option<Ordering> {
     let point = Point::of(one[0], one[1], one[2])?;
     Some(point.compare(&Point::of(other[0], other[1], other[2])?))

@@ -3,12 +3,13 @@
 use crate::comparing::assert_is;
 use clock_money::{LEAST_INCREMENT, MOST_GRANULE, MOST_INCREMENT, Price, clock_price};
 
-/// The dollars of a price, where there is one.
+/// The dollars of a price, if there is one.
 fn dollars_of(price: Option<Price>) -> Option<u64> {
     Some(price?.get())
 }
 
-/// The clock price over a start price, where there is such a price, increment and granule.
+/// The clock price over a start-of-round price, if that price, the increment, and the granule are
+/// within their limits.
 fn raised(start: u64, percent: u64, granule: u64) -> Option<Option<u64>> {
     let start = Price::new(start)?;
     if !(LEAST_INCREMENT..=MOST_INCREMENT).contains(&percent)
@@ -19,7 +20,7 @@ fn raised(start: u64, percent: u64, granule: u64) -> Option<Option<u64>> {
     Some(dollars_of(clock_price(start, percent, granule)))
 }
 
-/// Dollars, and whether they are a price.
+/// Amounts in dollars, and those that are a price.
 const DOLLARS: &[(u64, Option<u64>)] = &[
     (0, None),
     (1, Some(1)),
@@ -34,7 +35,7 @@ fn a_price_is_from_one_dollar_to_the_highest(rt: HostRuntime) {
     }
 }
 
-/// Start prices, percents and granules, and the clock prices.
+/// Start-of-round prices, increments, granules, and the clock prices.
 const RAISED: &[(u64, u64, u64, Option<u64>)] = &[
     (101, 10, 1, Some(112)),
     (110, 10, 1, Some(121)),

@@ -1,4 +1,4 @@
-//! What a house refuses, and that a refusal changes nothing.
+//! What an auction refuses, and that a refusal changes nothing.
 
 use crate::auction::Rise::By;
 use crate::auction::Step::{
@@ -13,7 +13,7 @@ use clock_order::TieFault;
 /// The highest price.
 const HIGHEST: u64 = 1_000_000_000_000;
 
-/// A price that can rise once more by one percent, and then stands at the one below.
+/// A price that can rise once more by one percent. The next price is one dollar below the highest.
 const HIGH: u64 = 990_099_009_900;
 
 const HIGHER: u64 = 999_999_999_999;
@@ -21,7 +21,7 @@ const HIGHER: u64 = 999_999_999_999;
 /// X and Y ask for three blocks at the highest price.
 const MORE_AT_HIGHEST: Step<'static> = PutEach(&[(X, (0, 2, HIGHEST)), (Y, (0, 1, HIGHEST))]);
 
-/// What is refused in auctions that end, in other rounds and beside a sheet in force.
+/// Refusals after the end, in other rounds, and with a sheet in force.
 const IN_TURN: &[Play<'static>] = &[
     (
         "nobody bids and the auction ends",
@@ -63,7 +63,7 @@ const IN_TURN: &[Play<'static>] = &[
     ),
 ];
 
-/// What is refused at the highest price.
+/// Refusals at the highest price.
 const AT_THE_LIMIT: &[Play<'static>] = &[
     (
         "the highest price can be the last",

@@ -1,4 +1,4 @@
-//! Whole rounds: what is applied, what is posted, and what each bidder is left with.
+//! Whole rounds: the requests that are applied, the posted prices, and each bidder's results.
 
 use crate::auction::Rise::{By, Each};
 use crate::auction::Step::{
@@ -12,37 +12,38 @@ use clock_fixtures::{
 };
 use clock_house::{CloseFault, PutFault};
 
-/// The bidder Z, where there is no Y.
+/// The second bidder, which is Z if there is no Y.
 const SECOND: u32 = 1;
 
-/// A sheet asks for more activity than it may.
+/// The fault of a sheet whose requested activity is above the limit.
 const OVER: PutFault = PutFault::Bid(BidFault::OverActivity);
 
-/// In a first round X asks for 2 blocks and Y for 1 of a supply of 2, so that there is a second.
+/// In a first round, X asks for 2 blocks and Y for 1 of a supply of 2, so that there is a second.
 const FIRST: Step<'static> = PutEach(&[(X, (0, 2, 100)), (Y, (0, 1, 100))]);
 
 const CLOSE: Step<'static> = Close(By(10), &[]);
 
 const POSTED: Step<'static> = Lines(1, b"round 1\nA 100 100 100 3 110\n");
 
-/// In the second X drops both; or Y keeps its one too; or both give up a block at the same point.
+/// In the second round, X drops both; or Y maintains its one too; or both give up a block at equal
+/// price points.
 const X_DROPS: Step<'static> = Put(X, &[(0, 0, 103)]);
 
 const Y_KEEPS: Step<'static> = PutEach(&[(X, (0, 0, 103)), (Y, (0, 1, 110))]);
 
 const BOTH: Step<'static> = PutEach(&[(X, (0, 1, 104)), (Y, (0, 0, 104))]);
 
-/// Y has the lower tie number.
+/// Y has the lower tie-breaking number.
 const Y_FIRST: Step<'static> = Close(By(10), &[(0, 0, 9), (1, 0, 3)]);
 
-/// What is posted then.
+/// The posted price then.
 const AT_100: Step<'static> = Lines(2, b"round 2\nA 100 110 100 - -\n");
 
 const AT_103: Step<'static> = Lines(2, b"round 2\nA 100 110 103 - -\n");
 
 const AT_104: Step<'static> = Lines(2, b"round 2\nA 100 110 104 - -\n");
 
-/// X holds both blocks, or each holds one, and the auction has ended.
+/// X has both blocks, or each has one, and the auction has ended.
 const X_HOLDS: Step<'static> = Hold(&[3, 0], &[2, 0]);
 
 const ONE_EACH: Step<'static> = Hold(&[2, 2], &[1, 1]);

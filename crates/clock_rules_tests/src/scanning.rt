@@ -2,7 +2,7 @@ use crate::comparing::assert_is_at;
 use clock_json::{Scan, ScanStop, ShortRows, is_blank, read_row};
 use std::alloc::Global;
 
-/// A sum, and more numbers.
+/// A sum to which numbers are added.
 fn with_numbers(sum: u64, numbers: &[u64]) -> u64 {
     let mut sum = sum;
     for number in numbers {
@@ -22,8 +22,8 @@ fn sum_of(alloc: Global, rows: &ShortRows) -> Option<u64> {
     Some(sum)
 }
 
-/// The number of the rows, the sum of their numbers, and whether the rows have three numbers each; or 9 and what
-/// stopped the reading.
+/// The number of rows, the sum of their numbers, and whether each row has three numbers; or 9 and
+/// the reason that reading stopped.
 fn short_rows_of(alloc: Global, text: &[u8]) -> (usize, u64, bool) {
     match Scan::new(text).short_rows(alloc) {
         Ok(rows) => match sum_of(alloc, &rows) {
@@ -35,7 +35,7 @@ fn short_rows_of(alloc: Global, text: &[u8]) -> (usize, u64, bool) {
     }
 }
 
-/// How long the key and the text of an object with one member are, where it comes next.
+/// The lengths of the key and the text of an object with one member, if it comes next.
 fn next_member(scan: &mut Scan<'_>) -> Option<(usize, usize)> {
     scan.opens(b'{').ok()?;
     let key = scan.key().ok()?.len();
@@ -47,14 +47,14 @@ fn next_member(scan: &mut Scan<'_>) -> Option<(usize, usize)> {
     }
 }
 
-/// The same where it is the whole text.
+/// The lengths of [`next_member`], if the object is the whole text.
 fn member_of(text: &[u8]) -> Option<(usize, usize)> {
     let mut scan = Scan::new(text);
     let member = next_member(&mut scan);
     if scan.ends() { member } else { None }
 }
 
-/// Texts, and what their rows come to.
+/// Texts, and the results for their rows.
 const ROWS: &[(&[u8], (usize, u64, bool))] = &[
     (b"[[1,2],[ 3 ]\n,[]]", (3, 6, false)),
     (b"[[1,2,3],[4,5,6]]", (2, 21, true)),

@@ -1,4 +1,4 @@
-//! Requests as data, and their settling by any processor.
+//! Requests as data, and their processing by any processor.
 
 ghost use Rattle.std.specs.Prelude.{◌≡◌, ◌≤◌, ◌<◌, ℕ, length, All, IfOk, IsTrue};
 ghost use Rattle.clock_terms.specs.{Limits.{most_supply}, Demands.{IsGrid}, Requests.{KeepWithinCap, asked_of, is_request_of}};
@@ -17,7 +17,8 @@ use std::test::Fail;
 /// A request: its kind, bidder, product, blocks and price.
 pub type Asked = (Kind, u32, u32, u64, u64);
 
-/// The change that a request asks for by the bid at a place of its chain, at a price of a round from 100 to 110.
+/// The change that a request asks for, with the place of its bid in the chain and a price of a
+/// round from 100 to 110.
 pub fn change_of(&(kind, bidder, product, amount, price): &Asked, place: u32) -> Option<Change> {
     let point = Point::of(100, price, 110)?;
     Some(Change {
@@ -31,7 +32,7 @@ pub fn change_of(&(kind, bidder, product, amount, price): &Asked, place: u32) ->
     })
 }
 
-/// The requests in order.
+/// The changes of the requests, in the order of places.
 fn requests(alloc: Global, asked: &[Asked]) -> Result<Changes, Fail> {
     let mut changes = Changes::new(alloc);
     for request in asked {
@@ -40,7 +41,7 @@ fn requests(alloc: Global, asked: &[Asked]) -> Result<Changes, Fail> {
     Ok(changes)
 }
 
-/// What each bidder may demand, in bidding units.
+/// The eligibility of each bidder.
 fn eligibilities(alloc: Global, setup: &Setup) -> Result<Amounts, NoMemory>
     ensures { IfOk result (λ amounts. length amounts ≡ length setup.now.bidders) }
 {
@@ -51,7 +52,7 @@ fn eligibilities(alloc: Global, setup: &Setup) -> Result<Amounts, NoMemory>
     Ok(amounts)
 }
 
-/// Whether a request is of this kind, bidder and product.
+/// Whether a change has this kind, bidder, and product.
 fn is_of(change: &Change, kind: Kind, bidder: usize, product: usize) -> bool
     ensures { result ≡ is_request_of kind bidder product change.now }
 {
@@ -64,7 +65,7 @@ fn is_of(change: &Change, kind: Kind, bidder: usize, product: usize) -> bool
     same && change.bidder as usize == bidder && change.product as usize == product
 }
 
-/// What a bidder's requests of one kind for a product ask for together.
+/// The blocks that a bidder's requests of one kind for a product ask for in all.
 fn asked(changes: &[Change], kind: Kind, bidder: usize, product: usize) -> u64
     requires count { length changes.now ≤ 100 }
     requires small { All (λ change. change.amount ≤ most_supply) changes.now }
@@ -92,7 +93,7 @@ fn are_requests(bidders: usize, products: usize, changes: &[Change]) -> bool
     true
 }
 
-/// Whether a bidder's requests keep its demands within 0 and the caps.
+/// Whether a bidder's demands stay within 0 and the caps, whatever part of its requests is applied.
 fn row_keeps_caps(products: &[Product], demands: &Row, bidder: usize, changes: &[Change]) -> bool
     requires row { length demands.now ≡ length products.now }
     requires count { length changes.now ≤ 100 }
@@ -111,7 +112,7 @@ fn row_keeps_caps(products: &[Product], demands: &Row, bidder: usize, changes: &
     true
 }
 
-/// Whether each bidder's requests do.
+/// Whether [`row_keeps_caps`] is true of each bidder.
 fn keep_caps(setup: &Setup, grid: &Grid, changes: &[Change]) -> bool
     requires grid { IsGrid (length setup.now.bidders) (length setup.now.products) grid.now }
     requires count { length changes.now ≤ 100 }
@@ -126,7 +127,7 @@ fn keep_caps(setup: &Setup, grid: &Grid, changes: &[Change]) -> bool
     true
 }
 
-/// Whether the requests can be settled.
+/// Whether the requests meet the preconditions of bid processing.
 fn can_settle(setup: &Setup, grid: &Grid, changes: &[Change]) -> bool
     requires { IsGrid (length setup.now.bidders) (length setup.now.products) grid.now }
     ensures count { IsTrue result → length changes.now ≤ 100 }
@@ -141,7 +142,7 @@ fn can_settle(setup: &Setup, grid: &Grid, changes: &[Change]) -> bool
         && keep_caps(setup, grid, changes)
 }
 
-/// Settles requests on the demands of a round.
+/// Processes requests on the demands of a round.
 fn settle<P: Processor>(
     alloc: Global,
     processor: &P,
@@ -182,7 +183,7 @@ fn demands_of(alloc: Global, grid: &Grid, bidders: usize) -> Result<Amounts, NoM
     Ok(demands)
 }
 
-/// Settles first requests on the demands of a round, and then others on what these came to.
+/// Processes first requests on the demands of a round, and then others on the result.
 fn settle_in_turn<P: Processor>(
     alloc: Global,
     processor: &P,
@@ -200,7 +201,7 @@ fn settle_in_turn<P: Processor>(
     settle(alloc, processor, setup, eligibilities, begun.grid(), second)
 }
 
-/// Settles first requests on no demands, and then others on what these came to.
+/// Processes first requests on no demands, and then others on the result.
 fn settle_from_none<P: Processor>(
     alloc: Global,
     processor: &P,
@@ -214,10 +215,11 @@ fn settle_from_none<P: Processor>(
     settle_in_turn(alloc, processor, setup, &eligibilities, &none, requests)
 }
 
-/// What a settling comes to: the demands row by row, what each request has left, and the applications.
+/// A result of bid processing: the demands row by row, what is left of each request, and the number
+/// of applications.
 pub type End<'a> = (&'a [u64], &'a [u64], u64);
 
-/// Asserts what a settling comes to. The answer is how often a room was looked at.
+/// Asserts a result of bid processing. Returns the number of tests of a request's room.
 fn compare(
     rt: &impl Abort,
     alloc: Global,
@@ -233,10 +235,11 @@ fn compare(
     Ok(settled.tests())
 }
 
-/// First requests and others after them, and what these come to.
+/// First requests, others after them, and the result of these.
 pub type Case<'a> = (&'a [Asked], &'a [Asked], End<'a>);
 
-/// Settles requests after first ones, and asserts what they come to. The answer is how often a room was looked at.
+/// Processes requests after first ones, and asserts the result. Returns the number of tests of a
+/// request's room.
 pub fn settle_twice<P: Processor>(
     rt: &impl Abort,
     alloc: Global,

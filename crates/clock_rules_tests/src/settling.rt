@@ -1,4 +1,4 @@
-//! Settlings: what requests come to, with the rescanned list and with the event queue.
+//! Bid processing: the results of requests, with the rescanned list and with the event queue.
 
 use crate::comparing::{assert_is, assert_is_at};
 use crate::settle::{Asked, Case, End, settle_twice};
@@ -11,7 +11,7 @@ use std::alloc::{AllocError, Global};
 use std::process::Abort;
 use std::test::Fail;
 
-/// X takes two of B, Y two of A and Z one of B.
+/// X asks for two of B, Y for two of A, and Z for one of B.
 const FIRST: [Asked; 3] = [
     (Kind::Increase, 0, 1, 2, 100),
     (Kind::Increase, 1, 0, 2, 100),
@@ -28,14 +28,14 @@ const Z_DROPS_B: Asked = (Kind::Reduction, 2, 1, 1, 100);
 
 const X_DROPS_B: Asked = (Kind::Reduction, 0, 1, 2, 106);
 
-/// Settles the requests of a case with both processors, and asserts what they come to. The answer is how often the
-/// event queue looked at a room.
+/// Processes the requests of a case with both processors, and asserts the results. Returns the
+/// number of tests of a request's room by the event queue.
 fn settles(rt: &impl Abort, alloc: Global, setup: &Setup, case: Case) -> Result<u64, Fail> {
     settle_twice(rt, alloc, &Plain, setup, case)?;
     settle_twice(rt, alloc, &Woken, setup, case)
 }
 
-/// The same in the auction of a set-up document.
+/// Processes the requests of a case, like [`settles`], in the auction of a set-up document.
 fn settles_in(rt: &impl Abort, alloc: Global, document: &str, case: Case) -> Result<u64, Fail> {
     let setup = read_setup(alloc, document.as_bytes())?;
     let tests = settles(rt, alloc, &setup, case);
@@ -43,8 +43,8 @@ fn settles_in(rt: &impl Abort, alloc: Global, document: &str, case: Case) -> Res
     tests
 }
 
-/// What requests after the first ones on the two products show and come to, and how often the event queue looks at a
-/// room at most.
+/// Requests after the first ones on two products: what they show, their result, and the most tests
+/// of a request's room by the event queue.
 const AFTER_FIRST: &[(&str, &[Asked], End<'static>, u64)] = &[
     (
         "an increase waits for two reductions",
@@ -81,14 +81,14 @@ fn requests_come_to_their_ends(rt: HostRuntime) -> Result<(), Fail> {
     Ok(())
 }
 
-/// A set-up up to its first bidder, and behind the last.
+/// A set-up document up to its first bidder, and after its last.
 const FIRST_BIDDER: &str =
     r#"{"bidders":[{"eligibility":1,"name":"B100","token":"TOKENTOKENTOK100"}"#;
 
 const A_HUNDRED_BLOCKS: &str =
     r#"],"operator":"OPERATOROPERATOR","products":[{"cap":1,"name":"A","opening":100,"supply":100,"units":1}],"requirement":100,"version":1}"#;
 
-/// Adds a bidder of eligibility 1 behind another.
+/// Adds a bidder with eligibility 1 to a list.
 fn push_bidder(alloc: Global, text: &mut String, number: u32) -> Result<(), AllocError> {
     let entry = format!(in alloc;
         r#",{{"eligibility":1,"name":"B{number}","token":"TOKENTOKENTOK{number}"}}"#
@@ -96,7 +96,8 @@ fn push_bidder(alloc: Global, text: &mut String, number: u32) -> Result<(), Allo
     text.push_str(entry.as_str())
 }
 
-/// A product of a hundred blocks of which each of a hundred bidders may hold one.
+/// A set-up document with a product of a hundred blocks and a hundred bidders, each with a cap of
+/// one block.
 fn document_of_a_hundred(alloc: Global) -> Result<String, AllocError> {
     let mut text = String::new(alloc);
     text.push_str(FIRST_BIDDER)?;
@@ -107,7 +108,7 @@ fn document_of_a_hundred(alloc: Global) -> Result<String, AllocError> {
     Ok(text)
 }
 
-/// A block for each of a hundred bidders.
+/// A list of `count` ones.
 fn ones(alloc: Global, count: usize) -> Result<Vec<u64>, AllocError> {
     vec![in alloc; 1; count]
 }
@@ -121,7 +122,7 @@ fn of_each(alloc: Global, kind: Kind) -> Result<Vec<Asked>, AllocError> {
     Ok(asked)
 }
 
-/// Each of a hundred bidders takes a block, and keeps it when all ask to give theirs up.
+/// Each of a hundred bidders gets a block, and still has it after all ask to give theirs up.
 fn each_keeps_a_block(rt: &impl Abort, alloc: Global, document: &str) -> Result<u64, Fail> {
     let taken = of_each(alloc, Kind::Increase)?;
     let given = of_each(alloc, Kind::Reduction)?;

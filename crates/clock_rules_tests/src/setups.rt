@@ -25,10 +25,10 @@ const NO_BIDDERS: &str = r#"{
   "bidders": []
 }"#;
 
-/// Version, limit, requirement and the numbers of products and bidders.
+/// Version, activity limit, activity requirement, and the numbers of products and bidders.
 type Numbers = [u64; 5];
 
-/// Units, supply, cap, opening price and granule of a product.
+/// Bidding units, supply, cap, opening price, and granule of a product.
 type Limits = [u64; 5];
 
 fn numbers(setup: &Setup) -> Numbers {
@@ -53,7 +53,7 @@ fn limits(product: &Product) -> Limits {
     ]
 }
 
-/// What a document is read as: its numbers, and its first product's.
+/// The result of reading a document: its numbers, and those of its first product.
 type Told = (Numbers, Option<Limits>);
 
 fn told(setup: &Setup) -> Told {
@@ -64,7 +64,7 @@ fn told(setup: &Setup) -> Told {
     (numbers(setup), first)
 }
 
-/// What a document is read as, told of a copy of what was read.
+/// Reads a document. The result is that of a copy of the set-up.
 fn read(alloc: Global, text: &str) -> Result<Told, SetupFault> {
     let setup = read_setup(alloc, text.as_bytes())?;
     let copy = setup.copy(alloc);
@@ -75,7 +75,7 @@ fn read(alloc: Global, text: &str) -> Result<Told, SetupFault> {
     Ok(told)
 }
 
-/// What the value of a text is read as.
+/// Reads the JSON value of a text.
 fn read_value(alloc: Global, text: &str) -> Result<Told, SetupFault> {
     let Ok(value) = Value::from_str(alloc, text) else {
         return Err(SetupFault::NotJson);
@@ -88,7 +88,7 @@ fn read_value(alloc: Global, text: &str) -> Result<Told, SetupFault> {
     Ok(told)
 }
 
-/// The last bidder's name, token and eligibility are these.
+/// Whether the last bidder has this name, token, and eligibility.
 fn is_last_bidder(setup: &Setup, name: &[u8], token: &[u8], eligibility: u64) -> bool {
     let Some(bidder) = setup.bidders.as_slice().last() else {
         return false;
@@ -109,7 +109,7 @@ fn setup_fault(alloc: Global, text: &str) -> Option<SetupFault> {
     read_setup(alloc, text.as_bytes()).err()
 }
 
-/// The fault of a document with one place changed, if it has the place.
+/// The fault of a document in which `from` is replaced, if it has `from`.
 fn changed_fault(alloc: Global, text: &str, from: &str, to: &str) -> Option<Option<SetupFault>> {
     let (before, after) = text.split_once(from)?;
     let Ok(text) = format!(in alloc; "{before}{to}{after}") else {
@@ -167,10 +167,10 @@ fn refuses_what_is_no_setup(rt: HostRuntime) {
     }
 }
 
-/// A place of a document, what is put there, and the fault then.
+/// A change of a document: the text, its replacement, and the fault then.
 type Changed<'a> = (&'a str, &'a str, Option<SetupFault>);
 
-/// A document with one place changed has the fault of the row.
+/// Asserts that a document with one change has the fault of the row.
 fn has_faults(rt: &impl Abort, alloc: Global, document: &str, rows: &[Changed]) {
     for &(from, to, fault) in rows {
         let found = changed_fault(alloc, document, from, to);
@@ -178,7 +178,7 @@ fn has_faults(rt: &impl Abort, alloc: Global, document: &str, rows: &[Changed]) 
     }
 }
 
-/// One fault after the other of the one product.
+/// The faults of a document of one product, one after the other.
 const FAULTS: &[Changed<'static>] = &[
     ("\"cap\": 2", "\"cap\": 2.0", Some(Shape)),
     ("\"cap\": 2", "\"cap\": 2, \"granule\": 1", Some(Shape)),
@@ -208,7 +208,7 @@ const FAULTS: &[Changed<'static>] = &[
     ("\"A\"", "\"X\"", None),
 ];
 
-/// The same of the second version, some of them beside a later one.
+/// The faults of a document of version 2, some with a later fault in addition.
 const FAULTS_OF_VERSION_2: &[Changed<'static>] = &[
     ("\"limit\": 100,", "", Some(Shape)),
     (", \"granule\": 1}", "}", Some(Shape)),
@@ -249,7 +249,7 @@ fn refuses_each_fault_of_a_setup(rt: HostRuntime) {
     has_faults(&rt, alloc, GRANULES_AND_INCREMENTS, FAULTS_OF_VERSION_2);
 }
 
-/// The total demand for an opening's first product, and the increment, or its fault.
+/// The total demand for an opening's first product and the increment, or the fault.
 type Opened = Result<(u64, u64), OpeningFault>;
 
 fn opened(alloc: Global, text: &str) -> Opened {
@@ -257,7 +257,7 @@ fn opened(alloc: Global, text: &str) -> Opened {
     Ok((opening.grid.total(0), opening.increment))
 }
 
-/// The same of an opening document of a set-up.
+/// Reads an opening document with this set-up.
 fn opened_of(alloc: Global, demands: &str, increment: &str, setup: &str) -> Opened {
     let Ok(text) = format!(in alloc;
         "{{\"demands\":{demands},\"increment\":{increment},\"setup\":{setup}}}"
@@ -267,18 +267,18 @@ fn opened_of(alloc: Global, demands: &str, increment: &str, setup: &str) -> Open
     opened(alloc, text.as_str())
 }
 
-/// The one product where X may have only one block.
+/// A set-up document of one product, in which X's eligibility pays for one block only.
 const WEAK: &str = r#"{"version":1,"requirement":95,"operator":"OPERATOROPERATOR",
 "products":[{"name":"A","units":1,"supply":2,"cap":2,"opening":100}],
 "bidders":[{"name":"X","token":"XXXXXXXXXXXXXXXX","eligibility":1},
 {"name":"Y","token":"YYYYYYYYYYYYYYYY","eligibility":10}]}"#;
 
-/// A set-up of no version.
+/// A set-up document of a version that does not exist.
 const NO_VERSION: &str = r#"{"version":3}"#;
 
 const BAD_VERSION: OpeningFault = OpeningFault::Setup(SetupFault::Version);
 
-/// The demands, the increment and the set-up of an opening, and what is read of it.
+/// The demands, the increment, and the set-up of an opening, and the result of reading it.
 const OPENINGS: &[(&str, &str, &str, Opened)] = &[
     ("[[2],[1]]", "10", ONE_PRODUCT, Ok((3, 10))),
     (

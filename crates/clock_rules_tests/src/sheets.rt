@@ -1,4 +1,4 @@
-//! What a sheet is refused for.
+//! Refusals of sheets.
 
 use crate::auction::Rise::By;
 use crate::auction::Step::{Close, InForce, Put, PutEach, RefusedPut};
@@ -71,7 +71,7 @@ fn a_sheet_is_refused_for_its_first_fault(rt: HostRuntime) {
     play_all(&rt, rt.alloc(), SHEETS);
 }
 
-/// So many bids for a block of the first product.
+/// A list of `count` bids for a block of the first product.
 fn blocks(alloc: Global, count: usize) -> Result<Vec<Offer>, AllocError> {
     vec![in alloc; (0, 1, 100); count]
 }

@@ -12,7 +12,7 @@ use clock_terms::{Amounts, Grid, Increments, OpeningPrices, Prices};
 use std::alloc::Global;
 use std::test::Fail;
 
-/// Start and clock price of the last product in round 1.
+/// The start-of-round and clock price of the last product in round 1.
 fn last_prices(alloc: Global, text: &str) -> Result<Option<(u64, u64)>, SetupFault> {
     let setup = read_setup(alloc, text.as_bytes())?;
     let prices = Prices::opening(alloc, &setup);
@@ -31,8 +31,8 @@ fn opens_at_the_opening_prices(rt: HostRuntime) {
     }
 }
 
-/// Sets the demands of both bidders for the one product, and answers their total in the grid and in a copy that the
-/// first left.
+/// Sets the demands of both bidders for the one product. Returns their total in the grid, and in a
+/// copy made after the first demand.
 fn totals(alloc: Global, grid: &mut Grid, first: u64, second: u64) -> Result<(u64, u64), NoMemory>
     requires grid { IsGrid 2 1 grid.old }
     requires first { first ≤ 2 }
@@ -45,7 +45,7 @@ fn totals(alloc: Global, grid: &mut Grid, first: u64, second: u64) -> Result<(u6
     Ok((grid.total(0), copy.total(0)))
 }
 
-/// The same of a set-up in which nobody demands anything at first.
+/// Returns the totals of [`totals`] for a set-up without demands at first.
 fn totals_of(alloc: Global, setup: &Setup, first: u64, second: u64) -> Result<(u64, u64), Fail>
     requires first { first ≤ 2 }
     requires second { second ≤ 2 }
@@ -57,7 +57,7 @@ fn totals_of(alloc: Global, setup: &Setup, first: u64, second: u64) -> Result<(u
     Ok(totals(alloc, &mut grid, first, second)?)
 }
 
-/// The same of the one product.
+/// Returns the totals of [`totals`] for the set-up of one product.
 fn totals_of_one(alloc: Global) -> Result<(u64, u64), Fail> {
     let setup = read_setup(alloc, ONE_PRODUCT.as_bytes())?;
     let totals = totals_of(alloc, &setup, 2, 1);

@@ -1,10 +1,10 @@
-//! The codes of replies, each with its status, its reason and its text.
+//! The codes of replies, each with its status, its reason, and its text.
 
 use crate::comparing::assert_is_at;
 use clock_http::Code;
 use std::process::Abort;
 
-/// A status and its reason, and the codes that have these, each with the text by which it stands in pages.
+/// A status and its reason, and the codes that have these, each with its text in pages.
 type Status<'a> = (u16, &'a str, &'a [(Code, &'a str)]);
 
 const STATUSES: &[Status<'static>] = &[
@@ -37,7 +37,7 @@ const CONFLICTS: &[(Code, &str)] = &[(Code::Ended, "ended"), (Code::WrongRound, 
 
 const LONG_HEADS: &[(Code, &str)] = &[(Code::LongHead, "long_head")];
 
-/// Those of sheets that are read and refused.
+/// Codes for sheets that are read and refused.
 const OF_SHEETS: &[(Code, &str)] = &[
     (Code::Shape, "shape"),
     (Code::TooMany, "too_many"),
@@ -50,7 +50,7 @@ const OF_SHEETS: &[(Code, &str)] = &[
     (Code::OverActivity, "over_activity"),
 ];
 
-/// Those of closings, and of their tie numbers.
+/// Codes for closings, and for their tie-breaking numbers.
 const OF_CLOSINGS: &[(Code, &str)] = &[
     (Code::Increment, "increment"),
     (Code::PriceLimit, "price_limit"),
@@ -62,7 +62,7 @@ const OF_TIES: &[(Code, &str)] = &[
     (Code::TooManyTies, "too_many_ties"),
 ];
 
-/// Codes have a status, its reason and their texts.
+/// Asserts that codes have a status, its reason, and their texts.
 fn have_status(rt: &impl Abort, row: &Status) {
     let &(status, reason, codes) = row;
     for &(code, text) in codes {

@@ -1,4 +1,4 @@
-//! Pages as they are shown, and the codes of replies.
+//! Pages, and the codes of replies.
 
 mod codes;
 mod example;

@@ -7,8 +7,8 @@ use clock_setup::read_setup;
 use clock_views::{accepted_page, closed_page, products_page, status_page};
 use std::alloc::Global;
 
-/// Set-up documents of both versions, of which the second has granules, with their products page and their status page
-/// in the first round.
+/// Set-up documents of both versions, of which the second has granules, with their products page
+/// and their status page in the first round.
 const SETUPS: &[(&str, &str, &str)] = &[
     (
         ONE_PRODUCT,
@@ -30,7 +30,7 @@ fn products_of(alloc: Global, document: &str) -> Option<Text> {
     page.ok()
 }
 
-/// The status page of its first round.
+/// The status page of the first round of a set-up document.
 fn status_of(alloc: Global, document: &str) -> Option<Text> {
     let setup = read_setup(alloc, document.as_bytes()).ok()?;
     let page = status_page(alloc, &setup, 1, false);

@@ -1,4 +1,4 @@
-//! Pages of refusals, with a place, with a round and with neither.
+//! Pages of refusals, with a place, with a round, and with neither.
 
 use crate::comparing::assert_reads;
 use clock_bids::BidFault;
@@ -26,7 +26,7 @@ fn page_of(alloc: Global, refusal: Refusal) -> Option<Text> {
     headed_refusal(alloc, b"", refusal).ok()
 }
 
-/// Faults of sheets, and their pages: two of sheets that come too late.
+/// Faults of sheets and their pages. Two are of sheets that come too late.
 const OF_SHEETS: &[(PutFault, &str)] = &[
     (PutFault::Ended, r#"{"code":"ended","status":409}"#),
     (
@@ -51,7 +51,7 @@ fn sheets_with_a_fault(rt: HostRuntime) {
     }
 }
 
-/// Faults of closings, and their pages.
+/// Faults of closings and their pages.
 const OF_CLOSINGS: &[(CloseFault, &str)] = &[
     (
         CloseFault::PriceLimit(0),

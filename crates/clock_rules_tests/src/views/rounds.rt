@@ -1,5 +1,5 @@
-//! What the pages show of an auction of one product, in which X drops two blocks in the second round
-//! and Y keeps one, so that X's drop is applied in part.
+//! Pages of an auction of one product, in which X drops two blocks in the second round and Y
+//! maintains one, so that X's reduction is applied in part.
 
 use crate::auction::Rise::By;
 use crate::auction::Step::{Close, Put, PutEach, Reads};
@@ -7,10 +7,10 @@ use crate::auction::{Play, Step, X, Y, play_all};
 use crate::views::Page;
 use clock_fixtures::ONE_PRODUCT;
 
-/// The sheets of the first round, after which X holds two blocks and Y one.
+/// The sheets of the first round, after which X has two blocks and Y one.
 const FIRST_SHEETS: Step<'static> = PutEach(&[(X, (0, 2, 100)), (Y, (0, 1, 100))]);
 
-/// The pages of auctions as they go.
+/// The pages of auctions at each stage.
 const PAGES: &[Play<'static>] = &[
     (
         "an account in the second round with no bids in force",

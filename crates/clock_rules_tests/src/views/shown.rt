@@ -1,4 +1,4 @@
-//! The pages of an auction as it stands.
+//! The pages of an auction in its current state.
 
 use crate::auction::X;
 use clock_device::Text;
@@ -7,19 +7,19 @@ use clock_processor::Processor;
 use clock_views::{account_page, bids_page, results_page, sheet_page, slip_page};
 use std::alloc::Global;
 
-/// A page of an auction; where it is a bidder's, it is X's.
+/// A page of an auction. A bidder's page is X's.
 #[derive(Clone, Copy)]
 pub enum Page {
     Account,
     Bids,
-    /// The slip of a round.
+    /// The bidder results of a round.
     Slip(u64),
-    /// The sheet of a round.
+    /// The round results of a round.
     Sheet(u64),
     Results,
 }
 
-/// The slip page of X and a closed round.
+/// The page of X's bidder results of a closed round.
 fn slip_of<P: Processor>(alloc: Global, house: &House<P>, round: u64) -> Option<Text> {
     if (X as usize) >= house.setup().bidders.as_slice().len() {
         return None;
@@ -27,7 +27,7 @@ fn slip_of<P: Processor>(alloc: Global, house: &House<P>, round: u64) -> Option<
     slip_page(alloc, house.slip(X, round)?).ok()
 }
 
-/// The sheet page of a closed round.
+/// The page of the round results of a closed round.
 fn sheet_of<P: Processor>(alloc: Global, house: &House<P>, round: u64) -> Option<Text> {
     let sheet = house.sheet(round)?;
     if sheet.lines.as_slice().len() != house.setup().products.as_slice().len() {
@@ -36,7 +36,7 @@ fn sheet_of<P: Processor>(alloc: Global, house: &House<P>, round: u64) -> Option
     sheet_page(alloc, house.setup(), sheet).ok()
 }
 
-/// A page of an auction as it stands, if there is one.
+/// A page of an auction in its current state, if there is one.
 pub fn page_of<P: Processor>(alloc: Global, house: &House<P>, page: Page) -> Option<Text> {
     if (X as usize) >= house.setup().bidders.as_slice().len() {
         return None;

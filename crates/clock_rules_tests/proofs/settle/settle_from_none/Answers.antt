@@ -1,4 +1,4 @@
--- Nobody demands anything at first.
+-- No bidder demands anything at first.
 use Rattle.clock_processor.proofs.NoDemands.{nothing_demanded}
 use Rattle.clock_rules_tests.proofs.settle.settle_from_none.Goals as goal
 
