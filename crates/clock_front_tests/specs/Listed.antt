@@ -1,6 +1,8 @@
--- Connections that stand in memory.
---     ListedState      the bytes of those that are still to come, in order; whether one is open, what its source had
---         where it was taken, what was read and written on each closed one, and whether taking one has failed
+-- Connections in memory.
+--     ListedState      the bytes of those still to come, in order; whether one is open, what its
+--         source had when it was
+--         accepted, what was read and written on each closed one, and whether accepting one has
+--         failed
 use Rattle.std.specs.Prelude.{ℕ, Bool, List}
 use Rattle.clock_serving.specs.Exchanges.{Exchange}
 

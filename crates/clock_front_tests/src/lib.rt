@@ -1,5 +1,5 @@
-//! Tests that ask the front: requests by their bytes, whole, in pieces and over connections. The connections in memory
-//! that the loop of a server is tried on stand here too ([`Listed`]).
+//! Tests of the front: requests by their bytes, whole, in pieces, and over connections. It also has
+//! the connections in memory on which the loop of a server is tested ([`Listed`]).
 #![tactic(auto)]
 
 #[cfg(test)]

@@ -8,9 +8,11 @@ use clock_serving::{Acceptor, Connection};
 use std::alloc::Global;
 use std::marker::Model;
 
-/// What a client of a connection in memory sends and takes: its bytes, how many of them one read gives at most and at
-/// which read they stop; how many bytes it takes in all, how many of them by one write, and at which write it fails. A
-/// read and a write are of one byte at least, and are counted from 0.
+/// A client of a connection in memory: what it sends, and what it takes.
+///
+/// It sends its bytes, one read gives at most a number of them, and at one read they stop. It takes
+/// a number of bytes in all, one write at most a number of them, and one write fails. A read and a
+/// write are of one byte at least, and are counted from 0.
 #[derive(Clone, Copy)]
 pub struct Client<'a> {
     pub bytes: &'a [u8],
@@ -21,7 +23,8 @@ pub struct Client<'a> {
     pub write_stop: Option<u64>,
 }
 
-/// A connection in memory that was closed. Contracts see what was read and written on it.
+/// A connection in memory that was closed. Contracts see the bytes that were read and written on
+/// it.
 #[derive(Drop)]
 pub struct Closed<'a> {
     offered: &'a [u8],
@@ -48,8 +51,8 @@ impl<'a> Closed<'a> {
     }
 }
 
-/// Connections in memory: one for each of these clients, in order. Where there is none left, taking one fails. Contracts
-/// see the bytes of the clients that are still to come.
+/// Connections in memory: one for each of these clients, in order. If none is left, accepting one
+/// fails. Contracts see the bytes of the clients that are still to come.
 #[derive(Drop)]
 pub struct Listed<'a> {
     alloc: Global,
@@ -77,7 +80,7 @@ impl<'a> Model for Listed<'a> {
 }
 
 impl<'a> Listed<'a> {
-    /// The connections of these clients, of which none was taken yet.
+    /// Makes the connections of these clients, of which none has been accepted.
     pub fn new(alloc: Global, clients: &'a [Client<'a>]) -> Result<Listed<'a>, NoMemory>
         ensures { IfOk result (λ listed. listed ≡ record {
           coming = map (λ client. client.bytes.now) clients.now;

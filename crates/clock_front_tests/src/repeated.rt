@@ -1,10 +1,10 @@
 //! Long texts, in which a piece is repeated.
 use std::alloc::Global;
 
-/// What stands before a piece, the piece, how often it stands there, and what stands behind.
+/// The text before a piece, the piece, the number of its repetitions, and the text after it.
 pub(crate) type Repeated<'a> = (&'a str, &'a str, usize, &'a str);
 
-/// The text of these.
+/// The text of these parts.
 pub(crate) fn repeated(alloc: Global, parts: Repeated<'_>) -> Option<String> {
     let (before, piece, count, after) = parts;
     let mut text = String::from_str(alloc, before).ok()?;

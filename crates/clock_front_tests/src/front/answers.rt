@@ -1,4 +1,4 @@
-//! What requests are answered with, one after the other.
+//! Replies to requests that are sent one after the other.
 use super::requests::{Told, compare, reply_of, request_of, setup_of, text_of};
 use super::texts::{ACCEPTED, PUT};
 use crate::comparing::{assert_is, assert_is_at};
@@ -12,7 +12,7 @@ use clock_processor::Plain;
 use std::alloc::Global;
 use std::process::Abort;
 
-/// Sends the request of a row, and compares its reply. Returns nothing if the row lacks a field.
+/// Sends the request of a row, and compares its reply. Returns `None` if the row lacks a field.
 fn send(rt: &impl Abort, alloc: Global, front: &mut Front<Plain>, row: &str) -> Option<()> {
     let (request, reply) = row.split_once('>')?;
     let (status, page) = reply.split_once('|')?;
@@ -29,7 +29,7 @@ fn send_rows(rt: &impl Abort, alloc: Global, front: &mut Front<Plain>, rows: &st
     Some(())
 }
 
-/// X's sheet is replaced by another one, and by one without bids; Y has none.
+/// X's sheet is replaced by another one, and by one without bids. Y has no sheet.
 const SHEETS: &str =
     r#"GET /v1/me/bids|X|>200 OK|{"bids":[{"price":100,"product":0,"quantity":2}],"round":1}
 PUT /v1/me/bids|X|{"bids":[{"price":100,"product":0,"quantity":1}],"round":1}>200 OK|{"accepted":true,"bids":1,"round":1}
@@ -38,7 +38,7 @@ PUT /v1/me/bids|X|{"bids":[],"round":1}>200 OK|{"accepted":true,"bids":0,"round"
 GET /v1/me/bids|X|>200 OK|{"bids":[],"round":1}
 GET /v1/me/bids|Y|>200 OK|{"bids":null,"round":1}"#;
 
-/// The 147 bytes of a sheet that X puts, byte for byte, and its reply; then the rows.
+/// Sends the 147 bytes of X's sheet and compares the reply. Then sends the rows.
 fn put_and_told(rt: &impl Abort, alloc: Global, front: &mut Front<Plain>) -> Option<()> {
     let reply = reply_of(alloc, front, PUT)?;
     assert_is(rt, reply.as_str(), ACCEPTED);
@@ -52,7 +52,7 @@ fn a_sheet_is_put_and_told(rt: HostRuntime) {
     assert_is(&rt, done, Some(()));
 }
 
-/// X drops two blocks, of which one is given up.
+/// X asks to give up two blocks, and one of the two is applied.
 const DROP_IN_PART: &str =
     r#"PUT /v1/me/bids|X|{"bids":[{"price":100,"product":0,"quantity":2}],"round":1}>200 OK|{"accepted":true,"bids":1,"round":1}
 PUT /v1/me/bids|Y|{"bids":[{"price":100,"product":0,"quantity":1}],"round":1}>200 OK|{"accepted":true,"bids":1,"round":1}
@@ -71,7 +71,7 @@ PUT /v1/me/bids|X|{"bids":[]}>422 Unprocessable Entity|{"code":"shape","status":
 POST /v1/close|O|{"increment":10,"round":1,"ties":[]}>409 Conflict|{"code":"ended","status":409}
 POST /v1/close|O|{"increments":[10],"round":2,"ties":[]}>422 Unprocessable Entity|{"code":"shape","status":422}"#;
 
-/// Each request has two faults or more, of which the earlier one answers.
+/// Each request has two faults or more, of which the reply names the first.
 const REFUSALS: &str = r#"DELETE /v1/none||>404 Not Found|{"code":"no_page","status":404}
 DELETE /v1/me/bids||>405 Method Not Allowed|{"code":"method","status":405}
 PUT /v1/me/bids||x>401 Unauthorized|{"code":"token","status":401}
@@ -107,11 +107,12 @@ POST /v1/close|O|{"increment":10,"round":1,"ties":[]}>200 OK|{"closed":1,"ended"
 PUT /v1/me/bids|X|{"bids":[{"price":103,"product":0,"quantity":1},{"price":105,"product":0,"quantity":2}],"round":2}>422 Unprocessable Entity|{"code":"mixed_direction","place":1,"status":422}
 PUT /v1/me/bids|X|{"bids":[{"price":105,"product":0,"quantity":2}],"round":2}>422 Unprocessable Entity|{"code":"keep_price","place":0,"status":422}"#;
 
-/// More activity than a bidder is eligible for.
+/// A sheet whose requested activity is above its bidder's eligibility.
 const ACTIVE: &str =
     r#"PUT /v1/me/bids|X|{"bids":[{"price":100,"product":0,"quantity":4},{"price":100,"product":1,"quantity":1}],"round":1}>422 Unprocessable Entity|{"code":"over_activity","status":422}"#;
 
-/// A round that cannot be closed at its demand keeps its sheets, and can be closed once it has less.
+/// A round that can't be closed at its demand still has its sheets, and can be closed once it has
+/// less.
 const PRICE_LIMIT: &str =
     r#"PUT /v1/me/bids|X|{"bids":[{"price":1000000000000,"product":0,"quantity":2}],"round":1}>200 OK|{"accepted":true,"bids":1,"round":1}
 PUT /v1/me/bids|Y|{"bids":[{"price":1000000000000,"product":0,"quantity":1}],"round":1}>200 OK|{"accepted":true,"bids":1,"round":1}
@@ -152,8 +153,9 @@ fn requests_are_answered_in_turn(rt: HostRuntime) {
     }
 }
 
-/// Request lines and whose token they have, bodies of one item more than the most, one like the other, and the page of
-/// the reply: a sheet has at most 8,192 bids, and a closing at most 16,384 ties.
+/// A request line, the owner of its token, a body with one item too many, and the page of the
+/// reply. A sheet has at most 8,192 bids, and a closing at most 16,384 tie-breaking numbers. All
+/// items of a body are equal.
 const TOO_MANY: &[(&str, &str, Repeated<'static>, &str)] = &[
     (
         "PUT /v1/me/bids",
@@ -179,13 +181,13 @@ const TOO_MANY: &[(&str, &str, Repeated<'static>, &str)] = &[
     ),
 ];
 
-/// The text of a request line, whose token it has and the parts of its body.
+/// The text of a request, from its request line, the owner of its token, and the parts of its body.
 fn long_text(alloc: Global, asked: (&str, &str), parts: Repeated<'_>) -> Option<String> {
     let body = repeated(alloc, parts)?;
     text_of(alloc, asked.0, asked.1, body.as_str())
 }
 
-/// A body of these parts is refused with a page.
+/// Asserts that a body of these parts is refused with a page.
 fn has_too_many(
     rt: &impl Abort,
     alloc: Global,
@@ -209,7 +211,7 @@ fn a_body_has_at_most_so_many_items(rt: HostRuntime) {
     }
 }
 
-/// The texts of rows.
+/// The texts of rows, each a request.
 fn texts_of(alloc: Global, rows: &str) -> Option<Items<Text>> {
     let mut texts = Items::new(alloc);
     for row in rows.split('|') {
@@ -219,7 +221,7 @@ fn texts_of(alloc: Global, rows: &str) -> Option<Items<Text>> {
     Some(texts)
 }
 
-/// The codes of replies are these.
+/// Asserts the codes of replies.
 fn have_codes(rt: &impl Abort, replies: &[Reply], codes: &[Code]) {
     assert_is(rt, replies.len(), codes.len());
     for (place, (reply, code)) in replies.iter().zip(codes).enumerate() {
@@ -227,7 +229,7 @@ fn have_codes(rt: &impl Abort, replies: &[Reply], codes: &[Code]) {
     }
 }
 
-/// The codes of the replies to the texts of rows are these.
+/// Asserts the codes of the replies to the texts of rows.
 fn run_has_codes(rt: &impl Abort, alloc: Global, rows: &str, codes: &[Code]) -> Option<()> {
     let texts = texts_of(alloc, rows)?;
     let setup = setup_of(alloc, ONE_PRODUCT)?;

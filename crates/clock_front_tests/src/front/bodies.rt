@@ -1,4 +1,4 @@
-//! What the bodies of requests mean.
+//! The meaning of the bodies of requests.
 use crate::comparing::assert_is_at;
 use clock_bids::Bid;
 use clock_front::{BodyFault, CloseBody, read_close, read_put};
@@ -72,7 +72,7 @@ const SHEETS: &[(&[u8], Result<Sheet<'static>, BodyFault>)] = &[
     (b"{\"bids\":[],\"round\":\"\xff\"}", Err(BodyFault::NotJson)),
 ];
 
-/// Asserts what the body of a sheet means.
+/// Asserts the meaning of the body of a sheet.
 fn is_sheet(rt: &impl Abort, alloc: Global, body: &[u8], expected: Result<Sheet<'_>, BodyFault>) {
     match read_put(alloc, body) {
         Ok(put) => {
@@ -90,7 +90,7 @@ fn a_sheet_is_its_bids_and_round(rt: HostRuntime) {
     }
 }
 
-/// How many increments by product and ties a closing has, and its round.
+/// The numbers of a closing's increments by product and of its tie-breaking numbers, and its round.
 type Closing = (usize, usize, u64);
 
 /// Bodies of closings, and the closing or the fault.
@@ -119,7 +119,7 @@ const CLOSINGS: &[(&[u8], Result<Closing, BodyFault>)] = &[
     ),
 ];
 
-/// What is told of a closing.
+/// The numbers and the round of a closing.
 fn told(closing: &CloseBody) -> Closing {
     let increments = match &closing.increments {
         Increments::Single(_) => 0,
@@ -128,7 +128,7 @@ fn told(closing: &CloseBody) -> Closing {
     (increments, closing.ties.as_slice().len(), closing.round)
 }
 
-/// What the body of a closing means.
+/// Reads the body of a closing.
 fn closing_of(alloc: Global, body: &[u8]) -> Result<Closing, BodyFault> {
     let closing = read_close(alloc, body)?;
     let told = told(&closing);

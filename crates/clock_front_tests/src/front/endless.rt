@@ -41,7 +41,8 @@ impl Source for Endless {
     }
 }
 
-/// A source that never ends is served so: how that ends, what is written, and how many reads it takes.
+/// Serves a source that never ends. Asserts the result, the bytes that are written, and the number
+/// of reads.
 fn is_served(
     rt: &impl Abort,
     alloc: Global,
@@ -64,8 +65,8 @@ fn is_served(
     Some(())
 }
 
-/// Whether the reads of a source are interrupted, and how it is served: by spaces its head is too long, and
-/// interruptions use all reads up.
+/// Whether the reads of a source are interrupted, and the result: with spaces its head is too long,
+/// and interruptions use up all reads.
 const SERVED: &[(bool, Result<Code, StreamFault>, &str, u64)] = &[
     (false, Ok(Code::LongHead), LONG_HEAD, 16_384),
     (true, Err(StreamFault::Read), "", 2_000_000),

@@ -3,7 +3,7 @@ use clock_device::Text;
 use clock_front::Event;
 use std::alloc::Global;
 
-/// So many connections are asked for.
+/// Events that open `count` connections.
 pub(super) fn connected(alloc: Global, count: usize) -> Option<Vec<Event>> {
     let mut events = Vec::new(alloc);
     for _ in 0..count {
@@ -12,12 +12,12 @@ pub(super) fn connected(alloc: Global, count: usize) -> Option<Vec<Event>> {
     Some(events)
 }
 
-/// A piece of a connection's request.
+/// An event that brings a piece of a connection's request.
 pub(super) fn piece(alloc: Global, number: u64, bytes: &[u8]) -> Option<Event> {
     Some(Event::Piece(number, Text::from_slice(alloc, bytes).ok()?))
 }
 
-/// The byte of a text at a place, if it has one.
+/// Adds an event for the byte of a text at an index, if it has one.
 pub(super) fn push_byte(
     alloc: Global,
     events: &mut Vec<Event>,

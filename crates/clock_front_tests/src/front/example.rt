@@ -1,4 +1,4 @@
-//! A front that is opened, asked and let go, as a library's caller does it.
+//! A front that is opened, used, and dropped, as the caller of a library does it.
 
 use crate::comparing::assert_is;
 use clock_fixtures::ONE_PRODUCT;
@@ -7,14 +7,14 @@ use clock_processor::Plain;
 use clock_setup::{SetupFault, read_setup};
 use std::alloc::Global;
 
-/// A front of a set-up document.
+/// Makes the front for a set-up document.
 pub(crate) fn opened(alloc: Global, document: &str) -> Result<Front<Plain>, SetupFault> {
     let setup = read_setup(alloc, document.as_bytes())?;
     Ok(Front::new(alloc, setup, Plain)?)
 }
 
-/// What is done with a front of a set-up document. No other function of the tests lets a front go, since each that does
-/// so proves it anew.
+/// Calls `act` on the front for a set-up document. Only here do the tests drop a front: each
+/// function that drops one is proved at length.
 pub(crate) fn on_front<T, F: FnOnce(&mut Front<Plain>) -> Option<T>>(
     alloc: Global,
     document: &str,
@@ -28,7 +28,7 @@ pub(crate) fn on_front<T, F: FnOnce(&mut Front<Plain>) -> Option<T>>(
     done
 }
 
-/// What is done with a front of the one product.
+/// Calls `act` on the front for a set-up document of one product.
 pub(crate) fn on_one_product<T, F: FnOnce(&mut Front<Plain>) -> Option<T>>(
     alloc: Global,
     act: F,
@@ -38,7 +38,7 @@ pub(crate) fn on_one_product<T, F: FnOnce(&mut Front<Plain>) -> Option<T>>(
     on_front(alloc, ONE_PRODUCT, act)
 }
 
-/// Whether the status page is told.
+/// Whether the front answers with the status page.
 fn has_status(front: &mut Front<Plain>) -> bool {
     let reply = front.answer(b"GET /v1/status HTTP/1.1\r\n\r\n");
     reply.bytes().starts_with(b"HTTP/1.1 200 OK\r\n")

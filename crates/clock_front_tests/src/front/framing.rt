@@ -1,4 +1,4 @@
-//! What a text is, whole and in pieces.
+//! Framing of texts, whole and in pieces.
 ghost use Rattle.std.specs.Prelude.{◌≤◌, length};
 ghost use Rattle.clock_http.specs.Shown.{Knows};
 
@@ -10,23 +10,25 @@ use clock_processor::Plain;
 use std::alloc::Global;
 use std::process::Abort;
 
-/// The parts of a request: its method, its path, its token and its body.
+/// The parts of a request: its method, its path, its token, and its body.
 type Parts<'a> = (&'a [u8], &'a [u8], Option<&'a [u8]>, &'a [u8]);
 
-/// What a text is: a request of these parts, or one that needs more, or the code that refuses it.
+/// The framing of a text: a request of these parts, or one that needs more, or the code that
+/// refuses it.
 type Framed<'a> = Result<Option<Parts<'a>>, Code>;
 
-/// Parts of a request without a token or a body.
+/// The framing of a request without a token and a body.
 const BARE: Framed<'static> = Ok(Some((b"GET", b"/", None, b"")));
 
-/// Those of one with a line end for a body, of one with a token and a body, and of one with a spaced token.
+/// The framing of a request with a line end for a body, of one with a token and a body, and of one
+/// with spaces around its token.
 const WITH_LINE: Framed<'static> = Ok(Some((b"GET", b"/", None, b"\n")));
 
 const WITH_BOTH: Framed<'static> = Ok(Some((b"PUT", b"/v1/me/bids", Some(b"abc"), b"{} ")));
 
 const WITH_TOKEN: Framed<'static> = Ok(Some((b"GET", b"/", Some(b"a bc"), b"")));
 
-/// What texts are, and the texts.
+/// Texts, by their framing.
 const TEXTS: &[(Framed<'static>, &[&[u8]])] = &[
     (Ok(None), UNDECIDED),
     (BARE, BARE_TEXTS),
@@ -100,11 +102,11 @@ const CODINGS: &[&[u8]] = &[
     b"GET / HTTP/1.1\r\ntransfer-encoding:\r\n\r\n",
 ];
 
-/// A request with the token of X, and the head of another behind it.
+/// A request with the token of X, and the head of another one after it.
 const STATUS: &str =
     "GET /v1/status HTTP/1.1\r\nauthorization: Bearer XXXXXXXXXXXXXXXX\r\ncontent-length: 3\r\n\r\n{} GET /";
 
-/// What a text is.
+/// The framing of a text, in its parts.
 fn framed(text: &[u8]) -> Framed<'_> {
     match frame(text) {
         Framing::NeedMore => Ok(None),
@@ -113,7 +115,7 @@ fn framed(text: &[u8]) -> Framed<'_> {
     }
 }
 
-/// Texts are this.
+/// Asserts the framing of texts.
 fn are_framed(rt: &impl Abort, texts: &[&[u8]], expected: Framed<'_>) {
     for text in texts {
         assert_is_at(rt, *text, framed(text), expected);
@@ -127,7 +129,7 @@ fn a_text_is_a_request_or_refused_or_needs_more(rt: HostRuntime) {
     }
 }
 
-/// What is known of a text that comes in two pieces.
+/// The progress of a text that comes in two pieces.
 fn known_in_two(text: &[u8], count: usize) -> Progress
     requires { count ≤ length text.now }
     ensures { Knows text.now result }
@@ -135,7 +137,7 @@ fn known_in_two(text: &[u8], count: usize) -> Progress
     Progress::new().advance(&text[..count]).advance(text)
 }
 
-/// What a text in two pieces is answered.
+/// The reply to a text that comes in two pieces.
 fn answer_in_two(
     alloc: Global,
     front: &mut Front<Plain>,
@@ -152,7 +154,7 @@ fn answer_in_two(
     String::from_utf8_lossy(alloc, reply.bytes()).ok()
 }
 
-/// Wherever a text is cut in two, its reply ends with a page.
+/// Asserts that the reply ends with a page, wherever a text is cut in two.
 fn is_answered_in_two(
     rt: &impl Abort,
     alloc: Global,

@@ -1,4 +1,4 @@
-//! What is answered where a head is at a limit or past it, or is none.
+//! Replies to heads at a limit or above it, and to texts that are no head.
 use super::requests::{Told, compare};
 use crate::comparing::assert_is_at;
 use crate::front::example::on_one_product;
@@ -6,19 +6,19 @@ use crate::repeated::{Repeated, repeated};
 use std::alloc::Global;
 use std::process::Abort;
 
-/// Those of a head that is read, and whose path has no page.
+/// The reply to a head whose path has no page.
 const NO_PAGE: Told<'static> = ("404 Not Found", r#"{"code":"no_page","status":404}"#);
 
-/// Those of a head that is too long.
+/// The reply to a head that is too long.
 const LONG_HEAD: Told<'static> = (
     "431 Request Header Fields Too Large",
     r#"{"code":"long_head","status":431}"#,
 );
 
-/// Those of a text that has no head of the form.
+/// The reply to a text whose head has no valid form.
 pub const BAD_HEAD: Told<'static> = ("400 Bad Request", r#"{"code":"bad_head","status":400}"#);
 
-/// Those of a head that does not tell one length.
+/// The reply to a head from which no single body length follows.
 pub const BAD_LENGTH: Told<'static> = ("400 Bad Request", r#"{"code":"bad_length","status":400}"#);
 
 const CUT_SHORT: Told<'static> = ("400 Bad Request", r#"{"code":"cut_short","status":400}"#);
@@ -28,10 +28,10 @@ const LONG_BODY: Told<'static> = (
     r#"{"code":"long_body","status":413}"#,
 );
 
-/// Those of a head whose body comes in another coding.
+/// The reply to a head whose body has another coding.
 pub const CODING: Told<'static> = ("501 Not Implemented", r#"{"code":"coding","status":501}"#);
 
-/// Requests, and the replies to them. Where there are two faults the earlier one answers.
+/// Requests and the replies to them. If a request has two faults, the reply names the first.
 const TEXTS: &[(&str, Told<'static>)] = &[
     (
         "GET /v1/none HTTP/1.1\r\ncontent-length: +5\r\n\r\n",
@@ -66,7 +66,7 @@ const TEXTS: &[(&str, Told<'static>)] = &[
     ("GET /v1/status HTTP/1.1\r\na: b\nc: d\r\n\r\n", BAD_HEAD),
 ];
 
-/// A text by itself is answered with a status and a page.
+/// Asserts the reply to a text as the only one of a front.
 fn answers(rt: &impl Abort, alloc: Global, text: &str, told: Told<'_>) -> Option<()> {
     on_one_product(alloc, |front| {
         compare(rt, alloc, front, text, text, told)
@@ -81,13 +81,13 @@ fn header_lines_are_answered_by_their_faults(rt: HostRuntime) {
     }
 }
 
-/// Heads of at most 64 lines and of at most 16,384 bytes: the parts, and how many bytes they are.
+/// Heads of at most 64 lines and at most 16,384 bytes: the parts, and the number of bytes.
 const WITHIN: &[(Repeated<'static>, usize)] = &[
     (("GET / HTTP/1.1\r\n", "a: b\r\n", 64, "\r\n"), 402),
     (("GET / HTTP/1.1\r\na: ", "x", 16_361, "\r\n\r\n"), 16_384),
 ];
 
-/// Heads of more, the last of which has not ended yet.
+/// Heads above these limits. The last has not ended yet.
 const BEYOND: &[(Repeated<'static>, usize)] = &[
     (("GET / HTTP/1.1\r\n", "a: b\r\n", 65, "\r\n"), 408),
     (("\nGET / HTTP/1.1\r\n", "a: b\r\n", 65, "\r\n"), 409),
@@ -95,7 +95,7 @@ const BEYOND: &[(Repeated<'static>, usize)] = &[
     (("GET / HTTP/1.1\r\na: ", "x", 16_365, ""), 16_384),
 ];
 
-/// A long head has so many bytes, and is answered so.
+/// Asserts the length of a long head, and the reply to it.
 fn long_head_answers(
     rt: &impl Abort,
     alloc: Global,

@@ -1,4 +1,5 @@
-//! Truncated and malicious texts: over whole bytes, over a stream and over a connection the reply is the same.
+//! Truncated and malicious texts. Over whole bytes, a stream, and a connection, the replies are
+//! equal.
 use super::heads::{BAD_HEAD, BAD_LENGTH, CODING};
 use super::hubs::{bytes_of, connected, fed, finished, on_hub};
 use super::requests::{Told, reply_with};
@@ -14,18 +15,18 @@ use std::alloc::Global;
 use std::fmt::Debug;
 use std::process::Abort;
 
-/// The reply to a text.
+/// The reply to a text as whole bytes.
 fn by_answer(alloc: Global, front: &mut Front<Plain>, text: &[u8]) -> Option<Text> {
     bytes_of(alloc, front.answer(text)).ok()
 }
 
-/// What is written for a text that comes over a stream.
+/// The reply to a text that comes over a stream.
 fn by_stream(alloc: Global, front: &mut Front<Plain>, text: &[u8]) -> Option<Text> {
     let (_answer, written) = serve(alloc, front, text, 100, None, None).ok()?;
     Some(written)
 }
 
-/// The reply to a text that comes over a connection in single bytes, and ends then.
+/// The reply to a text that comes over a connection, in single bytes that then end.
 fn by_hub(alloc: Global, hub: &mut Hub<Plain>, text: &[u8]) -> Option<Text> {
     let conn = connected(hub).ok()?;
     for byte in text {
@@ -41,14 +42,14 @@ fn is_reply<R: Copy + Debug>(rt: &impl Abort, row: R, reply: Text, expected: &st
     assert_reads_at(rt, row, reply.as_slice(), expected);
 }
 
-/// Asserts how X's page of its bids ends after the text of a row.
+/// Asserts the end of the page of X's bids after the text of a row.
 fn ends_with<R: Copy + Debug>(rt: &impl Abort, row: R, bids: Text, page: &str) {
     let is_end = bids.as_slice().ends_with(page.as_bytes());
     assert_is_at(rt, row, is_end, true);
 }
 
-/// Asserts the reply to the text of a row, and how X's page of its bids ends then, for which it asks in the same way: by
-/// whole bytes, by a stream, and by a connection.
+/// Asserts the reply to the text of a row, and the end of the page of X's bids then. The text and
+/// the request for the page come as whole bytes, over a stream, and over a connection.
 fn is_told<R: Copy + Debug>(
     rt: &impl Abort,
     alloc: Global,
@@ -75,7 +76,8 @@ fn is_told<R: Copy + Debug>(
     })
 }
 
-/// Asserts that the text of a row is refused with a status and a page, and that no sheet is in force.
+/// Asserts that the text of a row is refused with a status and a page, and that no sheet is in
+/// force.
 fn is_refused<R: Copy + Debug>(
     rt: &impl Abort,
     alloc: Global,
@@ -87,10 +89,11 @@ fn is_refused<R: Copy + Debug>(
     is_told(rt, alloc, row, text, reply.as_str(), NO_SHEET)
 }
 
-/// What stands in a request of a sheet with X's token before its other header lines.
+/// The first lines of a request to submit X's sheet, before its other header lines.
 const HEAD: &[u8] = b"PUT /v1/me/bids HTTP/1.1\r\nauthorization: Bearer XXXXXXXXXXXXXXXX\r\n";
 
-/// A sheet of no bids, one with a byte that is no text, and sheets with a part of a block and with less than none.
+/// Bodies: a sheet without bids, one with a byte that is no text, and sheets with a part of a block
+/// and with a negative quantity.
 const EMPTY: &[u8] = b"{\"bids\":[],\"round\":1}";
 
 const NO_TEXT: &[u8] = b"{\"bids\":[],\"round\":1,\"x\":\"\xff\"}";
@@ -114,7 +117,7 @@ const SHAPE: Told<'static> = (
     r#"{"code":"shape","status":422}"#,
 );
 
-/// The other header lines of such requests and their bodies, and the replies.
+/// The other header lines and the bodies of requests that begin with [`HEAD`], and the replies.
 const MALICIOUS: &[(&str, &[u8], Told<'static>)] = &[
     ("content-length: 21\r\na: b\0", EMPTY, BAD_HEAD),
     (CODED, EMPTY, CODING),
@@ -125,7 +128,7 @@ const MALICIOUS: &[(&str, &[u8], Told<'static>)] = &[
     ("content-length: 60", LESS, SHAPE),
 ];
 
-/// The text of such a request.
+/// The text of a request that begins with [`HEAD`].
 fn text_of(alloc: Global, lines: &str, body: &[u8]) -> Option<Text> {
     let mut text = Text::new(alloc);
     for part in [HEAD, lines.as_bytes(), b"\r\n\r\n", body] {
@@ -134,7 +137,7 @@ fn text_of(alloc: Global, lines: &str, body: &[u8]) -> Option<Text> {
     Some(text)
 }
 
-/// It is refused.
+/// Asserts that the request of a row is refused.
 fn is_malicious(
     rt: &impl Abort,
     alloc: Global,
@@ -163,15 +166,15 @@ fn each_beginning_of_a_request_is_cut_short(rt: HostRuntime) {
     }
 }
 
-/// Long texts, the reply, and how X's page of its bids ends then: what follows a request is ignored, and spaces are too
-/// long a head at the limit.
+/// Long texts, the reply, and the end of the page of X's bids then. What follows a request is
+/// ignored, and spaces are a head that is too long from the limit on.
 const LONG: &[(Repeated<'static>, &str, &str)] = &[
     ((PUT, "x", 1_000, ""), ACCEPTED, SHEET),
     (("", " ", 16_383, ""), CUT_SHORT, NO_SHEET),
     (("", " ", 16_384, ""), LONG_HEAD, NO_SHEET),
 ];
 
-/// A long text is told so.
+/// Asserts the reply to a long text, and the end of the page of X's bids.
 fn long_text_is_told(
     rt: &impl Abort,
     alloc: Global,
@@ -195,13 +198,13 @@ fn long_texts_are_answered_by_their_beginning(rt: HostRuntime) {
 const HEAD_OF_2000: &str =
     "PUT /v1/me/bids HTTP/1.1\r\nauthorization: Bearer XXXXXXXXXXXXXXXX\r\ncontent-length: 2000\r\n\r\n";
 
-/// A sheet of a thousand lists, each within the one before.
+/// A request whose sheet is a thousand nested lists.
 fn nested(alloc: Global) -> Option<String> {
     let closing = repeated(alloc, ("", "]", 1_000, ""))?;
     repeated(alloc, (HEAD_OF_2000, "[", 1_000, closing.as_str()))
 }
 
-/// It is no JSON.
+/// Asserts that nested lists are refused as no JSON.
 fn nested_is_refused(rt: &impl Abort, alloc: Global) -> Option<()> {
     let text = nested(alloc)?;
     is_refused(rt, alloc, "nested", text.as_str().as_bytes(), BAD_JSON)

@@ -1,4 +1,4 @@
-//! What a hub tells of pieces.
+//! Calls of a hub, with results that tests compare.
 use crate::front::example::opened;
 use clock_device::{NoMemory, Text};
 use clock_fixtures::ONE_PRODUCT;
@@ -6,13 +6,13 @@ use clock_front::{Conn, Fed, Hub, HubFault, Reply};
 use clock_processor::Plain;
 use std::alloc::Global;
 
-/// A hub of the one product.
+/// A hub for a set-up of one product.
 fn hub_of(alloc: Global) -> Option<Hub<Plain>> {
     let front = opened(alloc, ONE_PRODUCT).ok()?;
     Some(Hub::new(alloc, front))
 }
 
-/// What is done with a hub of the one product, which has no connection. No other function of the tests lets a hub go.
+/// Calls `act` on a hub for one product, without connections. Only here do the tests drop a hub.
 pub(super) fn on_hub<T, F: FnOnce(&mut Hub<Plain>) -> Option<T>>(alloc: Global, act: F) -> Option<T>
     requires { F.IsAlwaysCallable act }
 {
@@ -22,7 +22,7 @@ pub(super) fn on_hub<T, F: FnOnce(&mut Hub<Plain>) -> Option<T>>(alloc: Global, 
     done
 }
 
-/// One more connection.
+/// Opens one more connection.
 pub(super) fn connected(hub: &mut Hub<Plain>) -> Result<Conn, HubFault> {
     hub.connect()
 }
@@ -34,7 +34,7 @@ pub(super) fn bytes_of(alloc: Global, reply: Reply) -> Result<Text, NoMemory> {
     bytes
 }
 
-/// The reply to which a piece has led, or that more is needed.
+/// The reply to the request that a piece completes, or `None` if more is needed.
 pub(super) fn fed(
     alloc: Global,
     hub: &mut Hub<Plain>,
@@ -47,7 +47,7 @@ pub(super) fn fed(
     }
 }
 
-/// The reply to which the end of the input has led.
+/// The reply to a request whose input ends.
 pub(super) fn finished(alloc: Global, hub: &mut Hub<Plain>, conn: Conn) -> Result<Text, HubFault> {
     let reply = hub.finish(conn)?;
     Ok(bytes_of(alloc, reply)?)

@@ -9,16 +9,16 @@ use clock_processor::Plain;
 use std::alloc::{AllocError, Global};
 use std::process::Abort;
 
-/// What is public.
+/// The public set-up.
 const PUBLIC: &str =
     r#""version":1,"requirement":95,"operator":"OPERATOROPERATOR","products":[{"name":"A","units":1,"supply":2,"cap":2,"opening":100}]"#;
 
-/// The bidders of a run. X has the same row in each list of them.
+/// Bidders of a run. X has the same row in each such list.
 const X_AND_Y: &str =
     r#"{"name":"X","token":"XXXXXXXXXXXXXXXX","eligibility":10},{"name":"Y","token":"YYYYYYYYYYYYYYYY","eligibility":10}"#;
 
-/// X's own requests: the request line, whose token it has, and its body. The others send theirs in turn: a line of `~`
-/// alone stands between two turns.
+/// X's own requests: the request line, the owner of the token, and the body. The others send theirs
+/// in turn: the turns are divided by lines that have only `~`.
 const OWN: &str = r#"GET /v1/me/bids|X|
 PUT /v1/me/bids|X|{"bids":[{"price":100,"product":0,"quantity":3}],"round":1}
 PUT /v1/me/bids|X|{"bids":[{"price":100,"product":0,"quantity":2}],"round":1}
@@ -45,13 +45,13 @@ GET /v1/results|X|
 POST /v1/close|X|{"increment":10,"round":2,"ties":[]}
 PUT /v1/me/bids|X|{"bids":[],"round":2}"#;
 
-/// The pages that X is shown of itself in round 2, and of round 2's results.
+/// The pages of X's account in round 2, and of round 2's results.
 const PAGES: &str =
     r#"{"activity":2,"demands":[2],"eligibility":3,"ended":false,"name":"X","round":2}
 {"activity":1,"demands":[1],"eligibility":2,"round":2}
 {"ended":true,"products":[{"clock":110,"demand":null,"name":"A","next":null,"posted":103,"start":100}],"round":2}"#;
 
-/// The row of a request of a run, and whether it is X's.
+/// The row of a request, and whether the request is X's.
 type Sent<'a> = (&'a str, bool);
 
 /// Adds the requests of rows.
@@ -64,7 +64,7 @@ fn push_rows<'a>(requests: &mut Vec<Sent<'a>>, rows: &'a str, is_own: bool) -> O
     Some(())
 }
 
-/// The requests of a run in their order: X's of each turn, and then those of the others.
+/// The requests of a run in their order: in each turn X's, and then those of the others.
 fn requests_of(alloc: Global, others: &str) -> Option<Vec<Sent<'_>>> {
     let mut requests = Vec::new(alloc);
     let mut others = others.split('~');
@@ -81,7 +81,7 @@ fn reply_to(alloc: Global, front: &mut Front<Plain>, row: &str) -> Option<String
     reply_of(alloc, front, text.as_str())
 }
 
-/// What X is told by a front that answers the requests in turn.
+/// The replies to X's requests, from a front that answers all requests in turn.
 fn told_in_turn(alloc: Global, front: &mut Front<Plain>, requests: &[Sent]) -> Option<String> {
     let mut told = String::new(alloc);
     for &(row, is_own) in requests {
@@ -93,7 +93,7 @@ fn told_in_turn(alloc: Global, front: &mut Front<Plain>, requests: &[Sent]) -> O
     Some(told)
 }
 
-/// The document of what is public and of bidders.
+/// The set-up document with this public set-up and these bidders.
 fn document_of(alloc: Global, public: &str, bidders: &str) -> Result<String, AllocError> {
     format!(in alloc; "{{{public},\"bidders\":[{bidders}]}}")
 }
@@ -101,7 +101,7 @@ fn document_of(alloc: Global, public: &str, bidders: &str) -> Result<String, All
 /// A run: its bidders, and what the others send.
 type Run<'a> = (&'a str, &'a str);
 
-/// What X is told in a run of what is public.
+/// The replies to X's requests in a run with this public set-up.
 fn told_x(alloc: Global, public: &str, run: Run<'_>) -> Option<String> {
     let document = document_of(alloc, public, run.0).ok()?;
     let requests = requests_of(alloc, run.1)?;
@@ -110,12 +110,12 @@ fn told_x(alloc: Global, public: &str, run: Run<'_>) -> Option<String> {
     })
 }
 
-/// Whether each of X's pages stands among its replies.
+/// Whether each of [`PAGES`] is in X's replies.
 fn has_pages(told: &str) -> bool {
     PAGES.split('\n').all(|page| told.contains(page))
 }
 
-/// Y wants one block in both rounds.
+/// Y asks for one block in both rounds.
 const BY_Y: &str = r#"PUT /v1/me/bids|Y|{"bids":[{"price":100,"product":0,"quantity":1}],"round":1}
 ~
 POST /v1/close|O|{"increment":10,"round":1,"ties":[]}
@@ -124,12 +124,12 @@ PUT /v1/me/bids|Y|{"bids":[{"price":110,"product":0,"quantity":1}],"round":2}
 ~
 POST /v1/close|O|{"increment":10,"round":2,"ties":[]}"#;
 
-/// X among others.
+/// X between two other bidders.
 const V_X_AND_W: &str =
     r#"{"name":"V","token":"VVVVVVVVVVVVVVVV","eligibility":3},{"name":"X","token":"XXXXXXXXXXXXXXXX","eligibility":10},
 {"name":"W","token":"WWWWWWWWWWWWWWWW","eligibility":5}"#;
 
-/// W in its place, after a sheet of two blocks, and before one that is over the cap.
+/// W instead of Y: a sheet of two blocks first, and at the end one that is over the cap.
 const BY_W: &str = r#"PUT /v1/me/bids|W|{"bids":[{"price":100,"product":0,"quantity":2}],"round":1}
 PUT /v1/me/bids|W|{"bids":[{"price":100,"product":0,"quantity":1}],"round":1}
 PUT /v1/me/bids|W|{"bids":[{"price":100,"product":0,"quantity":3}],"round":1}
@@ -140,7 +140,8 @@ PUT /v1/me/bids|W|{"bids":[{"price":110,"product":0,"quantity":1}],"round":2}
 ~
 POST /v1/close|O|{"increment":10,"round":2,"ties":[]}"#;
 
-/// Three further requests, each of them refused: a closing, a sheet of nobody's, and what is no head.
+/// The requests of Y, and three that are refused: a closing, a sheet without a valid token, and no
+/// head.
 const BY_Y_AND_STRANGERS: &str =
     r#"PUT /v1/me/bids|Y|{"bids":[{"price":100,"product":0,"quantity":1}],"round":1}
 POST /v1/close|O|{"increment":0,"round":1,"ties":[]}
@@ -153,11 +154,12 @@ PUT /v1/me/bids|Y|{"bids":[{"price":110,"product":0,"quantity":1}],"round":2}
 ~
 POST /v1/close|O|{"increment":10,"round":2,"ties":[]}"#;
 
-/// The same in the second version.
+/// The public set-up in version 2.
 const PUBLIC_2: &str = r#""version":2,"limit":125,"requirement":95,"operator":"OPERATOROPERATOR",
 "products":[{"name":"A","units":1,"supply":2,"cap":2,"opening":100,"granule":1}]"#;
 
-/// In it a closing has an increment for each product.
+/// The requests of Y and the operator in version 2, in which a closing has an increment for each
+/// product.
 const BY_Y_2: &str =
     r#"PUT /v1/me/bids|Y|{"bids":[{"price":100,"product":0,"quantity":1}],"round":1}
 ~
@@ -178,11 +180,12 @@ PUT /v1/me/bids|W|{"bids":[{"price":110,"product":0,"quantity":1}],"round":2}
 ~
 POST /v1/close|O|{"increments":[10],"round":2,"ties":[]}"#;
 
-/// The same bidders by other numbers.
+/// The bidders of [`X_AND_Y`] in another order.
 const Y_AND_X: &str =
     r#"{"name":"Y","token":"YYYYYYYYYYYYYYYY","eligibility":10},{"name":"X","token":"XXXXXXXXXXXXXXXX","eligibility":10}"#;
 
-/// Y's wrong sheets and the operator's refused closings, in another order at each place, and ties by other numbers.
+/// Y's sheets with faults and the operator's refused closings, in another order in each turn, and
+/// tie-breaking numbers for the other order of bidders.
 const BY_Y_WITH_FAULTS: &str = r#"POST /v1/close|O|{"increment":51,"round":1,"ties":[]}
 PUT /v1/me/bids|Y|{"bids":[{"price":101,"product":0,"quantity":1}],"round":1}
 PUT /v1/me/bids|Y|{"bids":[{"price":100,"product":0,"quantity":1}],"round":1}
@@ -198,7 +201,7 @@ PUT /v1/me/bids|Y|{"bids":[{"price":110,"product":0,"quantity":1}]}
 POST /v1/close|O|{"increment":10,"round":2,"ties":[[1,0,1],[1,0,1]]}
 POST /v1/close|O|{"increment":10,"round":2,"ties":[[1,0,2]]}"#;
 
-/// The same with other faults.
+/// Y's requests and the operator's with other faults.
 const BY_Y_WITH_OTHER_FAULTS: &str =
     r#"PUT /v1/me/bids|Y|{"bids":[{"price":100,"product":0,"quantity":1}],"round":1}
 PUT /v1/me/bids|Y|{"bids":[{"price":100,"product":1,"quantity":1}],"round":1}
@@ -215,7 +218,7 @@ PUT /v1/me/bids|Y|{"bids":[{"price":110,"product":0,"quantity":1}],"round":2}
 PUT /v1/me/bids|Y|{"bids":[{"price":111,"product":0,"quantity":1}],"round":2}
 POST /v1/close|O|{"increment":10,"round":2,"ties":[[0,0,8]]}"#;
 
-/// What does not show in X's replies, what is public, and two runs that differ in it alone.
+/// What X's replies hide, the public set-up, and two runs that differ only in it.
 const RUNS: &[(&str, &str, Run<'static>, Run<'static>)] = &[
     ("rivals", PUBLIC, (X_AND_Y, BY_Y), (V_X_AND_W, BY_W)),
     (
@@ -239,7 +242,7 @@ const RUNS: &[(&str, &str, Run<'static>, Run<'static>)] = &[
     ),
 ];
 
-/// Asserts what X is told in a run, its pages among it. A failure names what the runs hide.
+/// Asserts X's replies in a run, with its pages among them. A failure names what the runs hide.
 fn is_told(
     rt: &impl Abort,
     alloc: Global,
@@ -254,7 +257,7 @@ fn is_told(
     Some(())
 }
 
-/// X is told the same in both runs.
+/// Asserts that X's replies in both runs are equal.
 fn is_told_alike(
     rt: &impl Abort,
     alloc: Global,

@@ -1,4 +1,4 @@
-//! Connections of this machine, which clients have made and written to before any is taken.
+//! Connections of this machine, made and written to by clients before any is accepted.
 use super::texts::{ACCEPTED, CUT_SHORT, FIRST_ROUND, PUT, STATUS};
 use crate::comparing::assert_is;
 use crate::front::example::on_one_product;
@@ -13,21 +13,21 @@ fn any_port(rt: &HostRuntime) -> io::Result<TcpListener> {
     TcpListener::bind(rt, (Ipv4Addr::LOCALHOST, 0))
 }
 
-/// A client that has written this.
+/// A client that has written this text.
 fn client(rt: &HostRuntime, address: SocketAddr, text: &str) -> io::Result<TcpStream> {
     let mut stream = TcpStream::connect(rt, address)?;
     stream.write_all(text.as_bytes())?;
     Ok(stream)
 }
 
-/// All that a client hears.
+/// All bytes that a client receives.
 fn heard(alloc: Global, mut stream: TcpStream) -> io::Result<Vec<u8>> {
     let mut bytes = Vec::new(alloc);
     stream.read_to_end(&mut bytes)?;
     Ok(bytes)
 }
 
-/// Asserts that a client hears this and no more.
+/// Asserts that a client receives this text and no more.
 fn assert_hears(
     rt: &(impl Abort + Alloc<A = Global>),
     stream: TcpStream,
@@ -45,7 +45,7 @@ fn cut_client(rt: &HostRuntime, address: SocketAddr) -> io::Result<TcpStream> {
     Ok(stream)
 }
 
-/// Clients that have written a sheet, a part of one, and a question.
+/// Clients that have written a sheet, a part of one, and a request for the status.
 #[derive(Drop)]
 struct Clients {
     whole: TcpStream,
@@ -53,7 +53,7 @@ struct Clients {
     status: TcpStream,
 }
 
-/// Three clients, one after the other.
+/// Makes the three clients, one after the other.
 fn three_clients(rt: &HostRuntime, address: SocketAddr) -> io::Result<Clients> {
     let whole = client(rt, address, PUT)?;
     let cut = cut_client(rt, address)?;
@@ -61,14 +61,14 @@ fn three_clients(rt: &HostRuntime, address: SocketAddr) -> io::Result<Clients> {
     Ok(Clients { whole, cut, status })
 }
 
-/// Asserts what each of them hears.
+/// Asserts what each client receives.
 fn assert_each_hears(rt: &(impl Abort + Alloc<A = Global>), clients: Clients) -> io::Result<()> {
     assert_hears(rt, clients.whole, ACCEPTED)?;
     assert_hears(rt, clients.cut, CUT_SHORT)?;
     assert_hears(rt, clients.status, FIRST_ROUND)
 }
 
-/// Two clients that are gone before they are served, and one that asks for the status.
+/// Makes two clients that are gone before they are served, and one that requests the status.
 fn left_client(rt: &HostRuntime, address: SocketAddr) -> io::Result<TcpStream> {
     drop(client(rt, address, PUT)?);
     drop(client(rt, address, &PUT[..10])?);
@@ -82,7 +82,7 @@ fn three_are_served(alloc: Global, listener: &TcpListener) -> Option<bool> {
     })
 }
 
-/// Serves them, and closes the port.
+/// Serves three connections and closes the port.
 fn serve_three(rt: &(impl Abort + Alloc<A = Global>), listener: TcpListener) {
     let is_served = three_are_served(rt.alloc(), &listener);
     drop(listener);

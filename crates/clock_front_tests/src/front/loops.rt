@@ -1,5 +1,5 @@
-//! The loop of a server over connections in memory: what is written on each, where one fails, and where a text can't be
-//! kept.
+//! The loop of a server over connections in memory: what is written on each, if one fails, and if a
+//! request can't be logged.
 ghost use Rattle.std.specs.Prelude.{◌≡◌, false};
 
 use super::texts::{ACCEPTED, CUT_SHORT, FIRST_ROUND, PUT, STATUS};
@@ -15,7 +15,7 @@ use clock_serving::{Keeper, ServeFault, Unkept, serve_all};
 use std::alloc::Global;
 use std::process::Abort;
 
-/// A client that sends this in small pieces, and takes a reply in small pieces.
+/// A client that sends this text in small pieces, and takes a reply in small pieces.
 fn client(text: &str) -> Client<'_> {
     Client {
         bytes: text.as_bytes(),
@@ -27,8 +27,8 @@ fn client(text: &str) -> Client<'_> {
     }
 }
 
-/// A sheet, a part of one, a connection that fails at its second read, a client that takes 18 bytes of its reply, and a
-/// question.
+/// Five clients: a sheet, a part of one, a connection that fails at its second read, a client that
+/// takes 18 bytes of its reply, and a request for the status.
 fn clients() -> [Client<'static>; 5] {
     let mut broken = client(PUT);
     broken.read_stop = Some((1, Stop::Failed));
@@ -51,7 +51,7 @@ fn assert_written(rt: &impl Abort, connections: &[Closed<'_>], written: &[&str])
     }
 }
 
-/// Serves clients, and compares how that ends and what is written on each connection that was taken.
+/// Serves clients. Compares the result, and what is written on each connection that was accepted.
 fn compare<K: Keeper>(
     rt: &impl Abort,
     alloc: Global,
@@ -70,7 +70,7 @@ fn compare<K: Keeper>(
     Some(())
 }
 
-/// The same with a journal whose syncs fail from one on.
+/// Compares like [`compare`], with a journal of which only the first `syncs` syncs succeed.
 fn compare_kept(
     rt: &impl Abort,
     alloc: Global,
@@ -91,7 +91,7 @@ fn compare_kept(
     compared
 }
 
-/// The same without a journal, or with one whose syncs fail from one on.
+/// Compares like [`compare`], without a journal if `syncs` is `None`.
 fn compare_either(
     rt: &impl Abort,
     alloc: Global,
@@ -106,11 +106,12 @@ fn compare_either(
     }
 }
 
-/// What is written where nothing fails but what the clients do.
+/// What is written if no sync fails.
 const WRITTEN: &[&str] = &[ACCEPTED, CUT_SHORT, "", "HTTP/1.1 200 OK\r\nc", FIRST_ROUND];
 
-/// How many syncs a journal has, how the loop ends, and what is written. Where the sync of the first text fails, its
-/// client hears nothing, and no other connection is taken.
+/// The number of syncs that succeed if there is a journal, the result of the loop, and what is
+/// written. If the sync of the first request fails, its client gets no reply, and no other
+/// connection is accepted.
 const LOOPS: &[(Option<u64>, Result<(), ServeFault>, &[&str])] = &[
     (None, Ok(()), WRITTEN),
     (Some(2), Ok(()), WRITTEN),

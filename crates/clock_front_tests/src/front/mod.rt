@@ -1,4 +1,4 @@
-//! Requests, hubs and streams, from their bytes to those of their replies.
+//! Requests, hubs, and streams, from their bytes to those of their replies.
 mod answers;
 mod bodies;
 mod endless;

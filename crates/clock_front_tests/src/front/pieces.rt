@@ -1,4 +1,4 @@
-//! Requests in pieces over connections that stand at once.
+//! Requests in pieces over connections that are open at once.
 use super::events::{connected, piece, push_byte};
 use super::hubs;
 use super::hubs::{fed, finished, on_hub};
@@ -15,8 +15,8 @@ use std::process::Abort;
 /// The texts of three connections.
 const TEXTS: [&str; 3] = [PUT, STATUS, "PUT /v1/me"];
 
-/// The replies to them, and to Y's request for its bids, which is whole in one piece, with the numbers of their
-/// connections.
+/// The replies with the numbers of their connections: to [`TEXTS`], and to Y's request for its
+/// bids, which comes as one piece.
 const IN_ORDER_OF_COMPLETION: &[(u64, &str)] = &[
     (1, FIRST_ROUND),
     (0, ACCEPTED),
@@ -24,7 +24,7 @@ const IN_ORDER_OF_COMPLETION: &[(u64, &str)] = &[
     (3, NO_BIDS),
 ];
 
-/// The byte of each text at a place, in turn.
+/// Adds the byte of each text at an index, in turn.
 fn push_bytes(alloc: Global, events: &mut Vec<Event>, place: usize) -> Option<()> {
     for (number, text) in TEXTS.iter().enumerate() {
         push_byte(alloc, events, number as u64, text.as_bytes(), place)?;
@@ -32,7 +32,8 @@ fn push_bytes(alloc: Global, events: &mut Vec<Event>, place: usize) -> Option<()
     Some(())
 }
 
-/// Three connections get their texts one byte at a time in turn, and the last one ends. Then Y asks for its bids.
+/// Adds the texts of three connections, one byte at a time in turn, and the end of the last one.
+/// Then Y requests its bids.
 fn push_all(alloc: Global, events: &mut Vec<Event>) -> Option<()> {
     for place in 0..PUT.len() {
         push_bytes(alloc, events, place)?;
@@ -43,7 +44,7 @@ fn push_all(alloc: Global, events: &mut Vec<Event>) -> Option<()> {
     Some(())
 }
 
-/// What comes of these connections.
+/// The events of these connections.
 fn in_single_bytes(alloc: Global) -> Option<Vec<Event>> {
     let mut events = connected(alloc, 3)?;
     push_all(alloc, &mut events)?;
@@ -65,7 +66,7 @@ fn are_told(rt: &impl Abort, replies: &[EventReply], expected: &[(u64, &str)]) {
     }
 }
 
-/// What comes of the three connections has its replies in order.
+/// Asserts that the three connections get their replies in the order of completion.
 fn are_told_in_order(rt: &impl Abort, alloc: Global) -> Option<()> {
     let events = in_single_bytes(alloc)?;
     let replies = replies_to(alloc, events.as_slice());
@@ -81,7 +82,7 @@ fn three_connections_in_single_bytes(rt: HostRuntime) {
     assert_is(&rt, are_told_in_order(&rt, rt.alloc()), Some(()));
 }
 
-/// So many connections more.
+/// Opens `count` connections more.
 fn connect_all(hub: &mut Hub<Plain>, count: usize) -> Result<(), HubFault> {
     for _ in 0..count {
         hubs::connected(hub)?;
@@ -89,7 +90,7 @@ fn connect_all(hub: &mut Hub<Plain>, count: usize) -> Result<(), HubFault> {
     Ok(())
 }
 
-/// So many stand, and no further one.
+/// Asserts that `count` connections can be open, and no further one.
 fn is_full_at(rt: &impl Abort, hub: &mut Hub<Plain>, count: usize) -> Option<()> {
     assert_is(rt, connect_all(hub, count), Ok(()));
     assert_is(rt, hubs::connected(hub), Err(HubFault::Full));
@@ -102,11 +103,11 @@ fn no_more_than_256_stand(rt: HostRuntime) {
     assert_is(&rt, done, Some(()));
 }
 
-/// What a connection is told that there is not.
+/// The words of a fault for a connection that does not exist.
 const UNKNOWN: &str = "no such connection";
 
-/// What the connections are told that are asked for in turn, as one after the other gets a text or its input ends:
-/// nothing where more is needed.
+/// Steps in order: a connection, what happens to it, and the result. It gets a text, or its input
+/// ends; the result is empty if more is needed.
 const STEPS: &[(usize, &str, &str)] = &[
     (0, "connect", ""),
     (0, STATUS, FIRST_ROUND),
@@ -121,13 +122,13 @@ const STEPS: &[(usize, &str, &str)] = &[
     (2, STATUS, FIRST_ROUND),
 ];
 
-/// A fault in words.
+/// The words of a fault.
 fn words_of(alloc: Global, fault: HubFault) -> Option<Text> {
     let words = format!(in alloc; "{fault}").ok()?;
     Text::from_slice(alloc, words.as_str().as_bytes()).ok()
 }
 
-/// What a connection is told whose input ends.
+/// The result for a connection whose input ends.
 fn told_at_end(alloc: Global, hub: &mut Hub<Plain>, conn: Conn) -> Option<Text> {
     match finished(alloc, hub, conn) {
         Ok(reply) => Some(reply),
@@ -135,7 +136,7 @@ fn told_at_end(alloc: Global, hub: &mut Hub<Plain>, conn: Conn) -> Option<Text> 
     }
 }
 
-/// What a connection is told that gets a text.
+/// The result for a connection that gets a text.
 fn told_of(alloc: Global, hub: &mut Hub<Plain>, conn: Conn, text: &str) -> Option<Text> {
     match fed(alloc, hub, conn, text.as_bytes()) {
         Ok(Some(reply)) => Some(reply),
@@ -144,7 +145,7 @@ fn told_of(alloc: Global, hub: &mut Hub<Plain>, conn: Conn, text: &str) -> Optio
     }
 }
 
-/// What a connection is told at a step.
+/// The result for a connection at a step.
 fn told(alloc: Global, hub: &mut Hub<Plain>, conn: Conn, text: &str) -> Option<Text> {
     match text {
         "end" => told_at_end(alloc, hub, conn),
@@ -152,7 +153,7 @@ fn told(alloc: Global, hub: &mut Hub<Plain>, conn: Conn, text: &str) -> Option<T
     }
 }
 
-/// Asserts it.
+/// Asserts the result of a step.
 fn is_told(
     rt: &impl Abort,
     alloc: Global,
@@ -166,7 +167,7 @@ fn is_told(
     Some(())
 }
 
-/// Takes all steps.
+/// Runs all steps.
 fn take_steps(rt: &impl Abort, alloc: Global, hub: &mut Hub<Plain>) -> Option<()> {
     let mut conns = Vec::new(alloc);
     for &(number, text, expected) in STEPS {

@@ -1,9 +1,9 @@
 //! Requests as rows of text, and their replies.
 //!
-//! A table is one text, and each of its lines is a row. A row of a request has three fields with `|` between them: the
-//! request line without its version, whose token the request has (the letter of a bidder, `O` for the operator, `N` for
-//! a token that nobody has, or nothing for no token), and the body. If the row also says what the reply is, `>`, the
-//! status, `|`, and the page follow:
+//! A table is one text, and each of its lines is a row. A row of a request has three fields with
+//! `|` between them: the request line without its version, the owner of the token, and the body.
+//! The owner is the letter of a bidder, `O` for the operator, `N` for a token that no one has, or
+//! nothing for no token. A row may also have the reply: `>`, the status, `|`, and the page.
 //!
 //! ```text
 //! GET /v1/me/bids|Y|>200 OK|{"bids":null,"round":1}
@@ -15,7 +15,7 @@ use clock_setup::{Setup, read_setup};
 use std::alloc::Global;
 use std::process::Abort;
 
-/// The set-up of a document.
+/// Reads the set-up of a document.
 pub(super) fn setup_of(alloc: Global, document: &str) -> Option<Setup> {
     read_setup(alloc, document.as_bytes()).ok()
 }
@@ -43,7 +43,7 @@ pub(super) fn text_of(alloc: Global, line: &str, who: &str, body: &str) -> Optio
     .ok()
 }
 
-/// The text of the request of a row: its line, whose token it has, and its body.
+/// The text of the request of a row, from its line, the owner of its token, and its body.
 pub(super) fn request_of(alloc: Global, row: &str) -> Option<String> {
     let (line, rest) = row.split_once('|')?;
     let (who, body) = rest.split_once('|')?;

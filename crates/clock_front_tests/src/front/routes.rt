@@ -1,11 +1,11 @@
-//! Which page a path names.
+//! The page of a path.
 use crate::comparing::assert_is_at;
 use crate::front::example::on_one_product;
 use clock_http::Code;
 use std::alloc::Global;
 use std::process::Abort;
 
-/// What is answered where a path is asked for without a token, and such paths.
+/// Codes of replies, and the paths that are answered so without a token.
 const PATHS: &[(Code, &[&str])] = &[
     (Code::Done, &["/v1/status", "/v1/products"]),
     (Code::NoRound, &["/v1/rounds/12", "/v1/rounds/x"]),
@@ -31,7 +31,7 @@ const NO_PAGES: &[&str] = &[
     "http://x/v1/status",
 ];
 
-/// The code of the reply to who asks for a path without a token.
+/// The code of the reply to a request for a path without a token.
 fn code_of(alloc: Global, path: &str) -> Option<Code> {
     let text = format!(in alloc; "GET {path} HTTP/1.1\r\n\r\n").ok()?;
     on_one_product(alloc, |front| {
@@ -39,7 +39,7 @@ fn code_of(alloc: Global, path: &str) -> Option<Code> {
     })
 }
 
-/// These paths are answered so.
+/// Asserts the code of the replies to requests for these paths.
 fn are_answered(rt: &impl Abort, alloc: Global, paths: &[&str], code: Code) {
     for path in paths {
         assert_is_at(rt, *path, code_of(alloc, path), Some(code));

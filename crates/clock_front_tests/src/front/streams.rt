@@ -1,4 +1,4 @@
-//! One request over one stream, whose reads and writes bring little, fail or are interrupted.
+//! One request over one stream, whose reads and writes move few bytes, fail, or are interrupted.
 ghost use Rattle.std.specs.Prelude.{◌≤◌};
 
 use super::requests::reply_of;
@@ -12,8 +12,8 @@ use clock_processor::Plain;
 use std::alloc::Global;
 use std::process::Abort;
 
-/// How a text is served by reads and writes of so many bytes at most, one of which may stop: what is answered and
-/// written, and whether X's sheet is in force then.
+/// A text that is served by reads and writes of at most `piece` bytes, one of which may stop: the
+/// code, what is written, and whether X's sheet is in force then.
 #[derive(Drop)]
 struct Row<'a> {
     text: &'a [u8],
@@ -26,7 +26,8 @@ struct Row<'a> {
     ghost some: { 1 ≤ piece },
 }
 
-/// Serves a text by reads and writes of so many bytes at most, one of which may stop: what is answered, and written.
+/// Serves a text by reads and writes of at most `piece` bytes, one of which may stop. Returns the
+/// answer and what is written.
 pub(super) fn serve(
     alloc: Global,
     front: &mut Front<Plain>,
@@ -45,7 +46,7 @@ pub(super) fn serve(
     Ok((answer, written?))
 }
 
-/// Whether X's sheet is in force, by its page, which shows this sheet or none.
+/// Whether X's sheet is in force, by the page of its bids, which shows this sheet or none.
 fn has_sheet(alloc: Global, front: &mut Front<Plain>) -> Option<bool> {
     let reply = reply_of(alloc, front, BIDS_OF_X)?;
     let has_sheet = reply.as_str().ends_with(SHEET);
@@ -56,7 +57,7 @@ fn has_sheet(alloc: Global, front: &mut Front<Plain>) -> Option<bool> {
     }
 }
 
-/// Compares how the text of a row is served.
+/// Serves the text of a row and compares the result.
 fn served_as(
     rt: &impl Abort,
     alloc: Global,
@@ -76,14 +77,14 @@ fn served_as(
     Some(())
 }
 
-/// The same with a front of its own.
+/// Serves the text of a row by a front made for it, and compares the result.
 fn compare(rt: &impl Abort, alloc: Global, row: &Row<'_>) {
     let done = on_one_product(alloc, |front| served_as(rt, alloc, front, row));
     let at = (row.piece, row.read, row.write);
     assert_is_at(rt, at, done, Some(()));
 }
 
-/// The sheet is put, by reads of so many bytes.
+/// The row of a sheet that is accepted, by reads of at most `piece` bytes.
 fn put(piece: usize, read: Option<(u64, Stop)>) -> Row<'static>
     requires { 1 ≤ piece }
 {
@@ -98,7 +99,7 @@ fn put(piece: usize, read: Option<(u64, Stop)>) -> Row<'static>
     }
 }
 
-/// A read fails, and nothing happens.
+/// The row of a sheet of which a read fails, so that nothing happens.
 fn unread(piece: usize, read: u64) -> Row<'static>
     requires { 1 ≤ piece }
 {
@@ -113,7 +114,7 @@ fn unread(piece: usize, read: u64) -> Row<'static>
     }
 }
 
-/// A write of one byte fails, with the sheet in force.
+/// The row of a sheet of whose reply a write of one byte fails. The sheet is in force.
 fn unwritten(write: usize) -> Row<'static> {
     Row {
         text: PUT.as_bytes(),
@@ -126,7 +127,7 @@ fn unwritten(write: usize) -> Row<'static> {
     }
 }
 
-/// In single bytes the request is decided by read 146, so read 147 is never made.
+/// In single bytes the request is complete by read 146, so read 147 is never made.
 #[test]
 fn no_read_is_made_once_the_request_is_decided(rt: HostRuntime) {
     compare(&rt, rt.alloc(), &put(1024, None));

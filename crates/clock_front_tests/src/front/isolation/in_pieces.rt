@@ -1,4 +1,5 @@
-//! The same where each request comes over a connection of its own, in single bytes.
+//! One bidder's replies in two runs in which it sees the same, if each request comes over a
+//! connection of its own, in single bytes.
 use super::{BY_W, BY_Y, PUBLIC, Run, Sent, V_X_AND_W, X_AND_Y, document_of, requests_of, told_x};
 use crate::comparing::{assert_is, assert_is_at};
 use crate::front::events::{connected, piece};
@@ -8,32 +9,33 @@ use clock_processor::Plain;
 use std::alloc::Global;
 use std::process::Abort;
 
-/// No request has more bytes.
+/// The most bytes of a request of these runs.
 const LONGEST: usize = 200;
 
-/// How the bytes of a run's requests come. They are whole in their order, so that each last byte comes behind those
-/// before.
+/// The order in which the bytes of a run's requests come. In each order, the requests are complete
+/// in their own order: each last byte comes after those before.
 #[derive(Clone, Copy, Debug)]
 enum Way {
     /// One request after the other.
     Apart,
-    /// A byte of each in turn, and then their last ones.
+    /// A byte of each in turn, and then the last byte of each.
     InTurn,
-    /// From the last request to the first all bytes but the last, and then their last ones.
+    /// All bytes but the last of each, from the last request to the first, and then the last byte
+    /// of each.
     LastFirst,
 }
 
-/// Which bytes of a text come.
+/// The bytes of a text that come.
 #[derive(Clone, Copy)]
 enum Part {
     All,
     AllButLast,
     Last,
-    /// The one at a place, where it is before the last.
+    /// The byte at an index, unless it is the last.
     At(usize),
 }
 
-/// The first place of a part of a text of so many bytes, and the one behind it.
+/// The first index of a part of a text of `count` bytes, and the one after it.
 fn places_of(part: Part, count: usize) -> (usize, usize) {
     let last = count.saturating_sub(1);
     match part {
@@ -50,7 +52,7 @@ fn part_of(text: &[u8], part: Part) -> &[u8] {
     text.get(first..end).unwrap_or(b"")
 }
 
-/// A piece of one byte for each of some bytes.
+/// Adds a piece for each byte.
 fn push_bytes(alloc: Global, events: &mut Vec<Event>, number: u64, bytes: &[u8]) -> Option<()> {
     for byte in bytes {
         events.push(piece(alloc, number, &[*byte])?).ok()?;
@@ -58,7 +60,7 @@ fn push_bytes(alloc: Global, events: &mut Vec<Event>, number: u64, bytes: &[u8])
     Some(())
 }
 
-/// The bytes of a part of a request.
+/// Adds the bytes of a part of a request.
 fn push_part(
     alloc: Global,
     events: &mut Vec<Event>,
@@ -71,7 +73,7 @@ fn push_part(
     push_bytes(alloc, events, number as u64, bytes)
 }
 
-/// A part of each request, from the first to the last or the other way round.
+/// Adds a part of each request, from the first to the last or from the last to the first.
 fn push_parts(
     alloc: Global,
     events: &mut Vec<Event>,
@@ -87,7 +89,7 @@ fn push_parts(
     Some(())
 }
 
-/// A byte of each request in turn, but their last ones.
+/// Adds a byte of each request in turn, except the last bytes.
 fn push_in_turn(alloc: Global, events: &mut Vec<Event>, requests: &[Sent]) -> Option<()> {
     for place in 0..LONGEST {
         push_parts(alloc, events, requests, Part::At(place), false)?;
@@ -95,7 +97,7 @@ fn push_in_turn(alloc: Global, events: &mut Vec<Event>, requests: &[Sent]) -> Op
     Some(())
 }
 
-/// The bytes of the requests as they come.
+/// Adds the bytes of the requests in this order.
 fn push_requests(
     alloc: Global,
     events: &mut Vec<Event>,
@@ -110,33 +112,33 @@ fn push_requests(
     push_parts(alloc, events, requests, Part::Last, false)
 }
 
-/// What comes of the connections of a run.
+/// The events of the connections of a run.
 fn events_of(alloc: Global, requests: &[Sent], way: Way) -> Option<Vec<Event>> {
     let mut events = connected(alloc, requests.len())?;
     push_requests(alloc, &mut events, requests, way)?;
     Some(events)
 }
 
-/// The replies to events where these are the bidders.
+/// The replies to events, in an auction with these bidders.
 fn replies_to(alloc: Global, bidders: &str, events: &[Event]) -> Option<EventReplies> {
     let document = document_of(alloc, PUBLIC, bidders).ok()?;
     let setup = setup_of(alloc, document.as_str())?;
     run_events(alloc, setup, Plain, events).ok()
 }
 
-/// The replies to requests that come in a way.
+/// The replies to requests whose bytes come in this order.
 fn replies_in(alloc: Global, bidders: &str, requests: &[Sent], way: Way) -> Option<EventReplies> {
     let events = events_of(alloc, requests, way)?;
     replies_to(alloc, bidders, events.as_slice())
 }
 
-/// Adds a reply.
+/// Adds a reply to a text.
 fn push_reply(alloc: Global, told: &mut String, reply: &Reply) -> Option<()> {
     let reply = String::from_utf8_lossy(alloc, reply.bytes()).ok()?;
     told.push_str(reply.as_str()).ok()
 }
 
-/// The replies to X's own requests among them.
+/// The replies to X's own requests.
 fn own_replies(alloc: Global, requests: &[Sent], replies: &[EventReply]) -> Option<String> {
     let mut told = String::new(alloc);
     for one in replies {
@@ -147,7 +149,7 @@ fn own_replies(alloc: Global, requests: &[Sent], replies: &[EventReply]) -> Opti
     Some(told)
 }
 
-/// What X is told where requests come in a way.
+/// X's replies if the bytes of requests come in this order.
 fn told_in(alloc: Global, bidders: &str, requests: &[Sent], way: Way) -> Option<String> {
     let replies = replies_in(alloc, bidders, requests, way)?;
     let told = own_replies(alloc, requests, replies.as_slice());
@@ -155,7 +157,7 @@ fn told_in(alloc: Global, bidders: &str, requests: &[Sent], way: Way) -> Option<
     told
 }
 
-/// The same in a run.
+/// X's replies in a run whose bytes come in this order.
 fn told_x_in_pieces(alloc: Global, run: Run<'_>, way: Way) -> Option<String> {
     let requests = requests_of(alloc, run.1)?;
     let told = told_in(alloc, run.0, requests.as_slice(), way);
@@ -163,7 +165,7 @@ fn told_x_in_pieces(alloc: Global, run: Run<'_>, way: Way) -> Option<String> {
     told
 }
 
-/// Runs in which X is told the same, and how their bytes come.
+/// Runs in which X sees the same, and the order of their bytes.
 const RUNS: &[(Run<'static>, Way)] = &[
     ((X_AND_Y, BY_Y), Way::Apart),
     ((V_X_AND_W, BY_W), Way::Apart),
@@ -173,7 +175,7 @@ const RUNS: &[(Run<'static>, Way)] = &[
     ((V_X_AND_W, BY_W), Way::InTurn),
 ];
 
-/// However the bytes come, X is told what it is where each request comes whole.
+/// Asserts that X's replies are those to whole requests, in whatever order the bytes come.
 fn is_told_as_whole(rt: &impl Abort, alloc: Global, whole: &str) -> Option<()> {
     for &(run, way) in RUNS {
         let told = told_x_in_pieces(alloc, run, way)?;
@@ -182,7 +184,7 @@ fn is_told_as_whole(rt: &impl Abort, alloc: Global, whole: &str) -> Option<()> {
     Some(())
 }
 
-/// The same of what it is told then.
+/// Asserts [`is_told_as_whole`] for X's replies to whole requests.
 fn are_told_alike(rt: &impl Abort, alloc: Global) -> Option<()> {
     let whole = told_x(alloc, PUBLIC, (X_AND_Y, BY_Y))?;
     is_told_as_whole(rt, alloc, whole.as_str())
