@@ -1,5 +1,5 @@
-//! Runs of the program on bytes in memory. What it answers to each kind of document and words is
-//! compared by the gate on the built program.
+//! Runs of the program on bytes in memory. The gate compares the output for each kind of document
+//! and arguments on the built program.
 use crate::commands::Trouble::{Fault, Nothing, Output, Read, Room};
 use crate::comparing::{assert_is_at, assert_reads_at};
 use crate::played::REPORT;
@@ -9,22 +9,22 @@ use clock_fixtures::ONE_PRODUCT;
 use std::alloc::Global;
 use std::process::Abort;
 
-/// What goes wrong with the streams of a run.
+/// A failure of the streams of a run.
 #[derive(Clone, Copy, Debug)]
 enum Trouble {
     Nothing,
-    /// The third read stops so.
+    /// The third read stops, and why.
     Read(Stop),
-    /// There is room for so many bytes of output.
+    /// Only so much output fits, in bytes.
     Room(usize),
     /// This write of output fails.
     Output(u64),
-    /// This write of a fault fails.
+    /// This write of a fault line fails.
     Fault(u64),
 }
 
-/// How the streams of a run behave: which read stops, and how; how many bytes of output there is room for; and which
-/// write of output fails, and which of a fault.
+/// The streams of a run: the read that stops, and why; the most bytes of output; the write of
+/// output that fails, and the write of a fault line that fails.
 #[derive(Clone, Copy)]
 struct Streams {
     read: Option<(u64, Stop)>,
@@ -33,7 +33,7 @@ struct Streams {
     fault: Option<u64>,
 }
 
-/// Streams with this trouble.
+/// Makes streams with this trouble.
 fn streams_with(trouble: Trouble) -> Streams {
     let (read, room, output, fault) = match trouble {
         Nothing => (None, 200, None, None),
@@ -50,7 +50,7 @@ fn streams_with(trouble: Trouble) -> Streams {
     }
 }
 
-/// What a run answered, printed and showed.
+/// The status of a run, its output, and its fault line.
 #[derive(Drop)]
 struct Ending {
     status: u8,
@@ -58,8 +58,8 @@ struct Ending {
     faults: ListSink,
 }
 
-/// A run of these words on a document, which is read in pieces of 50 bytes and answered in pieces
-/// of 5.
+/// Runs the program with arguments on a document, which is read in pieces of 50 bytes and answered
+/// in pieces of 5.
 fn run(alloc: Global, words: &[&str], document: &str, streams: Streams) -> Option<Ending> {
     let mut reader = ListSource::new(document.as_bytes(), 50, streams.read);
     let mut output = ListSink::new(alloc, streams.room, 5, streams.output).ok()?;
@@ -72,10 +72,10 @@ fn run(alloc: Global, words: &[&str], document: &str, streams: Streams) -> Optio
     })
 }
 
-/// What a run ends with: its status, its output and its fault.
+/// The expected end of a run: its status, its output, and its fault line.
 type Told<'a> = (u8, &'a str, &'a str);
 
-/// Asserts how a run ends.
+/// Asserts the end of a run.
 fn ends(
     rt: &impl Abort,
     alloc: Global,
@@ -94,10 +94,10 @@ fn ends(
     Some(())
 }
 
-/// The words of a run, its document, its trouble, and what it ends with.
+/// A run: its arguments, its document, its trouble, and its end.
 type Run<'a> = (&'a [&'a str], &'a str, Trouble, Told<'a>);
 
-/// Asserts how runs end.
+/// Asserts the ends of runs.
 fn all_end(rt: &impl Abort, alloc: Global, runs: &[Run]) {
     for &(words, document, trouble, told) in runs {
         let done = ends(rt, alloc, words, document, trouble, told);
@@ -105,21 +105,21 @@ fn all_end(rt: &impl Abort, alloc: Global, runs: &[Run]) {
     }
 }
 
-/// The set-up of one product with three blocks asked in round 1, at an increment of 10.
+/// The set-up of one product, with three blocks requested in round 1, and an increment of 10.
 const OPENING: &str = r#"{"setup":{"version":1,"requirement":95,"operator":"OPERATOROPERATOR",
 "products":[{"name":"A","units":1,"supply":2,"cap":2,"opening":100}],
 "bidders":[{"name":"X","token":"XXXXXXXXXXXXXXXX","eligibility":10},
 {"name":"Y","token":"YYYYYYYYYYYYYYYY","eligibility":10}]},"demands":[[2],[1]],"increment":10}"#;
 
-/// The lines of it.
+/// The output for [`OPENING`].
 const OPENED: &str = "round 1\nA 100 100 100 3 110\n";
 
-/// A replay of which the set-up is none.
+/// A replay whose set-up has no fields.
 const NO_SETUP: &str = r#"{"setup":{},"scripts":[],"closings":[]}"#;
 
 const PRICES: &[&str] = &["prices"];
 
-/// The line of the one product.
+/// The output for the set-up of one product.
 const LINE: &str = "A 100 110\n";
 
 /// Runs whose streams never fail.
@@ -160,11 +160,11 @@ fn replay_document(alloc: Global, scripts: &str, closings: &str) -> Option<Strin
 const SINCERE: &str =
     r#"{"kind":"sincere","limits":[[120,115]]},{"kind":"sincere","limits":[[130]]}"#;
 
-/// Three closings, after which these scripts come to an end.
+/// Three closings, which these scripts need to end.
 const CLOSINGS: &str =
     r#"{"increment":10,"ties":[]},{"increment":10,"ties":[]},{"increment":10,"ties":[]}"#;
 
-/// Scripts and closings, and what their replay ends with.
+/// Scripts and closings, and the end of their replay.
 const REPLAYS: &[(&str, &str, Told<'static>)] = &[
     (SINCERE, CLOSINGS, (0, REPORT, "")),
     ("{", CLOSINGS, (1, "", "fault: not_json\n")),
@@ -201,7 +201,7 @@ const REPLAYS: &[(&str, &str, Told<'static>)] = &[
     ),
 ];
 
-/// The replay of scripts and closings ends so.
+/// Asserts the end of the replay of scripts and closings.
 fn replay_ends(
     rt: &impl Abort,
     alloc: Global,
@@ -221,7 +221,7 @@ fn a_replay_has_a_report_or_a_fault(rt: HostRuntime) {
     }
 }
 
-/// Words that are refused with a line that clap writes, whatever it says.
+/// Arguments that are refused with a message that clap writes, whatever it says.
 const OTHER_WORDS: &[&[&str]] = &[
     &["prices", "--increment", "0"],
     &["prices", "--increment", "51"],
@@ -231,7 +231,7 @@ const OTHER_WORDS: &[&[&str]] = &[
     &["--version"],
 ];
 
-/// The status of a run, how many bytes it printed, and whether it showed none.
+/// The status of a run, the number of bytes it printed, and whether it wrote no fault line.
 fn shown(alloc: Global, words: &[&str]) -> Option<(u8, usize, bool)> {
     let run = run(alloc, words, ONE_PRODUCT, streams_with(Nothing))?;
     let (printed, is_silent) = (run.output.bytes().len(), run.faults.bytes().is_empty());
@@ -248,11 +248,11 @@ fn other_words_are_refused(rt: HostRuntime) {
     }
 }
 
-/// The fault of a writer.
+/// The fault line for a writer that fails.
 const NO_OUTPUT: &str = "fault: output\n";
 
-/// A read that is interrupted is tried again, and one that fails is a fault; so is a writer that fails or is full. A
-/// line that cannot be shown leaves the status.
+/// Runs with trouble. A read that is interrupted is tried again. A read that fails is a fault, and
+/// so is a writer that fails or is full. If a fault line can't be written, the status is the same.
 const TROUBLED: &[Run<'static>] = &[
     (PRICES, ONE_PRODUCT, Read(Stop::Interrupted), (0, LINE, "")),
     (

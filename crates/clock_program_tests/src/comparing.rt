@@ -1,5 +1,5 @@
-//! Assertions in functions of their own, each of which is proved once: written out where it is used, one takes as many
-//! states as a whole small test.
+//! Assertions in functions of their own, each of which is proved once. Written out at its use, an
+//! assertion takes as much proof as a whole small test.
 
 use std::fmt::Debug;
 use std::process::Abort;
@@ -9,7 +9,8 @@ pub fn assert_is<T: Copy + PartialEq + Debug>(rt: &impl Abort, value: T, expecte
     assert_eq!(rt; value, expected);
 }
 
-/// Asserts that a value is the one that a row of a table expects. If it is not, the failure names the row.
+/// Asserts that a value is the one that a row of a table expects. If it is not, the failure names
+/// the row.
 pub fn assert_is_at<T: Copy + PartialEq + Debug, R: Copy + Debug>(
     rt: &impl Abort,
     row: R,

@@ -1,4 +1,4 @@
-//! What documents of replays mean.
+//! The meaning of documents of replays.
 use crate::comparing::{assert_is, assert_is_at};
 use clock_device::Text;
 use clock_fixtures::{GRANULES_AND_INCREMENTS, ONE_PRODUCT};
@@ -6,15 +6,15 @@ use clock_setup::{Place, SetupFault};
 use clock_sim::{ScriptFault, read_replay};
 use std::alloc::Global;
 
-/// Scripts of both kinds, as long as they may be.
+/// Scripts of both kinds, at their greatest length.
 const GOOD: &str =
     r#"[{"kind":"literal","sheets":[[{"price":100,"product":0,"quantity":2}],null,[]]},{"limits":[[120,120]],"kind":"sincere"}]"#;
 
-/// The same where each round has a sheet.
+/// The scripts of [`GOOD`], with a sheet in each round.
 const EACH_ROUND: &str =
     r#"[{"kind":"literal","sheets":[[{"price":100,"product":0,"quantity":2}],[]]},{"limits":[[120,120]],"kind":"sincere"}]"#;
 
-/// A script that never puts a sheet, for each of three bidders.
+/// A script without sheets, for each of three bidders.
 const SILENT: &str =
     r#"[{"kind":"literal","sheets":[]},{"kind":"literal","sheets":[]},{"kind":"literal","sheets":[]}]"#;
 
@@ -40,7 +40,7 @@ const BOTH_KEYS: &str = r#"[{"increment":10,"increments":[10],"ties":[]}]"#;
 
 const NEITHER_KEY: &str = r#"[{"ties":[]}]"#;
 
-/// A set-up whose requirement is too low.
+/// A set-up whose activity requirement is too low.
 const LOW: &str =
     r#"{"version":1,"requirement":49,"operator":"OPERATOROPERATOR","products":[],"bidders":[]}"#;
 
@@ -50,7 +50,7 @@ const REQUIREMENT: Option<ScriptFault> = Some(ScriptFault::Setup(SetupFault::Ran
 
 const SHAPE: Option<ScriptFault> = Some(ScriptFault::Shape);
 
-/// The closings, the scripts and the set-up of a document, and its first fault.
+/// The closings, the scripts, and the set-up of a document, and its first fault.
 const ROWS: &[(&str, &str, &str, Option<ScriptFault>)] = &[
     (SINGLE, GOOD, ONE_PRODUCT, None),
     (SINGLE, EACH_ROUND, ONE_PRODUCT, None),
@@ -68,7 +68,7 @@ const ROWS: &[(&str, &str, &str, Option<ScriptFault>)] = &[
     (SINGLE, BOTH_LISTS, LOW, SHAPE),
 ];
 
-/// Pieces of a text, one after the other.
+/// Joins pieces of a text.
 pub fn joined(alloc: Global, pieces: &[&str]) -> Option<Text> {
     let mut text = Text::new(alloc);
     for piece in pieces {
@@ -77,7 +77,7 @@ pub fn joined(alloc: Global, pieces: &[&str]) -> Option<Text> {
     Some(text)
 }
 
-/// A document with these closings, scripts and set-up.
+/// Makes a document with these closings, scripts, and set-up.
 fn document(alloc: Global, closings: &str, scripts: &str, setup: &str) -> Option<Text> {
     joined(
         alloc,
@@ -93,12 +93,12 @@ fn document(alloc: Global, closings: &str, scripts: &str, setup: &str) -> Option
     )
 }
 
-/// Why bytes are no replay, or nothing where they are one.
+/// The fault of bytes that are no replay, or `None` if they are one.
 fn fault_of(alloc: Global, document: &[u8]) -> Option<ScriptFault> {
     read_replay(alloc, document).err()
 }
 
-/// Why a document is refused, or nothing where it is not.
+/// The fault of a document, or `None` if it has none.
 fn fault_of_parts(
     alloc: Global,
     closings: &str,

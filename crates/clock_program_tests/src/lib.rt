@@ -1,5 +1,6 @@
-//! Tests of rehearsals: commands, from their words to what they print, and replays, from their documents to their
-//! reports and faults. They wait for all that plays a replay, and for no tests of the front.
+//! Tests of rehearsals: commands, from their arguments to their output, and replays, from their
+//! documents to their reports and faults. The crate depends on all that plays a replay, and on no
+//! tests of the front.
 #![tactic(auto)]
 
 #[cfg(test)]

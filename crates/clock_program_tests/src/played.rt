@@ -1,4 +1,4 @@
-//! A replay is played, and its report or its first fault is told.
+//! Replays, and their report or first fault.
 
 use crate::comparing::{assert_is_at, assert_reads_at};
 use crate::documents::joined;
@@ -26,11 +26,11 @@ const THREE_CLOSINGS: &str =
 
 const STEEP_CLOSING: &str = r#"[{"increment":51,"ties":[]}]"#;
 
-/// The report where X leaves its two blocks at 120 and 115.
+/// The report if X leaves its two blocks at 120 and 115.
 pub const REPORT: &str =
     "round 1\nA 100 100 100 3 110\nround 2\nA 100 110 110 3 121\nround 3\nA 110 121 115 - -\nwon X 1 115\nwon Y 1 115\n";
 
-/// The text of a report, or the fault in its place.
+/// The text of a report, or the fault instead.
 fn told(alloc: Global, report: Result<Report, SimFault>) -> Result<Text, SimFault> {
     match report {
         Ok(report) => {
@@ -42,18 +42,18 @@ fn told(alloc: Global, report: Result<Report, SimFault>) -> Result<Text, SimFaul
     }
 }
 
-/// How rounds are settled, and what the text is written from.
+/// The processor of the rounds, and the source of the report's text.
 #[derive(Clone, Copy, Debug)]
 enum Settled {
     Woken,
     Rescanned,
-    /// By the event queue, and the text from the auction itself.
+    /// The event queue, with the text from the auction itself.
     Written,
 }
 
 const ALL_WAYS: &[Settled] = &[Settled::Woken, Settled::Rescanned, Settled::Written];
 
-/// What a replay comes to.
+/// Plays a replay. Returns its report or fault.
 fn played(alloc: Global, replay: Replay, settled: Settled) -> Result<Text, SimFault> {
     match settled {
         Settled::Woken => told(alloc, simulate(alloc, &replay)),
@@ -62,7 +62,7 @@ fn played(alloc: Global, replay: Replay, settled: Settled) -> Result<Text, SimFa
     }
 }
 
-/// What a document comes to. Each of these documents is a replay.
+/// Plays the replay of a document. Requires that it is a replay.
 fn outcome(alloc: Global, document: &[u8], settled: Settled) -> Result<Text, SimFault> {
     match read_replay(alloc, document) {
         Ok(replay) => played(alloc, replay, settled),
@@ -70,12 +70,12 @@ fn outcome(alloc: Global, document: &[u8], settled: Settled) -> Result<Text, Sim
     }
 }
 
-/// The first fault of a document, or none.
+/// The first fault of a document, or `None`.
 fn fault_of(alloc: Global, document: &[u8]) -> Option<SimFault> {
     outcome(alloc, document, Settled::Woken).err()
 }
 
-/// A document of one product with these scripts.
+/// Makes a document of one product with these scripts.
 fn with_scripts(alloc: Global, closings: &str, first: &str, second: &str) -> Option<Text> {
     joined(
         alloc,
@@ -93,7 +93,8 @@ fn with_scripts(alloc: Global, closings: &str, first: &str, second: &str) -> Opt
     )
 }
 
-/// A script of X beside Y's, the closings, and the report or the fault: sincere bidders leave at their limits.
+/// A script of X (Y has its own), the closings, and the report or the fault. Sincere bidders leave
+/// at their limits.
 const PLAYED: &[(&str, &str, Result<&str, SimFault>)] = &[
     (FALLING_LIMITS, THREE_CLOSINGS, Ok(REPORT)),
     (FALLING_LIMITS, TWO_CLOSINGS, Err(SimFault::ClosingsSpent)),
@@ -109,7 +110,7 @@ const PLAYED: &[(&str, &str, Result<&str, SimFault>)] = &[
     ),
 ];
 
-/// A script of X, the closings, and how the rounds are settled.
+/// A script of X, the closings, and the way to process rounds.
 type Row<'a> = (&'a str, &'a str, Settled);
 
 /// Asserts the report or the fault of a document that is played in one way.
@@ -125,7 +126,7 @@ fn comes_to(
     }
 }
 
-/// Asserts them of a script of X beside Y's, in each way.
+/// Asserts the report or the fault of a script of X, with Y's, in each way.
 fn script_comes_to(
     rt: &impl Abort,
     alloc: Global,
@@ -149,7 +150,8 @@ fn a_report_or_the_first_fault_is_told(rt: HostRuntime) {
     }
 }
 
-/// Scripts that put a block, and one block too many, as the first of a list and behind another.
+/// Scripts that submit a block, and one block too many, as the first of a list and after another
+/// script.
 const ONE: &str = r#"{"kind":"literal","sheets":[[{"price":100,"product":0,"quantity":1}]]}"#;
 
 const TWO: &str = r#"{"kind":"literal","sheets":[[{"price":100,"product":0,"quantity":2}]]}"#;
@@ -163,7 +165,7 @@ const BEFORE_SCRIPTS: &str = r#"{"closings":[{"increment":10,"ties":[]}],"script
 const BEFORE_BIDDERS: &str =
     r#"],"setup":{"version":1,"requirement":95,"operator":"OPERATOROPERATOR","products":[{"name":"A","units":1,"supply":200,"cap":1,"opening":100}],"bidders":[{"eligibility":1,"name":"B0","token":"TOKENTOKENTOKENS0"}"#;
 
-/// Adds all bidders but the first.
+/// Adds all bidders except the first.
 fn push_bidders(alloc: Global, text: &mut Text) -> Option<()> {
     for number in 1..130 {
         let bidder = format!(in alloc;
@@ -175,11 +177,11 @@ fn push_bidders(alloc: Global, text: &mut Text) -> Option<()> {
     Some(())
 }
 
-/// Scripts of 130 bidders, two groups of 64 and one of two: the first one's, how many put a block, and how many behind
-/// them one too many.
+/// Scripts of 130 bidders, in two groups of 64 and one of two: the first script, the number of
+/// those that submit a block, and the number of those after them that submit too many.
 type Scripts<'a> = (&'a str, usize, usize);
 
-/// Adds a piece so often.
+/// Adds a piece `times` times.
 fn push_times(text: &mut Text, piece: &str, times: usize) -> Option<()> {
     for _ in 0..times {
         text.extend_from_slice(piece.as_bytes()).ok()?;
@@ -187,7 +189,7 @@ fn push_times(text: &mut Text, piece: &str, times: usize) -> Option<()> {
     Some(())
 }
 
-/// Pieces of a text one after the other, each so often.
+/// Makes a text of pieces, each with the number of its repetitions.
 fn repeated(alloc: Global, pieces: &[(&str, usize)]) -> Option<Text> {
     let mut text = Text::new(alloc);
     for &(piece, times) in pieces {
@@ -196,7 +198,7 @@ fn repeated(alloc: Global, pieces: &[(&str, usize)]) -> Option<Text> {
     Some(text)
 }
 
-/// A document of a round with their sheets.
+/// Makes a document of a round with these scripts.
 fn many_sheets(alloc: Global, scripts: Scripts<'_>) -> Option<Text> {
     let (first, good, faulty) = scripts;
     let pieces = [
@@ -212,7 +214,7 @@ fn many_sheets(alloc: Global, scripts: Scripts<'_>) -> Option<Text> {
     Some(text)
 }
 
-/// Scripts, and the fault of the first one that puts a block too many.
+/// Scripts, and the fault of the first one that submits a block too many.
 const GROUPS: &[(Scripts<'static>, Option<SimFault>)] = &[
     ((TWO, 0, 129), Some(SimFault::Refused(0, 1, Code::OverCap))),
     ((ONE, 0, 129), Some(SimFault::Refused(1, 1, Code::OverCap))),
@@ -225,7 +227,7 @@ const GROUPS: &[(Scripts<'static>, Option<SimFault>)] = &[
     ((ONE, 129, 0), None),
 ];
 
-/// The first fault of a document that could be made, or none.
+/// The first fault of a document, or `None`. Returns `None` too if it could not be allocated.
 fn fault_in(alloc: Global, document: Option<Text>) -> Option<Option<SimFault>> {
     let document = document?;
     Some(fault_of(alloc, document.as_slice()))
@@ -239,12 +241,13 @@ fn groups_are_answered_in_the_order_of_the_bidders(rt: HostRuntime) {
     }
 }
 
-/// A script whose sheet has a bid more than those behind it.
+/// The beginning of a script, up to the first bid of its sheet.
 const LONG: &str = r#",{"kind":"literal","sheets":[[{"price":100,"product":0,"quantity":1}"#;
 
 const ONE_BID: &str = r#",{"price":100,"product":0,"quantity":1}"#;
 
-/// A document with a script of X where Y's sheet has bids enough for a body that is too long.
+/// Makes a document with a script of X, in which Y's sheet has bids enough for a body that is too
+/// long.
 fn before_long(alloc: Global, script: &str) -> Option<Text> {
     repeated(
         alloc,
@@ -260,7 +263,7 @@ fn before_long(alloc: Global, script: &str) -> Option<Text> {
     )
 }
 
-/// A script of X where Y's sheet is too long, and the fault.
+/// A script of X, with a sheet of Y that is too long, and the fault.
 const BEFORE: &[(&str, SimFault)] = &[
     (FALLING_LIMITS, SimFault::Refused(1, 1, Code::LongBody)),
     (OVER_CAP, SimFault::Refused(0, 1, Code::OverCap)),
