@@ -1,9 +1,9 @@
-//! Answers groups of texts, and prints of each group its name, how many texts it has, the nanoseconds that all their
-//! answers took, and how many replies were not 200 OK.
+//! Answers groups of requests. Prints for each group its name, the number of requests, the nanoseconds that all answers
+//! took, and the number of replies that were not 200 OK.
 //! Uses: clock_front clock_bodies clock_queue clock_views clock_house clock_posting clock_processor clock_order clock_bids clock_setup clock_money clock_device anyhow
 //!
-//! The input is parts that end where the next begins with the byte 1: the processor's name, a set-up document, and
-//! groups. A group is its name and its texts, each behind a byte 0.
+//! The input is parts with a byte 1 between them: the processor's name, a set-up document, and groups. A group is its
+//! name and its requests, with a byte 0 between them.
 #![tactic(auto)]
 
 use clock_front::Front;
@@ -14,7 +14,7 @@ use std::alloc::Global;
 use std::io::Read;
 use std::time::{Clock, Instant};
 
-/// Answers texts in turn, and counts the replies that are not 200 OK.
+/// Answers requests in turn, and counts the replies that are not 200 OK.
 fn answer_all<P: Processor>(front: &mut Front<P>, texts: &[&str]) -> u64 {
     let mut others = 0u64;
     for text in texts {
@@ -26,7 +26,7 @@ fn answer_all<P: Processor>(front: &mut Front<P>, texts: &[&str]) -> u64 {
     others
 }
 
-/// The texts of a group behind its name.
+/// The name of a group and its requests.
 fn texts_of<'a>(alloc: Global, group: &'a str) -> anyhow::Result<Vec<&'a str>> {
     let mut texts = Vec::new(alloc);
     for text in group.split('\0') {
@@ -35,7 +35,7 @@ fn texts_of<'a>(alloc: Global, group: &'a str) -> anyhow::Result<Vec<&'a str>> {
     Ok(texts)
 }
 
-/// Answers the texts of a group, and prints its figures.
+/// Answers the requests of a group, and prints its figures.
 fn play<R: Print + Clock, P: Processor>(
     rt: &R,
     alloc: Global,
@@ -52,7 +52,7 @@ fn play<R: Print + Clock, P: Processor>(
     Ok(())
 }
 
-/// Answers the groups of a document by a front of its own.
+/// Opens a front for a set-up document, and answers the groups.
 fn play_all<R: Print + Clock, P: Processor>(
     rt: &R,
     alloc: Global,

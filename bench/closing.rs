@@ -1,4 +1,4 @@
-//! Settles two rounds in which requests wait for each other, and prints how often the event queue tests for room.
+//! Processes two rounds in which requests wait for each other, and prints the number of tests of a request's room.
 //! Uses: clock_queue clock_processor clock_setup clock_terms clock_money clock_device anyhow
 #![tactic(auto)]
 
@@ -11,7 +11,7 @@ use std::alloc::Global;
 use std::io::Read;
 use std::time::Instant;
 
-/// A request at a price between start and clock price.
+/// A request at a price between the start-of-round price and the clock price.
 fn change(bidder: usize, product: usize, kind: Kind, amount: u64) -> Change {
     Change {
         bidder: bidder as u32,
@@ -24,13 +24,15 @@ fn change(bidder: usize, product: usize, kind: Kind, amount: u64) -> Change {
     }
 }
 
-/// Whether a bidder gives a product up.
+/// Whether a bidder gives up all blocks of a product.
 fn gives_up(bidder: usize, product: usize) -> bool {
     (bidder + product) % 2 == 1
 }
 
-/// Each bidder holds the same number of blocks of each product, and bidder 1 one more of product 0. So only one block may
-/// be given up, which pays for one block of another product, of which another bidder may then give one up, and so on.
+/// A round in which one application makes room for the next.
+///
+/// Each bidder has an equal number of blocks of each product, and bidder 1 has one more of product 0. So only one block
+/// can be given up. It pays for one block of another product, of which another bidder can then give one up.
 fn passed_on(alloc: Global, setup: &Setup) -> anyhow::Result<(Grid, Changes)> {
     let (bidders, products) = (setup.bidders.as_slice().len(), setup.products.as_slice().len());
     let held = setup.products.as_slice()[0].supply / bidders as u64;
@@ -55,8 +57,10 @@ fn passed_on(alloc: Global, setup: &Setup) -> anyhow::Result<(Grid, Changes)> {
     Ok((grid, changes))
 }
 
-/// Each bidder holds 1 to 4 blocks of each product, gives all of every second product up, and wants two more of the
-/// others. The requests are in no order of bidders or products.
+/// A round whose requests are in no order of bidders or products.
+///
+/// Each bidder has 1 to 4 blocks of each product, gives up all blocks of every second product, and asks for two more of
+/// the others.
 fn scattered(alloc: Global, setup: &Setup) -> anyhow::Result<(Grid, Changes)> {
     let (bidders, products) = (setup.bidders.as_slice().len(), setup.products.as_slice().len());
     let mut grid = Grid::zero(alloc, setup)?;
@@ -75,7 +79,7 @@ fn scattered(alloc: Global, setup: &Setup) -> anyhow::Result<(Grid, Changes)> {
     Ok((grid, changes))
 }
 
-/// What each bidder's demands take: nobody has eligibility left.
+/// The activity of each bidder's demands, as its eligibility: no bidder has unused eligibility.
 fn taken(alloc: Global, setup: &Setup, grid: &Grid) -> anyhow::Result<Amounts> {
     let mut amounts = Amounts::new(alloc);
     for bidder in 0..setup.bidders.as_slice().len() {

@@ -1,4 +1,4 @@
-//! Times the order of processing: 500,000 changes with 16,384 tie numbers.
+//! Times the order of processing: 500,000 changes with 16,384 tie-breaking numbers.
 //! Uses: clock_order clock_setup clock_terms clock_money clock_device anyhow
 #![tactic(auto)]
 
@@ -10,7 +10,7 @@ use std::alloc::Global;
 use std::io::Read;
 use std::time::Instant;
 
-/// Changes of 500 bidders for 1,000 products each, at scattered points.
+/// Changes of 500 bidders for 1,000 products each, at scattered price points.
 fn changes(alloc: Global) -> anyhow::Result<Changes> {
     let mut changes = Changes::new(alloc);
     for bidder in 0..500u32 {
@@ -31,7 +31,7 @@ fn changes(alloc: Global) -> anyhow::Result<Changes> {
     Ok(changes)
 }
 
-/// As many tie numbers as may be listed.
+/// The most tie-breaking numbers that a closing can list.
 fn ties(alloc: Global) -> anyhow::Result<Vec<Tie>> {
     let mut ties = Vec::new(alloc);
     for i in 0..16_384u64 {

@@ -1,9 +1,9 @@
-//! Feeds groups of texts to a hub in pieces, all groups one after the other and this nine times, and prints of each group its
-//! name, how many texts it has, the nanoseconds that they all took, and how many replies were not 200 OK.
+//! Feeds groups of requests to a hub in pieces, all groups one after the other, nine times. Prints for each group its
+//! name, the number of requests, the nanoseconds that all took, and the number of replies that were not 200 OK.
 //! Uses: clock_front clock_bodies clock_queue clock_views clock_house clock_posting clock_processor clock_order clock_bids clock_setup clock_money clock_device anyhow
 //!
-//! The input is parts that end where the next begins with the byte 1: a set-up document, and groups. A group is its name, how
-//! many bytes a piece has, over how many connections texts are fed in turn, and its texts, each behind a byte 0.
+//! The input is parts with a byte 1 between them: a set-up document, and groups. A group is its name, the bytes of a
+//! piece, the connections over which requests are fed in turn, and its requests, with a byte 0 between them.
 #![tactic(auto)]
 
 use clock_front::{Conn, Fed, Front, Hub, HubFault};
@@ -15,10 +15,10 @@ use std::io::Read;
 use std::slice;
 use std::time::{Clock, Instant};
 
-/// How often all groups are played.
+/// The number of times that all groups are fed.
 const TAKES: usize = 9;
 
-/// A connection for each of some texts.
+/// Opens `count` connections.
 fn connect_all<P: Processor>(
     alloc: Global,
     hub: &mut Hub<P>,
@@ -31,7 +31,7 @@ fn connect_all<P: Processor>(
     Ok(conns)
 }
 
-/// Feeds one piece, and tells whether a reply came that is not 200 OK.
+/// Feeds one piece. Returns whether there is a reply that is not 200 OK.
 #[inline(always)]
 fn feed_piece<P: Processor>(hub: &mut Hub<P>, conn: Conn, piece: &[u8]) -> Result<bool, HubFault> {
     match hub.feed(conn, piece)? {
@@ -40,8 +40,8 @@ fn feed_piece<P: Processor>(hub: &mut Hub<P>, conn: Conn, piece: &[u8]) -> Resul
     }
 }
 
-/// Feeds a text over a connection of its own byte by byte, and tells whether a reply came that is not 200 OK. It stands apart,
-/// so that its loop has the registers to itself.
+/// Feeds a request over a connection of its own byte by byte. Returns whether there is a reply that is not 200 OK. It
+/// is a function of its own, so that its loop has the registers to itself.
 #[inline(never)]
 fn feed_bytes<P: Processor>(hub: &mut Hub<P>, text: &str) -> Result<bool, HubFault> {
     let conn = hub.connect()?;
@@ -53,7 +53,7 @@ fn feed_bytes<P: Processor>(hub: &mut Hub<P>, text: &str) -> Result<bool, HubFau
     Ok(false)
 }
 
-/// Feeds a text over a connection of its own, and tells whether a reply came that is not 200 OK.
+/// Feeds a request over a connection of its own. Returns whether there is a reply that is not 200 OK.
 fn feed_alone<P: Processor>(hub: &mut Hub<P>, text: &str, size: usize) -> Result<bool, HubFault> {
     if size == 1 {
         return feed_bytes(hub, text);
@@ -67,13 +67,13 @@ fn feed_alone<P: Processor>(hub: &mut Hub<P>, text: &str, size: usize) -> Result
     Ok(false)
 }
 
-/// The piece of a text from a place on.
+/// The piece of a text at an index.
 fn piece_at(text: &str, place: usize, size: usize) -> Option<&[u8]> {
     let bytes = text.as_bytes();
     bytes.get(place..place.saturating_add(size).min(bytes.len()))
 }
 
-/// Feeds the next piece of each text that has one, and counts the replies that are not 200 OK.
+/// Feeds the next piece of each request that has one, and counts the replies that are not 200 OK.
 fn feed_turn<P: Processor>(
     hub: &mut Hub<P>,
     conns: &[Conn],
@@ -101,7 +101,7 @@ fn longest(texts: &[&str]) -> usize {
     length
 }
 
-/// Feeds texts in turn, each over a connection of its own.
+/// Feeds requests in turn, each over a connection of its own.
 fn feed_together<P: Processor>(
     alloc: Global,
     hub: &mut Hub<P>,
@@ -116,7 +116,7 @@ fn feed_together<P: Processor>(
     Ok(others)
 }
 
-/// Feeds so many texts at a time.
+/// Feeds requests over `together` connections at a time.
 fn feed_all<P: Processor>(
     alloc: Global,
     hub: &mut Hub<P>,
@@ -146,7 +146,7 @@ fn parts_of<'a>(alloc: Global, group: &'a str) -> anyhow::Result<Vec<&'a str>> {
     Ok(parts)
 }
 
-/// Feeds the texts of a group, and prints its figures.
+/// Feeds the requests of a group, and prints its figures.
 fn play<R: Print + Clock, P: Processor>(
     rt: &R,
     alloc: Global,
@@ -165,7 +165,7 @@ fn play<R: Print + Clock, P: Processor>(
     Ok(())
 }
 
-/// Plays the groups one after the other.
+/// Feeds the groups one after the other.
 fn play_all<R: Print + Clock, P: Processor>(
     rt: &R,
     alloc: Global,
@@ -178,13 +178,13 @@ fn play_all<R: Print + Clock, P: Processor>(
     Ok(())
 }
 
-/// A front of a set-up document.
+/// Opens a front for a set-up document.
 fn opened(alloc: Global, document: &str) -> anyhow::Result<Front<Woken>> {
     let setup = read_setup(alloc, document.as_bytes())?;
     Ok(Front::new(alloc, setup, Woken)?)
 }
 
-/// Plays the groups of an input. No other function lets a hub go, since each that does so proves it anew.
+/// Feeds the groups of an input. Only here is a hub dropped, since each function that drops one is proved at length.
 fn play_input<R: Print + Clock>(rt: &R, alloc: Global, input: &[&str]) -> anyhow::Result<()> {
     let Some((document, groups)) = input.split_first() else {
         return Ok(());

@@ -1,4 +1,4 @@
-"""What the scripts that time a program of this folder share: the program is built over a copy of the crates."""
+"""Builds a program of this folder over a copy of the crates, and runs it on requests."""
 import pathlib
 import shutil
 import subprocess
@@ -20,7 +20,7 @@ def build(name, work):
     for folder, file, text in [("src", "main.rt", source), ("specs", "Lib.antt", ""), ("proofs", "Lib.antt", "")]:
         (crate / folder).mkdir(parents=True)
         (crate / folder / file).write_text(text)
-    # without input each program ends well, with nothing done
+    # without input, each program does nothing and ends with status 0
     built = subprocess.run(["rt", "run"], cwd=crate, stdin=subprocess.DEVNULL, stdout=subprocess.DEVNULL)
     if built.returncode != 0:
         sys.exit(built.returncode)
@@ -28,7 +28,7 @@ def build(name, work):
 
 
 def setup_document(products, bidders):
-    """A set-up document of so many products and bidders."""
+    """A set-up document with these numbers of products and bidders."""
     made = subprocess.run(
         [TOP / "bench" / "setup_document", str(products), str(bidders)], capture_output=True, check=True
     )
@@ -41,7 +41,7 @@ def sent(line, token, value):
 
 
 def put(bidder, number, bids):
-    """A bidder's sheet, of its quantities and prices."""
+    """A bidder's sheet with these quantities and prices, one for each product."""
     bids = [
         {"price": price, "product": product, "quantity": quantity} for product, (quantity, price) in enumerate(bids)
     ]
@@ -49,7 +49,7 @@ def put(bidder, number, bids):
 
 
 def figures(program, parts):
-    """Runs the program on its input: for each group a name, a count, nanoseconds, and how many replies were others."""
+    """Runs the program. Yields for each group its name, a count, nanoseconds, and the replies that were not 200 OK."""
     done = subprocess.run([program], input="\1".join(parts).encode(), stdout=subprocess.PIPE, check=True)
     for line in done.stdout.decode().splitlines():
         name, count, nanoseconds, others = line.split("\t")

@@ -1,4 +1,4 @@
-"""What the scripts that time a server share: the server, and what it used."""
+"""A server that is timed, with the processor time and the memory that it uses."""
 import os
 import pathlib
 import sys
@@ -13,7 +13,7 @@ from trial import Failed, ensure
 
 
 class Served(Server):
-    """A server that is timed. `start` is how long it took to be ready."""
+    """A server that is timed. `start` is the seconds until it was ready."""
 
     def __init__(self, program, setup, connections, journal=None):
         begun = time.monotonic()
@@ -22,24 +22,24 @@ class Served(Server):
         self.start = time.monotonic() - begun
 
     def send(self, text, seconds=60):
-        """The reply to a text that is accepted."""
+        """The reply to a request. Fails unless it is 200 OK."""
         reply = reply_to(self.port, text, seconds=seconds)
         ensure("a text is accepted", reply.startswith(b"HTTP/1.1 200"), reply)
         return reply
 
     def processor(self):
-        """Seconds of the processor so far, of the one thread that a server is."""
+        """The processor seconds of the server's only thread so far."""
         return int(pathlib.Path(f"/proc/{self.child.pid}/schedstat").read_text().split()[0]) / 1e9
 
     def memory(self, name):
-        """Bytes that /proc has under a name: VmHWM is the most so far, VmRSS now, VmPeak the most of address space."""
+        """Bytes of a field of /proc: VmHWM is the most so far, VmRSS now, VmPeak the most of address space."""
         for line in pathlib.Path(f"/proc/{self.child.pid}/status").read_text().splitlines():
             if line.startswith(f"{name}:"):
                 return int(line.split()[1]) * 1024
         raise Failed(f"/proc has no {name}")
 
     def spent(self):
-        """Seconds of the processor that it took, once it has ended by itself."""
+        """Waits until the server ends by itself. Returns its processor seconds."""
         _pid, status, used = os.wait4(self.child.pid, 0)
         self.child.returncode = status
         ensure("the server ended well", status == 0, status)

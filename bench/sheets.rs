@@ -1,4 +1,4 @@
-//! Times the judging of a full sheet: 8,192 bids, two for each of 4,096 products.
+//! Times the checks and the requests of a full sheet: 8,192 bids, two for each of 4,096 products.
 //! Uses: clock_bids clock_money clock_setup clock_device anyhow
 #![tactic(auto)]
 
