@@ -3,3 +3,4 @@ mod TakenTexts
 mod Untouched
 mod KeptLaws
 pub mod TakenUp
+pub mod AcceptedLaws

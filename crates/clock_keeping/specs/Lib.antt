@@ -1,3 +1,4 @@
 pub mod Keeping
 pub mod Starts
+pub mod Accepted
 pub mod inside

@@ -6,8 +6,8 @@
 --         behind its texts
 --     HasResumed digest texts least journal house      journal and auction have the first of the texts, so many at least
 --     IsOwn told      the fault is none of a journal's own file
---     IsUntouched old new told      a file that is refused is as it was
-use Rattle.std.specs.Prelude.{◌≡◌, ◌≤◌, ◌++◌, ℕ, List, [], drop, length, take}
+--     IsLeftBy old new fault      what a call that did not resume has done to the file
+use Rattle.std.specs.Prelude.{◌≡◌, ◌≤◌, ◌++◌, ℕ, List, [], drop, length, take, true}
 use Rattle.clock_terms.specs.Limits.{SetupFields}
 use Rattle.clock_house.specs.House.{HouseFields}
 use Rattle.clock_journal.specs.Format.{head_length}
@@ -40,10 +40,11 @@ IsNotGoingOn setup digest bytes house count (Refused fault) =
     × IsRefusedRightly (IsRefused setup) (λ past. past ≡ []) digest (drop head_length bytes) (length bytes) fault
 IsNotGoingOn setup digest bytes house count Failed = (recovered : Recovered) × IsTakenUp digest bytes recovered house count
 
--- of a file that is refused no call was made: nothing that contracts see of it, or of its moments, has changed
-abbrev pub IsUntouched : JournalState → JournalState → GoOnFault → Type 0
-IsUntouched old new (Refused fault) = new ≡ old
-IsUntouched old new Failed = Unit {0}
+-- no call was made on a refused file: neither its bytes nor its moments have changed. Otherwise a
+-- call of the disk has failed
+abbrev pub IsLeftBy : JournalState → JournalState → GoOnFault → Type 0
+IsLeftBy old new (Refused fault) = new ≡ old
+IsLeftBy old new Failed = new.has_failed ≡ true
 
 -- the journal has the first of these texts, so many of them at least, all on its disk; and the auction stands for them
 pub record HasResumed (digest : List ℕ) (texts : List (List ℕ)) (least : ℕ) (journal : JournalState) (house : HouseFields) : Type 0 where

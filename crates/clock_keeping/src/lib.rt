@@ -5,7 +5,9 @@
 #![tactic(auto)]
 
 mod keeping;
+mod starts;
 mod taking;
 
 pub use keeping::{Keeper, Unkept};
+pub use starts::law_of_starts;
 pub use taking::{Auction, GoOnFault, go_on, take_text, take_up};

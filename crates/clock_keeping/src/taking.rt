@@ -5,7 +5,7 @@ ghost use Rattle.clock_journal.specs.Recovering.{IsBehind, IsRefusal, IsRefusedR
 ghost use Rattle.clock_terms.specs.Limits.{SetupFields};
 ghost use Rattle.clock_front.specs.{Effects.{effect as effect_of}, Fronts.{StandsForTexts}};
 ghost use Rattle.clock_keeping.specs.Keeping.{HasTakenUp, IsRefused, IsTakenUp, counted};
-ghost use Rattle.clock_keeping.specs.Starts.{HasResumed, HasTakenUpFirst, IsGoingOn, IsNotGoingOn, IsOwn, IsUntouched};
+ghost use Rattle.clock_keeping.specs.Starts.{HasResumed, HasTakenUpFirst, IsGoingOn, IsNotGoingOn, IsLeftBy, IsOwn};
 ghost use Rattle.clock_keeping.specs.inside.Taken.{taken_as, untaken_as};
 
 use clock_front::{Effect, Front, frame};
@@ -109,13 +109,17 @@ pub enum GoOnFault {
     Failed,
 }
 
-/// Takes an auction up from all bytes of a journal's disk, whatever kind of disk it is, and goes on with the journal
-/// there. The journal was made for the digest of a set-up document. How it was taken up is told before the disk is
-/// changed.
+/// Replays all texts of a journal's file into an auction, and continues with that journal, on any
+/// kind of disk. The journal was made for the digest of a set-up document. `tell` is called with
+/// what was recovered before the disk is changed.
 ///
-/// `resumed`: what a stop has left of this auction's journal is gone on with, all texts that were told among it, and no
-/// fault of the file is told. A file that is refused is as it was. `crash`, `any_tail`: if a stop before this leaves the texts that were told, so
-/// does a stop at any moment of it, at `Err` too.
+/// `resumed`: what a crash left of this auction's journal is resumed, with every text that was on
+/// the disk. It is never reported as unknown, as of another set-up, or as damaged.
+///
+/// `refused`: a refused file is not changed. `Failed` means that a call of the disk has failed.
+///
+/// `crash`, `any_tail`: if a crash before this call leaves all texts that were on the disk, so does
+/// a crash at any moment of it, also if it fails.
 pub fn go_on<P: Processor, D: Durable, F: FnOnce(Recovered)>(
     auction: &mut Auction<P>,
     journal: &mut Journal<D>,
@@ -132,7 +136,7 @@ pub fn go_on<P: Processor, D: Durable, F: FnOnce(Recovered)>(
     ensures resumed { (texts : List (List ℕ)) (least : ℕ) → journal.old.written ≡ Some bytes.now
         → LeavesJournal journal.old.chain bytes.now texts least → MatchResult result
         (λ _. HasResumed journal.old.chain texts least journal.new auction.new.front) IsOwn }
-    ensures refused { IfErr result (IsUntouched journal.old journal.new) }
+    ensures refused { IfErr result (IsLeftBy journal.old journal.new) }
     ensures crash { (synced : List ℕ) (texts : List (List ℕ)) (least : ℕ)
         → journal.old.written ≡ Some bytes.now → journal.old.synced ≡ Some synced
         → StaysSo journal.old journal.new (λ left. LeavesJournal journal.old.chain left texts least) }

@@ -1,11 +1,12 @@
 use Rattle.std.proofs.Common.{◌≡◌, ℕ, List, Result, Ok, Err, IfErr, MatchResult, OnOk, sym, subst, take, rules}
+use Rattle.std.specs.Prelude.{is_err}
 use Rattle.std.specs.Result.{result_or}
 use Rattle.clock_journal.specs.Crash.{BeginsWithTexts, LeavesJournal, StaysSo}
 use Rattle.clock_journal.specs.Kept.{HasTexts, JournalState}
 use Rattle.clock_journal.specs.Recovering.{IsPlaced}
 use Rattle.clock_journal.proofs.Passing.{leave_none}
 use Rattle.clock_keeping.specs.Keeping.{HasTakenUp, IsTakenUp}
-use Rattle.clock_keeping.specs.Starts.{HasResumed, IsGoingOn, IsOwn, IsUntouched}
+use Rattle.clock_keeping.specs.Starts.{HasResumed, IsGoingOn, IsLeftBy, IsOwn}
 use Rattle.clock_keeping.specs.declared.taking.GoOnFault.TheVariants.{Failed}
 use Rattle.clock_keeping.proofs.taking.go_on.Goals as goal
 
@@ -19,10 +20,11 @@ with_fact : {T E : Type 0} (result : Result T E) (P Q : Type 0) → OnOk result 
 with_fact (Ok answer) P Q holds then_ = then_ holds
 with_fact (Err refused) P Q holds then_ = tt
 
--- a call that failed is not told as a refusal
-failed_only : {T E : Type 0} (result : Result T E) (old new : JournalState) → IfErr (result_or result (Err Failed)) (IsUntouched old new)
-failed_only (Ok answer) old new = tt
-failed_only (Err refused) old new = tt
+-- a call that failed is not told as a refusal, and the disk has failed
+failed_only : {T E : Type 0} (result : Result T E) (old new : JournalState) → new.has_failed ≡ is_err result
+    → IfErr (result_or result (Err Failed)) (IsLeftBy old new)
+failed_only (Ok answer) old new failed = tt
+failed_only (Err refused) old new failed = failed
 
 pub returns-clause-in_step : goal.returns-clause-in_step
 returns-clause-in_step g c written =
@@ -80,7 +82,8 @@ returns-in_err-recovered-clause-resumed g c texts least written leaves =
     )
 
 pub returns-clause-refused : goal.returns-clause-refused
-returns-clause-refused g c = rw c.or.ensures (failed_only c.resume.result c.args.journal.now c.resume.new.self)
+returns-clause-refused g c =
+    rw c.or.ensures (failed_only c.resume.result c.args.journal.now c.resume.new.self c.resume.ensures.failed)
 
 pub returns-clause-crash : goal.returns-clause-crash
 returns-clause-crash g c synced texts least written on_disk =

@@ -1,0 +1,46 @@
+-- An auction's own journal: it has only texts that the auction accepted.
+--     AreAccepted setup past texts      each text is accepted after the texts before it
+--     IsOwnFile setup digest texts least journal      a crash leaves the first of these accepted
+--         texts, at least `least`
+--     IsNotRefused fault      memory ran out, or a call of the disk has failed
+--     OwnStarts      a start on an auction's own file fails for no other reason
+use Rattle.std.specs.Prelude.{◌≡◌, ℕ, List, [], ◌∷◌, true}
+use Rattle.clock_terms.specs.Limits.{SetupFields}
+use Rattle.clock_house.specs.House.{HouseFields}
+use Rattle.clock_journal.specs.Crash.{LeavesJournal}
+use Rattle.clock_journal.specs.Disks.{MayBeLeft}
+use Rattle.clock_journal.specs.Kept.{JournalState}
+use Rattle.clock_journal.specs.declared.recovery.JournalFault.TheVariants.{NoMemory}
+use Rattle.clock_keeping.specs.Keeping.{IsAccepted}
+use Rattle.clock_keeping.specs.Starts.{IsNotGoingOn, IsOwn}
+use Rattle.clock_keeping.specs.declared.taking.GoOnFault.{GoOnFault}
+use Rattle.clock_keeping.specs.declared.taking.GoOnFault.TheVariants.{Refused, Failed}
+
+-- each of the texts, the oldest first, is accepted after the past, the newest first, and the texts
+-- before it
+abbrev pub AreAccepted : SetupFields → List (List ℕ) → List (List ℕ) → Type 0
+AreAccepted setup past [] = Unit {0}
+AreAccepted setup past (text ∷ texts) =
+    IsAccepted setup past text × AreAccepted setup (text ∷ past) texts
+
+-- whatever a crash leaves of the file reads as the first of these accepted texts, at least `least`
+-- of them
+pub record IsOwnFile (setup : SetupFields) (digest : List ℕ) (texts : List (List ℕ)) (least : ℕ)
+    (journal : JournalState) : Type 0 where
+  pub accepted : AreAccepted setup [] texts
+  pub leaves : (left : List ℕ) → MayBeLeft journal.synced journal.written left
+      → LeavesJournal digest left texts least
+
+-- memory ran out, or a call of the disk has failed
+abbrev pub IsNotRefused : GoOnFault → Type 0
+IsNotRefused (Refused NoMemory) = Unit {0}
+IsNotRefused (Refused fault) = ⊥
+IsNotRefused Failed = Unit {0}
+
+-- if a crash left the journal of accepted texts, each fault that a start may report is of memory or
+-- of the disk
+abbrev pub OwnStarts : Type 0
+OwnStarts = (setup : SetupFields) (digest bytes : List ℕ) (texts : List (List ℕ)) (least : ℕ)
+    (house : HouseFields) (count : ℕ) (fault : GoOnFault) → AreAccepted setup [] texts
+    → LeavesJournal digest bytes texts least → IsOwn fault
+    → IsNotGoingOn setup digest bytes house count fault → IsNotRefused fault
