@@ -12,7 +12,7 @@ use std::marker::Model;
 const BLOCK: usize = 64;
 
 /// Above each limit: the cost of what is no more to be found.
-const SPENT: u64 = u64::MAX;
+const SPENT: u32 = u32::MAX;
 
 /// Costs in a row. Contracts see them alone.
 ///
@@ -21,8 +21,8 @@ const SPENT: u64 = u64::MAX;
 /// over together. Up to four costs and the bound of the first block ask for no memory.
 #[derive(Drop)]
 pub(crate) struct Costs {
-    costs: SmallVec<u64, 4>,
-    bounds: SmallVec<u64, 1>,
+    costs: SmallVec<u32, 4>,
+    bounds: SmallVec<u32, 1>,
     passed: usize,
 }
 
@@ -47,7 +47,7 @@ impl Costs {
     }
 
     /// Adds a cost at the end.
-    pub(crate) fn push(&mut self, cost: u64) -> Result<(), NoMemory>
+    pub(crate) fn push(&mut self, cost: u32) -> Result<(), NoMemory>
         ensures ok { OnOk result (self.new ≡ self.old ++ cost ∷ []) }
         ensures err { OnErr result (self.new ≡ self.old) }
     {
@@ -75,7 +75,7 @@ impl Costs {
     }
 
     /// The place of the first cost within a limit.
-    pub(crate) fn first_within(&self, limit: u64) -> Option<usize>
+    pub(crate) fn first_within(&self, limit: u32) -> Option<usize>
         requires { limit < spent }
         ensures found { IfSome result (IsFirstWithin self.now limit) }
         ensures none { IfNone result (All (λ cost. limit < cost) self.now) }
@@ -92,7 +92,7 @@ impl Costs {
 }
 
 /// The place of the first cost of a block within a limit.
-fn first_in(costs: &[u64], block: usize, limit: u64) -> Option<usize>
+fn first_in(costs: &[u32], block: usize, limit: u32) -> Option<usize>
     requires { BLOCK * block ≤ length costs.now }
     ensures within { IfSome result (λ place. (place < length costs.now) × (slice_index costs.now place ≤ limit)) }
     ensures before { IfSome result (λ place. AreAbove limit costs.now (BLOCK * block) place) }
@@ -108,7 +108,7 @@ fn first_in(costs: &[u64], block: usize, limit: u64) -> Option<usize>
 }
 
 /// A bound for a block: none of its costs is below.
-fn least_in(costs: &[u64], block: usize) -> u64
+fn least_in(costs: &[u32], block: usize) -> u32
     requires { BLOCK * block ≤ length costs.now }
     ensures { AreFrom result costs.now (BLOCK * block) (BLOCK * block + BLOCK) }
 {

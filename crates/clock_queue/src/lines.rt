@@ -20,7 +20,7 @@ use std::marker::Model;
 /// each costs. Those of which nothing is left are passed over. Up to four requests ask for no memory.
 #[derive(Drop)]
 pub(crate) struct Line {
-    places: SmallVec<usize, 4>,
+    places: SmallVec<u32, 4>,
     costs: Costs,
 }
 
@@ -44,16 +44,19 @@ impl Line {
     }
 
     /// Adds a request at the end.
-    pub(crate) fn add(&mut self, place: usize, cost: u64) -> Result<(), NoMemory>
+    pub(crate) fn add(&mut self, place: usize, cost: u32) -> Result<(), NoMemory>
         ensures { OnOk result (self.new ≡ lines.with_waiting self.old place cost) }
     {
+        let Ok(place) = u32::try_from(place) else {
+            return Err(NoMemory);
+        };
         self.places.push(place)?;
         self.costs.push(cost)?;
         Ok(())
     }
 
     /// The first request of which something is left, and of which a block costs no more than the limit.
-    pub(crate) fn first_waiting(&mut self, left: &[u64], limit: u64) -> Option<usize>
+    pub(crate) fn first_waiting(&mut self, left: &[u64], limit: u32) -> Option<usize>
         requires limit { limit < spent }
         requires places { All (λ place. place < length left.now) self.old.places }
         ensures spent { lines.IsSpent left.now self.old self.new }
@@ -61,7 +64,7 @@ impl Line {
         ensures none { IfNone result (All (λ cost. limit < cost) self.new.costs) }
     {
         'spent: while let Some(at) = self.costs.first_within(limit) {
-            let place = self.places[at];
+            let place = self.places[at] as usize;
             if left[place] > 0 {
                 return Some(place);
             }
@@ -104,7 +107,7 @@ impl WaitingLines {
     }
 
     /// Adds a request at the end of a line.
-    pub(crate) fn add(&mut self, line: usize, place: usize, cost: u64) -> Result<(), NoMemory>
+    pub(crate) fn add(&mut self, line: usize, place: usize, cost: u32) -> Result<(), NoMemory>
         requires { line < length self.old }
         ensures { OnOk result (self.new ≡ slice_set self.old line (lines.with_waiting (slice_index_or self.old line lines.empty_line) place cost)) }
     {
@@ -122,7 +125,7 @@ impl WaitingLines {
     }
 
     /// The first request in a line of which something is left, and of which a block costs no more than the limit.
-    pub(crate) fn first_waiting(&mut self, line: usize, left: &[u64], limit: u64) -> Option<usize>
+    pub(crate) fn first_waiting(&mut self, line: usize, left: &[u64], limit: u32) -> Option<usize>
         requires line { line < length self.old }
         requires limit { limit < spent }
         requires places { All (λ place. place < length left.now) (slice_index_or self.old line lines.empty_line).places }

@@ -126,7 +126,7 @@ impl<'a> Queue<'a> {
         let unused = self.board.apply(change, room);
         self.left.set(place, left - room);
         self.wake_product(change, left - room)?;
-        self.wake(bidder_line(change.bidder), unused.min(MOST_UNITS))?;
+        self.wake(bidder_line(change.bidder), unused.min(MOST_UNITS) as u32)?;
         Ok(())
     }
 
@@ -144,7 +144,7 @@ impl<'a> Queue<'a> {
     }
 
     /// Makes ready the first request in a line of which something is left and a block costs no more than the limit.
-    fn wake(&mut self, line: usize, limit: u64) -> Result<(), NoMemory>
+    fn wake(&mut self, line: usize, limit: u32) -> Result<(), NoMemory>
         requires line { line < length self.old.lines }
         requires limit { limit < spent }
         requires places { All (λ place. place < length self.old.left) (line_in self.old line).places }
@@ -179,12 +179,12 @@ impl<'a> Queue<'a> {
 }
 
 /// What a block of a request costs in its line: of an increase the product's units, of a reduction nothing.
-fn cost_of(board: &Board, change: &Change) -> u64
+fn cost_of(board: &Board, change: &Change) -> u32
     requires { change.now.product < length board.now.products }
     ensures { result ≡ lines.cost_of board.now.products change.now }
 {
     match change.kind {
         Kind::Reduction => 0,
-        Kind::Increase => board.units(change.product),
+        Kind::Increase => board.units(change.product) as u32,
     }
 }

@@ -8,7 +8,7 @@ use Rattle.std.specs.Prelude.{ℕ, ◌+◌, ◌*◌, ◌-◌, ◌^◌, ◌<◌, 
 
 -- above each limit: the cost of what is no more to be found
 abbrev pub spent : ℕ
-spent = 2 ^ 64 - 1
+spent = 2 ^ 32 - 1
 
 -- none of the costs from one place up to another is below
 abbrev pub AreFrom : ℕ → List ℕ → ℕ → ℕ → Type 0
