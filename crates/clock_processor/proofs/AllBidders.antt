@@ -1,4 +1,4 @@
--- The requests of all bidders together, in any order, can be settled.
+-- The requests of all bidders, in any order, meet the condition of `settle`.
 use Rattle.std.proofs.Common.{◌≡◌, ℕ, zero, suc, ◌+◌, ◌*◌, ◌<◌, ◌≤◌, inl, inr, List, [], ◌∷◌, ◌++◌, cond, refl, ap, sym, ◌∙◌, arith, length, ne_eqb, All}
 use Rattle.std.specs.Prelude.{flat_map}
 use Rattle.std.specs.List.{range_with_len}
@@ -6,7 +6,7 @@ use Rattle.std.specs.List.Sorted.{IsPermutation}
 use Rattle.std.proofs.Common.{length-append}
 use Rattle.std.proofs.lemmas.List.Sums.{sum_by-cons, sum_by-append}
 use Rattle.std.proofs.lemmas.List.Sorted.{sum_by-IsPermutation, length_permutation, All-permutation}
-use Rattle.std.proofs.lemmas.Bool.{cases_lt}
+use Rattle.std.proofs.lemmas.Bool.{cases_eq, cases_lt}
 use Rattle.std.proofs.lemmas.List.Elements.{All-append, All-head, All-tail, All-weaker, All-nil}
 use Rattle.clock_terms.specs.declared.setup.Product.{Product}
 use Rattle.clock_terms.specs.declared.prices.PricePair.{PricePair}
@@ -19,13 +19,12 @@ use Rattle.clock_terms.specs.Requests.{same_kind, is_request_of, asked_of, IsCha
 use Rattle.clock_processor.specs.Board.{new_board}
 use Rattle.clock_processor.specs.Requests.{IsRequest, CanSettle}
 use Rattle.clock_processor.proofs.CapsKept.{first_fails}
-use Rattle.clock_processor.proofs.Supply.{same_or_not}
 
--- what one request adds
+-- what a request adds to the blocks asked for
 abbrev part : Kind → ℕ → ℕ → Change → ℕ
 part kind b p change = cond (is_request_of kind b p change) change.amount 0
 
--- the order does not matter
+-- the order of the requests does not matter
 pub asked_of-permutation : (kind : Kind) (b p : ℕ) (changes list : List Change) → IsPermutation changes list →
     asked_of kind b p list ≡ asked_of kind b p changes
 asked_of-permutation kind b p changes list same = sum_by-IsPermutation (part kind b p) changes list same
@@ -34,7 +33,7 @@ pub asked_of-append : (kind : Kind) (b p : ℕ) (changes more : List Change) →
     asked_of kind b p (changes ++ more) ≡ asked_of kind b p changes + asked_of kind b p more
 asked_of-append kind b p changes more = sum_by-append (part kind b p) changes more
 
--- requests of another bidder add nothing
+-- requests of other bidders add nothing
 pub asked_of-other : (kind : Kind) (b p owner : ℕ) (changes : List Change) → (owner ≡ b → ⊥) →
     All (λ (change : Change). change.bidder ≡ owner) changes → asked_of kind b p changes ≡ 0
 asked_of-other kind b p owner [] differ all = refl
@@ -49,13 +48,13 @@ asked_of-other kind b p owner (x ∷ xs) differ all =
           (All-tail (λ (change : Change). change.bidder ≡ owner) x xs all),
     )
 
--- above a number that it is not
+-- a number at least as great as one that it does not equal is above it
 above : (a b : ℕ) → a ≤ b → (a ≡ b → ⊥) → a + 1 ≤ b
 above a b most differ = elim (cases_lt a b) as (λ _. a + 1 ≤ b) [ inl below ↦ omega (arith, below) | inr over ↦ absurd (differ (omega (arith, most, over))) ]
 
 module _ (requests_of : ℕ → List Change) (bidders : ℕ) (own : (bidder : ℕ) → bidder < bidders →
     All (λ (change : Change). change.bidder ≡ bidder) (requests_of bidder)) (kind : Kind) (b p : ℕ) where
-  -- later bidders add nothing
+  -- bidders with higher numbers add nothing
   asked_of-later : (a n : ℕ) → a + n ≤ bidders → b < a → asked_of kind b p (flat_map requests_of (range_with_len a n)) ≡ 0
   asked_of-later a zero within later = refl
   asked_of-later a (suc n) within later =
@@ -66,7 +65,7 @@ module _ (requests_of : ℕ → List Change) (bidders : ℕ) (own : (bidder : �
         asked_of-later (a + 1) n (omega (arith, within)) (omega (arith, later)),
       )
 
-  -- of all bidders' requests a bidder's own count
+  -- of all requests, only the bidder's own count
   pub asked_of-all : (a n : ℕ) → a + n ≤ bidders → a ≤ b → b < a + n →
       asked_of kind b p (flat_map requests_of (range_with_len a n)) ≡ asked_of kind b p (requests_of b)
   asked_of-all a zero within from to = absurd (omega (arith, from, to))
@@ -74,7 +73,7 @@ module _ (requests_of : ℕ → List Change) (bidders : ℕ) (own : (bidder : �
       let parts : asked_of kind b p (flat_map requests_of (range_with_len a (suc n)))
       ≡ asked_of kind b p (requests_of a) + asked_of kind b p (flat_map requests_of (range_with_len (a + 1) n)) =
       asked_of-append kind b p (requests_of a) (flat_map requests_of (range_with_len (a + 1) n)) in
-      elim (same_or_not a b) as (λ _. asked_of kind b p (flat_map requests_of (range_with_len a (suc n))) ≡ asked_of kind b p (requests_of b)) [
+      elim (cases_eq a b) as (λ _. asked_of kind b p (flat_map requests_of (range_with_len a (suc n))) ≡ asked_of kind b p (requests_of b)) [
         | inl same ↦ omega (
           arith,
           parts,
@@ -108,7 +107,7 @@ module _ (requests_of : ℕ → List Change) (bidders : ℕ) where
       All-append P (requests_of a) (flat_map requests_of (range_with_len (a + 1) n)) (each a (omega (arith, within)))
       (All-all P (a + 1) n each (omega (arith, within)))
 
--- where each bidder's changes are such as its sheet asks for, all of them can be settled in any order
+-- If each bidder's requests are those of a good sheet, bid processing can take all of them in any order.
 module _ (products : List Product) (prices : List PricePair) (eligibilities : List ℕ) (grid : List (List ℕ)) (requests_of : ℕ → List Change)
     (bidders : ℕ) (few : bidders ≤ most_bidders)
     (rows : length grid ≡ bidders) (each : length eligibilities ≡ bidders)

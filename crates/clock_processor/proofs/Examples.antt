@@ -1,12 +1,12 @@
--- Settling, computed on a small auction: two products A and B of two blocks, and the bidders X, Y and Z after their
--- first round.
+-- An example of bid processing: two products A and B with two blocks each, and bidders X, Y, and Z after the first
+-- round.
 use Rattle.std.specs.Prelude.{◌≡◌, ℕ, List, [], ◌∷◌, refl}
 use Rattle.clock_terms.proofs.Examples.{two_products, request}
 use Rattle.clock_terms.specs.declared.change.Change.{Change}
 use Rattle.clock_terms.specs.declared.change.Kind.TheVariants.{Increase, Reduction}
 use Rattle.clock_processor.specs.Settling.{Progress, settled}
 
--- X holds two of B, Y two of A and Z one of B
+-- X demands two blocks of B, Y two of A, and Z one of B
 abbrev before : List (List ℕ)
 before = (0 ∷ 2 ∷ []) ∷ (2 ∷ 0 ∷ []) ∷ (0 ∷ 1 ∷ []) ∷ []
 
@@ -23,7 +23,7 @@ y_reduces_a = request Reduction 1 0 0 1 102
 abbrev x_raises_a : Change
 x_raises_a = request Increase 0 0 0 1 104
 
--- X's reduction has room at once, which makes room for its increase, and that for Y's reduction
+-- X's reduction has room at once. It makes room for X's increase, which makes room for Y's reduction.
 waiting_requests_are_applied_later : Ends (y_reduces_a ∷ x_raises_a ∷ request Reduction 0 1 0 1 106 ∷ [])
     ((1 ∷ 1 ∷ []) ∷ (1 ∷ 0 ∷ []) ∷ (0 ∷ 1 ∷ []) ∷ []) (0 ∷ 0 ∷ 0 ∷ []) 3
 waiting_requests_are_applied_later = (refl, refl, refl)

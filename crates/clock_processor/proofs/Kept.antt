@@ -1,4 +1,4 @@
--- What every application and every admission keeps, holds where the settling ends.
+-- What every application and every admission preserves holds at the end of bid processing.
 use Rattle.std.proofs.Common.{◌≡◌, ℕ, zero, suc, ◌<◌, List, Bool, true, false, cond, refl, ltb-true}
 use Rattle.std.specs.Prelude.{Option, Some, None, length, nat_lt}
 use Rattle.clock_terms.specs.declared.setup.Product.{Product}
@@ -21,11 +21,11 @@ module _ (products : List Product) (eligibilities : List ℕ) (changes : List Ch
   after_choice n later s (Some i) chosen h = later (with_application products eligibilities changes s i) (applied s i chosen h)
   after_choice n later s None chosen h = after_next n later s (nat_lt s.admitted (length changes)) refl h
 
-  -- so it is after any number of steps
+  -- it holds after any number of steps
   pub steps_keep : (n : ℕ) (s : Progress) → P s → P (after_steps products eligibilities changes n s)
   steps_keep zero s h = h
   steps_keep (suc n) s h = after_choice n (steps_keep n) s (first_with_room products eligibilities changes s) refl h
 
-  -- and where the settling ends
+  -- it holds at the end
   pub settled_keep : (grid : List (List ℕ)) → P (start_of products eligibilities changes grid) → P (settled products eligibilities changes grid)
   settled_keep grid h = steps_keep (most_steps products eligibilities changes) (start_of products eligibilities changes grid) h

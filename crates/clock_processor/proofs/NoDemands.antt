@@ -1,4 +1,4 @@
--- Who demands nothing needs no eligibility.
+-- A bidder without demands needs no eligibility.
 use Rattle.std.proofs.Common.{ℕ, List, [], length, replicate, arith}
 use Rattle.std.proofs.lemmas.List.{length-replicate, get_or-replicate}
 use Rattle.std.proofs.lemmas.List.Elements.{All-replicate}

@@ -1,11 +1,11 @@
--- What holds at the end of every settling.
-use Rattle.std.proofs.Common.{◌≡◌, ℕ, zero, suc, ◌+◌, ◌-◌, ◌<◌, ◌≤◌, inl, inr, List, [], ◌∷◌, Bool, true, false}
+-- What holds at every end of bid processing.
+use Rattle.std.proofs.Common.{◌≡◌, ℕ, zero, suc, ◌+◌, ◌-◌, ◌<◌, ◌≤◌, List, [], ◌∷◌, Bool, true, false}
 use Rattle.std.proofs.Common.{cond, refl, ap, sym, subst, ◌∙◌, arith, get_or, set, length, take, All}
 use Rattle.std.specs.Prelude.{Option, Some, None, nat_lt, zip, map, EachIndex, slice_index, slice_index_or}
 use Rattle.std.specs.List.{position_from}
 use Rattle.std.proofs.lemmas.Bool.{ltb-false}
 use Rattle.std.proofs.lemmas.Option.{none-some}
-use Rattle.std.proofs.lemmas.List.{get_or-set_same, get_or-set_other, length-set}
+use Rattle.std.proofs.lemmas.List.{length-set}
 use Rattle.clock_terms.specs.declared.setup.Product.{Product}
 use Rattle.clock_terms.specs.Demands.{total_of}
 use Rattle.clock_terms.specs.declared.change.Change.{Change}
@@ -16,13 +16,14 @@ use Rattle.clock_processor.specs.Settling.{with_admission, HasEnded, Settles, no
 use Rattle.clock_processor.specs.Requests.{IsRequest, CanSettle}
 use Rattle.clock_processor.specs.Settlement.{SettledFields, IsSettlement, IsProperEnd, end_of}
 use Rattle.clock_processor.specs.inside.UnderWay.{StaysWithinCaps}
-use Rattle.clock_processor.proofs.Supply.{same_or_not, settled_supplied}
+use Rattle.clock_processor.proofs.Cases.{set_cases}
+use Rattle.clock_processor.proofs.Supply.{settled_supplied}
 use Rattle.clock_processor.proofs.Kept.{settled_keep}
 use Rattle.clock_processor.proofs.End.{has_room, settled_ended, settled_settles}
 use Rattle.clock_processor.proofs.BoardKept.{board_applied}
 use Rattle.clock_processor.proofs.Apply.{may_apply, caps_after, caps_at_start, length_amounts}
 
--- a search that found nothing failed at each place that it looked at
+-- if a search finds nothing, the test fails at each index that it reads
 module _ {A B : Type 0} (test : A × B → Bool) (d : A) (e : B) where
   here_fails : (passes : Bool) (k : ℕ) (rest : Option ℕ) → cond passes (Some k) rest ≡ None → (passes ≡ false) × (rest ≡ None)
   here_fails true k rest h = absurd (none-some k (sym h))
@@ -38,7 +39,7 @@ module _ {A B : Type 0} (test : A × B → Bool) (d : A) (e : B) where
       fails_at (k + 1) n xs ys (here_fails (test (x, y)) k _ h).1 j (omega (arith, a)) (omega (arith, b)) (omega (arith, c))
 
 module _ (products : List Product) (eligibilities : List ℕ) (changes : List Change) where
-  -- at the end all requests are admitted and none has room
+  -- at the end, all requests are admitted and none has room
   ended_by : (s : Progress) (choice : Option ℕ) (more : Bool) → next_by products eligibilities changes s choice ≡ None →
       nat_lt s.admitted (length changes) ≡ more →
       (choice ≡ None) × (length changes ≤ s.admitted)
@@ -56,25 +57,17 @@ module _ (products : List Product) (eligibilities : List ℕ) (changes : List Ch
       (omega (arith, done.1, lt)) lt (omega (arith, each, lt)) in
       omega (arith, ltb-false 0 (room_at products eligibilities changes s i) fails)
 
-  -- each request has at most its amount left
+  -- each request has at most its amount left, in blocks
   pub record IsLeft (left : List ℕ) : Type 0 where
     pub lengths : length left ≡ length changes
     pub within : EachIndex changes (λ i. slice_index left i ≤ (slice_index_or changes i no_change).amount)
 
-  -- less is left of one request
+  -- this holds if blocks are taken from one request
   left_reduced : (left : List ℕ) (i r : ℕ) → i < length left → IsLeft left → IsLeft (set left i (get_or left i 0 - r))
   left_reduced left i r lt was = record {
     lengths = length-set left i (get_or left i 0 - r) ∙ was.lengths;
-    within = λ k k_in. elim (same_or_not k i) as (λ _. get_or (set left i (get_or left i 0 - r)) k 0 ≤ (get_or changes k no_change).amount) [
-      | inl same ↦
-          let at : get_or (set left i (get_or left i 0 - r)) k 0 ≡ get_or left i 0 - r =
-          ap (λ j. get_or (set left i (get_or left i 0 - r)) j 0) same ∙ get_or-set_same left i (get_or left i 0 - r) 0 lt in
-          let before : get_or left k 0 ≡ get_or left i 0 = ap (λ j. get_or left j 0) same in
-          omega (arith, at, before, was.within k k_in)
-      | inr differ ↦
-          let at : get_or (set left i (get_or left i 0 - r)) k 0 ≡ get_or left k 0 = get_or-set_other left i k (get_or left i 0 - r) 0 differ in
-          omega (arith, at, was.within k k_in)
-    ];
+    within = set_cases (λ j n. j < length changes → n ≤ (get_or changes j no_change).amount) left i (get_or left i 0 - r) 0 lt
+        (λ i_in. omega (arith, was.within i i_in)) (λ j _. was.within j);
   }
 
   amount_at : (list : List Change) (i : ℕ) → i < length list → get_or (map (λ change. change.amount) list) i 0 ≡ (get_or list i no_change).amount
@@ -99,7 +92,7 @@ module _ (products : List Product) (eligibilities : List ℕ) (changes : List Ch
       settled_keep products eligibilities changes (λ s. s.admitted ≤ length changes) (λ s i chosen was. was)
       (λ s more was. omega (arith, more)) grid (omega arith)
 
-  -- at the end all requests are admitted
+  -- at the end, all requests are admitted
   pub all_admitted : (grid : List (List ℕ)) → (settled products eligibilities changes grid).admitted ≡ length changes
   all_admitted grid =
       let end : Progress = settled products eligibilities changes grid in
@@ -108,7 +101,7 @@ module _ (products : List Product) (eligibilities : List ℕ) (changes : List Ch
       (settled_ended products eligibilities changes grid) refl in
       omega (arith, done.1, settled_admitted grid)
 
--- what a processor needs to show of its end: that it is the settlement, and that the board's type kept its demands
+-- An end is proper if it is the settlement and its demands are those of a board.
 pub proper_end : (board : BoardFields) (changes : List Change) (end : SettledFields) → IsSettlement board changes end →
     IsWithinEligibility board.products board.eligibilities end.grid → IsProperEnd board changes end
 proper_end board changes end is held =
@@ -141,10 +134,10 @@ proper_end board changes end is held =
       within = held;
     }
 
--- of the definition alone: from a board within its eligibilities, the settling ends within them
+-- By definition only: bid processing of a board ends with demands within the caps and eligibilities.
 module _ (products : List Product) (eligibilities : List ℕ) (changes : List Change)
     (requests : All (IsRequest (length eligibilities) (length products)) changes) where
-  -- the demands are within the eligibilities, and what is left keeps them within the caps
+  -- the demands are those of a board, and with all that is left they stay within 0 and the caps
   record IsHeld (s : Progress) : Type 0 where
     is_board : IsBoard products eligibilities s.grid
     lengths : length s.left ≡ length changes
@@ -177,7 +170,7 @@ pub settled_board : (board : BoardFields) (changes : List Change) → IsBoard bo
 settled_board board changes is can =
     settled_held board.products board.eligibilities changes can.requests board.grid is (caps_at_start board.products board.grid changes can.caps)
 
--- the end hands on the grid of a board of the same products and eligibilities
+-- the end has the demands of a board with the same products and eligibilities
 pub held_at_end : (old new : BoardFields) (grid : List (List ℕ)) → (new.products ≡ old.products) × (new.eligibilities ≡ old.eligibilities) →
     grid ≡ new.grid → IsBoard new.products new.eligibilities new.grid → IsWithinEligibility old.products old.eligibilities grid
 held_at_end old new grid terms same is =

@@ -1,3 +1,4 @@
--- What only proofs and private functions use: no clause of a public call cites it.
+-- Definitions that only proofs and private functions use. No contract of a public function cites
+-- them.
 pub mod Board
 pub mod UnderWay

@@ -9,7 +9,7 @@ use clock_device::NoMemory;
 use clock_terms::{Amounts, Change, Changes};
 use std::alloc::Global;
 
-/// Tests the admitted requests from the first on after each application.
+/// The rescanned list: after each application, tests the admitted requests again from the first on.
 #[derive(Clone, Copy, Debug, Default)]
 pub struct Plain;
 
@@ -22,8 +22,8 @@ impl Processor for Plain {
     }
 }
 
-/// Applies the first admitted request with room, or admits one more where none has any, until all are admitted and none
-/// has room.
+/// Applies the first admitted request with room, or admits the next request if none has room, until
+/// all are admitted and none has room.
 fn rescan(board: &mut Board, changes: &[Change], left: &mut Amounts)
     requires { IsUnderWay board.old changes.now left.old 0 }
     ensures ended { (n : ℕ) × settling.Settles board.old.products board.old.eligibilities changes.now (progress_of board.old 0 left.old)
@@ -46,7 +46,7 @@ fn rescan(board: &mut Board, changes: &[Change], left: &mut Amounts)
     }
 }
 
-/// The place of the first admitted request with room.
+/// The index of the first admitted request with room.
 fn first_with_room(
     board: &mut Board,
     changes: &[Change],

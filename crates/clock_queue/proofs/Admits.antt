@@ -1,9 +1,10 @@
--- A queue stays one where its ready requests change places, or the next request is tested or admitted.
+-- The invariants of the queue hold if ready requests are reordered, and after a test or an admission.
 use Rattle.std.proofs.Common.{◌≡◌, ℕ, ◌+◌, ◌<◌, ◌⊎◌, List, [], ◌∷◌, refl, ap, sym, subst, ◌∙◌, inl, inr, arith, get_or, set, length, All}
 use Rattle.std.specs.List.{Contains}
 use Rattle.std.specs.List.Sorted.{IsPermutation}
+use Rattle.std.proofs.Math.Logic.{⊎_map}
 use Rattle.std.proofs.lemmas.Bool.{cases_lt}
-use Rattle.std.proofs.lemmas.List.{get_or-set_same, get_or-set_other, get_or_append_left, get_or_at, length-set, length_push}
+use Rattle.std.proofs.lemmas.List.{get_or-set_same, get_or_append_left, get_or_at, length-set, length_push}
 use Rattle.std.proofs.lemmas.List.Sorted.{All-permutation, Contains-permutation}
 use Rattle.std.proofs.lemmas.List.Elements.{All-weaker, All-tail, Contains-append_left, Contains-push}
 use Rattle.clock_terms.specs.declared.change.Change.{Change}
@@ -12,7 +13,7 @@ use Rattle.clock_terms.specs.declared.change.Kind.TheVariants.{Increase, Reducti
 use Rattle.clock_processor.specs.Board.{BoardFields}
 use Rattle.clock_processor.specs.Settling.{no_change}
 use Rattle.clock_processor.specs.inside.UnderWay.{IsUnderWay}
-use Rattle.clock_processor.proofs.Supply.{same_or_not}
+use Rattle.clock_processor.proofs.Cases.{set_cases}
 use Rattle.clock_queue.specs.declared.queue.Queue.{Queue}
 use Rattle.clock_queue.specs.inside.Lines.{line_by, HasLines, LineFields, empty_line, product_line, bidder_line, with_waiting}
 use Rattle.clock_queue.specs.inside.Queue.{IsKept, IsLine, IsInLine, IsBehind, IsTracking, after_test, line_at, line_in, cost_at, room_in}
@@ -22,40 +23,32 @@ line_within : (kind : Kind) (b p n : ℕ) → product_line p < n → bidder_line
 line_within kind b p n product bidder = elim kind as (λ (k : Kind). line_by k b p < n) [ Increase ↦ bidder | Reduction ↦ product ]
 
 module _ (changes : List Change) where
-  -- where more are ready, each stands behind one of them all the same
+  -- tracking holds if more requests are ready
   pub tracked_more : (queue : Queue) (ready more : List ℕ) → ((place : ℕ) → Contains ready place → Contains more place) →
       IsTracking changes queue ready → IsTracking changes queue more
-  tracked_more queue ready more each tracked place within = elim (tracked place within) as
-      (λ _. (room_in changes queue place ≡ 0) ⊎ IsBehind changes queue more place) [
-        | inl none ↦ inl none
-        | inr behind ↦ inr (record {
-          at = behind.at;
-          is_ready = each behind.at behind.is_ready;
-          own_line = behind.own_line;
-          before = behind.before;
-          room = behind.room;
-        })
-      ]
+  tracked_more queue ready more each tracked place within = ⊎_map (λ none. none) (λ (behind : IsBehind changes queue ready place). record {
+    at = behind.at;
+    is_ready = each behind.at behind.is_ready;
+    own_line = behind.own_line;
+    before = behind.before;
+    room = behind.room;
+  }) (tracked place within)
 
-  -- the first ready one is not needed where it has no room
+  -- tracking holds without the first ready request, if it has no room
   pub tracked_rest : (queue : Queue) (first : ℕ) (ready : List ℕ) → room_in changes queue first ≡ 0 → IsTracking changes queue (first ∷ ready) →
       IsTracking changes queue ready
-  tracked_rest queue first ready no_room tracked place within = elim (tracked place within) as
-      (λ _. (room_in changes queue place ≡ 0) ⊎ IsBehind changes queue ready place) [
-        | inl none ↦ inl none
-        | inr behind ↦ inr (record {
-          at = behind.at;
-          is_ready = elim (Contains-cons_cases first ready behind.at behind.is_ready) as (λ _. Contains ready behind.at) [
-            | inl same ↦ absurd (omega (arith, behind.room, no_room, ap (room_in changes queue) same))
-            | inr rest ↦ rest
-          ];
-          own_line = behind.own_line;
-          before = behind.before;
-          room = behind.room;
-        })
-      ]
+  tracked_rest queue first ready no_room tracked place within = ⊎_map (λ none. none) (λ (behind : IsBehind changes queue (first ∷ ready) place). record {
+    at = behind.at;
+    is_ready = elim (Contains-cons_cases first ready behind.at behind.is_ready) as (λ _. Contains ready behind.at) [
+      | inl same ↦ absurd (omega (arith, behind.room, no_room, ap (room_in changes queue) same))
+      | inr rest ↦ rest
+    ];
+    own_line = behind.own_line;
+    before = behind.before;
+    room = behind.room;
+  }) (tracked place within)
 
-  -- the same queue with other ready requests, or one test more
+  -- tracking does not depend on the tests made or the list of ready requests
   pub tracked_as : (queue : Queue) (board : BoardFields) (admitted : ℕ) (now : List ℕ) (lines : List LineFields) (ready : List ℕ) →
       board ≡ record queue.board { tests = board.tests } →
       ((place : ℕ) → place < admitted → (room_in changes queue place ≡ 0) ⊎ IsBehind changes queue ready place) →
@@ -63,19 +56,15 @@ module _ (changes : List Change) where
   tracked_as queue board admitted now lines ready board_is tracked place within =
       let same : (p : ℕ) → room_in changes (record queue { board = board; admitted = admitted; ready = now; lines = lines }) p ≡ room_in changes queue p =
       λ p. ap (λ (b : BoardFields). room_in changes (record queue { board = b; admitted = admitted; ready = now; lines = lines }) p) board_is in
-      elim (tracked place within) as (λ _. (room_in changes (record queue { board = board; admitted = admitted; ready = now; lines = lines }) place ≡ 0) ⊎
-      IsBehind changes (record queue { board = board; admitted = admitted; ready = now; lines = lines }) ready place) [
-        | inl none ↦ inl (same place ∙ none)
-        | inr behind ↦ inr (record {
-          at = behind.at;
-          is_ready = behind.is_ready;
-          own_line = behind.own_line;
-          before = behind.before;
-          room = omega (arith, behind.room, same behind.at);
-        })
-      ]
+      ⊎_map (λ none. same place ∙ none) (λ (behind : IsBehind changes queue ready place). record {
+        at = behind.at;
+        is_ready = behind.is_ready;
+        own_line = behind.own_line;
+        before = behind.before;
+        room = omega (arith, behind.room, same behind.at);
+      }) (tracked place within)
 
-  -- the ready requests in another order, without the first
+  -- the first ready request is removed
   pub kept_popped : (queue : Queue) (first : ℕ) (ready : List ℕ) → IsKept changes queue → IsPermutation queue.ready (first ∷ ready) →
       IsKept changes (record queue { ready = ready })
   kept_popped queue first ready is moved = record {
@@ -93,7 +82,7 @@ module _ (changes : List Change) where
       tracked_as queue queue.board queue.admitted ready queue.lines (first ∷ ready) refl
       (tracked_more queue queue.ready (first ∷ ready) (λ place here. Contains-permutation queue.ready (first ∷ ready) place moved here) tracked)
 
-  -- one test more
+  -- after one more test
   pub kept_tested : (queue : Queue) → IsKept changes queue → IsKept changes (after_test queue)
   kept_tested queue is = record {
     under_way = record {
@@ -112,7 +101,7 @@ module _ (changes : List Change) where
   pub tracked_tested : (queue : Queue) (ready : List ℕ) → IsTracking changes queue ready → IsTracking changes (after_test queue) ready
   tracked_tested queue ready tracked = tracked_as queue (after_test queue).board queue.admitted queue.ready queue.lines ready refl tracked
 
-  -- the next request is admitted, and has no room
+  -- the next request is admitted, without room
   pub tracked_next : (queue : Queue) (lines : List LineFields) → IsTracking changes queue queue.ready → room_in changes queue queue.admitted ≡ 0 →
       IsTracking changes (record queue { admitted = queue.admitted + 1; lines = lines }) queue.ready
   tracked_next queue lines tracked no_room =
@@ -146,7 +135,7 @@ module _ (changes : List Change) where
       costs = (is.each line).costs;
     }
 
-    -- where nothing of it is left, it need not wait
+    -- if nothing of it is left, it does not wait
     pub kept_used : get_or queue.left queue.admitted 0 ≡ 0 → IsKept changes (record queue { admitted = queue.admitted + 1 })
     kept_used nothing = record {
       under_way = under_way_next;
@@ -161,7 +150,7 @@ module _ (changes : List Change) where
           ];
     }
 
-    -- else it waits at the end of its line
+    -- if blocks of it are left, it waits at the end of its line
     abbrev own : ℕ
     own = line_at changes queue.admitted
 
@@ -179,9 +168,6 @@ module _ (changes : List Change) where
 
     at_own : get_or added own empty_line ≡ longer
     at_own = get_or-set_same queue.lines own longer empty_line own_in
-
-    at_other : (line : ℕ) → (line ≡ own → ⊥) → get_or added line empty_line ≡ line_in queue line
-    at_other line differ = get_or-set_other queue.lines own line longer empty_line differ
 
     old_at : (at : ℕ) → at < length (line_in queue own).places → get_or longer.places at 0 ≡ get_or (line_in queue own).places at 0
     old_at at lt = get_or_append_left (line_in queue own).places (queue.admitted ∷ []) 0 at lt
@@ -240,21 +226,13 @@ module _ (changes : List Change) where
     }
 
     each_added : (line : ℕ) → IsLine changes queue.board.products queue.left (queue.admitted + 1) line (get_or added line empty_line)
-    each_added line = elim (same_or_not line own) as
-        (λ _. IsLine changes queue.board.products queue.left (queue.admitted + 1) line (get_or added line empty_line)) [
-          | inl same ↦ subst (λ l. IsLine changes queue.board.products queue.left (queue.admitted + 1) l (get_or added l empty_line)) (sym same)
-              (subst (IsLine changes queue.board.products queue.left (queue.admitted + 1) own) (sym at_own) line_longer)
-          | inr differ ↦ subst (IsLine changes queue.board.products queue.left (queue.admitted + 1) line) (sym (at_other line differ)) (each_next line)
-        ]
+    each_added = set_cases (IsLine changes queue.board.products queue.left (queue.admitted + 1)) queue.lines own longer empty_line own_in
+        line_longer (λ line _. each_next line)
 
-    -- who stood in a line stands there
+    -- each request that was in a line is still there
     still_in : (place line : ℕ) → Contains (line_in queue line).places place → Contains (get_or added line empty_line).places place
-    still_in place line here = elim (same_or_not line own) as (λ _. Contains (get_or added line empty_line).places place) [
-      | inl same ↦ subst (λ l. Contains (get_or added l empty_line).places place) (sym same)
-          (subst (λ (held : LineFields). Contains held.places place) (sym at_own)
-          (Contains-append_left (line_in queue own).places (queue.admitted ∷ []) place (subst (λ l. Contains (line_in queue l).places place) same here)))
-      | inr differ ↦ subst (λ (held : LineFields). Contains held.places place) (sym (at_other line differ)) here
-    ]
+    still_in place = set_cases (λ line (held : LineFields). Contains (line_in queue line).places place → Contains held.places place) queue.lines own longer
+        empty_line own_in (Contains-append_left (line_in queue own).places (queue.admitted ∷ []) place) (λ line _ here. here)
 
     now_in : Contains (get_or added own empty_line).places queue.admitted
     now_in = subst (λ (held : LineFields). Contains held.places queue.admitted) (sym at_own) (Contains-push (line_in queue own).places queue.admitted)
@@ -267,11 +245,7 @@ module _ (changes : List Change) where
       each = each_added;
       waiting = λ place within. elim (cases_lt place queue.admitted) as (λ _. (get_or queue.left place 0 ≡ 0) ⊎ Contains
           (get_or added (line_at changes place) empty_line).places place) [
-            | inl before ↦ elim (is.waiting place before) as (λ _. (get_or queue.left place 0 ≡ 0) ⊎ Contains
-                (get_or added (line_at changes place) empty_line).places place) [
-                  | inl nothing ↦ inl nothing
-                  | inr here ↦ inr (still_in place (line_at changes place) here)
-                ]
+            | inl before ↦ ⊎_map (λ nothing. nothing) (still_in place (line_at changes place)) (is.waiting place before)
             | inr at ↦ (let same : queue.admitted ≡ place = omega (arith, within, at) in
                 inr (subst (λ n. Contains (get_or added (line_at changes n) empty_line).places n) same now_in))
           ];

@@ -1,7 +1,8 @@
--- A queue stays one where a request is applied and the first that this may have made room for are made ready.
+-- The invariants of the queue hold after an application that makes ready the first requests that may have room now.
 use Rattle.std.proofs.Common.{◌≡◌, ℕ, ◌+◌, ◌-◌, ◌*◌, ◌<◌, ◌≤◌, ◌⊎◌, min, List, [], ◌∷◌, refl, ap, sym, subst, ◌∙◌, inl, inr, arith, get_or, set, length, All}
 use Rattle.std.specs.List.{Contains}
-use Rattle.std.proofs.lemmas.Bool.{cases_lt}
+use Rattle.std.proofs.Math.Logic.{⊎_map}
+use Rattle.std.proofs.lemmas.Bool.{cases_eq, cases_lt}
 use Rattle.std.proofs.lemmas.List.{get_or-set_same, get_or-set_other, get_or_default}
 use Rattle.clock_terms.specs.Limits.{IsRow, IsProduct, units_of, cap_of, no_product, most_units}
 use Rattle.clock_terms.specs.Demands.{row_of, demand_at, with_demand, changed_demand}
@@ -12,7 +13,7 @@ use Rattle.clock_processor.specs.Room.{room_of, unused_units}
 use Rattle.clock_processor.specs.Board.{IsBoard, MayApply, StaysWithin, applied_to, one_more}
 use Rattle.clock_processor.specs.Requests.{IsRequest}
 use Rattle.clock_processor.specs.Settling.{no_change, with_application}
-use Rattle.clock_processor.proofs.Supply.{same_or_not}
+use Rattle.clock_processor.proofs.Cases.{set_cases}
 use Rattle.clock_processor.proofs.Apply.{may_apply, sum_after, under_way_applied}
 use Rattle.clock_queue.specs.declared.queue.Queue.{Queue}
 use Rattle.clock_queue.specs.inside.Lines.{cost_by, line_by, product_line, bidder_line, HasLines}
@@ -35,7 +36,7 @@ cost_within Reduction units most within = omega arith
 none_or_some : (n : ℕ) → (n ≡ 0) ⊎ (0 < n)
 none_or_some n = elim (cases_lt 0 n) as (λ _. (n ≡ 0) ⊎ (0 < n)) [ inl some ↦ inr some | inr none ↦ inl (omega (arith, none)) ]
 
--- the places in a line are those of requests
+-- the indices in a line are those of requests
 pub places_within : (changes : List Change) (queue : Queue) → IsKept changes queue → (line : ℕ) → All (λ place. place < length queue.left) (line_in queue line).places
 places_within changes queue is line k d lt =
     let member : IsInLine changes queue.admitted line (get_or (line_in queue line).places k 0) = (is.each line).members k lt in
@@ -43,11 +44,11 @@ places_within changes queue is line k d lt =
 
 module _ (changes : List Change) (old : Queue) (first : ℕ) (is : IsKept changes old) (lt : first < length changes)
     (is_board : IsBoard old.board.products old.board.eligibilities old.board.grid) (some : 0 < room_in changes old first) where
-  -- the request
+  -- the request that is applied
   abbrev change : Change
   change = get_or changes first no_change
 
-  -- what is applied of it
+  -- the blocks that are applied
   abbrev amount : ℕ
   amount = room_in changes old first
 
@@ -78,38 +79,26 @@ module _ (changes : List Change) (old : Queue) (first : ℕ) (is : IsKept change
   pub may_apply_first : MayApply old.board change amount
   may_apply_first = may_apply old.board changes old.left first lt is.under_way.lengths is.under_way.requests is_board is.under_way.caps some
 
-  -- one more application is counted
+  -- the count of applications grows by one
   one_applied : one_more old.board.applied ≡ old.board.applied + 1
   one_applied = omega (arith, is.under_way.countable)
 
-  -- the queue after the application, before any other is made ready
+  -- the queue after the application, before another request is made ready
   abbrev pub after : Queue
   after = record old {
     board = applied_to old.board change amount;
     left = set old.left first (get_or old.left first 0 - amount);
   }
 
-  -- of whom nothing was left, nothing is left
+  -- a request with nothing left before has nothing left afterward
   nothing_after : (place : ℕ) → get_or old.left place 0 ≡ 0 → get_or after.left place 0 ≡ 0
-  nothing_after place nothing = elim (same_or_not place first) as (λ _. get_or after.left place 0 ≡ 0) [
-    | inl same ↦ omega (
-      arith,
-      nothing,
-      ap (λ n. get_or after.left n 0) same,
-      ap (λ n. get_or old.left n 0) same,
-      get_or-set_same old.left first (get_or old.left first 0 - amount) 0 in_left,
-    )
-    | inr differ ↦ get_or-set_other old.left first place (get_or old.left first 0 - amount) 0 differ ∙ nothing
-  ]
+  nothing_after = set_cases (λ place n. get_or old.left place 0 ≡ 0 → n ≡ 0) old.left first (get_or old.left first 0 - amount) 0 in_left
+      (λ nothing. omega (arith, nothing)) (λ place _ nothing. nothing)
 
   costs_after : (line at : ℕ) → at < length (line_in old line).places →
       (get_or after.left (get_or (line_in old line).places at 0) 0 ≡ 0) ⊎
       (get_or (line_in old line).costs at 0 ≡ cost_at changes old.board.products (get_or (line_in old line).places at 0))
-  costs_after line at within = elim ((is.each line).costs at within) as (λ _. (get_or after.left (get_or (line_in old line).places at 0) 0 ≡ 0) ⊎
-      (get_or (line_in old line).costs at 0 ≡ cost_at changes old.board.products (get_or (line_in old line).places at 0))) [
-        | inl nothing ↦ inl (nothing_after (get_or (line_in old line).places at 0) nothing)
-        | inr cost ↦ inr cost
-      ]
+  costs_after line at within = ⊎_map (nothing_after (get_or (line_in old line).places at 0)) (λ cost. cost) ((is.each line).costs at within)
 
   pub kept_after : IsKept changes after
   kept_after = record {
@@ -123,11 +112,7 @@ module _ (changes : List Change) (old : Queue) (first : ℕ) (is : IsKept change
       ascending = (is.each line).ascending;
       costs = costs_after line;
     };
-    waiting = λ place within. elim (is.waiting place within) as
-        (λ _. (get_or after.left place 0 ≡ 0) ⊎ Contains (line_in old (line_at changes place)).places place) [
-          | inl nothing ↦ inl (nothing_after place nothing)
-          | inr here ↦ inr here
-        ];
+    waiting = λ place within. ⊎_map (nothing_after place) (λ here. here) (is.waiting place within);
   }
 
   room_of_after : room_of change.kind old.board.products old.board.eligibilities old.board.grid change.bidder change.product ≡ amount →
@@ -141,7 +126,7 @@ module _ (changes : List Change) (old : Queue) (first : ℕ) (is : IsKept change
       (room_used old.board.products old.board.eligibilities old.board.grid b p in_grid in_row request.product kind (some_units p request.product)
       (λ reduces. omega (arith, all, held_by kind (cap_of old.board.products p) (demand_at old.board.grid b p) amount may_apply_first.stays reduces)))
 
-  -- what is left of the request has no room
+  -- the rest of the request has no room
   pub no_room_after : room_in changes after first ≡ 0
   no_room_after =
       let rest : get_or after.left first 0 ≡ get_or old.left first 0 - amount = get_or-set_same old.left first (get_or old.left first 0 - amount) 0 in_left in
@@ -151,7 +136,7 @@ module _ (changes : List Change) (old : Queue) (first : ℕ) (is : IsKept change
         | inr more ↦ omega (arith, rest, more)
       ]
 
-  -- a request that waits neither for the product nor for the bidder is another one, and has the same room
+  -- a request that waits neither for the product nor for the bidder is another one, and its room is unchanged
   another : (place : ℕ) → (line_at changes place ≡ product_line change.product → ⊥) → (line_at changes place ≡ bidder_line change.bidder → ⊥) →
       place ≡ first → ⊥
   another place not_product not_bidder same = elim (own_by change.kind change.bidder change.product) as (λ _. ⊥) [
@@ -174,7 +159,7 @@ module _ (changes : List Change) (old : Queue) (first : ℕ) (is : IsKept change
   lines_of : HasLines (length old.lines) change
   lines_of = is.lines first no_change lt
 
-  -- a reduction of which something is left leaves nobody who waits for its product any room
+  -- after a reduction with blocks left, no request that waits for its product has room
   nobody_after : change.kind ≡ Reduction → 0 < get_or old.left first 0 - amount → (place : ℕ) →
       line_at changes place ≡ product_line change.product → room_in changes after place ≡ 0
   nobody_after reduces more place own =
@@ -196,7 +181,7 @@ module _ (changes : List Change) (old : Queue) (first : ℕ) (is : IsKept change
     pub kept_mid : IsKept changes mid
     kept_mid = kept_by product_woken
 
-    -- all but the lines and those that are ready is as it was
+    -- only the lines and the ready requests have changed
     same_by : HasWokenProduct change (get_or old.left first 0 - amount) after mid → mid ≡ record after { ready = mid.ready; lines = mid.lines }
     same_by (inl woken) = woken.same
     same_by (inr passed) = subst (λ (queue : Queue). queue ≡ record after { ready = queue.ready; lines = queue.lines }) (sym passed.same) refl
@@ -213,7 +198,7 @@ module _ (changes : List Change) (old : Queue) (first : ℕ) (is : IsKept change
     one_more_by (inl woken) = one_more_ready changes (product_line change.product) 0 after mid kept_after lines_of.product woken
     one_more_by (inr passed) = inr (ap (λ (queue : Queue). length queue.ready) passed.same)
 
-    -- who waits for the product and has room, stands behind one that is ready
+    -- a request with room that waits for the product has an earlier or equal one that is ready
     covered_by : (place : ℕ) → place < old.admitted → line_at changes place ≡ product_line change.product → 0 < room_in changes after place →
         HasWokenProduct change (get_or old.left first 0 - amount) after mid → IsCovered changes (product_line change.product) 0 mid place
     covered_by place within own room (inl woken) =
@@ -262,7 +247,7 @@ module _ (changes : List Change) (old : Queue) (first : ℕ) (is : IsKept change
       admitted_of_new : new.admitted ≡ old.admitted
       admitted_of_new = ap (λ (queue : Queue). queue.admitted) new_as
 
-      -- who waits for the product and has room, stands behind one with room
+      -- a request with room that waits for the product has an earlier or equal one that is ready and has room
       behind_product : (place : ℕ) → place < old.admitted → line_at changes place ≡ product_line change.product → 0 < room_in changes after place →
           IsBehind changes after new.ready place
       behind_product place within own room =
@@ -284,7 +269,7 @@ module _ (changes : List Change) (old : Queue) (first : ℕ) (is : IsKept change
             );
           }
 
-      -- who waits for the bidder and has room, stands behind one with room
+      -- a request with room that waits for the bidder has an earlier or equal one that is ready and has room
       behind_bidder : (place : ℕ) → place < old.admitted → line_at changes place ≡ bidder_line change.bidder → 0 < room_in changes after place →
           IsBehind changes after new.ready place
       behind_bidder place within own room =
@@ -318,7 +303,7 @@ module _ (changes : List Change) (old : Queue) (first : ℕ) (is : IsKept change
             );
           }
 
-      -- who waits for neither stands where it stood
+      -- for a request that waits for neither, nothing has changed
       behind_other : (place : ℕ) → (line_at changes place ≡ product_line change.product → ⊥) → (line_at changes place ≡ bidder_line change.bidder → ⊥) →
           0 < room_in changes after place → (room_in changes old place ≡ 0) ⊎ IsBehind changes old (first ∷ old.ready) place →
           IsBehind changes after new.ready place
@@ -340,22 +325,18 @@ module _ (changes : List Change) (old : Queue) (first : ℕ) (is : IsKept change
       behind_after : IsTracking changes old (first ∷ old.ready) → (place : ℕ) → place < old.admitted → 0 < room_in changes after place →
           IsBehind changes after new.ready place
       behind_after tracked place within room =
-          elim (same_or_not (line_at changes place) (product_line change.product)) as (λ _. IsBehind changes after new.ready place) [
+          elim (cases_eq (line_at changes place) (product_line change.product)) as (λ _. IsBehind changes after new.ready place) [
             | inl own ↦ behind_product place within own room
-            | inr not_product ↦ elim (same_or_not (line_at changes place) (bidder_line change.bidder)) as (λ _. IsBehind changes after new.ready place) [
+            | inr not_product ↦ elim (cases_eq (line_at changes place) (bidder_line change.bidder)) as (λ _. IsBehind changes after new.ready place) [
               | inl own ↦ behind_bidder place within own room
               | inr not_bidder ↦ behind_other place not_product not_bidder room (tracked place within)
             ]
           ]
 
       tracked_after : IsTracking changes old (first ∷ old.ready) → IsTracking changes after new.ready
-      tracked_after tracked place within = elim (none_or_some (room_in changes after place)) as
-          (λ _. (room_in changes after place ≡ 0) ⊎ IsBehind changes after new.ready place) [
-            | inl none ↦ inl none
-            | inr room ↦ inr (behind_after tracked place within room)
-          ]
+      tracked_after tracked place within = ⊎_map (λ none. none) (behind_after tracked place within) (none_or_some (room_in changes after place))
 
-      -- two at most were made ready, and no more than there are of one product or of one bidder
+      -- at most most_woken requests were made ready
       few_by : IsOneMore changes (product_line change.product) after mid ⊎ (length mid.ready ≡ length old.ready) →
           IsOneMore changes (bidder_line change.bidder) mid new ⊎ (length new.ready ≡ length mid.ready) →
           length new.ready ≤ length old.ready + most_woken changes
@@ -374,7 +355,7 @@ module _ (changes : List Change) (old : Queue) (first : ℕ) (is : IsKept change
       few_woken = few_by (one_more_by product_woken)
           (one_more_ready changes (bidder_line change.bidder) limit mid new kept_mid bidder_in bidder_woken)
 
-      -- the application pays for their tests, and takes a block of those that are left
+      -- the bound allows for their tests, and the application took at least one block
       abbrev end : Queue
       end = record after { ready = new.ready; lines = new.lines }
 
@@ -398,17 +379,13 @@ module _ (changes : List Change) (old : Queue) (first : ℕ) (is : IsKept change
       pub applied_whole : IsTracking changes old (first ∷ old.ready) → IsAppliedWhole changes first old new
       applied_whole tracked = subst (IsAppliedWhole changes first old) (sym new_as) (record {
         kept = subst (IsKept changes) new_as kept_new;
-        tracked = λ place within. (elim (tracked_after tracked place within) as
-            (λ _. (room_in changes end place ≡ 0) ⊎ IsBehind changes end new.ready place) [
-              | inl none ↦ inl none
-              | inr behind ↦ inr (record {
-                at = behind.at;
-                is_ready = behind.is_ready;
-                own_line = behind.own_line;
-                before = behind.before;
-                room = behind.room;
-              })
-            ]);
+        tracked = λ place within. ⊎_map (λ none. none) (λ (behind : IsBehind changes after new.ready place). record {
+          at = behind.at;
+          is_ready = behind.is_ready;
+          own_line = behind.own_line;
+          before = behind.before;
+          room = behind.room;
+        }) (tracked_after tracked place within);
         terms = record { products = refl; eligibilities = refl };
         applied = progress_end;
         no_room = no_room_after;

@@ -1,4 +1,4 @@
--- Where all requests are admitted and none is ready, the settling has ended.
+-- Bid processing has ended if all requests are admitted and none is ready.
 use Rattle.std.proofs.Common.{◌≡◌, List, [], map, ap, sym, subst, arith, length}
 use Rattle.clock_terms.specs.declared.change.Change.{Change}
 use Rattle.clock_processor.specs.Board.{BoardFields, IsBoard}
@@ -13,11 +13,11 @@ use Rattle.clock_queue.specs.inside.Queue.{IsKept, IsTracking, StaysWithinTests,
 use Rattle.clock_queue.specs.Bound.{IsWithinTests}
 use Rattle.clock_queue.proofs.Steps.{ends}
 
--- what a settling hands on at its end
+-- what bid processing returns at its end
 abbrev pub handed_on : Queue → SettledFields
 handed_on queue = record { grid = queue.board.grid; left = queue.left; applied = queue.board.applied; tests = queue.board.tests }
 
--- all that is known of a queue when every request was admitted
+-- what holds of a queue when every request is admitted
 pub record IsDone (board : BoardFields) (changes : List Change) (queue : Queue) : Type 0 where
   pub kept : IsKept changes queue
   pub tracked : IsTracking changes queue queue.ready

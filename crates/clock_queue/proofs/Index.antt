@@ -1,14 +1,14 @@
--- Lines by their positions: one is read, changed, or made.
-use Rattle.std.proofs.Common.{◌≡◌, ℕ, ◌+◌, ◌-◌, ◌^◌, ◌<◌, ◌≤◌, ◌⊎◌, List, [], ◌∷◌, ◌++◌, refl, ap, sym, subst, ◌∙◌, inl, inr, arith, get_or, set, length, replicate}
+-- Lines by their positions: reading, changing, and making one.
+use Rattle.std.proofs.Common.{◌≡◌, ℕ, ◌-◌, ◌^◌, ◌<◌, ◌≤◌, ◌⊎◌, List, [], ◌∷◌, ◌++◌, refl, ap, sym, ◌∙◌, inl, inr, arith, get_or, set, length, replicate}
 use Rattle.std.proofs.lemmas.List.{get_or-map, length-map, length-set, length-append, get_or-set_same, get_or-set_other, get_or_past, get_or_push, get_or_append_left, get_or_default, get_or-replicate, length-replicate, ext_get_or}
-use Rattle.clock_processor.proofs.Supply.{same_or_not}
+use Rattle.clock_processor.proofs.Cases.{set_cases}
 use Rattle.clock_queue.specs.inside.Lines.{LineFields, IsIndex, empty_line, lines_of, nowhere}
 
 -- the line at a position
 abbrev at_of : List LineFields → ℕ → LineFields
 at_of lines at = get_or lines at empty_line
 
--- a line is read at its position
+-- a line is read at its position in the list
 pub line_read : (index : List ℕ) (lines : List LineFields) (line : ℕ) → line < length index →
     get_or (lines_of index lines) line empty_line ≡ get_or lines (get_or index line 0) empty_line
 line_read index lines line within = get_or-map (at_of lines) index line 0 empty_line within
@@ -18,26 +18,21 @@ pub line_empty : (index : List ℕ) (lines : List LineFields) (line : ℕ) → l
     get_or (lines_of index lines) line empty_line ≡ empty_line
 line_empty index lines line within past = line_read index lines line within ∙ get_or_past lines (get_or index line 0) empty_line past
 
--- one line is new, and each other one is read as before
+-- if one line is new and each other one reads as before, the list of all lines has one entry replaced
 module _ (index index-2 : List ℕ) (lines lines-2 : List LineFields) (line : ℕ) (new : LineFields) (within : line < length index)
     (lengths : length index-2 ≡ length index) (is_new : get_or lines-2 (get_or index-2 line 0) empty_line ≡ new)
     (others : (k : ℕ) → k < length index → (k ≡ line → ⊥) →
     get_or lines-2 (get_or index-2 k 0) empty_line ≡ get_or lines (get_or index k 0) empty_line) where
-  each_line : (k : ℕ) → k < length index → (k ≡ line) ⊎ (k ≡ line → ⊥) →
-      get_or (lines_of index-2 lines-2) k empty_line ≡ get_or (set (lines_of index lines) line new) k empty_line
-  each_line k lt (inl same) = line_read index-2 lines-2 k (omega (arith, lt, lengths))
-      ∙ ap (λ n. get_or lines-2 (get_or index-2 n 0) empty_line) same ∙ is_new
-      ∙ sym (ap (λ n. get_or (set (lines_of index lines) line new) n empty_line) same
-      ∙ get_or-set_same (lines_of index lines) line new empty_line (omega (arith, within, length-map index (at_of lines))))
-  each_line k lt (inr differ) = line_read index-2 lines-2 k (omega (arith, lt, lengths)) ∙ others k lt differ
-      ∙ sym (get_or-set_other (lines_of index lines) line k new empty_line differ ∙ line_read index lines k lt)
-
   one_changed : lines_of index-2 lines-2 ≡ set (lines_of index lines) line new
   one_changed = ext_get_or empty_line (lines_of index-2 lines-2) (set (lines_of index lines) line new)
       (length-map index-2 (at_of lines-2) ∙ lengths ∙ sym (length-set (lines_of index lines) line new ∙ length-map index (at_of lines)))
-      (λ k lt. each_line k (omega (arith, lt, length-map index-2 (at_of lines-2), lengths)) (same_or_not k line))
+      (λ k lt. set_cases (λ j held. j < length index → get_or (lines_of index-2 lines-2) j empty_line ≡ held) (lines_of index lines) line new empty_line
+      (omega (arith, within, length-map index (at_of lines)))
+      (λ _. line_read index-2 lines-2 line (omega (arith, within, lengths)) ∙ is_new)
+      (λ j differ j_in. line_read index-2 lines-2 j (omega (arith, j_in, lengths)) ∙ others j j_in differ ∙ sym (line_read index lines j j_in))
+      k (omega (arith, lt, length-map index-2 (at_of lines-2), lengths)))
 
--- a line is changed at its position
+-- changing the line at its position replaces one entry
 pub line_written : (index : List ℕ) (lines : List LineFields) (line : ℕ) (new : LineFields) → IsIndex index (length lines) → line < length index →
     get_or index line 0 < length lines → lines_of index (set lines (get_or index line 0) new) ≡ set (lines_of index lines) line new
 line_written index lines line new is within has =
@@ -45,7 +40,7 @@ line_written index lines line new is within has =
     one_changed index index lines (set lines at new) line new within refl (get_or-set_same lines at new empty_line has)
     (λ k lt differ. get_or-set_other lines at (get_or index k 0) new empty_line (λ same. differ (sym (is.own line k within lt has (sym same)))))
 
--- a line is made at the end
+-- making a line at the end replaces one entry
 module _ (index : List ℕ) (lines : List LineFields) (line : ℕ) (new : LineFields) (is : IsIndex index (length lines)) (within : line < length index)
     (few : length lines < nowhere) where
   read_before : (k : ℕ) → (get_or index k 0 < length lines) ⊎ (get_or index k 0 ≡ nowhere) →
@@ -66,44 +61,7 @@ module _ (index : List ℕ) (lines : List LineFields) (line : ℕ) (new : LineFi
       (ap (λ at. get_or (lines ++ new ∷ []) at empty_line) own_position ∙ get_or_push lines new empty_line (length lines) refl)
       (λ k lt differ. ap (λ at. get_or (lines ++ new ∷ []) at empty_line) (other_position k differ) ∙ read_before k (is.positions k lt))
 
-  position_within : (k : ℕ) → k < length index → (k ≡ line) ⊎ (k ≡ line → ⊥) →
-      (get_or (set index line (length lines)) k 0 < length lines + 1) ⊎ (get_or (set index line (length lines)) k 0 ≡ nowhere)
-  position_within k lt (inl same) = inl (omega (arith, ap (λ n. get_or (set index line (length lines)) n 0) same, own_position))
-  position_within k lt (inr differ) = elim (is.positions k lt) as
-      (λ _. (get_or (set index line (length lines)) k 0 < length lines + 1) ⊎ (get_or (set index line (length lines)) k 0 ≡ nowhere)) [
-        | inl has ↦ inl (omega (arith, has, other_position k differ))
-        | inr none ↦ inr (other_position k differ ∙ none)
-      ]
-
-  -- only the line itself has the new position
-  not_own : (k : ℕ) → k < length index → (k ≡ line → ⊥) → get_or (set index line (length lines)) k 0 ≡ length lines → ⊥
-  not_own k lt differ same = elim (is.positions k lt) as (λ _. ⊥) [
-    | inl has ↦ omega (arith, has, other_position k differ, same)
-    | inr none ↦ omega (arith, none, few, other_position k differ, same)
-  ]
-
-  own_by : (one other : ℕ) → one < length index → other < length index → get_or (set index line (length lines)) one 0 < length lines + 1 →
-      get_or (set index line (length lines)) one 0 ≡ get_or (set index line (length lines)) other 0 →
-      (one ≡ line) ⊎ (one ≡ line → ⊥) → (other ≡ line) ⊎ (other ≡ line → ⊥) → one ≡ other
-  own_by one other lt lt-2 has same (inl is_line) (inl is_line-2) = is_line ∙ sym is_line-2
-  own_by one other lt lt-2 has same (inl is_line) (inr differ-2) =
-      absurd (not_own other lt-2 differ-2 (sym same ∙ ap (λ n. get_or (set index line (length lines)) n 0) is_line ∙ own_position))
-  own_by one other lt lt-2 has same (inr differ) (inl is_line-2) =
-      absurd (not_own one lt differ (same ∙ ap (λ n. get_or (set index line (length lines)) n 0) is_line-2 ∙ own_position))
-  own_by one other lt lt-2 has same (inr differ) (inr differ-2) =
-      is.own one other lt lt-2 (elim (is.positions one lt) as (λ _. get_or index one 0 < length lines) [
-        | inl before ↦ before
-        | inr none ↦ absurd (omega (arith, none, few, has, other_position one differ))
-      ]) (sym (other_position one differ) ∙ same ∙ other_position other differ-2)
-
-  pub index_made : IsIndex (set index line (length lines)) (length lines + 1)
-  index_made = record {
-    positions = λ k lt. position_within k (omega (arith, lt, length-set index line (length lines))) (same_or_not k line);
-    own = λ one other lt lt-2 has same. own_by one other (omega (arith, lt, length-set index line (length lines)))
-        (omega (arith, lt-2, length-set index line (length lines))) has same (same_or_not one line) (same_or_not other line);
-  }
-
--- where all lines are without a position, all are empty
+-- lines without positions are empty
 nobody_waits : (count : ℕ) → lines_of (replicate count nowhere) [] ≡ replicate count empty_line
 nobody_waits count = ext_get_or empty_line (lines_of (replicate count nowhere) []) (replicate count empty_line)
     (length-map (replicate count nowhere) (at_of []) ∙ length-replicate count nowhere ∙ sym (length-replicate count empty_line))
@@ -117,7 +75,7 @@ pub none_made : (index : List ℕ) (lists : List LineFields) (count : ℕ) → i
 none_made index lists count index_is lists_are = ap (λ (list : List ℕ). lines_of list lists) index_is
     ∙ ap (lines_of (replicate count nowhere)) lists_are ∙ nobody_waits count
 
--- what a call reads and writes of the lines that contracts see
+-- what a call reads and writes, in terms of the list of all lines
 module _ (index : List ℕ) (lists : List LineFields) (now : List LineFields) (is : IsIndex index (length lists)) (shown : lines_of index lists ≡ now)
     (line at d : ℕ) (within : line < length now) (at_is : at ≡ get_or index line d) where
   in_index : line < length index
@@ -129,7 +87,7 @@ module _ (index : List ℕ) (lists : List LineFields) (now : List LineFields) (i
   read_now : get_or now line empty_line ≡ get_or lists (get_or index line 0) empty_line
   read_now = ap (λ (lines : List LineFields). get_or lines line empty_line) (sym shown) ∙ line_read index lists line in_index
 
-  -- a line that has a position
+  -- if the line has a position
   module _ (list other : LineFields) (has : at < length lists) (list_is : list ≡ get_or lists at other) where
     pub shown_list : list ≡ get_or now line empty_line
     shown_list = list_is ∙ get_or_default lists at other empty_line has
@@ -140,7 +98,7 @@ module _ (index : List ℕ) (lists : List LineFields) (now : List LineFields) (i
         ∙ line_written index lists line new is in_index (omega (arith, has, position))
         ∙ ap (λ (lines : List LineFields). set lines line new) shown
 
-  -- a line that has none
+  -- if the line has no position
   module _ (past : length lists ≤ at) where
     pub shown_empty : get_or now line empty_line ≡ empty_line
     shown_empty = read_now ∙ get_or_past lists (get_or index line 0) empty_line (omega (arith, past, position))
@@ -152,12 +110,3 @@ module _ (index : List ℕ) (lists : List LineFields) (now : List LineFields) (i
         ap (λ n. lines_of (set index line n) longer) count ∙ ap (lines_of (set index line (length lists))) longer_is
         ∙ line_made index lists line new is in_index (omega (arith, few, ap length longer_is, length-append lists (new ∷ [])))
         ∙ ap (λ (lines : List LineFields). set lines line new) shown
-
-    pub shown_index : (last : ℕ) (longer : List LineFields) (new : LineFields) → length longer < 2 ^ 64 → longer ≡ lists ++ new ∷ [] →
-        last ≡ length longer - 1 → IsIndex (set index line last) (length longer)
-    shown_index last longer new few longer_is last_is =
-        let count : last ≡ length lists = omega (arith, last_is, ap length longer_is, length-append lists (new ∷ [])) in
-        let made : IsIndex (set index line (length lists)) (length lists + 1) = index_made index lists line new is in_index
-        (omega (arith, few, ap length longer_is, length-append lists (new ∷ []))) in
-        subst (λ n. IsIndex (set index line n) (length longer)) (sym count) (subst (IsIndex (set index line (length lists)))
-        (omega (arith, ap length longer_is, length-append lists (new ∷ []))) made)

@@ -1,11 +1,11 @@
--- Laws of members of lists, and of what is added to those that are ready.
+-- Members of lists, and of the list of ready requests after an addition.
 use Rattle.std.proofs.Common.{◌≡◌, ℕ, zero, suc, ◌<◌, List, [], ◌∷◌, ◌⊎◌, inl, inr, arith, get_or, length, refl, sym, subst, All}
 use Rattle.std.specs.List.{Contains}
 use Rattle.std.proofs.lemmas.List.Sorted.{All-permutation, Contains-permutation}
 use Rattle.std.proofs.lemmas.List.Elements.{All-cons}
 use Rattle.clock_queue.specs.inside.Ready.{IsAdded}
 
--- a member of a longer list is the first or one of the rest
+-- a member is the first element or one of the rest
 first_or_rest : (x : ℕ) (xs : List ℕ) (y k : ℕ) → k < length (x ∷ xs) → get_or (x ∷ xs) k y ≡ y → (x ≡ y) ⊎ Contains xs y
 first_or_rest x xs y zero lt at = inl at
 first_or_rest x xs y (suc k) lt at = inr (k, omega (arith, lt), at)
@@ -22,7 +22,7 @@ Contains-rest x xs y (k, lt, at) = (suc k, omega (arith, lt), at)
 pub none_in_nil : (y : ℕ) → Contains [] y → ⊥
 none_in_nil y (k, lt, at) = omega (arith, lt)
 
--- what is added is there, and what was there is there
+-- the added index is in the list, and so are the old ones
 pub added_there : (old : List ℕ) (place : ℕ) (new : List ℕ) → IsAdded old place new → Contains new place
 added_there old place new (inl was) = subst (λ (list : List ℕ). Contains list place) (sym was.same) was.there
 added_there old place new (inr moved) = Contains-permutation (place ∷ old) new place moved (Contains-first place old place refl)

@@ -1,4 +1,4 @@
--- A settling that begins: no request is admitted, none is ready and none waits.
+-- The start of bid processing: no request is admitted, ready, or waiting.
 use Rattle.std.proofs.Common.{◌≡◌, ℕ, zero, suc, ◌<◌, List, [], map, refl, sym, subst, arith, get_or, replicate, All}
 use Rattle.std.proofs.lemmas.List.{length-replicate}
 use Rattle.std.proofs.lemmas.List.Elements.{All-nil}
@@ -11,7 +11,7 @@ use Rattle.clock_queue.specs.declared.queue.Queue.{Queue}
 use Rattle.clock_queue.specs.inside.Lines.{HasLines, LineFields, empty_line}
 use Rattle.clock_queue.specs.inside.Queue.{IsKept, IsLine, IsTracking}
 
--- nobody waits in any line
+-- every line is empty
 nobody : (n line : ℕ) → get_or (replicate n empty_line) line empty_line ≡ empty_line
 nobody zero line = refl
 nobody (suc n) zero = refl
@@ -36,7 +36,7 @@ kept_at_start board changes n can lines = record {
   waiting = λ place lt. absurd (omega (arith, lt));
 }
 
--- the same, of lists that were made
+-- the invariants hold of the lists that `settle` makes
 pub started : (board : BoardFields) (changes : List Change) (n : ℕ) (left ready : List ℕ) (lines : List LineFields) → CanSettle board changes →
     All (HasLines n) changes →
     left ≡ map (λ change. change.amount) changes → ready ≡ [] → lines ≡ replicate n empty_line →
@@ -52,6 +52,6 @@ started board changes n left ready lines can enough left_is ready_is lines_are =
     λ k. record { board = board; left = sym left_is k; admitted = 0; ready = sym ready_is k; lines = sym lines_are k } in
     subst (IsKept changes) same (kept_at_start board changes n can enough)
 
--- none is admitted, so none is to be ready
+-- no request is admitted, so none has to be ready
 pub nothing_tracked : (changes : List Change) (queue : Queue) → queue.admitted ≡ 0 → IsTracking changes queue queue.ready
 nothing_tracked changes queue none = λ place lt. absurd (omega (arith, lt, none))

@@ -1,4 +1,4 @@
--- The first of the ready requests is the first admitted one with room, if it has room.
+-- The first ready request is the first admitted one with room, if it has room.
 use Rattle.std.proofs.Common.{◌≡◌, ℕ, zero, suc, ◌+◌, ◌<◌, ◌≤◌, ◌⊎◌, List, [], ◌∷◌, Option, Some, None, cond, refl, ap, sym, subst, ◌∙◌, inl, inr, arith, length, All, lt-ltb}
 use Rattle.std.specs.List.{Contains}
 use Rattle.std.proofs.lemmas.Bool.{le-ltb}
@@ -13,14 +13,14 @@ use Rattle.clock_queue.specs.inside.Queue.{IsKept, IsTracking, HadRoom, HadNoRoo
 use Rattle.clock_queue.proofs.Members.{Contains-cons_cases, none_in_nil}
 
 module _ (changes : List Change) (queue : Queue) where
-  -- with none ready no admitted request has room
+  -- if no request is ready, no admitted request has room
   pub none_elsewhere : IsTracking changes queue queue.ready → queue.ready ≡ [] → (place : ℕ) → place < queue.admitted → room_in changes queue place ≡ 0
   none_elsewhere tracked none place within = elim (tracked place within) as (λ _. room_in changes queue place ≡ 0) [
     | inl no_room ↦ no_room
     | inr behind ↦ absurd (none_in_nil behind.at (subst (λ (list : List ℕ). Contains list behind.at) none behind.is_ready))
   ]
 
-  -- before the first ready request none has room
+  -- no request before the first ready one has room
   none_before : (first : ℕ) (ready : List ℕ) → IsTracking changes queue (first ∷ ready) → All (λ other. first ≤ other) ready → first < queue.admitted →
       (place : ℕ) → place < first → room_in changes queue place ≡ 0
   none_before first ready tracked least admitted place lt = elim (tracked place (omega (arith, lt, admitted))) as (λ _. room_in changes queue place ≡ 0) [
@@ -32,7 +32,7 @@ module _ (changes : List Change) (queue : Queue) where
     ]
   ]
 
-  -- an admitted request with room, before which none has room, is the next that is applied
+  -- the next step applies an admitted request with room, if no earlier one has room
   next_is : IsKept changes queue → (first : ℕ) → first < queue.admitted → ((place : ℕ) → place < first → room_in changes queue place ≡ 0) →
       0 < room_in changes queue first → next queue.board.products queue.board.eligibilities changes (progress queue) ≡ Some
       (progress_with changes queue first)
@@ -45,7 +45,7 @@ module _ (changes : List Change) (queue : Queue) where
   none_ready is tracked none =
       none_has_room queue.board changes queue.left queue.admitted is.under_way.admitted_within is.under_way.lengths (none_elsewhere tracked none)
 
-  -- with none ready the next request is admitted
+  -- if no request is ready, the next step admits a request
   admission_is_next : IsKept changes queue → IsTracking changes queue queue.ready → queue.ready ≡ [] → queue.admitted < length changes →
       next queue.board.products queue.board.eligibilities changes (progress queue) ≡ Some
       (with_admission queue.board.products queue.board.eligibilities changes (progress queue))
@@ -54,7 +54,7 @@ module _ (changes : List Change) (queue : Queue) where
       ∙ ap (λ b. cond b (Some (with_admission queue.board.products queue.board.eligibilities changes (progress queue))) None)
       (lt-ltb queue.admitted (length changes) more)
 
-  -- or it ends
+  -- if all requests are admitted, bid processing has ended
   pub ends : IsKept changes queue → IsTracking changes queue queue.ready → queue.ready ≡ [] → queue.admitted ≡ length changes →
       HasEnded queue.board.products queue.board.eligibilities changes (progress queue)
   ends is tracked none all =
@@ -62,7 +62,7 @@ module _ (changes : List Change) (queue : Queue) where
       ∙ ap (λ b. cond b (Some (with_admission queue.board.products queue.board.eligibilities changes (progress queue))) None)
       (le-ltb queue.admitted (length changes) (omega (arith, all)))
 
-  -- the queue once the next request is admitted
+  -- the queue after the next request is admitted
   abbrev admitting : Queue
   admitting = record queue { admitted = queue.admitted + 1 }
 
@@ -79,7 +79,7 @@ module _ (changes : List Change) (queue : Queue) where
       step_reaches queue.board.products queue.board.eligibilities changes (progress queue) (progress queue) (progress admitting) (0, refl)
       (admission_is_next is tracked none more)
 
-  -- the next request is tested and admitted
+  -- the steps that a test and admission of the next request take
   pub fresh_reaches : (new : Queue) → IsKept changes queue → IsTracking changes queue queue.ready → queue.ready ≡ [] → queue.admitted < length changes →
       HadNoRoom changes queue.admitted queue new ⊎ HadRoom changes queue.admitted queue new →
       Reaches queue.board.products queue.board.eligibilities changes (progress queue) (progress (record new { admitted = queue.admitted + 1 }))
@@ -94,7 +94,7 @@ module _ (changes : List Change) (queue : Queue) where
       (progress_with changes admitting queue.admitted) (to_admitting is tracked none more)
       (admitting_kept is more queue.admitted (omega arith) (none_elsewhere tracked none) applied.some))
 
-  -- a ready request is tested
+  -- the step that a test of the first ready request takes
   pub popped_reaches : (new : Queue) (first : ℕ) (ready : List ℕ) → IsKept changes queue → IsTracking changes queue (first ∷ ready) →
       All (λ other. first ≤ other) ready → first < queue.admitted → HadNoRoom changes first queue new ⊎ HadRoom changes first queue new →
       Reaches queue.board.products queue.board.eligibilities changes (progress queue) (progress new)
@@ -104,7 +104,7 @@ module _ (changes : List Change) (queue : Queue) where
       (step_reaches queue.board.products queue.board.eligibilities changes (progress queue) (progress queue) (progress_with changes queue first) (0, refl)
       (next_is is first admitted (none_before first ready tracked least admitted) applied.some))
 
--- what is reached from what was reached
+-- steps from a state that is reached reach further states
 module _ (products : List Product) (eligibilities : List ℕ) (changes : List Change) where
   further_by : (n : ℕ) (s t u : Progress) (o : Option Progress) →
       ((v : Progress) → Reaches products eligibilities changes s v → after_steps products eligibilities changes n v ≡ u →
@@ -123,7 +123,7 @@ module _ (products : List Product) (eligibilities : List ℕ) (changes : List Ch
       Reaches products eligibilities changes s u
   reaches_further s t u to_t (n, at) = further n s t u to_t at
 
--- the same, where products and eligibilities stayed
+-- steps compose, if products and eligibilities are unchanged
 pub reaches_from : (changes : List Change) (products : List Product) (eligibilities : List ℕ) (start : Progress) (old new : Queue) →
     old.board.products ≡ products → old.board.eligibilities ≡ eligibilities →
     Reaches products eligibilities changes start (progress old) → Reaches old.board.products old.board.eligibilities changes (progress old)
@@ -140,7 +140,7 @@ pub reaches_on : (changes : List Change) (start old new : Queue) → SameTerms s
 reaches_on changes start old new same to_old to_new =
     reaches_from changes start.board.products start.board.eligibilities (progress start) old new same.products same.eligibilities to_old to_new
 
--- a settling that went on goes on from there
+-- GoesOn is transitive
 pub goes_further : (changes : List Change) (start old new : Queue) → GoesOn changes start old → GoesOn changes old new → GoesOn changes start new
 goes_further changes start old new to_old to_new = record {
   kept = to_new.kept;

@@ -1,4 +1,4 @@
--- A settling goes on where the next request was tested and admitted, or a ready one was tested.
+-- The invariants hold after the next request is tested and admitted, and after a ready one is tested.
 use Rattle.std.proofs.Common.{◌≡◌, ℕ, ◌+◌, ◌<◌, ◌≤◌, ◌⊎◌, List, [], ◌∷◌, ap, sym, subst, ◌∙◌, inl, inr, arith, length, All}
 use Rattle.std.specs.List.Sorted.{IsPermutation}
 use Rattle.std.proofs.lemmas.List.Sorted.{All-permutation, length_permutation}
@@ -12,7 +12,7 @@ use Rattle.clock_queue.proofs.Admits.{kept_popped, tracked_popped}
 use Rattle.clock_queue.proofs.Steps.{fresh_reaches, popped_reaches}
 
 module _ (changes : List Change) where
-  -- a test admits none
+  -- a test admits no request
   admitted_by : (place : ℕ) (old new : Queue) → HadNoRoom changes place old new ⊎ HadRoom changes place old new → new.admitted ≡ old.admitted
   admitted_by place old new (inl nothing) = ap (λ (on : Progress). on.admitted) nothing.same
   admitted_by place old new (inr applied) = ap (λ (on : Progress). on.admitted) applied.applied
@@ -20,14 +20,14 @@ module _ (changes : List Change) where
   pub admitted_same : (place : ℕ) (old new : Queue) → IsTested changes place old new → new.admitted ≡ old.admitted
   admitted_same place old new tested = admitted_by place old new tested.step
 
-  -- so the request that was tested is the next still
+  -- the tested request is still the next to be admitted
   pub next_has_none : (old new : Queue) → IsTested changes old.admitted old new → room_in changes new new.admitted ≡ 0
   next_has_none old new tested = ap (room_in changes new) (admitted_same old.admitted old new tested) ∙ tested.no_room
 
   pub next_is_more : (old new : Queue) → old.admitted < length changes → IsTested changes old.admitted old new → new.admitted < length changes
   next_is_more old new more tested = omega (arith, more, admitted_same old.admitted old new tested)
 
-  -- the next request was tested and admitted
+  -- after the next request is tested and admitted
   module _ (old between : Queue) (lines : List LineFields) (is : IsKept changes old) (tracked : IsTracking changes old old.ready)
       (counts : StaysWithinTests changes old) (none : old.ready ≡ []) (more : old.admitted < length changes)
       (tested : IsTested changes old.admitted old between) where
@@ -52,7 +52,7 @@ module _ (changes : List Change) where
         (goes_on_admitted (subst (IsKept changes) same kept)
         (subst (λ (queue : Queue). IsTracking changes queue queue.ready) same tracked_new))
 
-  -- a ready request was taken out
+  -- after the first ready request is removed
   module _ (old : Queue) (first : ℕ) (ready : List ℕ) (is : IsKept changes old) (moved : IsPermutation old.ready (first ∷ ready)) where
     pub popped_before : first < old.admitted
     popped_before = All-head (λ place. place < old.admitted) first ready
@@ -64,7 +64,7 @@ module _ (changes : List Change) where
     fewer : length old.ready ≡ length ready + 1
     fewer = omega (arith, length_permutation old.ready (first ∷ ready) moved)
 
-    -- and tested
+    -- after it is tested
     pub goes_on_popped : (new : Queue) → IsTracking changes old old.ready → StaysWithinTests changes old → All (λ other. first ≤ other) ready →
         IsTested changes first (record old { ready = ready }) new → GoesOn changes old new
     goes_on_popped new tracked counts least tested = record {

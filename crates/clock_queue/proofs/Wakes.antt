@@ -1,19 +1,20 @@
--- A queue stays one where the first request of a line within a limit is made ready, and each one within the limit then
--- stands behind a ready one.
-use Rattle.std.proofs.Common.{◌≡◌, ℕ, ◌+◌, ◌<◌, ◌≤◌, ◌⊎◌, List, ◌∷◌, ap, sym, subst, ◌∙◌, inl, inr, arith, get_or, length, All}
+-- The invariants of the queue hold after the first request of a line within a limit is made ready. Each request of the
+-- line within the limit then has an earlier or equal one that is ready.
+use Rattle.std.proofs.Common.{◌≡◌, ℕ, ◌+◌, ◌<◌, ◌≤◌, ◌⊎◌, List, ◌∷◌, refl, ap, sym, subst, ◌∙◌, inl, inr, arith, get_or, length, All}
 use Rattle.std.specs.List.{Contains}
-use Rattle.std.proofs.lemmas.Bool.{cases_lt}
-use Rattle.std.proofs.lemmas.List.{get_or-set_other, length-set, get_or_default}
+use Rattle.std.proofs.Math.Logic.{⊎_map}
+use Rattle.std.proofs.lemmas.Bool.{cases_eq, cases_lt}
+use Rattle.std.proofs.lemmas.List.{length-set, get_or_default}
 use Rattle.std.proofs.lemmas.List.Sorted.{length_permutation}
 use Rattle.clock_terms.specs.declared.change.Change.{Change}
-use Rattle.clock_processor.proofs.Supply.{same_or_not}
+use Rattle.clock_processor.proofs.Cases.{set_cases}
 use Rattle.clock_queue.specs.declared.queue.Queue.{Queue}
 use Rattle.clock_queue.specs.inside.Lines.{HasLines, LineFields, empty_line}
 use Rattle.clock_queue.specs.inside.Queue.{IsKept, IsLine, IsInLine, IsWaiting, HasWoken, IsMadeReady, IsLeft, line_at, cost_at, line_in}
 use Rattle.clock_queue.specs.inside.Ready.{IsAdded}
 use Rattle.clock_queue.proofs.Members.{added_there, added_kept, added_below}
 
--- a ready request of the line, at the place or before it, has something left within the limit
+-- a ready request of the line, this one or an earlier one, has blocks left and is within the limit
 pub record IsCovered (changes : List Change) (line limit : ℕ) (queue : Queue) (place : ℕ) : Type 0 where
   pub at : ℕ
   pub is_ready : Contains queue.ready at
@@ -23,7 +24,7 @@ pub record IsCovered (changes : List Change) (line limit : ℕ) (queue : Queue) 
   pub waits : 0 < get_or queue.left at 0
   pub cost : cost_at changes queue.board.products at ≤ limit
 
--- one request of the line was made ready, or none
+-- one request of the line was made ready
 pub record IsOneMore (changes : List Change) (line : ℕ) (old new : Queue) : Type 0 where
   pub at : ℕ
   pub admitted_before : at < old.admitted
@@ -35,7 +36,7 @@ module _ (changes : List Change) (line limit : ℕ) (old new : Queue) (is : IsKe
   line_old : IsLine changes old.board.products old.left old.admitted line (line_in old line)
   line_old = is.each line
 
-  -- a request in the line keeps its place there, and its cost while something of it is left
+  -- the requests in the line are unchanged, and so are the costs of those with blocks left
   members_new : (at : ℕ) → at < length (line_in new line).places → IsInLine changes old.admitted line (get_or (line_in new line).places at 0)
   members_new at lt = subst (λ (places : List ℕ). IsInLine changes old.admitted line (get_or places at 0)) (sym woken.spent.places)
       (line_old.members at (omega (arith, lt, ap length woken.spent.places)))
@@ -45,11 +46,7 @@ module _ (changes : List Change) (line limit : ℕ) (old new : Queue) (is : IsKe
       (get_or (line_in new line).costs at 0 ≡ cost_at changes old.board.products (get_or (line_in old line).places at 0))
   costs_new at lt = elim (woken.spent.spent at lt) as (λ _. (get_or old.left (get_or (line_in old line).places at 0) 0 ≡ 0) ⊎
       (get_or (line_in new line).costs at 0 ≡ cost_at changes old.board.products (get_or (line_in old line).places at 0))) [
-        | inl same ↦ elim (line_old.costs at lt) as (λ _. (get_or old.left (get_or (line_in old line).places at 0) 0 ≡ 0) ⊎
-            (get_or (line_in new line).costs at 0 ≡ cost_at changes old.board.products (get_or (line_in old line).places at 0))) [
-              | inl nothing ↦ inl nothing
-              | inr cost ↦ inr (same ∙ cost)
-            ]
+        | inl same ↦ ⊎_map (λ nothing. nothing) (λ cost. same ∙ cost) (line_old.costs at lt)
         | inr nothing ↦ inl nothing
       ]
 
@@ -64,28 +61,20 @@ module _ (changes : List Change) (line limit : ℕ) (old new : Queue) (is : IsKe
         (costs_new at (omega (arith, lt, ap length woken.spent.places)));
   }
 
-  -- the other lines are the same
-  other_line : (l : ℕ) → (l ≡ line → ⊥) → line_in new l ≡ line_in old l
-  other_line l differ = ap (λ (lines : List LineFields). get_or lines l empty_line) woken.others
-      ∙ get_or-set_other old.lines line l (line_in new line) empty_line differ
-
   each_new : (l : ℕ) → IsLine changes old.board.products old.left old.admitted l (line_in new l)
-  each_new l = elim (same_or_not l line) as (λ _. IsLine changes old.board.products old.left old.admitted l (line_in new l)) [
-    | inl same ↦ subst (λ k. IsLine changes old.board.products old.left old.admitted k (line_in new k)) (sym same) line_new
-    | inr differ ↦ subst (IsLine changes old.board.products old.left old.admitted l) (sym (other_line l differ)) (is.each l)
-  ]
+  each_new l = subst (λ (lines : List LineFields). IsLine changes old.board.products old.left old.admitted l (get_or lines l empty_line)) (sym woken.others)
+      (set_cases (IsLine changes old.board.products old.left old.admitted) old.lines line (line_in new line) empty_line within line_new (λ k _. is.each k) l)
 
   places_same : (l : ℕ) → (line_in new l).places ≡ (line_in old l).places
-  places_same l = elim (same_or_not l line) as (λ _. (line_in new l).places ≡ (line_in old l).places) [
-    | inl same ↦ subst (λ k. (line_in new k).places ≡ (line_in old k).places) (sym same) woken.spent.places
-    | inr differ ↦ ap (λ (held : LineFields). held.places) (other_line l differ)
-  ]
+  places_same l = ap (λ (lines : List LineFields). (get_or lines l empty_line).places) woken.others
+      ∙ set_cases (λ k (held : LineFields). held.places ≡ (line_in old k).places) old.lines line (line_in new line) empty_line within woken.spent.places
+      (λ k _. refl) l
 
   waiting_new : (place : ℕ) → IsWaiting changes old place → IsWaiting changes (record old { ready = new.ready; lines = new.lines }) place
   waiting_new place (inl nothing) = inl nothing
   waiting_new place (inr here) = inr (subst (λ (places : List ℕ). Contains places place) (sym (places_same (line_at changes place))) here)
 
-  -- the request that was made ready
+  -- what holds of the request that was made ready
   module _ (made : IsMadeReady line limit old new) where
     at_old : made.first.at < length (line_in old line).places
     at_old = omega (arith, made.first.is_first.within, line_new.lengths, ap length woken.spent.places)
@@ -121,7 +110,7 @@ module _ (changes : List Change) (line limit : ℕ) (old new : Queue) (is : IsKe
     waiting = λ place lt. waiting_new place (is.waiting place lt);
   })
 
-  -- who was ready still is
+  -- requests that were ready still are
   ready_kept : (place : ℕ) → Contains old.ready place → IsMadeReady line limit old new ⊎ IsLeft line limit old new → Contains new.ready place
   ready_kept place here (inl made) = added_kept old.ready made.place new.ready made.ready place here
   ready_kept place here (inr left) = subst (λ (ready : List ℕ). Contains ready place) (sym left.ready) here
@@ -129,7 +118,7 @@ module _ (changes : List Change) (line limit : ℕ) (old new : Queue) (is : IsKe
   pub still_ready : (place : ℕ) → Contains old.ready place → Contains new.ready place
   still_ready place here = ready_kept place here woken.woken
 
-  -- no more than one was made ready
+  -- at most one request was made ready
   one_more_by : (made : IsMadeReady line limit old new) → IsAdded old.ready made.place new.ready →
       IsOneMore changes line old new ⊎ (length new.ready ≡ length old.ready)
   one_more_by made (inl was) = inr (ap length was.same)
@@ -146,7 +135,7 @@ module _ (changes : List Change) (line limit : ℕ) (old new : Queue) (is : IsKe
     | inr left ↦ inr (ap length left.ready)
   ]
 
-  -- who stands in the line within the limit, stands behind the one that was made ready
+  -- each request of the line within the limit is the one that was made ready, or a later one
   module _ (place : ℕ) (some : 0 < get_or old.left place 0) (few : cost_at changes old.board.products place ≤ limit) (k : ℕ)
       (k_within : k < length (line_in old line).places) (k_is : get_or (line_in old line).places k 0 ≡ place) where
     cost_there : get_or (line_in new line).costs k 0 ≤ limit
@@ -176,7 +165,7 @@ module _ (changes : List Change) (line limit : ℕ) (old new : Queue) (is : IsKe
       is_ready = made_ready made;
       own_line = (made_in_line made).own_line;
       admitted_before = (made_in_line made).admitted_before;
-      before = before_by made (same_or_not made.first.at k);
+      before = before_by made (cases_eq made.first.at k);
       waits = made.first.waits;
       cost = made_cost made;
     }

@@ -1,4 +1,5 @@
--- What only proofs and private functions use: no clause of a public call cites it.
+-- Definitions that only proofs and private functions use. No contract of a public function cites
+-- them.
 pub mod Costs
 pub mod Lines
 pub mod Ready

@@ -1,4 +1,4 @@
-//! Costs in a row, of which the first within a limit is found without a look at each.
+//! A list of costs that finds the first one within a limit without reading each.
 
 ghost use Rattle.std.specs.Prelude.{◌≡◌, ◌<◌, ◌≤◌, ◌+◌, ◌*◌, [], ◌∷◌, ◌++◌, ℕ, List, length, All, IfSome, IfNone, OnOk, OnErr, slice_index, slice_set};
 ghost use Rattle.clock_queue.specs.inside.Costs.{AreAbove, AreFrom, HasBounds, IsFirstWithin, spent};
@@ -8,17 +8,18 @@ use smallvec::SmallVec;
 use std::alloc::Global;
 use std::marker::Model;
 
-/// How many costs share a bound.
+/// The number of costs in a block, which share a bound.
 const BLOCK: usize = 64;
 
-/// Above each limit: the cost of what is no more to be found.
+/// A cost above every limit: `first_within` never finds it.
 const SPENT: u32 = u32::MAX;
 
-/// Costs in a row. Contracts see them alone.
+/// A list of costs, in bidding units of a block. In contracts, it is the list of the costs.
 ///
-/// They stand in blocks of 64, and for each block there is a bound which none of its costs is below: a block whose bound
-/// is above a limit is passed over as a whole. Blocks at the front of which nothing is to be found any more are passed
-/// over together. Up to four costs and the bound of the first block ask for no memory.
+/// The costs form blocks of 64, each with a bound that no cost of the block is below. A search
+/// skips a block if its bound is above the limit. It skips the first `passed` blocks in one step,
+/// because all of their costs are spent. Up to four costs and the bound of the first block are
+/// stored without an allocation.
 #[derive(Drop)]
 pub(crate) struct Costs {
     costs: SmallVec<u32, 4>,
@@ -35,7 +36,7 @@ impl Model for Costs {
 }
 
 impl Costs {
-    /// No costs. It takes no memory yet.
+    /// An empty list. Allocates nothing.
     pub(crate) fn new(alloc: Global) -> Costs
         ensures { result ≡ [] }
     {
@@ -46,7 +47,7 @@ impl Costs {
         }
     }
 
-    /// Adds a cost at the end.
+    /// Appends a cost. On [`NoMemory`] the costs are as before.
     pub(crate) fn push(&mut self, cost: u32) -> Result<(), NoMemory>
         ensures ok { OnOk result (self.new ≡ self.old ++ cost ∷ []) }
         ensures err { OnErr result (self.new ≡ self.old) }
@@ -61,7 +62,7 @@ impl Costs {
         Ok(())
     }
 
-    /// Lets a cost be found no more.
+    /// Spends the cost at an index, so that no search finds it again.
     pub(crate) fn spend(&mut self, place: usize)
         requires { place < length self.old }
         ensures { self.new ≡ slice_set self.old place spent }
@@ -74,7 +75,7 @@ impl Costs {
         }
     }
 
-    /// The place of the first cost within a limit.
+    /// The index of the first cost that is at most `limit`.
     pub(crate) fn first_within(&self, limit: u32) -> Option<usize>
         requires { limit < spent }
         ensures found { IfSome result (IsFirstWithin self.now limit) }
@@ -91,7 +92,7 @@ impl Costs {
     }
 }
 
-/// The place of the first cost of a block within a limit.
+/// The index of the first cost of a block that is at most `limit`.
 fn first_in(costs: &[u32], block: usize, limit: u32) -> Option<usize>
     requires { BLOCK * block ≤ length costs.now }
     ensures within { IfSome result (λ place. (place < length costs.now) × (slice_index costs.now place ≤ limit)) }
@@ -107,7 +108,7 @@ fn first_in(costs: &[u32], block: usize, limit: u32) -> Option<usize>
     None
 }
 
-/// A bound for a block: none of its costs is below.
+/// The least cost of a block, or `SPENT` if the block is empty.
 fn least_in(costs: &[u32], block: usize) -> u32
     requires { BLOCK * block ≤ length costs.now }
     ensures { AreFrom result costs.now (BLOCK * block) (BLOCK * block + BLOCK) }

@@ -1,5 +1,5 @@
-//! Settling a round by an event queue: after an application only the requests that it may have made room for are tested
-//! again.
+//! Bid processing by an event queue: after an application, it tests only requests that may have
+//! room because of it.
 #![tactic(auto)]
 
 mod costs;

@@ -1,4 +1,4 @@
-//! The lines in which requests wait, and the places of those that are ready to be tested.
+//! The lines in which requests wait for room, and the indices of the requests to be tested next.
 
 ghost use Rattle.std.specs.Prelude.{◌≡◌, ◌<◌, [], ◌∷◌, ◌++◌, ◌≤◌, ℕ, List, length, replicate, All, IfOk, OnOk, slice_index_or, slice_set, IfSome, IfNone};
 ghost use Rattle.std.specs.Prelude.{false};
@@ -16,8 +16,12 @@ use std::cmp::Reverse;
 use std::collections::BinaryHeap;
 use std::marker::Model;
 
-/// The requests that wait for one thing, in the order in which they were admitted: their places, and what a block of
-/// each costs. Those of which nothing is left are passed over. Up to four requests ask for no memory.
+/// A line of requests that wait for the same event, in the order of their admission. In contracts,
+/// a line is the list of their indices and the list of their costs.
+///
+/// The cost of a request is what one block of it takes from the unused eligibility of its bidder. A
+/// search spends the cost of each request that it meets with nothing left. Up to four requests are
+/// stored without an allocation.
 #[derive(Drop)]
 pub(crate) struct Line {
     places: SmallVec<u32, 4>,
@@ -33,7 +37,7 @@ impl Model for Line {
 }
 
 impl Line {
-    /// A line in which nobody waits. It takes no memory yet.
+    /// An empty line. Allocates nothing.
     pub(crate) fn new(alloc: Global) -> Line
         ensures { result ≡ lines.empty_line }
     {
@@ -43,7 +47,8 @@ impl Line {
         }
     }
 
-    /// Adds a request at the end.
+    /// Appends the request with an index. Also returns [`NoMemory`] for an index above 32 bits,
+    /// which the requests of a round never reach.
     pub(crate) fn add(&mut self, place: usize, cost: u32) -> Result<(), NoMemory>
         ensures { OnOk result (self.new ≡ lines.with_waiting self.old place cost) }
     {
@@ -55,7 +60,8 @@ impl Line {
         Ok(())
     }
 
-    /// The first request of which something is left, and of which a block costs no more than the limit.
+    /// The index of the first request that has blocks left and costs at most `limit`. `left` has
+    /// the blocks that are left of each request.
     pub(crate) fn first_waiting(&mut self, left: &[u64], limit: u32) -> Option<usize>
         requires limit { limit < spent }
         requires places { All (λ place. place < length left.now) self.old.places }
@@ -74,13 +80,14 @@ impl Line {
     }
 }
 
-/// What stands for a line in which nobody ever waited.
+/// The position of a line to which no request was ever added.
 const NOWHERE: usize = usize::MAX;
 
-/// The lines in which requests wait: for each product one of its reductions, for each bidder one of its increases.
-/// Contracts see the list of the lines.
+/// The lines in which requests wait: for each product a line of reductions, for each bidder a line
+/// of increases. In contracts, it is the list of all lines.
 ///
-/// In most of them nobody waits, so a line is made when its first request is added. `index` has its position in `lists`.
+/// Most lines stay empty, so a line is made when its first request is added. `index` has the
+/// position of each line in `lists`.
 #[derive(Drop)]
 pub(crate) struct WaitingLines {
     index: Vec<usize>,
@@ -96,7 +103,7 @@ impl Model for WaitingLines {
 }
 
 impl WaitingLines {
-    /// A number of lines, in which nobody waits.
+    /// `count` empty lines.
     pub(crate) fn new(alloc: Global, count: usize) -> Result<WaitingLines, NoMemory>
         ensures { IfOk result (λ new. new ≡ replicate count lines.empty_line) }
     {
@@ -106,7 +113,7 @@ impl WaitingLines {
         })
     }
 
-    /// Adds a request at the end of a line.
+    /// Appends the request with an index to a line.
     pub(crate) fn add(&mut self, line: usize, place: usize, cost: u32) -> Result<(), NoMemory>
         requires { line < length self.old }
         ensures { OnOk result (self.new ≡ slice_set self.old line (lines.with_waiting (slice_index_or self.old line lines.empty_line) place cost)) }
@@ -124,7 +131,7 @@ impl WaitingLines {
         Ok(())
     }
 
-    /// The first request in a line of which something is left, and of which a block costs no more than the limit.
+    /// The index of the first request of a line that has blocks left and costs at most `limit`.
     pub(crate) fn first_waiting(&mut self, line: usize, left: &[u64], limit: u32) -> Option<usize>
         requires line { line < length self.old }
         requires limit { limit < spent }
@@ -142,21 +149,22 @@ impl WaitingLines {
     }
 }
 
-/// The line of a product's reductions.
+/// The number of the line of a product's reductions.
 pub(crate) fn product_line(product: u32) -> usize
     ensures { result ≡ lines.product_line product }
 {
     2 * product as usize
 }
 
-/// The line of a bidder's increases.
+/// The number of the line of a bidder's increases.
 pub(crate) fn bidder_line(bidder: u32) -> usize
     ensures { result ≡ lines.bidder_line bidder }
 {
     2 * bidder as usize + 1
 }
 
-/// The line in which a request waits: a reduction in its product's, an increase in its bidder's.
+/// The number of the line in which a request waits: a reduction in that of its product, an increase
+/// in that of its bidder.
 pub(crate) fn line_of(change: &Change) -> usize
     ensures { result ≡ lines.line_of change.now }
 {
@@ -166,7 +174,7 @@ pub(crate) fn line_of(change: &Change) -> usize
     }
 }
 
-/// How many lines there must be for these requests.
+/// The number of lines that the bidders and products of these requests need.
 pub(crate) fn lines_for(changes: &[Change]) -> usize
     ensures { All (lines.HasLines result) changes.now }
 {
@@ -179,9 +187,10 @@ pub(crate) fn lines_for(changes: &[Change]) -> usize
     count
 }
 
-/// The places of the requests that are to be tested. Contracts see them as a list in any order.
+/// The indices of the requests to be tested next. In contracts, it is a list of them in any order.
 ///
-/// A place that is marked is among them and is not added once more, so they take no more memory than there are requests.
+/// A marked index is in the heap and is not added a second time, so the heap never has more entries
+/// than there are requests.
 #[derive(Drop)]
 pub(crate) struct Ready {
     heap: BinaryHeap<Reverse<usize>>,
@@ -197,7 +206,7 @@ impl Model for Ready {
 }
 
 impl Ready {
-    /// No places, of so many requests.
+    /// No index yet, of `count` requests.
     pub(crate) fn new(alloc: Global, count: usize) -> Result<Ready, NoMemory>
         ensures { IfOk result (λ ready. ready ≡ []) }
     {
@@ -207,7 +216,7 @@ impl Ready {
         })
     }
 
-    /// Adds a place, if it is not marked.
+    /// Adds an index, unless it is marked.
     pub(crate) fn add(&mut self, place: usize) -> Result<(), NoMemory>
         ensures { OnOk result (ready.IsAdded self.old place self.new) }
     {
@@ -219,7 +228,7 @@ impl Ready {
         Ok(())
     }
 
-    /// Takes the least place out.
+    /// Removes the least index, and returns it.
     pub(crate) fn pop(&mut self) -> Option<usize>
         ensures taken { IfSome result (λ place. IsPermutation self.old (place ∷ self.new)) }
         ensures least { IfSome result (λ place. All (λ other. place ≤ other) self.new) }
@@ -232,14 +241,14 @@ impl Ready {
     }
 }
 
-/// Whether a place is marked.
+/// Whether an index is marked.
 fn is_marked(marks: &Items<bool>, place: usize) -> bool
     ensures { result ≡ slice_index_or marks.now place false }
 {
     place < marks.len() && marks.as_slice()[place]
 }
 
-/// Marks a place, or takes its mark away.
+/// Marks an index, or removes its mark.
 fn mark(marks: &mut Items<bool>, place: usize, is_ready: bool)
     ensures { marks.new ≡ slice_set marks.old place is_ready }
 {

@@ -11,18 +11,20 @@ use clock_processor::{Board, Processor, Settled, amounts_of};
 use clock_terms::{Amounts, Change, Changes, Kind, MOST_UNITS};
 use std::alloc::Global;
 
-/// Tests a request once when it is admitted, and after each application at most two: the first that waits for the
-/// product, and the first that waits for the bidder and is within what is unused of its eligibility.
+/// The event queue. It tests each request when it admits it, and at most two requests after each
+/// application.
 ///
-/// All reductions of a product have room or none has, and of a bidder's increases those have room that cost no more than
-/// its unused eligibility, which the board tells where it applies a request. So of each line the first with room is
-/// known, and it alone needs a test.
+/// The two are the first request that waits for the product, and the first that waits for the
+/// bidder and costs at most its unused eligibility. They are enough. Either all reductions of a
+/// product have room or none has. A bidder's increase has room if a block of it costs at most the
+/// unused eligibility, which the board returns when it applies a request.
 #[derive(Clone, Copy, Debug, Default)]
 pub struct Woken;
 
 impl Processor for Woken {
-    /// Settles the requests as the trait says. It tests at most once for each request, and for each application at most
-    /// twice, and no more often than there are requests of one product or of one bidder.
+    /// Processes the requests as [`Processor::settle`] says. Makes at most one test for each
+    /// request, and at most two for each application. If no product and no bidder has two requests,
+    /// an application causes at most one test.
     fn settle(&self, alloc: Global, board: Board, changes: &Changes) -> Result<Settled, NoMemory>
         requires { CanSettle board changes.now }
         ensures settlement { IfOk result (λ settled. IsSettlement board.entry changes.now settled) }
@@ -44,13 +46,14 @@ impl Processor for Woken {
     }
 }
 
-/// A settling within the bound tests at most as often for an application as there are requests of one product or of one
-/// bidder, and at most twice. It does nothing when it runs: a caller is handed the law.
+/// Proves two simpler bounds from that of [`Woken`]: for each application at most two tests, and at
+/// most m, if no product and no bidder has more than m requests. Does nothing when it runs: its
+/// contract is the law.
 pub fn law_of_tests()
     ensures { BoundsEachLine }
 {}
 
-/// A settling on its way.
+/// The state of bid processing: the board, the blocks left of each request, and what waits.
 #[derive(Drop)]
 struct Queue<'a> {
     board: Board<'a>,
@@ -61,8 +64,8 @@ struct Queue<'a> {
 }
 
 impl<'a> Queue<'a> {
-    /// Tests the next request and admits it, and then tests until none is ready. Mostly none is after its own test, so
-    /// it goes past the ready requests, and takes no memory of theirs.
+    /// Tests the next request and admits it, then tests ready requests until none is left. The next
+    /// request never enters the heap, because most requests make no other one ready.
     fn settle_next(&mut self, changes: &[Change]) -> Result<(), NoMemory>
         requires kept { IsKept changes.now self.old }
         requires tracked { IsTracking changes.now self.old self.old.ready }
@@ -82,8 +85,8 @@ impl<'a> Queue<'a> {
         Ok(())
     }
 
-    /// Tests a request, which was the first of those that are ready or is the next to be admitted. With room it is
-    /// applied by its whole room.
+    /// Tests a request, and applies it by its whole room if it has any. It is the first of the
+    /// ready requests, or the next one to be admitted.
     fn test(&mut self, changes: &[Change], place: usize) -> Result<(), NoMemory>
         requires kept { IsKept changes.now self.old }
         requires tracked { IsTracking changes.now self.old (place ∷ self.old.ready) }
@@ -98,7 +101,7 @@ impl<'a> Queue<'a> {
         Ok(())
     }
 
-    /// The room of a request.
+    /// Tests the room of a request.
     fn room(&mut self, changes: &[Change], place: usize) -> u64
         requires kept { IsKept changes.now self.old }
         requires within { place < length changes.now }
@@ -110,8 +113,8 @@ impl<'a> Queue<'a> {
         self.board.room(&changes[place], left)
     }
 
-    /// Applies a request by its whole room, and makes ready the first that this may have made room for of those that
-    /// wait for its product, and of those that wait for its bidder.
+    /// Applies a request by its whole room. Makes ready the first request that waits for its
+    /// product and the first that waits for its bidder, if they may have room now.
     fn apply(&mut self, changes: &[Change], place: usize, room: u64) -> Result<(), NoMemory>
         requires kept { IsKept changes.now self.old }
         requires tracked { IsTracking changes.now self.old (place ∷ self.old.ready) }
@@ -130,8 +133,9 @@ impl<'a> Queue<'a> {
         Ok(())
     }
 
-    /// Makes ready the first that waits for the product of a request that was applied. A reduction of which something is
-    /// left has used up what its product exceeds its supply by, so nobody who waits for that has room.
+    /// Makes ready the first request that waits for the product of an applied request. `rest` is
+    /// what is left of the applied request. A reduction with blocks left has used up the excess
+    /// demand of its product, so no other reduction of the product has room.
     fn wake_product(&mut self, change: &Change, rest: u64) -> Result<(), NoMemory>
         requires line { lines.product_line change.now.product < length self.old.lines }
         requires places { All (λ place. place < length self.old.left) (line_in self.old (lines.product_line change.now.product)).places }
@@ -143,7 +147,7 @@ impl<'a> Queue<'a> {
         self.wake(product_line(change.product), 0)
     }
 
-    /// Makes ready the first request in a line of which something is left and a block costs no more than the limit.
+    /// Makes ready the first request of a line that has blocks left and costs at most `limit`.
     fn wake(&mut self, line: usize, limit: u32) -> Result<(), NoMemory>
         requires line { line < length self.old.lines }
         requires limit { limit < spent }
@@ -156,7 +160,8 @@ impl<'a> Queue<'a> {
         Ok(())
     }
 
-    /// Admits the next request, which has no room: what is left of it waits in its line.
+    /// Admits the next request. Requires that it has no room. If it has blocks left, it waits in
+    /// its line.
     fn admit(&mut self, changes: &[Change]) -> Result<(), NoMemory>
         requires kept { IsKept changes.now self.old }
         requires tracked { IsTracking changes.now self.old self.old.ready }
@@ -178,7 +183,8 @@ impl<'a> Queue<'a> {
     }
 }
 
-/// What a block of a request costs in its line: of an increase the product's units, of a reduction nothing.
+/// What a block of a request costs in its line: the product's bidding units if it is an increase,
+/// nothing if it is a reduction.
 fn cost_of(board: &Board, change: &Change) -> u32
     requires { change.now.product < length board.now.products }
     ensures { result ≡ lines.cost_of board.now.products change.now }

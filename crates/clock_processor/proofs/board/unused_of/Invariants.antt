@@ -4,7 +4,7 @@ use Rattle.clock_terms.specs.Demands.{row_of}
 use Rattle.clock_terms.specs.Eligibility.{activity}
 use Rattle.clock_processor.proofs.board.unused_of.Given as goal
 
--- the unused eligibility of each bidder so far, and room for the others
+-- the unused eligibility of each bidder so far, and capacity for the others
 abbrev pub invariant-loop-bidder : goal.invariant-loop-bidder
 invariant-loop-bidder l = record {
   lengths : length l.unused.items ≡ l.bidder;

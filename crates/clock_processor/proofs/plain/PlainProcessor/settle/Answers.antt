@@ -1,4 +1,4 @@
--- The end that the steps reach is the settlement.
+-- The end of the loop is the settlement.
 use Rattle.std.proofs.Common.{List, map, sym, subst, ap, ◌∙◌}
 use Rattle.clock_terms.specs.declared.change.Change.{Change}
 use Rattle.clock_processor.specs.inside.UnderWay.{IsUnderWay, progress_of}

@@ -1,4 +1,4 @@
--- The heap's items move, and so do the places; what is marked is among them.
+-- The indices move as the heap's items do, and marked ones are among them.
 use Rattle.std.proofs.Common.{◌≡◌, ℕ, List, ◌∷◌, Bool, true, false, get_or, subst, sym, ◌∙◌, inl, inr, refl}
 use Rattle.std.specs.List.{Contains}
 use Rattle.std.specs.List.Sorted.{IsPermutation}

@@ -1,4 +1,4 @@
--- The heap's greatest item in the opposite order is the least place.
+-- The heap is in the opposite order, so its greatest item is the least index.
 use Rattle.std.proofs.Common.{◌≡◌, ℕ, ◌≤◌, List, [], ◌∷◌, map, get_or, sym, subst, Bool, true, false}
 use Rattle.std.specs.Ordering.{is_lt, nat_cmp}
 use Rattle.std.specs.List.Sorted.{IsPermutation}

@@ -1,4 +1,4 @@
--- The line at the position has one request more, or a line with this request is made.
+-- The line has one more request: at its position, or as a new line.
 use Rattle.std.proofs.Common.{◌<◌, ap, sym, ◌∙◌, arith, set, length}
 use Rattle.clock_queue.specs.inside.Lines.{LineFields, with_waiting}
 use Rattle.clock_queue.proofs.Index.{shown_list, shown_written, shown_empty, shown_made}

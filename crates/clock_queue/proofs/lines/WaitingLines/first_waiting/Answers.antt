@@ -1,4 +1,4 @@
--- The line at the position was searched; a line without a position is empty.
+-- The search is in the line at the position. A line without a position is empty.
 use Rattle.std.proofs.Common.{◌<◌, List, ap, sym, subst, ◌∙◌, arith, set, get_or, IfNone, All}
 use Rattle.std.proofs.lemmas.List.{get_or-set_same}
 use Rattle.clock_queue.specs.inside.Lines.{LineFields, empty_line}

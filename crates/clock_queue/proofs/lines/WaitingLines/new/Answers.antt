@@ -1,4 +1,4 @@
--- No line has a position.
+-- At the start, no line has a position.
 use Rattle.clock_queue.proofs.Index.{none_made}
 use Rattle.clock_queue.proofs.lines.WaitingLines.new.Goals as goal
 

@@ -1,4 +1,4 @@
--- The calls do what an application does to a queue.
+-- The calls together are one application by the whole room.
 use Rattle.std.proofs.Common.{◌≡◌, ℕ, ◌-◌, ◌<◌, ◌∷◌, min, List, length, get_or, set, ap, refl, sym, subst, ◌∙◌, arith, All}
 use Rattle.std.proofs.lemmas.List.{get_or_read, length-set}
 use Rattle.clock_terms.specs.Limits.{most_units}
@@ -15,7 +15,7 @@ use Rattle.clock_queue.proofs.queue.Queue.apply.Goals as goal
 some_room : (room r : ℕ) → room ≡ r → 0 < room → 0 < r
 some_room room r same some = subst (λ n. 0 < n) same some
 
--- what the calls say of the fields, as one application of the request at a place
+-- the new fields, as one application of the request
 module _ (changes : List Change) (first room : ℕ) (old mid new : Queue) (one : Change) (board : BoardFields) (read left : List ℕ) (unused rest other limit : ℕ)
     (is : IsKept changes old) (lt : first < length changes) (is_board : IsBoard old.board.products old.board.eligibilities old.board.grid)
     (room_is : room ≡ room_in changes old first) (positive : 0 < room) (one_is : one ≡ get_or changes first one)

@@ -1,4 +1,4 @@
--- The next request is tested and admitted, and the settling goes on from there.
+-- The next request is tested and admitted, then the ready ones are tested.
 use Rattle.std.proofs.Common.{◌+◌, ◌∷◌, ◌∙◌, ap}
 use Rattle.clock_queue.specs.declared.queue.Queue.{Queue}
 use Rattle.clock_queue.proofs.Admits.{tracked_more, kept_popped, tracked_popped}

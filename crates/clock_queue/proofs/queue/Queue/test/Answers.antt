@@ -1,4 +1,4 @@
--- A test changes nothing but the count, and an application is the next step.
+-- A test changes only the count. An application is the next step.
 use Rattle.std.proofs.Common.{◌≡◌, ◌∷◌, ◌∙◌, sym, subst, arith, inl, refl}
 use Rattle.clock_queue.specs.declared.queue.Queue.{Queue}
 use Rattle.clock_queue.specs.inside.Queue.{IsKept, IsTested, IsTracking, room_in}

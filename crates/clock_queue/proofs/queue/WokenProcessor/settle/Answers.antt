@@ -1,4 +1,4 @@
--- One more request is settled; at the end all are.
+-- Each turn of the loop admits one more request. At the end all are admitted.
 use Rattle.std.proofs.Common.{ℕ, List, length, refl, ap, sym, subst, ◌∙◌, arith}
 use Rattle.clock_terms.specs.declared.change.Change.{Change}
 use Rattle.clock_processor.specs.Requests.{CanSettle}

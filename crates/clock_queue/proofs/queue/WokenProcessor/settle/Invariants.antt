@@ -5,7 +5,7 @@ use Rattle.clock_processor.specs.inside.UnderWay.{progress_of}
 use Rattle.clock_queue.specs.inside.Queue.{IsKept, IsTracking, StaysWithinTests, progress}
 use Rattle.clock_queue.proofs.queue.WokenProcessor.settle.Given as goal
 
--- the requests so far are admitted, and none is ready
+-- the requests so far are admitted, none is ready, and the steps so far reach this state
 abbrev pub invariant-loop-place : goal.invariant-loop-place
 invariant-loop-place l = record {
   kept : IsKept l.requests l.queue;
