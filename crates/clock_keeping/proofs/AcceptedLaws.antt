@@ -103,8 +103,10 @@ whole_head digest bytes found is =
 begun_is : (digest left : List ℕ) → IsPartOfHead digest left → heading digest left ≡ begun
 unfolding heading
 begun_is digest left part =
-    rw (lt_true (length left) head_length part.short,
-    bytes_eq_same left (take (length left) (head digest)) part.front) refl
+    rw (
+      lt_true (length left) head_length part.short,
+      bytes_eq_same left (take (length left) (head digest)) part.front,
+    ) refl
 
 -- so no text of the file is refused
 none_refused : (setup : SetupFields) (digest bytes : List ℕ) (texts : List (List ℕ)) (least size place : ℕ)

@@ -4,3 +4,4 @@ mod Served
 mod Ends
 mod Told
 mod Bytes
+mod GenerationLaws

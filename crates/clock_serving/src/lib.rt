@@ -6,10 +6,12 @@
 #![tactic(auto)]
 
 mod acceptor;
+mod generation;
 mod outlet;
 mod serving;
 
 pub use acceptor::{Acceptor, Connection, Listening};
 pub use clock_keeping::{Keeper, Unkept};
+pub use generation::{GenerationFault, law_of_generations, serve_from};
 pub use outlet::Outlet;
 pub use serving::{ServeFault, law_told_bytes, serve_all, serve_on};

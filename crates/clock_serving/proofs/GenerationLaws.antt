@@ -1,0 +1,197 @@
+-- GenerationsContinue of a server that follow one another.
+use Rattle.std.proofs.Common.{◌≡◌, ◌≤◌, ◌+◌, inl, inr, ℕ, List, [], ◌∷◌, ◌++◌, length, take, Option, Some, None, Err}
+use Rattle.std.proofs.Common.{refl, sym, ap, ◌∙◌, subst, arith, length-append, append-nil}
+use Rattle.std.proofs.lemmas.List.{take_at}
+use Rattle.clock_terms.specs.Limits.{SetupFields}
+use Rattle.clock_house.specs.House.{HouseFields}
+use Rattle.clock_journal.specs.Crash.{LeavesJournal}
+use Rattle.clock_journal.specs.Disks.{CouldBeLeft, LeaveOnly, MayBeLeft, Moment}
+use Rattle.clock_journal.specs.Format.{head}
+use Rattle.clock_journal.specs.Kept.{HasTexts, JournalState}
+use Rattle.clock_journal.proofs.Starting.{now_left}
+use Rattle.clock_keeping.specs.Accepted.{AreAccepted, IsOwnFile}
+use Rattle.clock_keeping.specs.Starts.{HasResumed}
+use Rattle.clock_keeping.proofs.AcceptedLaws.{accepted_after, accepted_push, accepted_take}
+use Rattle.clock_serving.specs.Exchanges.{Exchange}
+use Rattle.clock_serving.specs.Generations.{AreRestarts, ContinueFrom, EndsGeneration, Generation, GenerationsContinue}
+use Rattle.clock_serving.specs.Generations.{IsGeneration, LeftSince, MayLeave, ServesFrom, failed, served}
+use Rattle.clock_serving.specs.declared.generation.GenerationFault.TheVariants.{Serve}
+use Rattle.clock_serving.specs.declared.serving.ServeFault.{ServeFault}
+use Rattle.clock_serving.specs.declared.serving.ServeFault.TheVariants as fault
+use Rattle.clock_serving.specs.Serving.{AreServed, EndsServing, HasKeptTold, KeepsText, KeptTexts, RepliesOver, Walks}
+use Rattle.clock_serving.proofs.Served.{left_since}
+
+-- ---- logged texts were accepted
+
+accepted_step : (setup : SetupFields) (before : KeptTexts) (one : Exchange) (after : KeptTexts)
+    → RepliesOver setup before one after → AreAccepted setup [] before.texts → AreAccepted setup [] after.texts
+accepted_step setup before one after (inl (text, answer, replied, inl (right, is), seen)) accepted =
+    subst (λ (texts : List (List ℕ)). AreAccepted setup [] texts) (sym is)
+    (accepted_after setup before.texts text accepted)
+accepted_step setup before one after (inl (text, answer, replied, inr (struck, is), seen)) accepted =
+    subst (λ (texts : List (List ℕ)). AreAccepted setup [] texts) (sym is) accepted
+accepted_step setup before one after (inr (alone, is)) accepted =
+    subst (λ (logged : KeptTexts). AreAccepted setup [] logged.texts) (sym is) accepted
+
+accepted_walk : (digest : List ℕ) (setup : SetupFields) (first : KeptTexts) (exchanges : List Exchange)
+    (last : KeptTexts) → Walks (KeepsText digest setup) first exchanges last → AreAccepted setup [] first.texts
+    → AreAccepted setup [] last.texts
+accepted_walk digest setup first [] last walks accepted =
+    subst (λ (logged : KeptTexts). AreAccepted setup [] logged.texts) (sym walks) accepted
+accepted_walk digest setup first (one ∷ others) last walks accepted =
+    accepted_walk digest setup walks.0 others last walks.2
+    (accepted_step setup first one walks.0 walks.1.replies accepted)
+
+-- ---- one generation
+
+module _ (digest : List ℕ) (texts : List (List ℕ)) (least : ℕ) (first last : JournalState) (old : HouseFields)
+    (accepted : AreAccepted old.setup [] texts) (resumed : HasResumed digest texts least first old) where
+  accepted_end : (exchanges : List Exchange) (end : KeptTexts)
+      → Walks (KeepsText digest old.setup) (record { texts = take resumed.count texts; journal = first }) exchanges end
+      → AreAccepted old.setup [] end.texts
+  accepted_end exchanges end walks =
+      accepted_walk digest old.setup (record { texts = take resumed.count texts; journal = first }) exchanges end walks
+      (accepted_take old.setup [] texts resumed.count accepted)
+
+  -- all connections were served
+  pub serves_all : (exchanges : List Exchange) (told_old told_new : Option (List ℕ)) (new : HouseFields)
+      → AreServed exchanges told_old told_new first last old new
+      → ServesFrom old.setup digest texts least exchanges last
+  serves_all exchanges told_old told_new new are =
+      let kept = are.kept digest (take resumed.count texts) resumed.in_step in
+      let has = subst (λ (all : List (List ℕ)). HasTexts digest all last) (sym (append-nil kept.end))
+      kept.in_step.has in
+      record {
+        count = resumed.count;
+        enough = resumed.enough;
+        most = resumed.most;
+        resumed = first;
+        last = record { texts = kept.end; journal = last };
+        walks = kept.walks;
+        more = [];
+        few = omega arith;
+        own = record {
+          accepted = subst (λ (all : List (List ℕ)). AreAccepted old.setup [] all) (sym (append-nil kept.end))
+              (accepted_end exchanges (record { texts = kept.end; journal = last }) kept.walks);
+          leaves = λ left may. inl (left_since digest kept.end [] last last left kept.in_step.has has may);
+        };
+      }
+
+  -- the text of the last could not be logged
+  pub serves_but : (some : List Exchange) (text : List ℕ)
+      → HasKeptTold digest (take resumed.count texts) some text first last old
+      → ServesFrom old.setup digest texts least some last
+  serves_but some text told = record {
+    count = resumed.count;
+    enough = resumed.enough;
+    most = resumed.most;
+    resumed = first;
+    last = record { texts = told.end; journal = told.before };
+    walks = told.walks;
+    more = text ∷ [];
+    few = omega arith;
+    own = record {
+      accepted = accepted_push old.setup [] told.end text
+          (accepted_end some (record { texts = told.end; journal = told.before }) told.walks) told.accepted;
+      leaves = λ left may.
+          inl (told.left_ones left
+          (subst (λ (bytes : Option (List ℕ)). MayBeLeft bytes last.written left) told.on_disk may));
+    };
+  }
+
+-- what is in the file is what a crash may leave of it
+pub own_left : (setup : SetupFields) (digest : List ℕ) (texts : List (List ℕ)) (least : ℕ) (journal : JournalState)
+    (synced bytes : List ℕ) → journal.synced ≡ Some synced → journal.written ≡ Some bytes
+    → IsOwnFile setup digest texts least journal → LeavesJournal digest bytes texts least
+own_left setup digest texts least journal synced bytes is written own =
+    own.leaves bytes (now_left journal.synced journal.written synced bytes is written)
+
+module _ (setup : SetupFields) (found first last : JournalState) (bytes : List ℕ) (old : HouseFields)
+    (same : old.setup ≡ setup) (resumed : (texts : List (List ℕ)) (least : ℕ) → found.written ≡ Some bytes
+    → LeavesJournal found.chain bytes texts least → HasResumed found.chain texts least first old) where
+  lives : (exchanges : List Exchange) → ((texts : List (List ℕ)) (least : ℕ) → AreAccepted old.setup [] texts
+      → HasResumed found.chain texts least first old → ServesFrom old.setup found.chain texts least exchanges last)
+      → found.written ≡ Some bytes → IsGeneration setup found.chain (served found exchanges last)
+  lives exchanges how written texts least synced is own =
+      subst (λ (one : SetupFields). ServesFrom one found.chain texts least exchanges last) same
+      (how texts least (subst (λ (one : SetupFields). AreAccepted one [] texts) (sym same) own.accepted)
+      (resumed texts least written (own_left setup found.chain texts least found synced bytes is written own)))
+
+  pub served_all : (exchanges : List Exchange) (told_old told_new : Option (List ℕ)) (new : HouseFields)
+      → AreServed exchanges told_old told_new first last old new
+      → found.written ≡ Some bytes → IsGeneration setup found.chain (served found exchanges last)
+  served_all exchanges told_old told_new new are =
+      lives exchanges (λ texts least accepted resumes.
+      serves_all found.chain texts least first last old accepted resumes exchanges told_old told_new new are)
+
+  pub ends_by_fault : (U : Type 0) (count : ℕ) (exchanges : List Exchange) (told_old told_new : Option (List ℕ))
+      (new : HouseFields) (why : ServeFault)
+      → EndsServing {U = U} count exchanges told_old told_new first last old new (Err why)
+      → EndsGeneration {U = U} setup count exchanges bytes found last (Err (Serve why))
+  ends_by_fault U count exchanges told_old told_new new fault.Accept ends =
+      (ends.0, served_all exchanges told_old told_new new ends.1)
+  ends_by_fault U count exchanges told_old told_new new fault.Journal ends = (
+    ends.0,
+    ends.1,
+    ends.2,
+    ends.3,
+    ends.4.silent,
+    lives ends.0 (λ texts least accepted resumes.
+        serves_but found.chain texts least first last old accepted resumes ends.0 ends.4.text
+        (ends.4.kept found.chain (take resumes.count texts) resumes.in_step)),
+  )
+
+-- ---- generations
+
+append_once : {A : Type 0} (some others rest : List A) → some ++ rest ≡ others ++ rest → some ≡ others
+append_once some others rest is =
+    let lengths = ap length is in
+    let size : length some ≡ length others =
+    omega (arith, lengths, length-append some rest, length-append others rest) in
+    sym (take_at some rest (length some) refl)
+    ∙ (ap (take (length some)) is ∙ take_at others rest (length some) (sym size))
+
+some_once : {A : Type 0} (one other : A) → Some one ≡ Some other → one ≡ other
+some_once one other is = cc
+
+since_left : (old new : Option (List Moment)) (Leaves : List ℕ → Type 0) (left : List ℕ) → LeaveOnly old new Leaves
+    → LeftSince old new left → Leaves left
+since_left (Some old) new Leaves left only since =
+    only.2 left (subst (λ (moments : List Moment). CouldBeLeft moments left)
+    (append_once since.0 only.0 old (some_once (since.0 ++ old) (only.0 ++ old) (sym since.1 ∙ only.1))) since.2)
+since_left None new Leaves left only since = absurd since
+
+continue_from : (setup : SetupFields) (digest : List ℕ) (texts : List (List ℕ)) (least : ℕ) (Leaves : List ℕ → Type 0)
+    (generations : List Generation) → AreAccepted setup [] texts
+    → ((left : List ℕ) → Leaves left → LeavesJournal digest left texts least)
+    → AreRestarts setup digest Leaves generations → ContinueFrom setup digest texts least generations
+continue_from setup digest texts least Leaves [] accepted safe follow = tt
+continue_from setup digest texts least Leaves (failed found why end ∷ others) accepted safe follow =
+    let own : IsOwnFile setup digest texts least found =
+    record { accepted = accepted; leaves = λ left may. safe left (follow.2 left may) } in
+    let ends = follow.0 texts least follow.1.0 follow.1.1 own in (
+      ends.0,
+      continue_from setup digest texts least (MayLeave (failed found why end)) others accepted
+          (λ left found_there. elim found_there [
+            | inl before ↦ own.leaves left before
+            | inr since ↦ since_left found.moments end.moments (λ bytes. LeavesJournal digest bytes texts least)
+                left ends.1 since
+          ]) follow.3,
+    )
+continue_from setup digest texts least Leaves (served found exchanges end ∷ others) accepted safe follow =
+    let own : IsOwnFile setup digest texts least found =
+    record { accepted = accepted; leaves = λ left may. safe left (follow.2 left may) } in
+    let from = follow.0 texts least follow.1.0 follow.1.1 own in (
+      from,
+      continue_from setup digest (from.last.texts ++ from.more) (length from.last.texts)
+          (MayLeave (served found exchanges end)) others from.own.accepted
+          (λ left may. from.own.leaves left may) follow.3,
+    )
+
+empty_left : (digest left : List ℕ) → left ≡ [] → LeavesJournal digest left [] 0
+empty_left digest [] none = inr (refl, record { short = omega arith; front = refl })
+empty_left digest (byte ∷ rest) none = let no : byte ∷ rest ≡ [] = none in absurd (let bad : ⊥ = cc in bad)
+
+pub generations : GenerationsContinue
+generations setup digest all follow =
+    continue_from setup digest [] 0 (λ (left : List ℕ). left ≡ []) all tt (empty_left digest) follow

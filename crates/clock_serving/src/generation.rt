@@ -1,0 +1,62 @@
+ghost use Rattle.std.specs.Prelude.{◌≡◌, [], List, Err, true, false};
+ghost use Rattle.clock_front.specs.Fronts.{StandsForTexts};
+ghost use Rattle.clock_serving.specs.Exchanges.{Came, Exchange, HasClosed, bytes_given};
+ghost use Rattle.clock_serving.specs.Generations.{EndsGeneration, GenerationsContinue};
+
+use crate::acceptor::Acceptor;
+use crate::serving::{ServeFault, serve_all};
+use clock_journal::{Durable, Journal, Recovered};
+use clock_keeping::{Auction, GoOnFault, go_on};
+use clock_processor::Processor;
+use std::alloc::Global;
+
+/// Why a server ended before it served all connections: its start failed, or the loop did.
+#[derive(Clone, Copy)]
+pub enum GenerationFault {
+    Start(GoOnFault),
+    Serve(ServeFault),
+}
+
+/// Runs one generation of a server: resumes the journal of a file, as [`go_on`], and serves `count`
+/// connections, as [`serve_all`]. The program makes the same two calls.
+///
+/// If the file is what a crash left of this auction's journal, the start is not refused, and each
+/// reply is the right one after the logged texts. What a crash leaves after that is this auction's
+/// journal again. [`law_of_generations`] says what follows for any number of crashes.
+pub fn serve_from<P: Processor, D: Durable, C: Acceptor, F: FnOnce(Recovered)>(
+    alloc: Global,
+    auction: &mut Auction<P>,
+    journal: &mut Journal<D>,
+    bytes: &[u8],
+    tell: F,
+    connections: &mut C,
+    count: u64,
+) -> Result<(), GenerationFault>
+    requires fresh { StandsForTexts [] auction.old.front }
+    requires unfailed { journal.old.has_failed ≡ false }
+    requires callable { F.IsAlwaysCallable tell }
+    requires closed { C.is_open connections.old ≡ false }
+    requires taken { C.has_failed connections.old ≡ false }
+    ensures generation { (exchanges : List Exchange)
+        × HasClosed (C.closed connections.old) (C.closed connections.new) exchanges
+        × Came (C.coming connections.old) (C.coming connections.new) (bytes_given exchanges)
+        × EndsGeneration auction.old.front.setup count exchanges bytes.now journal.old journal.new
+        result }
+    ensures closed { C.is_open connections.new ≡ false }
+    ensures taken { result ≡ Err (GenerationFault.Serve ServeFault.Accept)
+        → C.has_failed connections.new ≡ true }
+{
+    if let Err(fault) = go_on(auction, journal, bytes, tell) {
+        return Err(GenerationFault::Start(fault));
+    }
+    match serve_all(alloc, &mut auction.front, journal, connections, count) {
+        Ok(()) => Ok(()),
+        Err(fault) => Err(GenerationFault::Serve(fault)),
+    }
+}
+
+/// The second headline, a law, which does nothing when it runs: generations that start on what a
+/// crash may have left of the one before continue one auction.
+pub fn law_of_generations()
+    ensures { GenerationsContinue }
+{}
