@@ -1,6 +1,6 @@
 -- What one bidder has before a round, and the limit on its requested activity. The activity limit
--- is the FCC's for Auction
--- 105. Rounding it down, and that it is the eligibility in round 1, are our own rules.
+-- is the FCC's for Auction 105. Rounding it down, and that it is the eligibility in round 1, are our
+-- own rules.
 --     Holding      an eligibility, and a processed demand for each product
 --     holding_of own      the values of an argument of the program
 --     activity_limit setup round eligibility      the most requested activity
