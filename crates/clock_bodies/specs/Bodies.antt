@@ -32,6 +32,5 @@ abbrev pub meant_by : {A : Type 0} → (Data → Option A) → Option Data → R
 meant_by meaning None = Err NotJson
 meant_by meaning (Some value) = or_fault Shape (meaning value)
 
--- the sheet that bytes mean, or their first fault
 unfoldable pub put_body : List ℕ → Result PutBody BodyFault
 put_body bytes = meant_by put_of (json bytes)

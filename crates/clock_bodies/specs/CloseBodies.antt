@@ -16,7 +16,6 @@ use Rattle.clock_bodies.specs.declared.body.BodyFault.{BodyFault}
 use Rattle.clock_bodies.specs.declared.body.BodyFault.TheVariants.{Shape}
 use Rattle.clock_bodies.specs.Bodies.{meant_by}
 
--- three numbers
 abbrev pub tie_from : Items → Option Tie
 tie_from (item a (item b (item c no_items))) = do
   bidder ← number_from a
@@ -46,7 +45,6 @@ close_of value = do
   ties ← option_and_then (each tie_of) (items_at (codes "ties") value)
   if has_members 3 value then Some (record { round = round; increments = increments; ties = ties }) else None
 
--- the closing that bytes mean, or their first fault
 unfoldable pub close_body : List ℕ → Result CloseBody BodyFault
 close_body bytes = meant_by close_of (json bytes)
 
