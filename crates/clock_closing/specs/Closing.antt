@@ -39,7 +39,6 @@ abbrev pub requests_by : OpenRound → ℕ → List Change
 requests_by now bidder =
     changes_of_sheet now.standing.prices (holding_at now.holdings bidder).demands bidder (bids_at now.sheets bidder)
 
--- All bidders' requests, in the order of processing.
 abbrev pub requests : OpenRound → List Tie → List Change
 requests now ties = processing_list ties (flat_map (requests_by now) (bidder_numbers now))
 
@@ -65,7 +64,6 @@ later_result products now changes = record {
       (settlement products now changes).grid;
 }
 
--- The processed demands and posted prices of the current round.
 abbrev pub round_result : List Product → OpenRound → List Tie → RoundResult
 round_result products now ties =
     if now.standing.round == 1 then first_result products now else later_result products now (requests now ties)
@@ -79,7 +77,6 @@ slip_after setup round eligibility demands = record {
   demands = demands;
 }
 
--- The bidder results of all bidders.
 abbrev pub slips_after : PublicSetup → OpenRound → List (List ℕ) → List Slip
 slips_after setup now grid = map (λ bidder. slip_after setup now.standing.round
     (holding_at now.holdings bidder).eligibility (row_of grid bidder)) (bidder_numbers now)
@@ -91,8 +88,7 @@ closed_round setup now increments result = record {
   slips = slips_after setup now result.grid;
 }
 
--- The round that a closing adds, or its first fault: the end, another round, an increment, the
--- tie-breaking numbers, or a next clock price that is too high. The order is our own.
+-- The round that a closing adds, or its first fault. The order of the checks is our own.
 abbrev pub closing : PublicSetup → OpenRound → ℕ → Increments → List Tie → Result ClosedRound CloseFault
 closing setup now round increments ties = let result = round_result setup.products now ties in
     unless (first_fault ((close_faults.Ended, not now.standing.ended)
