@@ -10,7 +10,6 @@ use Rattle.clock_http.specs.Heads.{same_bytes}
 use Rattle.clock_front.specs.declared.front.askers.Asker.{Asker}
 use Rattle.clock_front.specs.declared.front.askers.Asker.TheVariants.{Nobody, Operator, Bidder}
 
--- Each bidder's token, paired with the bidder. The first is bidder number i.
 abbrev pub bidder_tokens : ℕ → List BidderRow → List (List ℕ × Asker)
 bidder_tokens i [] = []
 bidder_tokens i (bidder ∷ bidders) = (bidder.token, Bidder i) ∷ bidder_tokens (suc i) bidders

@@ -25,11 +25,9 @@ use Rattle.clock_front.specs.Outcomes.{answer_of, outcome, command_of}
 abbrev pub text_command : SetupFields → List ℕ → Command
 text_command setup text = command_of setup (asker setup (request_of text).token) (request_of text).ask
 
--- The commands that requests are, in the same order.
 abbrev pub commands_of : SetupFields → List (List ℕ) → List Command
 commands_of setup texts = map (text_command setup) texts
 
--- The auction that commands have made, as a house shows it.
 abbrev pub house_after : SetupFields → List Command → HouseFields
 house_after setup commands = record {
   setup = setup;
@@ -38,8 +36,7 @@ house_after setup commands = record {
   spare = 0;
 }
 
--- The one right reply to a request that comes after the requests `texts`: computed from the auction
--- that they have made, the token of the request, and what it asks for.
+-- The one right reply, computed from the auction so far, the request's token, and what it asks for.
 abbrev pub reply : SetupFields → List (List ℕ) → List ℕ → Answer
 reply setup texts text =
     answer_of (outcome (house_after setup (commands_of setup texts)) (asker setup (request_of text).token) (request_of text).ask)

@@ -45,7 +45,6 @@ pub data Outcome : Type 0 where
 abbrev pub with_page : Code → Option Page → Data → Answer
 with_page code allowed value = record { code = code; bytes = reply_bytes code allowed (compact_text value) }
 
--- The code and the bytes of a reply.
 abbrev pub answer_of : Outcome → Answer
 answer_of (done value) = with_page code.Done None value
 answer_of (refused shown) = with_page shown.code None (refusal_value shown)
