@@ -8,7 +8,6 @@ use Rattle.clock_http.specs.declared.code.Code.TheVariants.{WrongRound, LongBody
 use Rattle.clock_http.specs.declared.code.Code.TheVariants.{MixedDirection, KeepPrice, OverActivity, Increment, TieRange, TieRepeated, TooManyTies}
 use Rattle.clock_http.specs.declared.code.Code.TheVariants.{PriceLimit, LongHead, Coding, Memory}
 
--- the table: the status, and the code as pages show it
 abbrev pub row_of : Code → ℕ × List ℕ
 row_of Done = (200, codes "done")
 row_of BadHead = (400, codes "bad_head")

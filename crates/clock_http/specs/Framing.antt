@@ -49,7 +49,6 @@ kept head = record {
   token = token_of (pairs_of head);
 }
 
--- a head with the length of its body, or why that is refused
 abbrev pub and_length : RequestHead → Result ℕ Code → Result (Head × ℕ) Code
 and_length head (Err fault) = Err fault
 and_length head (Ok n) = Ok (kept head, n)
@@ -84,7 +83,6 @@ is_incomplete incomplete = true
 is_incomplete (refusal code) = false
 is_incomplete (whole head body) = false
 
--- the text is neither a whole request nor refused
 abbrev pub needs_more : List ℕ → Bool
 needs_more text = is_incomplete (framing text)
 

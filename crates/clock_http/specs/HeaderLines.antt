@@ -26,7 +26,6 @@ pairs_of head = map name_and_value head.fields
 abbrev pub is_named : List ℕ → List ℕ × List ℕ → Bool
 is_named name pair = same_bytes (map to_ascii_lowercase pair.0) (map to_ascii_lowercase name)
 
--- the values of the lines of one name, in their order
 abbrev pub values_of : List ℕ → List (List ℕ × List ℕ) → List (List ℕ)
 values_of name pairs = map (λ pair. pair.1) (filter (is_named name) pairs)
 
@@ -45,7 +44,6 @@ abbrev pub unless_coded : List (List ℕ) → Result ℕ Code → Result ℕ Cod
 unless_coded [] n = n
 unless_coded (value ∷ more) n = Err Coding
 
--- the length of the body, or why it is refused
 abbrev pub body_length : List (List ℕ × List ℕ) → Result ℕ Code
 body_length pairs =
     unless_coded (values_of (codes "transfer-encoding") pairs) (within_limit (length_from (values_of (codes "content-length") pairs)))

@@ -12,7 +12,6 @@ use Rattle.clock_http.specs.Codes.{status_of}
 use Rattle.clock_http.specs.declared.routes.Page.{Page}
 use Rattle.clock_http.specs.Routes.{methods}
 
--- a code and the bytes of its reply
 pub record Answer : Type 0 where
   pub code : Code
   pub bytes : List ℕ

@@ -14,7 +14,6 @@ use Rattle.clock_http.specs.Heads.{same_bytes}
 use Rattle.clock_http.specs.declared.routes.Page.{Page}
 use Rattle.clock_http.specs.declared.routes.Page.TheVariants.{Status, Products, Sheet, Account, Bids, Slip, Close, Results}
 
--- what follows the last slash
 abbrev pub last_segment : List ℕ → List ℕ
 last_segment path = after_last (λ b. b == 47) path
 
@@ -28,7 +27,6 @@ paths = (codes "/v1/close", Close) ∷ (codes "/v1/me/bids", Bids) ∷ (codes "/
 abbrev pub is_segment : List ℕ → Bool
 is_segment rest = nat_lt 0 (length rest) && not (list_any (λ b. b == 47) rest)
 
--- the path is this text, or this text and one more segment if it ends with a slash
 abbrev pub is_path : List ℕ → List ℕ → Bool
 is_path text path =
     if length (last_segment text) == 0 then starts_with nat_eq path text && is_segment (drop (length text) path)
@@ -38,7 +36,6 @@ is_path text path =
 unfoldable pub page_of : List ℕ → Option Page
 page_of path = if is_utf8 path then option_map (λ row. row.1) (find (λ row. is_path row.0 path) paths) else None
 
--- the methods of a page
 abbrev pub methods : Page → List (List ℕ)
 methods Status = codes "GET" ∷ []
 methods Products = codes "GET" ∷ []
@@ -49,6 +46,5 @@ methods Slip = codes "GET" ∷ []
 methods Close = codes "POST" ∷ []
 methods Results = codes "GET" ∷ []
 
--- the page has this method
 abbrev pub has_method : Page → List ℕ → Bool
 has_method page method = list_any (λ m. same_bytes m method) (methods page)

@@ -24,6 +24,5 @@ abbrev pub has_bare_line_feed : ℕ → List ℕ → Bool
 has_bare_line_feed before [] = false
 has_bare_line_feed before (b ∷ rest) = (b == line_feed && not (before == carriage_return)) || has_bare_line_feed b rest
 
--- the bytes begin with a CR, or have an LF with no CR before it
 abbrev pub is_loose : List ℕ → Bool
 is_loose bytes = slice_index bytes 0 == carriage_return || has_bare_line_feed 0 bytes
