@@ -1,11 +1,11 @@
--- What a JSON text means, by the tree of values that serde_json reads: the value that bytes are, and its parts. An
--- object has a key once: where a document repeats one, the reader keeps the last.
+-- What a JSON text means, by the tree of values that serde_json reads: the value of some bytes, and
+-- its parts. An object has each key once: if a document repeats one, the reader uses the last.
 --     json bytes      the value that the bytes are
---     number_at key value, text_at key value, items_at key value      the member of that kind at a key
---     has_members count value      the value is an object of so many members
+--     number_at key value, text_at key value, items_at key value      the member of a key
+--     has_members count value      the value is an object with `count` members
 --     number_from value      a whole number of 64 bits; RFC 8259's other numbers are none
 --     row_of value      a list of whole numbers
---     each meaning items      what all items mean, where each means something
+--     each meaning items      the meanings of all items, if each has one
 use Rattle.std.specs.Prelude.{ℕ, Bool, false, List, [], ◌∷◌, ◌==◌, if◌then◌else◌, Option, Some, None, option_and_then}
 use Rattle.std.specs.Str.{is_utf8}
 use Rattle.serde_json.specs.Data.{Data, Members, Items, no_items, item}
@@ -21,7 +21,6 @@ json bytes = if is_utf8 bytes then read bytes else None
 abbrev pub number_from : Data → Option ℕ
 number_from value = option_and_then as_u64 (as_number value)
 
--- a whole number under a key
 abbrev pub number_at : List ℕ → Data → Option ℕ
 number_at key value = option_and_then number_from (get key value)
 
@@ -29,26 +28,23 @@ number_at key value = option_and_then number_from (get key value)
 abbrev pub text_at : List ℕ → Data → Option (List ℕ)
 text_at key value = option_and_then as_str (get key value)
 
--- the items of a list under a key
 abbrev pub items_at : List ℕ → Data → Option Items
 items_at key value = option_and_then as_array (get key value)
 
--- there are members, and so many
 abbrev pub is_count : ℕ → Option Members → Bool
 is_count count None = false
 is_count count (Some members) = members_len members == count
 
--- with as many members as there are keys looked up, an object has these keys and no other
+-- With `count` members and `count` keys looked up, an object has these keys and no other.
 abbrev pub has_members : ℕ → Data → Bool
 has_members count value = is_count count (as_object value)
 
--- in a do block: go on with a value where there is one
+-- in a `do` block: continue with the value if there is one
 infixl 10 ◌>>=◌
 abbrev pub ◌>>=◌ : {A B : Type 0} → Option A → (A → Option B) → Option B
 None >>= f = None
 (Some x) >>= f = f x
 
--- what all items mean, where each means something
 abbrev pub each : {A : Type 0} → (Data → Option A) → Items → Option (List A)
 each meaning no_items = Some []
 each meaning (item value items) = do
