@@ -11,7 +11,6 @@ use Rattle.clock_terms.specs.declared.change.Kind.{Kind}
 use Rattle.clock_terms.specs.declared.change.Kind.TheVariants.{Increase, Reduction}
 use Rattle.clock_posting.specs.Posting.{has_excess}
 
--- The request is to reduce demand.
 abbrev pub is_reduction : Kind → Bool
 is_reduction Reduction = true
 is_reduction Increase = false
@@ -34,7 +33,6 @@ posted_price products prices changes left grid product =
     else highest_or (prices_at prices product).start
     (map (λ line. line.0.price) (filter (λ line. is_applied_reduction product line.0 line.1) (zip changes left)))
 
--- The posted price of each product.
 abbrev pub posted_prices : List Product → List PricePair → List Change → List ℕ → List (List ℕ) → List ℕ
 posted_prices products prices changes left grid =
     map (posted_price products prices changes left grid) (range_with_len 0 (length products))
