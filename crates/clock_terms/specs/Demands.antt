@@ -13,7 +13,6 @@ use Rattle.clock_terms.specs.declared.change.Kind.TheVariants.{Increase, Reducti
 abbrev pub row_of : List (List ℕ) → ℕ → List ℕ
 row_of grid bidder = slice_index_or grid bidder []
 
--- a bidder's demand for a product, in blocks
 abbrev pub demand_at : List (List ℕ) → ℕ → ℕ → ℕ
 demand_at grid bidder product = slice_index (row_of grid bidder) product
 
@@ -21,7 +20,6 @@ demand_at grid bidder product = slice_index (row_of grid bidder) product
 abbrev pub total_of : List (List ℕ) → ℕ → ℕ
 total_of grid product = sum_by (λ row. slice_index row product) grid
 
--- the grid in which this one demand is replaced
 abbrev pub with_demand : List (List ℕ) → ℕ → ℕ → ℕ → List (List ℕ)
 with_demand grid bidder product demand = slice_set grid bidder (slice_set (row_of grid bidder) product demand)
 

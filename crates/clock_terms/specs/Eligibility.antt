@@ -30,7 +30,6 @@ abbrev pub SupportsTheLeast : Type 0
 SupportsTheLeast = (activity requirement eligibility : ℕ) → 1 ≤ requirement
     → (supported_eligibility activity requirement ≡ eligibility) ↔ IsSupported activity requirement eligibility
 
--- The smaller of the eligibility before the round and the one that the round's activity supports:
--- eligibility never rises.
+-- The smaller of the eligibility before the round and the supported one: eligibility never rises.
 abbrev pub next_eligibility : ℕ → ℕ → ℕ → ℕ
 next_eligibility held activity requirement = min held (supported_eligibility activity requirement)

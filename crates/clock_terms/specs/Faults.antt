@@ -19,12 +19,10 @@ abbrev pub in_turn : {X F : Type 0} → (ℕ → X → List (F × Bool)) → ℕ
 in_turn checks i [] = []
 in_turn checks i (x ∷ xs) = checks i x ++ in_turn checks (i + 1) xs
 
--- the value, or the fault if there is one
 abbrev pub unless : {A F : Type 0} → Option F → A → Result A F
 unless None value = Ok value
 unless (Some fault) value = Err fault
 
--- the value if there is one, or the fault
 abbrev pub or_fault : {A F : Type 0} → F → Option A → Result A F
 or_fault fault None = Err fault
 or_fault fault (Some value) = Ok value

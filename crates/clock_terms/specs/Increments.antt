@@ -27,7 +27,6 @@ HasIncrement (PerProduct increments) product = product < length increments
 abbrev pub IsIncrement : ℕ → Type 0
 IsIncrement = IsWithin least_increment most_increment
 
--- the test of IsIncrement
 abbrev pub is_increment : ℕ → Bool
 is_increment = is_within least_increment most_increment
 
@@ -36,7 +35,6 @@ abbrev pub AreIncrements : ℕ → Increments → Type 0
 AreIncrements count (Single increment) = IsIncrement increment
 AreIncrements count (PerProduct increments) = (length increments ≡ count) × All IsIncrement increments
 
--- the test of AreIncrements
 abbrev pub are_increments : ℕ → Increments → Bool
 are_increments count (Single increment) = is_increment increment
 are_increments count (PerProduct increments) = (length increments == count) && list_all is_increment increments

@@ -79,7 +79,6 @@ longest_token = 64
 abbrev pub most_bids : ℕ
 most_bids = 8192
 
--- the test of IsWithin
 abbrev pub is_within : ℕ → ℕ → ℕ → Bool
 is_within low high n = nat_le low n && nat_le n high
 
@@ -131,8 +130,7 @@ abbrev pub is_distinct : List (List ℕ) → Bool
 is_distinct [] = true
 is_distinct (text ∷ texts) = not (list_any (bytes_eq text) texts) && is_distinct texts
 
--- A set-up: its version, activity limit and activity requirement in percent, the operator's token,
--- the products, and the bidders.
+-- A set-up, with activity limit and requirement in percent, and with the operator's token.
 pub record SetupFields : Type 0 where
   pub version : ℕ
   pub limit : ℕ
@@ -148,7 +146,6 @@ pub record PublicSetup : Type 0 where
   pub requirement : ℕ
   pub products : List Product
 
--- the public part of a set-up
 abbrev pub public_setup : SetupFields → PublicSetup
 public_setup setup = record {
   version = setup.version;
@@ -182,7 +179,6 @@ pub record IsSetup (setup : SetupFields) : Type 0 where
 abbrev pub no_product : Product
 no_product = record { name = []; units = 0; supply = 0; cap = 0; opening = 0; granule = 1 }
 
--- the product with a number
 abbrev pub product_at : List Product → ℕ → Product
 product_at products product = slice_index_or products product no_product
 
@@ -202,7 +198,6 @@ units_of products product = (product_at products product).units
 abbrev pub granule_of : List Product → ℕ → ℕ
 granule_of products product = (product_at products product).granule
 
--- a row of demands: one for each product, none above the product's cap
 pub record IsRow (products : List Product) (demands : List ℕ) : Type 0 where
   pub each : length demands ≡ length products
   pub capped : EachIndex demands (λ product. slice_index demands product ≤ cap_of products product)

@@ -9,6 +9,5 @@ use Rattle.clock_terms.specs.declared.prices.PricePair.{PricePair}
 abbrev pub opening_prices : List Product → List PricePair
 opening_prices products = map (λ product. record { start = product.opening; clock = product.opening }) products
 
--- the prices of a product
 abbrev pub prices_at : List PricePair → ℕ → PricePair
 prices_at prices product = slice_index_or prices product (record { start = 0; clock = 0 })
