@@ -1,9 +1,9 @@
 -- The pages of one bidder: functions of the products, which are public, and of what is its own.
---     account_value products name round held ended      what the bidder holds before the current round
---     bid_value bid, bids_value round sheet      its sheet in force, or none
---     accepted_value round count      what answers a sheet that was accepted
---     accepted_bytes round count      the same page, byte for byte
---     slip_value slip      what a closed round has left it with
+--     account_value products name round held ended      the account, the bidder's current state
+--     bid_value bid, bids_value round sheet      its sheet in force, or null
+--     accepted_value round count      the reply to a sheet that was accepted
+--     accepted_bytes round count      that page, byte for byte
+--     slip_value slip      its results of a closed round
 use Rattle.std.specs.Prelude.{ℕ, List, [], ◌∷◌, ◌++◌, Bool, true, Option, Some, None, codes, decimal}
 use Rattle.serde_json.specs.Data.{Data, null, boolean, string}
 use Rattle.clock_terms.specs.declared.setup.Product.{Product}
@@ -13,7 +13,7 @@ use Rattle.clock_bids.specs.Holding.{Holding}
 use Rattle.clock_closing.specs.declared.closed_round.Slip.{Slip}
 use Rattle.clock_views.specs.Values.{whole, list_of, object_of}
 
--- the activity, demands and eligibility that it holds, whether the auction has ended, its name, and the current round
+-- the account: activity and demands are the processed ones
 unfoldable pub account_value : List Product → List ℕ → ℕ → Holding → Bool → Data
 account_value products name round held ended = object_of (
     ("activity", whole (activity products held.demands)) ∷
@@ -23,26 +23,24 @@ account_value products name round held ended = object_of (
     ("name", string name) ∷
     ("round", whole round) ∷ [])
 
--- a bid as it is handed in
 unfoldable pub bid_value : Bid → Data
 bid_value bid =
     object_of (("price", whole bid.price) ∷ ("product", whole bid.product) ∷ ("quantity", whole bid.quantity) ∷ [])
 
--- the bids of a sheet in the order given, or null where there is no sheet
+-- the bids of a sheet in the order given, or null if there is no sheet
 abbrev pub sheet_or_null : Option (List Bid) → Data
 sheet_or_null None = null
 sheet_or_null (Some bids) = list_of bid_value bids
 
--- the sheet in force, and the current round
 unfoldable pub bids_value : ℕ → Option (List Bid) → Data
 bids_value round sheet = object_of (("bids", sheet_or_null sheet) ∷ ("round", whole round) ∷ [])
 
--- how many bids were accepted, and the current round
+-- the reply to an accepted sheet, with the number of its bids
 unfoldable pub accepted_value : ℕ → ℕ → Data
 accepted_value round count =
     object_of (("accepted", boolean true) ∷ ("bids", whole count) ∷ ("round", whole round) ∷ [])
 
--- the activity, demands and eligibility after a closed round, and the number of that round
+-- bidder results: processed activity and demands, and the next eligibility
 unfoldable pub slip_value : Slip → Data
 slip_value slip = object_of (
     ("activity", whole slip.activity) ∷
@@ -50,7 +48,7 @@ slip_value slip = object_of (
     ("eligibility", whole slip.eligibility) ∷
     ("round", whole slip.round) ∷ [])
 
--- the accepted page, byte for byte
+-- the reply to an accepted sheet, byte for byte
 abbrev pub accepted_bytes : ℕ → ℕ → List ℕ
 accepted_bytes round count =
     codes "{\"accepted\":true,\"bids\":" ++ decimal count ++ codes ",\"round\":" ++ decimal round ++ codes "}"

@@ -1,9 +1,9 @@
--- The pages that everyone may see. They are functions of what is public alone.
---     status_value setup round ended      where the auction stands
---     status_bytes setup round ended      the same page, byte for byte
+-- The pages that everyone may see. They are functions only of what is public.
+--     status_value setup round ended      the status of the auction
+--     status_bytes setup round ended      that page, byte for byte
 --     from_version_2 version n      a number that set-up documents have from version 2 on
---     product_value version product, products_value setup      what is auctioned
---     line_value product line, sheet_value setup sheet      what a closed round has posted
+--     product_value version product, products_value setup      the public set-up
+--     line_value product line, sheet_value setup sheet      the round results
 use Rattle.std.specs.Prelude.{ℕ, List, [], ◌∷◌, ◌++◌, Bool, nat_le, Option, Some, None, if◌then◌else◌, codes, decimal, zip}
 use Rattle.serde_json.specs.Data.{Data, boolean, string}
 use Rattle.clock_terms.specs.declared.setup.Product.{Product}
@@ -12,23 +12,22 @@ use Rattle.clock_posting.specs.declared.sheet.Line.{Line}
 use Rattle.clock_posting.specs.declared.sheet.RoundSheet.{RoundSheet}
 use Rattle.clock_views.specs.Values.{whole, whole_or_null, list_of, object_of, member_if, true_or_false}
 
--- whether the auction has ended, the current round, and the version of the set-up
+-- the status page
 unfoldable pub status_value : PublicSetup → ℕ → Bool → Data
 status_value setup round ended =
     object_of (("ended", boolean ended) ∷ ("round", whole round) ∷ ("version", whole setup.version) ∷ [])
 
--- the same, byte for byte
+-- the status page, byte for byte
 abbrev pub status_bytes : PublicSetup → ℕ → Bool → List ℕ
 status_bytes setup round ended =
     codes "{\"ended\":" ++ true_or_false ended
     ++ codes ",\"round\":" ++ decimal round
     ++ codes ",\"version\":" ++ decimal setup.version ++ codes "}"
 
--- a number that set-up documents have from version 2 on
 abbrev pub from_version_2 : ℕ → ℕ → Option ℕ
 from_version_2 version n = if nat_le 2 version then Some n else None
 
--- a bidder's most blocks, from version 2 on the granule, the name, the opening price, all blocks, and the units of each
+-- a product of the set-up
 unfoldable pub product_value : ℕ → Product → Data
 product_value version product = object_of (
     ("cap", whole product.cap) ∷
@@ -38,7 +37,7 @@ product_value version product = object_of (
     ("supply", whole product.supply) ∷
     ("units", whole product.units) ∷ [])
 
--- from version 2 on the limit, the products in the order of the set-up, the requirement, and the version
+-- the public set-up, with the products in its order
 unfoldable pub products_value : PublicSetup → Data
 products_value setup = object_of (
     member_if "limit" (from_version_2 setup.version setup.limit) ++
@@ -46,7 +45,7 @@ products_value setup = object_of (
     ("requirement", whole setup.requirement) ∷
     ("version", whole setup.version) ∷ [])
 
--- the clock price, the demand where told, the name, the next clock price where there is one, the posted and start price
+-- a product's line of the round results; `demand` is null if not published, `next` null at the end
 unfoldable pub line_value : Product → Line → Data
 line_value product line = object_of (
     ("clock", whole line.clock) ∷
@@ -56,7 +55,7 @@ line_value product line = object_of (
     ("posted", whole line.posted) ∷
     ("start", whole line.start) ∷ [])
 
--- whether the auction ends with the round, a line for each product, and the number of the round
+-- the round results
 unfoldable pub sheet_value : PublicSetup → RoundSheet → Data
 sheet_value setup sheet = object_of (
     ("ended", boolean sheet.ended) ∷

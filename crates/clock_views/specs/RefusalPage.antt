@@ -1,13 +1,12 @@
 -- The page of a refusal.
---     refusal_value shown      the code, its place or round, and its status
---     refusal_bytes shown      the same page, byte for byte
+--     refusal_value shown      the code, its place or round if it has one, and its status
+--     refusal_bytes shown      that page, byte for byte
 use Rattle.std.specs.Prelude.{ℕ, List, [], ◌∷◌, ◌++◌, codes, decimal}
 use Rattle.serde_json.specs.Data.{Data, string}
 use Rattle.clock_http.specs.Codes.{status_of, text_of}
 use Rattle.clock_views.specs.Refusals.{Shown}
 use Rattle.clock_views.specs.Values.{whole, object_of, member_if, number_if}
 
--- the code, the place and the round where they are there, and the status
 unfoldable pub refusal_value : Shown → Data
 refusal_value shown = object_of (
     ("code", string (text_of shown.code)) ∷
@@ -15,7 +14,7 @@ refusal_value shown = object_of (
     member_if "round" shown.round ++
     ("status", whole (status_of shown.code)) ∷ [])
 
--- the same, byte for byte
+-- the page of a refusal, byte for byte
 abbrev pub refusal_bytes : Shown → List ℕ
 refusal_bytes shown =
     codes "{\"code\":\"" ++ text_of shown.code ++ codes "\""

@@ -1,9 +1,10 @@
 -- What the page of a refusal shows, and which refusal each fault is.
 --     has_place code, has_round code      a page with this code shows a place, or the current round
 --     is_refusal code      the request was refused
---     Shown      a code, with the place and the round that stand beside it
---     IsShown shown      they stand in a page together
---     shown_bid fault, shown_tie fault, shown_put fault, shown_close fault      what the page of a fault shows
+--     Shown      the code of a page, and its place or round if it has one
+--     IsShown shown      a page can show these together
+--     alone code, at_place code place, wrong_round current      a page with neither, or with one
+--     shown_bid fault, shown_tie fault, shown_put fault, shown_close fault      the page of a fault
 use Rattle.std.specs.Prelude.{◌≡◌, ℕ, Bool, true, false, Option, Some, None, is_some, IsTrue}
 use Rattle.clock_bids.specs.declared.sheet.BidFault.{BidFault}
 use Rattle.clock_bids.specs.declared.sheet.BidFault.TheVariants as bid
@@ -16,7 +17,7 @@ use Rattle.clock_closing.specs.declared.fault.CloseFault.TheVariants as close
 use Rattle.clock_http.specs.declared.code.Code.{Code}
 use Rattle.clock_http.specs.declared.code.Code.TheVariants as reply
 
--- the place of a bid or of a tie number in its list, or a product's number, is shown
+-- the place of a bid or of a tie-breaking number in its list, or a product's number, is shown
 abbrev pub has_place : Code → Bool
 has_place reply.UnknownProduct = true
 has_place reply.PriceRange = true
@@ -39,31 +40,28 @@ abbrev pub is_refusal : Code → Bool
 is_refusal reply.Done = false
 is_refusal _ = true
 
--- a code, with the place and the round that stand beside it
 pub record Shown : Type 0 where
   pub code : Code
   pub place : Option ℕ
   pub round : Option ℕ
 
--- the code is one of a refusal, and a place and a round stand beside it exactly where it has them
+-- the code is one of a refusal, with a place and a round exactly if its pages show them
 pub record IsShown (shown : Shown) : Type 0 where
   pub refused : IsTrue (is_refusal shown.code)
   pub placed : is_some shown.place ≡ has_place shown.code
   pub timed : is_some shown.round ≡ has_round shown.code
 
--- a code alone
 abbrev pub alone : Code → Shown
 alone code = record { code = code; place = None; round = None }
 
--- a code with a place
 abbrev pub at_place : Code → ℕ → Shown
 at_place code place = record { code = code; place = Some place; round = None }
 
--- the request is for another round than the current one, which is shown
+-- a request for another round than the current one, which is shown
 abbrev pub wrong_round : ℕ → Shown
 wrong_round current = record { code = reply.WrongRound; place = None; round = Some current }
 
--- a fault of the bids, with the bid's place in the list
+-- a fault of the bids, with the index of the bid
 abbrev pub shown_bid : BidFault → Shown
 shown_bid bid.TooMany = alone reply.TooMany
 shown_bid (bid.UnknownProduct i) = at_place reply.UnknownProduct i
@@ -75,21 +73,19 @@ shown_bid (bid.KeepPrice i) = at_place reply.KeepPrice i
 shown_bid bid.OverActivity = alone reply.OverActivity
 shown_bid bid.NoMemory = alone reply.Memory
 
--- a fault of the tie numbers, with the entry's place in the list
+-- a fault of the tie-breaking numbers, with the index of the entry
 abbrev pub shown_tie : TieFault → Shown
 shown_tie (tie.Range i) = at_place reply.TieRange i
 shown_tie (tie.Repeated i) = at_place reply.TieRepeated i
 shown_tie tie.TooMany = alone reply.TooManyTies
 shown_tie tie.NoMemory = alone reply.Memory
 
--- why a sheet is not put in force
 abbrev pub shown_put : PutFault → Shown
 shown_put put.Ended = alone reply.Ended
 shown_put (put.WrongRound current) = wrong_round current
 shown_put (put.Bid fault) = shown_bid fault
 shown_put put.NoMemory = alone reply.Memory
 
--- why a round is not closed
 abbrev pub shown_close : CloseFault → Shown
 shown_close close.Ended = alone reply.Ended
 shown_close (close.WrongRound current) = wrong_round current
