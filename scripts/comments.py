@@ -17,7 +17,7 @@ LISTED = re.compile(r"^\s{4,}(?:\S.*?\s{2,})?(\S.*)$")
 
 
 def lines_of(text: str, comment: re.Pattern[str]) -> Iterator[tuple[int, str, bool]]:
-    """The number of each line with a comment, the comment without its mark, and whether it has the line to itself."""
+    """Yields of each line with a comment its number, its words, and whether it has no code."""
     for number, line in enumerate(text.splitlines(), 1):
         if found := comment.match(line):
             yield number, MARK.sub("", found[1]).rstrip(), line.lstrip() == found[1]
@@ -38,7 +38,7 @@ def blocks(lines: Iterable[tuple[int, str, bool]]) -> Iterator[tuple[int, list[s
 
 
 def of_block(file: str, begun: int, lines: list[str], lists: bool) -> Iterator[prose.Paragraph]:
-    """The paragraphs of a comment. If `lists`, an indented line is one of a list of definitions."""
+    """The paragraphs of a comment. If `lists`, an indented line is an entry of a list of definitions."""
     plain = [("" if lists and LISTED.match(line) else line) for line in lines]
     for found in prose.of_markdown(file, "\n".join(plain)):
         yield found._replace(line=begun + found.line - 1)

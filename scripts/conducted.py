@@ -1,4 +1,4 @@
-"""What the conductor writes in a short auction with a pause, and timetables, for the schemas to be compared with."""
+"""The files that the conductor writes in a short auction with a pause, and timetables, to compare with the schemas."""
 import pathlib
 import sys
 from collections.abc import Iterator
@@ -25,7 +25,7 @@ FILES = [
 
 
 def texts(program: pathlib.Path) -> set[tuple[str, str, str]]:
-    """Of each text of a file: its schema, its name there, and its bytes."""
+    """Each file that the conductor wrote: the schema's file, the schema's name in it, and the content."""
     stage, found = Stage(program, [(30, 60), (120, 150), (210, 240)]), set()
 
     def note() -> None:
@@ -65,7 +65,7 @@ def receipts(stage: Stage) -> list[str]:
 
 
 def timetables() -> Iterator[tuple[str, Any, bool]]:
-    """Timetables that the conductor takes or refuses, with words for each, and whether the schema allows it."""
+    """Yields timetables that the conductor accepts or refuses, each with words and whether the schema allows it."""
     yield "taken", rows.WHOLE, True
     for words, value in rows.REFUSED:
         yield f"refused: {words}", value, bool(rows.BEYOND_SCHEMA.search(words))

@@ -1,4 +1,7 @@
-"""The bidders' port behind nginx, held to its description: a whole auction by a generated client, and each refusal."""
+"""Compares the bidders' port behind nginx with its description.
+
+Generated clients play a whole auction, and each refusal is tried.
+"""
 import collections
 import json
 import os
@@ -18,7 +21,7 @@ Came = set[tuple[str, str, int, str]]
 
 SECONDS = 60
 REHEARSAL = TOP / "examples/rehearsal_version_2.json"
-# The auction in which refusals are tried. It has a bidder for each limit that is reached, so that none hides another.
+# The auction in which refusals are tried. Each limit is reached by another bidder, so that no limit hides another.
 SETUP = {
     "version": 1, "requirement": 50, "operator": "0PERAT0RST0KEN01",
     "products": [{"name": "A", "units": 1, "supply": 2, "cap": 2, "opening": 100}],
@@ -26,15 +29,15 @@ SETUP = {
 }
 TOKENS = [bidder["token"] for bidder in SETUP["bidders"]]
 SHEET = {"bids": [{"price": 100, "product": 0, "quantity": 1}], "round": 1}
-# Closed rounds and receipts are for whoever has a token that nginx takes for a known one.
+# Closed rounds and receipts need a token that nginx accepts as a known one.
 BY_NGINX = ("/v1/rounds/{n}", "/receipts/{n}/{sheet}.json")  # the server does not see the token
-# Statuses that are described and not tried here: no memory, a server that is too late, and the faults of a sheet, which
-# the server finds by itself.
+# Statuses that are described and not tried here: out of memory, a server that answers too late, and the faults of a
+# sheet, which only the server finds.
 NOT_TRIED = {503, 504, 422}
 
 
 class Description:
-    """The description, by operation and status."""
+    """The description of the port, by operation and status."""
 
     def __init__(self) -> None:
         self.document = json.loads((TOP / "schemas/openapi.json").read_text())
@@ -45,7 +48,7 @@ class Description:
                 yield method.upper(), path, item[method]
 
     def codes(self, operation: dict[str, Any], status: int) -> list[str] | None:
-        """The codes of a status, [""] if it has no page of a refusal, or None if it is not described."""
+        """The codes of a status, [""] if its page is no refusal, or None if the status is not described."""
         response = operation["responses"].get(str(status))
         if response and "$ref" in response:
             response = self.document["components"]["responses"][response["$ref"].rpartition("/")[2]]
@@ -57,18 +60,18 @@ class Description:
 
 
 def page_of(place: Place, line: str, token: str, body: bytes = b"") -> dict[str, Any]:
-    """A page straight from the server."""
+    """The page of a server, asked directly."""
     head = f"{line} HTTP/1.1\r\nauthorization: Bearer {token}\r\ncontent-length: {len(body)}\r\n\r\n"
     return json.loads(reply_to(place.server_port, head.encode() + body).partition(b"\r\n\r\n")[2])
 
 
 def target_of(path: str, number: int = 1) -> str:
-    """A path with numbers in it."""
+    """A path with its parameters replaced by numbers."""
     return path.replace("{n}", str(number)).replace("{sheet}", "1")
 
 
 class Port:
-    """nginx with a server behind it, from 502 to the end of an auction, and what came for each operation."""
+    """nginx in front of a server, from 502 to the end of an auction, and what each operation was answered."""
 
     def __init__(self, program: str) -> None:
         self.description, self.came, self.program = Description(), set(), program
@@ -80,19 +83,20 @@ class Port:
         self, method: str, path: str, *lines: str, number: int = 1, token: str | None = None, body: bytes = b"",
         client: Client | None = None,
     ) -> int:
-        """Sends a request of an operation, and compares the reply with the description. Returns its status."""
+        """Sends an operation's request, and compares the reply with the description. Returns the status."""
         client = client or Client(self.place.outside)
         target = target_of(path, number)
         status, head, page = client.ask(method, target, token, *lines, body=body)
         return self.compare(method, path, status, head, page)
 
     def send(self, method: str, path: str, text: str) -> None:
-        """Sends a text in place of an operation's request."""
+        """Sends these bytes instead of an operation's request."""
         client = Client(self.place.outside)
         client.send(text.encode())
         self.compare(method, path, *client.reply(method))
 
     def compare(self, method: str, path: str, status: int, head: str, page: bytes) -> int:
+        """Compares a reply with the description, and notes its status and code."""
         codes = self.description.codes(self.operations[method, path], status)
         is_refusal = method != "HEAD" and status >= 400
         code = json.loads(page)["code"] if is_refusal else ""
@@ -105,7 +109,7 @@ class Port:
         return status
 
     def try_heads(self) -> None:
-        """What nginx refuses by the head, for each operation; and 502, since there is no server yet."""
+        """Tries what nginx refuses by the head, for each operation; and 502, since there is no server yet."""
         (self.place.folder / "public/commitment.json").unlink()
         for (method, path), operation in self.operations.items():
             target = target_of(path)
@@ -119,7 +123,7 @@ class Port:
                 self.ask(method, path)
 
     def try_auction(self) -> None:
-        """An auction of one round: what the server answers, and windows."""
+        """Plays an auction of one round: the server's replies, and windows."""
         self.place.program = self.program
         self.place.begin()
         token, sheet = next(self.tokens), json.dumps(SHEET).encode()
@@ -153,7 +157,7 @@ class Port:
             self.send(method, path, f"{line}\r\n")
 
     def try_rates(self) -> None:
-        """Each operation until it is too often, from an address of its own."""
+        """Repeats each operation until nginx refuses it for its rate, each from an address of its own."""
         limits = self.description.document["x-limits"]
         for (method, path), operation in self.operations.items():
             client, token = Client(self.place.outside), next(self.tokens) if operation["security"] else None
@@ -162,9 +166,10 @@ class Port:
                 if self.ask(method, path, token=token, body=body, client=client) == 429:
                     break
             else:
-                raise Failed(f"{method} {path} is never too often")
+                raise Failed(f"{method} {path} is never refused for its rate")
 
     def try_all(self) -> str:
+        """Tries everything. Each described status and code must come, and no other."""
         try:
             self.try_heads()
             self.try_auction()
@@ -174,12 +179,12 @@ class Port:
         described = {entry for entry in self.description.all_codes() if entry[2] not in NOT_TRIED}
         came = {entry for entry in self.came if entry[2] not in NOT_TRIED}
         if described != came:
-            raise Failed(f"described and not come, or the reverse: {sorted(described ^ came)}")
+            raise Failed(f"described but never seen, or seen but not described: {sorted(described ^ came)}")
         return f"{len(came)} operations with status and code through nginx, each as schemas/openapi.json describes it"
 
 
 class Bidders:
-    """The bidders of a rehearsal: clients that OpenAPI::Client generates from the description that nginx serves."""
+    """The bidders of a rehearsal: clients that OpenAPI::Client generates from the description behind nginx."""
 
     def __init__(self, program: str) -> None:
         self.rehearsal = json.loads(REHEARSAL.read_text())
@@ -197,7 +202,7 @@ class Bidders:
         return subprocess.Popen(words, env=environment, **streams)
 
     def have_sheets(self) -> bool:
-        """Whether each bidder has a sheet in force. One that has ended has failed."""
+        """Whether each bidder has a sheet in force. Fails if a client has ended."""
         for bidder in self.bidders:
             if bidder.poll() is not None:
                 raise Failed(f"a generated client ended: {bidder.communicate()}")
@@ -205,7 +210,7 @@ class Bidders:
         return all(page["bids"] is not None for page in pages)
 
     def try_all(self) -> str:
-        """Plays the rehearsal. Its report has what each client says that it has won."""
+        """Plays the rehearsal. The report must have what each client prints that it won."""
         try:
             for number, closing in enumerate(self.rehearsal["closings"], 1):
                 wait_for(f"the sheets of round {number}", self.have_sheets, SECONDS)

@@ -1,7 +1,7 @@
 """Must-fail edits: wrong bodies that the prover must reject.
 
-An edit is a file of a line `file: PATH`, and then pairs of lines `old: TEXT` and `new: TEXT`. PATH is in its crate,
-and each old text is exactly once in it. `rt ci` tries the edits of crates/CRATE/must-fail/, scripts/wrong-bodies
+An edit is a file with a line `file: PATH`, and then pairs of lines `old: TEXT` and `new: TEXT`. PATH is in the edit's
+crate, and has each old text exactly once. `rt ci` tries the edits of crates/CRATE/must-fail/, and scripts/wrong-bodies
 those of edits/CRATE/.
 """
 import pathlib
@@ -14,7 +14,7 @@ COMMENTS = ("#", "--", "//")
 
 
 def edits(top: pathlib.Path, folders: str) -> list[str]:
-    """The edits in the folders of a pattern."""
+    """The edits in the folders that match a pattern."""
     return prose.tracked(top, f"{folders}/*.edit")
 
 
@@ -24,7 +24,7 @@ def crate_of(edit: str) -> str:
 
 
 def fault(top: pathlib.Path, edit: str) -> str | None:
-    """Why an edit does not apply to its crate, if so. A later pair applies to what the earlier ones made."""
+    """Why an edit does not apply to its crate, or "". Each pair applies to the text after the earlier pairs."""
     texts: dict[str, str] = {}
     path = old = ""
     for line in (top / edit).read_text().splitlines():

@@ -12,7 +12,7 @@ from typing import Any, NamedTuple, TypeVar
 
 
 class Refused(Exception):
-    """The code of what the rules or the formats refuse."""
+    """What the rules or the formats refuse, with its code."""
 
 
 def require(condition: bool, code: str) -> None:
@@ -26,19 +26,19 @@ Shape = TypeVar("Shape", bound=tuple[Any, ...])
 
 
 def json_in(text: bytes) -> Any:
-    """The value of a text. A ValueError says that it is not JSON."""
+    """The value of a JSON text. Raises ValueError if it is not JSON."""
     try:
         value = json.loads(text.decode(), parse_int=number_in, parse_float=number_in, parse_constant=number_in)
     except RecursionError:
         raise ValueError("nested too deep") from None
     if nesting(value) > 127:
         raise ValueError("nested too deep")
-    json.dumps(value, ensure_ascii=False).encode()  # a lone surrogate has no UTF-8
+    json.dumps(value, ensure_ascii=False).encode()  # A lone surrogate has no UTF-8.
     return value
 
 
 def number_in(digits: str) -> int | float:
-    """A number. Python would read NaN, and infinity also from 1e400."""
+    """A number. Raises ValueError for NaN and for a number such as 1e400, which Python reads as infinity."""
     if digits.isdigit() and len(digits) <= 20:
         return int(digits)
     if not math.isfinite(value := float(digits)):
@@ -52,14 +52,14 @@ def nesting(value: Any) -> int:
 
 
 def is_a(kind: Any, value: Any) -> bool:
-    """Whether a value is of this kind. A number is whole, and has 64 bits."""
+    """Whether a value is of this kind. A number must be whole, and fit 64 bits."""
     if kind is int:
         return type(value) is int and 0 <= value < 2**64
     return isinstance(value, getattr(kind, "__origin__", kind))
 
 
 def shaped(shape: type[Shape], value: Any, **given: Any) -> Shape:
-    """A JSON object that has exactly the fields of this shape, except for those that are given."""
+    """The values of a JSON object with exactly the fields of this shape. Refuses any other value."""
     kinds = {name: kind for name, kind in shape.__annotations__.items() if name not in given}
     require(isinstance(value, dict) and value.keys() == kinds.keys(), "shape")
     require(all(is_a(kinds[name], field) for name, field in value.items()), "shape")
@@ -119,7 +119,7 @@ def setup_in(document: bytes) -> Setup:
 
 
 def ranges(setup: Setup) -> Iterator[tuple[str, bool]]:
-    """The limits of a set-up in order, and whether it is within each."""
+    """Yields each limit of a set-up in order, and whether the set-up is within it."""
     name, token = re.compile("[A-Za-z0-9_-]{1,32}"), re.compile("[A-Za-z0-9]{16,64}")
     yield "requirement", 50 <= setup.requirement <= 100
     yield "limit", 100 <= setup.limit <= 140
@@ -143,7 +143,7 @@ def ranges(setup: Setup) -> Iterator[tuple[str, bool]]:
 
 
 class Request(NamedTuple):
-    """The parts of a request that matter."""
+    """The parts of a request that the rules use."""
 
     method: bytes
     path: bytes
@@ -157,7 +157,7 @@ HEADER_LINE = re.compile(rb"(" + NAME + rb"):[ \t]*([\t -~\x80-\xff]*?)[ \t]*")
 
 
 def request_in(text: bytes) -> Request:
-    """The parts of a whole request. What follows its body is ignored."""
+    """The parts of a whole request. Ignores bytes after its body."""
     head, end, rest = text.partition(b"\r\n\r\n")
     first, *lines = head.split(b"\r\n")
     require(len(end) == 4 and len(head) <= 16_380 and len(lines) <= 64, "long_head")
@@ -212,7 +212,7 @@ def sheet_in(value: Any) -> Sheet:
 
 
 def closing_in(value: Any, setup: Setup) -> Closing:
-    """The closing of a body's value. In version 1 each product has the one increment."""
+    """The closing of a body's value. In version 1, each product has the same increment."""
     if setup.version == 1:
         increment, number, ties = shaped(ClosingOfVersion1, value)
         closing = Closing([increment] * len(setup.products), number, ties)
@@ -229,7 +229,7 @@ KIND = b"clock_auction journal 1\n"
 
 
 class Record(NamedTuple):
-    """A request of a journal, the byte at which its record begins, and the digest of everything up to it."""
+    """A request of a journal, the byte at which its record begins, and the digest of everything up to its end."""
 
     place: int
     text: bytes
@@ -237,7 +237,7 @@ class Record(NamedTuple):
 
 
 def records_in(document: bytes, journal: bytes) -> Iterator[Record]:
-    """The whole records of a journal. A record at the end whose writing was cut short is left out."""
+    """The whole records of a journal, without a torn one at the end."""
     digest = hashlib.sha256(document).digest()
     if len(journal) < 56 and (KIND + digest).startswith(journal):
         return

@@ -1,8 +1,8 @@
-"""A journal, read by its format alone: nothing here is shared with the program.
+"""A reader of journals that shares nothing with the program: it follows the format only.
 
     python3 scripts/journal.py SETUP JOURNAL
 
-Started like this, it checks the records of a whole journal, and prints `journal N HEX` as the program does, or one line
+As a script, it checks the records of a whole journal, and prints `journal N HEX` as the program does, or one line
 `fault: WORDS` with status 1. It judges no sheet: scripts/verify checks the whole auction.
 """
 import hashlib
@@ -14,11 +14,11 @@ FRONT = 40
 
 
 class Wrong(AssertionError):
-    """What is wrong in a journal, and at which byte."""
+    """The fault of a journal, with the byte at which it is."""
 
 
 def whole_texts_of(setup, bytes):
-    """The texts of a journal to which a server may be adding: of the last record only a part may be there."""
+    """The whole requests of a journal that a server may be writing, whose last record may be incomplete."""
     place = HEAD
     while place + FRONT <= len(bytes) and (
         end := place + FRONT + int.from_bytes(bytes[place : place + 4], "big")
@@ -28,18 +28,18 @@ def whole_texts_of(setup, bytes):
 
 
 def head_of(setup):
-    """The bytes with which the journal of a set-up document begins."""
+    """The head of the journal of a set-up document."""
     return KIND + hashlib.sha256(setup).digest()
 
 
 def record_of(digest, text):
-    """The record of a text after one of this digest, or after the set-up. Its own digest begins at byte 8."""
+    """The record of a request after one of this digest, or after the set-up. Its own digest begins at byte 8."""
     length = len(text).to_bytes(4, "big")
     return length + length + hashlib.sha256(digest + text).digest() + text
 
 
 def journal_of(setup, texts):
-    """The bytes of a journal of these texts, which need not be texts that the auction accepts."""
+    """The bytes of a journal of these requests, which the auction need not accept."""
     bytes, digest = head_of(setup), hashlib.sha256(setup).digest()
     for text in texts:
         record = record_of(digest, text)
@@ -57,7 +57,7 @@ def token_in(text):
 
 
 def body_in(text):
-    """The body of a request that was accepted, without what was sent behind it."""
+    """The body of an accepted request, without bytes after it."""
     head, _, rest = text.partition(b"\r\n\r\n")
     for line in head.split(b"\r\n")[1:]:
         name, _, value = line.partition(b":")
@@ -67,12 +67,12 @@ def body_in(text):
 
 
 def texts_of(setup, bytes):
-    """The texts of a whole journal of this set-up, each with its digest, or what is Wrong."""
+    """The requests of a whole journal of this set-up, each with its digest. Raises Wrong if it is damaged."""
     return list(each_text_of(setup, bytes, len(bytes)))
 
 
 def each_text_of(setup, bytes, length):
-    """Like texts_of, of the first `length` bytes, one text after the other: none is stored."""
+    """Like texts_of, but yields one request after the other, and reads only the first `length` bytes."""
     digest = hashlib.sha256(setup).digest()
     if bytes[:HEAD] != KIND + digest:
         raise Wrong("no journal of this set-up")

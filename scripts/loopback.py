@@ -1,23 +1,23 @@
-"""One request over one connection to a server of this machine."""
+"""Requests to a server on this machine, each over one connection."""
 import json
 import random
 import socket
 
 SECONDS = 60
 
-# Ports below those that the system gives to clients (from 32,768 on), drawn at random and none of them twice: servers
-# that are started side by side, by one script or by several, would else race for one.
+# Ports below those that the system gives to clients (from 32,768 on), in random order and none twice. Otherwise servers
+# that start at the same time, from one script or several, would race for a port.
 PORTS = range(10_000, 32_768)
 DRAW = random.SystemRandom()
 TAKEN: set[int] = set()
 
 
 def free_port() -> int:
-    """A port that nobody listens on, and that no other call has given."""
+    """A port on which nothing listens, and which no other call returned."""
     while True:
         port = DRAW.choice(PORTS)
         with socket.socket() as free:
-            # a process that another thread is starting holds the socket too until it runs its own program, and a
+            # Until a process that another thread is starting runs its own program, it has this socket open too. A
             # server may then listen on the port only if both sockets say so
             free.setsockopt(socket.SOL_SOCKET, socket.SO_REUSEADDR, 1)
             try:
@@ -30,12 +30,12 @@ def free_port() -> int:
 
 
 def compact(value: object) -> bytes:
-    """A value as JSON without spaces, in the order of its keys."""
+    """A value as JSON without spaces, its keys sorted."""
     return json.dumps(value, separators=(",", ":")).encode()
 
 
 def text_of(line: str, token: str = "", body: bytes | None = None, *lines: str) -> bytes:
-    """A request of a method and a path, with its sender's token, its body, and further lines of its head, if any."""
+    """The bytes of a request: its method and path, its sender's token, its body, and further header lines."""
     head = [f"{line} HTTP/1.1", *lines]
     head += [f"authorization: Bearer {token}"] if token else []
     head += [f"content-length: {len(body)}"] if body is not None else []
@@ -43,10 +43,10 @@ def text_of(line: str, token: str = "", body: bytes | None = None, *lines: str) 
 
 
 def reply_to(port: int, text: bytes, cut: int | None = None, seconds: float = SECONDS) -> bytes:
-    """The bytes that come for a text. It is sent in two pieces if it is cut; then the writing side is shut.
+    """Sends a request, and returns the bytes of the reply.
 
-    A server answers as soon as it knows its answer. What it has not read by then resets the connection, after the
-    reply.
+    If `cut`, the request is sent in two pieces. Then the writing side is shut. A server answers as soon as it knows its
+    answer. If bytes are then still unread, the connection is reset after the reply.
     """
     reply = b""
     with socket.create_connection(("127.0.0.1", port), seconds) as client:
@@ -72,5 +72,5 @@ def answered(reply: bytes) -> tuple[int, bytes]:
 
 
 def answer_to(port: int, text: bytes) -> tuple[int, bytes]:
-    """The status and the page that come for a request."""
+    """Sends a request, and returns the status and the page of the reply."""
     return answered(reply_to(port, text))

@@ -1,4 +1,4 @@
-"""Debian's packages that a script needs beside Python: installed first where CI is set and the user is root."""
+"""Debian packages that a script needs besides Python. They are installed first if CI is set and the user is root."""
 import os
 import shutil
 import subprocess
@@ -8,7 +8,7 @@ SECONDS = 120
 
 
 def missing(*names):
-    """The packages without a program of their name, after installing them if that may be done."""
+    """The packages without a program of their name, after installing them if that is allowed."""
 
     def not_there():
         return [name for name in names if not shutil.which(name, path=PATHS)]
@@ -19,7 +19,7 @@ def missing(*names):
 
 
 def installed(*names):
-    """Installs packages if that may be done, and returns whether it was."""
+    """Installs packages if that is allowed. Returns whether it did."""
     if not os.environ.get("CI") or os.geteuid() != 0:
         return False
     quiet = {"stdout": subprocess.DEVNULL, "stderr": subprocess.DEVNULL}

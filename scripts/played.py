@@ -1,4 +1,4 @@
-"""Auctions played over a server, in which each page of each route comes, and each refusal but out of memory."""
+"""Auctions in which each page of each route comes from a server, and each refusal but out of memory."""
 import json
 import pathlib
 
@@ -7,7 +7,7 @@ from loopback import answer_to, compact, text_of
 from servers import Server
 from trial import expect
 
-# The routes as docs/formats.md names them: whose token they want ("" none, X a bidder's, O the operator's), and the
+# The routes as docs/formats.md names them: whose token they need ("" none, X a bidder's, O the operator's), and the
 # methods.
 ROUTES = {
     "/v1/status": ("", ["GET"]),
@@ -49,7 +49,7 @@ def get(route, letter=None, number=1):
 
 
 def refused_by_the_head(method, route):
-    """For one method of a route, each refusal that the head alone can have."""
+    """Yields requests of a route's method for each refusal that depends only on the head."""
     owner, _ = ROUTES[route]
     line, token = f"{method} {path_of(route)}", TOKENS.get(owner, owner * 16)
     head = text_of(line, token).removesuffix(b"\r\n")
@@ -69,7 +69,7 @@ def refused_by_the_head(method, route):
 
 
 def refused_bodies():
-    """In round 1: bodies that are refused."""
+    """Yields requests of round 1 with bodies that are refused."""
     for body in (
         b"{",
         b"{}",
@@ -93,7 +93,7 @@ def refused_bodies():
 
 
 def one_product():
-    """The auction of examples/one_product.json, to its end."""
+    """Yields the requests of an auction of examples/one_product.json, to its end."""
     for route, (_, methods) in ROUTES.items():
         for method in methods:
             yield from refused_by_the_head(method, route)
@@ -136,7 +136,7 @@ def version_2():
 
 
 def changed_setups(top, folder):
-    """The set-ups' files, each with its auction."""
+    """Writes changed set-ups to a folder. Yields each file with the requests of its auction."""
     text = (top / "examples" / "one_product.json").read_text()
     yield top / "examples" / "one_product.json", list(one_product())
     for name, change, auction in (
@@ -153,7 +153,7 @@ def changed_setups(top, folder):
 
 
 def replies(program, top, folder):
-    """For each request of the auctions: its method, its route, its bytes, the reply's status and its page."""
+    """Yields for each request of the auctions its method, its route, its bytes, the reply's status, and its page."""
     for file, auction in changed_setups(top, folder):
         with Server(program, file, connections=len(auction)) as server:
             for method, route, text in auction:

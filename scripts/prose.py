@@ -1,4 +1,4 @@
-"""What people read in this repository, without code: paragraphs of documents, help texts, strings of pages."""
+"""The prose of this repository without code: paragraphs of documents, help texts, and strings of pages."""
 import html
 import pathlib
 import re
@@ -28,14 +28,14 @@ class Paragraph(NamedTuple):
 
 
 def tracked(top: pathlib.Path, *globs: str) -> list[str]:
-    """The files that git has or would add, in order: all, or those that globs name."""
+    """The files that git has or would add, sorted: all, or those that match `globs`."""
     command = ["git", "ls-files", "-co", "--exclude-standard", "--", *globs]
     listed = subprocess.run(command, cwd=top, capture_output=True, text=True, check=True).stdout
     return [name for name in sorted(set(listed.splitlines())) if (top / name).is_file()]
 
 
 def plain(text: str) -> str:
-    """The text without marks: code spans and markup become one word, of links only the text is left."""
+    """The text without markup. A code span becomes one word, a link its text."""
     text = CODE.sub("CODE", text)
     text = LINK.sub(r"\1", PICTURE.sub(r"\1", text))
     return re.sub(r"\*\*|\*(?=\w)|(?<=[\w.,:)])\*", "", text).strip()
@@ -93,7 +93,7 @@ def of_html(file: str, text: str) -> Iterator[Paragraph]:
 
 
 def of_strings(file: str, text: str, strings: re.Pattern[str]) -> Iterator[Paragraph]:
-    """The strings of a program that are sentences, as far as can be told: three words at least."""
+    """The strings of a program that look like sentences: those of three words or more."""
     for found in strings.finditer(text):
         words = next(group for group in found.groups() if group is not None)
         words = re.sub(r"\\\n", "", re.sub(r"\$\{[^{}]*(\{[^{}]*\}[^{}]*)*\}", "CODE", words)).replace("\\n", "\n")
@@ -115,7 +115,7 @@ def of_rust(file: str, text: str) -> Iterator[Paragraph]:
 
 
 def paragraphs(top: pathlib.Path, file: str) -> list[Paragraph]:
-    """What a person reads in a file."""
+    """The paragraphs that a person reads in a file."""
     text = (top / file).read_text()
     kinds = {".md": of_markdown, ".html": of_html, ".js": of_javascript, ".rt": of_rust}
     return list(kinds[pathlib.Path(file).suffix](file, text))

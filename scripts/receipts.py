@@ -1,4 +1,4 @@
-"""Receipts: what the operator's key signs of an accepted sheet, what a bidder keeps, and whether a journal fits."""
+"""Receipts: what the operator's key signs of an accepted sheet, a bidder's file of them, and their check."""
 import dataclasses
 import hashlib
 import json
@@ -17,13 +17,15 @@ KEYS = ("auction", "bidder", "body", "round", "sheet", "signature", "text")
 
 
 class ReceiptsFault(ValueError):
-    """A bidder's file is not one of receipts, or a file is no journal."""
+    """A bidder's file that has no receipts, or a file that is no journal."""
 
 
 @dataclasses.dataclass(frozen=True)
 class Receipt:
-    """A sheet that was accepted: the digest of the set-up, the bidder's name, the digests of the body and of the whole
-    request, the round, and which sheet of this bidder it was in this round, from 1.
+    """An accepted sheet, as the operator signs it.
+
+    `auction` is the digest of the set-up, and `bidder` the bidder's name. The digests are those of the body and of the
+    whole request. `sheet` numbers this bidder's sheets of the round, from 1.
     """
 
     auction: str
@@ -35,24 +37,24 @@ class Receipt:
 
     @classmethod
     def of(cls, auction: str, bidder: str, number: int, sheet: int, text: bytes) -> Self:
-        """The receipt of a request that is in the journal."""
+        """The receipt of a request in the journal."""
         return cls(auction, bidder, digest_of(body_in(text)), number, sheet, digest_of(text))
 
     def message(self) -> bytes:
-        """The bytes that are signed."""
+        """The signed bytes."""
         fields = ("auction", "bidder", "round", "sheet", "body", "text")
         lines = ["clock_auction receipt 1", *(f"{name} {getattr(self, name)}" for name in fields)]
         return "".join(line + "\n" for line in lines).encode("ascii")
 
     def page(self, signature: bytes) -> str:
-        """The text that is published."""
+        """The published text."""
         value = {**dataclasses.asdict(self), "signature": signature.hex()}
         return json.dumps(value, sort_keys=True, separators=(",", ":")) + "\n"
 
 
 @dataclasses.dataclass(frozen=True)
 class Kept:
-    """A receipt as its bidder keeps it: with its signature, and with the body that was sent, if that is known."""
+    """A receipt as its bidder stores it: with its signature, and with the body that was sent, if that is known."""
 
     receipt: Receipt
     signature: bytes
@@ -60,7 +62,7 @@ class Kept:
 
     @classmethod
     def of(cls, value: Any) -> Self:
-        """The receipt that is a value of JSON."""
+        """The receipt in a JSON value. Raises ValueError if it has none."""
         sent = value.pop("sent", None) if isinstance(value, dict) else None
         has_keys(value, *KEYS)
         for name in ("auction", "body", "text"):
@@ -77,7 +79,7 @@ def digest_of(data: bytes) -> str:
     return hashlib.sha256(data).hexdigest()
 
 
-# ---- What a bidder keeps
+# ---- A bidder's file
 
 
 class File(NamedTuple):
@@ -88,19 +90,19 @@ class File(NamedTuple):
 
 
 def read_kept(path: Path) -> File:
-    """The file of a bidder: the commitment in its first line, and a receipt in each line after it."""
+    """Reads a bidder's file: the commitment in its first line, and a receipt in each line after it."""
     try:
         first, *lines = path.read_text(encoding="utf-8").splitlines()
         return File(Commitment.of(json.loads(first)), [Kept.of(json.loads(line)) for line in lines])
     except (OSError, ValueError) as error:
-        raise ReceiptsFault(f"{path} is no file of receipts: {error}") from error
+        raise ReceiptsFault(f"{path} is not a file of receipts: {error}") from error
 
 
 # ---- The journal
 
 
 class Sheet(NamedTuple):
-    """A sheet in the journal: its sender by token, its round, its number among the sender's in this round, digests."""
+    """A sheet in the journal: its sender's token, its round, its number among the sender's in this round, digests."""
 
     token: str
     round: int
@@ -113,7 +115,7 @@ def requests_in(journal: bytes) -> Iterator[tuple[bytes, Request]]:
     """The requests of a whole journal."""
     digest, place = journal[24:56], 56
     if journal[:24] != b"clock_auction journal 1\n" or len(digest) < 32:
-        raise ReceiptsFault("the file is no journal")
+        raise ReceiptsFault("the file is not a journal")
     while place < len(journal):
         length = int.from_bytes(journal[place : place + 4], "big")
         text = journal[place + 40 : place + 40 + length]
@@ -140,13 +142,13 @@ def sheets_in(journal: bytes) -> list[Sheet]:
     return sheets
 
 
-# ---- Whether they fit
+# ---- The comparison
 
 
 def faults(file: File, journal: bytes, token: str = "") -> list[str]:
-    """All that is wrong, in words.
+    """All differences between a bidder's receipts and a journal, in words.
 
-    The token is the bidder's, if it is known. Otherwise the bidder's sheets are found by its receipts.
+    The token is the bidder's, if it is known. Otherwise the receipts show which sheets are the bidder's.
     """
     commitment, receipts = file
     if journal[24:56].hex() != commitment.auction:
@@ -167,7 +169,7 @@ def faults(file: File, journal: bytes, token: str = "") -> list[str]:
 
 
 def own_faults(commitment: Commitment, kept: Kept) -> Iterator[str]:
-    """What is wrong with a receipt whatever the journal has."""
+    """What is wrong with a receipt by itself, whatever the journal has."""
     receipt = kept.receipt
     where = f"round {receipt.round}, sheet {receipt.sheet}: the receipt"
     if receipt.auction != commitment.auction:
@@ -179,7 +181,7 @@ def own_faults(commitment: Commitment, kept: Kept) -> Iterator[str]:
 
 
 def missing(receipts: list[Kept], sheets: list[Sheet]) -> list[str]:
-    """Receipts whose sheet the journal does not have, or has elsewhere or otherwise."""
+    """Receipts whose sheet is not in the journal, or is elsewhere or different there."""
     found = []
     for receipt in (kept.receipt for kept in receipts):
         where = f"round {receipt.round}, sheet {receipt.sheet}"
@@ -195,7 +197,7 @@ def missing(receipts: list[Kept], sheets: list[Sheet]) -> list[str]:
 
 
 def without_receipt(receipts: list[Kept], own: list[Sheet]) -> list[str]:
-    """The bidder's sheets in the journal for which it has no receipt."""
+    """The bidder's sheets in the journal that have no receipt."""
     known = {(kept.receipt.round, kept.receipt.text) for kept in receipts}
     return [
         f"round {sheet.round}, sheet {sheet.number}: the journal has it, and there is no receipt. If you did not "

@@ -1,17 +1,17 @@
-/* Records, in order, the calls of a program to the system on which its journal rests: preloaded next to it.
+/* Records, in order, the system calls on which a program's journal depends. Preloaded into the program.
  *
  * RECORD_FILE is the path of the journal. RECORD_TO is the file to which the lines are appended, one for each call:
  *
- *     write PLACE HEX       these bytes were added to the journal, from this place on
+ *     write PLACE HEX       these bytes were written to the journal, from this index on
  *     fdatasync, fsync      the journal was synced
- *     ftruncate LENGTH      the journal was cut off at this length
+ *     ftruncate LENGTH      the journal was truncated to this length
  *     folder                the folder of the journal was synced
  *     print HEX             these bytes are about to be written to standard output
- *     accept                a connection was taken
+ *     accept                a connection was accepted
  *     send COUNT            bytes are about to be sent on a connection
  *
- * A call that failed and changed nothing has no line. Preload it after refuse_calls.c: it then records only what that
- * lets through. The program has one thread, so the order of the lines is the order of the calls. */
+ * A call that failed and changed nothing has no line. Preload this library after refuse_calls.c. It then records only
+ * calls that are not refused. The program has one thread, so the order of the lines is the order of the calls. */
 #define _GNU_SOURCE
 #include <dlfcn.h>
 #include <fcntl.h>
@@ -26,7 +26,7 @@
 #include <sys/syscall.h>
 #include <unistd.h>
 
-/* Appends bytes to the record. If that fails it ends the program: no record is short in silence. */
+/* Appends bytes to the record. Ends the program if that fails, so that no incomplete record goes unnoticed. */
 static void put(const char *bytes, size_t count) {
     static int record = -1;
     int how = O_WRONLY | O_CREAT | O_APPEND | O_CLOEXEC;
@@ -43,7 +43,7 @@ static void put_line(const char *format, ...) {
     put(line, count);
 }
 
-/* Ends a line with these bytes in hexadecimal digits. */
+/* Appends these bytes in hexadecimal digits, and ends the line. */
 static void put_hex(const unsigned char *bytes, size_t count) {
     static const char digits[] = "0123456789abcdef";
     char *line = malloc(2 * count + 1);
@@ -57,7 +57,7 @@ static void put_hex(const unsigned char *bytes, size_t count) {
     free(line);
 }
 
-/* Returns whether a descriptor is open on the file of this path. */
+/* Returns whether a descriptor is open on the file at this path. */
 static int is_at(int descriptor, const char *path) {
     struct stat one, other;
     return !fstat(descriptor, &one) && !stat(path, &other) && one.st_ino == other.st_ino && one.st_dev == other.st_dev;

@@ -1,13 +1,13 @@
 #!/usr/bin/env python3
-"""Counts an auction again, from its set-up document and its journal, and prints what `clock_auction audit` prints.
+"""Recounts an auction from its set-up document and its journal, and prints what `clock_auction audit` prints.
 
     scripts/recount.py SETUP JOURNAL
 
 This file is docs/rules.md as a program, in the order of that document; formats.py is docs/formats.md. Both need only
-Python, and share nothing with the server: they were written from these two documents. If they print what the program
-prints, two readings of the rules have come to the same auction.
+Python, and share nothing with the server: their author wrote them from these two documents. If their output is the
+program's, two readings of the rules have led to the same auction.
 
-Every sheet and every closing in the journal is judged again. A fault is printed as the program prints it, as one line
+They judge every sheet and every closing in the journal again. A fault is printed as the program prints it, as one line
 `fault: WORDS` on standard error, and the exit status is then 1.
 """
 import hashlib
@@ -41,7 +41,7 @@ class Price(NamedTuple):
 
 
 def raised(start: int, increment: int, granule: int) -> int:
-    """The least multiple of the granule that is not below the start-of-round price raised by the increment."""
+    """The start-of-round price plus the increment, rounded up to a multiple of the granule."""
     return up(start * (100 + increment), 100 * granule) * granule
 
 
@@ -82,7 +82,7 @@ def activity_limit(setup: Setup, number: int, eligibility: int) -> int:
 
 
 def check_sheet(products: list[Product], prices: list[Price], demands: list[int], limit: int, bids: list[Bid]) -> None:
-    """Refuses a sheet for its first fault. The demands are the bidder's processed demands."""
+    """Refuses a sheet for its first fault. Requires the bidder's processed demands."""
     require(len(bids) <= MOST_BIDS, "too_many")
     chains: Chains = defaultdict(list)
     for bid in bids:
@@ -118,7 +118,7 @@ def check_ties(setup: Setup, ties: list[list[int]]) -> None:
 
 
 class Request(NamedTuple):
-    """A wish to change a bidder's demand for a product. The first five fields are the order of processing."""
+    """A request to change a bidder's demand for a product. The first five fields are the order of processing."""
 
     point: Fraction
     tie: int
@@ -133,7 +133,7 @@ Ties = dict[tuple[int, int], int]
 
 
 def requests_of(bidder: int, bids: list[Bid], demands: list[int], prices: list[Price], ties: Ties) -> Iterator[Request]:
-    """What a sheet asks for. Without a bid for a product, it asks to reduce demand to 0 at the start-of-round price."""
+    """The requests of a sheet. A missing bid is a request to reduce demand to 0 at the start-of-round price."""
     chains = chains_of(bids)
     for product, (start, clock) in enumerate(prices):
         demand = demands[product]
@@ -146,17 +146,17 @@ def requests_of(bidder: int, bids: list[Bid], demands: list[int], prices: list[P
 
 
 class Board:
-    """The demands of all bidders while requests are processed."""
+    """The demands of all bidders during bid processing."""
 
     def __init__(self, products: list[Product], eligibilities: list[int], demands: list[list[int]]) -> None:
         self.units = [product.units for product in products]
         self.demands = [list(row) for row in demands]
         self.excess = [sum(row[p] for row in demands) - product.supply for p, product in enumerate(products)]
         self.unused = [most - activity(products, row) for most, row in zip(eligibilities, demands)]
-        self.highest: dict[int, int] = {}  # by product, the highest price of a reduction that was applied
+        self.highest: dict[int, int] = {}  # By product, the highest price of an applied reduction.
 
     def room(self, request: Request, left: int) -> int:
-        """How many blocks can be applied now, of those that are left of a request."""
+        """The number of blocks of a request that can be applied now, of the `left` that are not applied yet."""
         if request.change < 0:
             return min(left, max(0, self.excess[request.product]))
         return min(left, self.unused[request.bidder] // self.units[request.product])
@@ -174,16 +174,16 @@ class Board:
 def process(board: Board, requests: list[Request]) -> None:
     """Admits the requests in order. While an admitted one has room, applies the first such by its whole room.
 
-    The rules search the whole list again after each application. This comes to the same: a reduction without room has
-    some again only after an increase for its product, and an increase only after a reduction of its bidder. Until then
-    it waits, with its product or its bidder.
+    The rules search the whole list again after each application. The result is the same here: a reduction without room
+    has room again only after an increase for its product, and an increase only after a reduction of its bidder. Until
+    then it waits, with its product or its bidder.
     """
     ordered = sorted(requests)
     left = [abs(request.change) for request in ordered]
     reductions: dict[int, list[int]] = defaultdict(list)
     increases: dict[int, list[int]] = defaultdict(list)
     for admitted in range(len(ordered)):
-        searched = [admitted]  # a heap of places in the order
+        searched = [admitted]  # A heap of indices in the order.
         while searched:
             first = heapq.heappop(searched)
             request = ordered[first]
@@ -220,7 +220,7 @@ class Slip(NamedTuple):
 
 
 class Round(NamedTuple):
-    """A closed round. Its sheets, by bidder, are those that were in force."""
+    """A closed round, with the sheets in force at its closing, by bidder."""
 
     lines: list[Line]
     slips: list[Slip]
@@ -230,7 +230,7 @@ class Round(NamedTuple):
 
 
 def next_eligibility(eligibility: int, active: int, requirement: int) -> int:
-    """The least number whose required percentage is at least the activity, if that is smaller."""
+    """The least number whose required percentage is at least the activity, but at most the old eligibility."""
     return min(eligibility, up(active * 100, requirement))
 
 
@@ -238,7 +238,7 @@ def next_eligibility(eligibility: int, active: int, requirement: int) -> int:
 
 
 class Auction:
-    """The rounds of an auction. It takes each accepted sheet and closing in order, and refuses any other."""
+    """The rounds of an auction. It applies each accepted sheet and closing in order, and refuses any other."""
 
     def __init__(self, setup: Setup) -> None:
         self.setup = setup
@@ -257,14 +257,14 @@ class Auction:
         require(number == len(self.rounds) + 1, "wrong_round")
 
     def put(self, bidder: int, number: int, bids: list[Bid]) -> None:
-        """Takes a sheet. It replaces the bidder's sheet in force."""
+        """Accepts a sheet, which replaces the bidder's sheet in force, or refuses it."""
         self.check_round(number)
         limit = activity_limit(self.setup, number, self.eligibilities[bidder])
         check_sheet(self.setup.products, self.prices, self.demands[bidder], limit, bids)
         self.sheets[bidder] = bids
 
     def close(self, number: int, increments: list[int], ties: list[list[int]]) -> None:
-        """Closes a round. There is an increment for each product."""
+        """Closes a round, or refuses the closing. Requires an increment for each product."""
         self.check_round(number)
         require(len(increments) == len(self.prices) and all(1 <= each <= 50 for each in increments), "increment")
         check_ties(self.setup, ties)
@@ -277,7 +277,7 @@ class Auction:
         self.end_round(board, increments)
 
     def requests(self, ties: Ties) -> Iterator[Request]:
-        """All requests of the round. No sheet is the same as an empty sheet."""
+        """All requests of the round. No sheet counts as an empty sheet."""
         for bidder, demands in enumerate(self.demands):
             yield from requests_of(bidder, self.sheets.get(bidder, []), demands, self.prices, ties)
 
@@ -304,7 +304,7 @@ class Auction:
 
 
 def take(auction: Auction, bidders: dict[str, int], text: bytes) -> None:
-    """Takes a request as a bidder's sheet or as the operator's closing. The bidders are listed by token."""
+    """Applies a request as a bidder's sheet or as the operator's closing. `bidders` has bidders' numbers by token."""
     method, path, token, body = request_in(text)
     require((method, path) in ((b"PUT", b"/v1/me/bids"), (b"POST", b"/v1/close")), "no_page")
     require(token in bidders or token == auction.setup.operator, "token")
@@ -322,7 +322,7 @@ def take(auction: Auction, bidders: dict[str, int], text: bytes) -> None:
 
 
 class Recount(NamedTuple):
-    """An auction, the digest of each closing, and of the journal the number of requests and the last digest."""
+    """A recounted auction: its rounds, the digest of each closing, the number of requests, and the last digest."""
 
     auction: Auction
     closings: list[str]
@@ -349,7 +349,7 @@ def recounted(document: bytes, journal: bytes) -> Recount:
 
 
 def report(counted: Recount) -> Iterator[str]:
-    """The lines of all closed rounds. If the auction has ended, what each bidder has won and pays."""
+    """The lines of all closed rounds, and of what each bidder has won and pays if the auction has ended."""
     setup, rounds = counted.auction.setup, counted.auction.rounds
     for number, (closed, digest) in enumerate(zip(rounds, counted.closings), 1):
         yield f"round {number}"

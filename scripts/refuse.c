@@ -1,7 +1,8 @@
-/* Refuses one growth of a program: preloaded beside it.
+/* Refuses one allocation of a program. Preloaded into the program.
  *
- * REFUSE tells which growth is refused, from 1; none is at 0. REFUSE_TOLD is a descriptor on which, at the program's end, two numbers
- * are told: how many growths there were, and how many were refused. */
+ * REFUSE is the number of the refused allocation, from 1; 0 refuses none. REFUSE_TOLD is a descriptor. At the program's
+ * end, two numbers are written to it: the count of allocations, and the count of refused ones. A reallocation counts as
+ * an allocation. */
 #define _GNU_SOURCE
 #include <dlfcn.h>
 #include <errno.h>

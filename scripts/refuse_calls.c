@@ -1,8 +1,8 @@
-/* Refuses one call of a program to the system that names, reads or changes a file: preloaded next to it.
+/* Refuses one system call of a program that names, reads, or changes a file. Preloaded into the program.
  *
  * REFUSE_CALL names the call, REFUSE_FILE is the path of the file, and REFUSE_AT is the number of the call, from 1. If
- * REFUSE_SIZE is set, only calls count that are made once the file has that many bytes. A write that is refused has
- * written half of its bytes, as on a disk that is full. Any other refused call has done nothing. */
+ * REFUSE_SIZE is set, calls count only once the file has at least that number of bytes. A refused write writes half of
+ * its bytes, as on a full disk. Any other refused call does nothing. */
 #define _GNU_SOURCE
 #include <dlfcn.h>
 #include <errno.h>
@@ -16,7 +16,7 @@
 
 static int calls;
 
-/* whether the descriptor is that of the file, or of the folder that holds it */
+/* Whether the descriptor is that of the file, or of its folder. */
 static int is_file(int descriptor) {
     struct stat one, other;
     const char *path = getenv("REFUSE_FILE");
@@ -25,7 +25,7 @@ static int is_file(int descriptor) {
     return !stat(path, &other) && one.st_ino == other.st_ino && one.st_dev == other.st_dev;
 }
 
-/* whether the file has the bytes from which on calls count */
+/* Whether the file has REFUSE_SIZE bytes, from which on calls count. */
 static int is_large(void) {
     struct stat file;
     const char *path = getenv("REFUSE_FILE"), *size = getenv("REFUSE_SIZE");

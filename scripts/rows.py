@@ -1,4 +1,4 @@
-"""The set-ups, requests and replays that are tried with growths refused."""
+"""The set-ups, requests, and rehearsals that are tried with refused allocations."""
 import json
 import pathlib
 
@@ -21,7 +21,7 @@ REPLAY = json.dumps(
 )
 
 
-# What the program prints, and a server replies, if it is out of memory.
+# The program's end and a server's reply if it is out of memory.
 OUT_OF_MEMORY = (1, b"", b"fault: memory\n")
 REPLY_OUT_OF_MEMORY = (
     b"HTTP/1.1 503 Service Unavailable\r\nconnection: close\r\ncontent-length: 30\r\n"
@@ -34,7 +34,7 @@ def compact(value):
 
 
 def sheet(number, *bids):
-    """The body of a sheet, of products, quantities and prices."""
+    """The body of a sheet with bids of a product, a quantity, and a price."""
     rows = [{"product": product, "quantity": quantity, "price": price} for product, quantity, price in bids]
     return compact({"bids": rows, "round": number})
 

@@ -1,4 +1,4 @@
-"""Servers of the program, each on a port of its own, from the start to the end."""
+"""Servers of the program, each on a port of its own, from start to end."""
 import pathlib
 import subprocess
 from collections.abc import Callable, Mapping
@@ -6,13 +6,13 @@ from collections.abc import Callable, Mapping
 from loopback import free_port
 from trial import Failed
 
-# The longest that a server may take to end, in seconds.
+# The most seconds that a server may take to end.
 PATIENCE = 20
 MOST_CONNECTIONS = 1_000_000
 
 
 class Server:
-    """`clock_auction serve` on a port of its own. `lines` are those that it printed up to `ready`."""
+    """A running `clock_auction serve` on a port of its own. `lines` are those that it printed up to `ready`."""
 
     def __init__(
         self,
@@ -40,17 +40,17 @@ class Server:
             raise
 
     def is_ready(self) -> bool:
-        """Whether it listens. If not, it has ended, or is about to."""
+        """Whether it listens. If not, it has ended, or is about to end."""
         return bool(self.lines) and self.lines[-1] == f"ready {self.port}"
 
     def ready(self) -> "Server":
-        """The server, which must listen."""
+        """Returns this server. Fails if it does not listen."""
         if not self.is_ready():
             raise Failed(f"a server has not started: {self.lines}, {self.ended()}")
         return self
 
     def ended(self) -> tuple[int, str]:
-        """Waits for a server that ends by itself, and returns its status and its errors."""
+        """Waits until the server ends by itself. Returns its status and its errors."""
         try:
             _output, errors = self.child.communicate(timeout=PATIENCE)
         except subprocess.TimeoutExpired:
@@ -59,7 +59,7 @@ class Server:
         return self.child.returncode, errors.decode()
 
     def kill(self) -> tuple[list[str], str]:
-        """Kills it, and returns the lines that it printed after `ready`, and its errors."""
+        """Kills the server. Returns the lines that it printed after `ready`, and its errors."""
         self.child.kill()
         output, errors = self.child.communicate()
         return output.decode().splitlines(), errors.decode()
@@ -68,6 +68,6 @@ class Server:
         return self
 
     def __exit__(self, *_fault: object) -> None:
-        """Ends it, if it has not ended by itself."""
+        """Ends the server if it has not ended by itself."""
         if self.child.poll() is None:
             self.kill()

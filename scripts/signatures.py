@@ -1,4 +1,4 @@
-"""Ed25519 keys and signatures by openssl's command line, with the files that openssl reads in memory only."""
+"""Ed25519 keys and signatures by openssl's command line. Files for openssl are in memory only."""
 import base64
 import contextlib
 import os
@@ -9,12 +9,12 @@ SIGNATURE = 64  # bytes
 
 
 class SignatureFault(ValueError):
-    """openssl is missing, or refuses a key."""
+    """The fault that openssl is missing, or refuses a key."""
 
 
 @contextlib.contextmanager
 def in_memory(*files: bytes) -> Iterator[list[int]]:
-    """Files in memory that have these bytes, by their descriptors."""
+    """Makes files in memory with these bytes. Yields their descriptors."""
     descriptors = [os.memfd_create("file") for _ in files]
     try:
         for descriptor, data in zip(descriptors, files):
@@ -26,7 +26,7 @@ def in_memory(*files: bytes) -> Iterator[list[int]]:
 
 
 def openssl(words: str, *files: bytes) -> subprocess.CompletedProcess[bytes]:
-    """Runs openssl. Each `@` in its words is the name of the next file."""
+    """Runs openssl. Each `@` in its words becomes the name of the next file."""
     with in_memory(*files) as descriptors:
         names = iter(f"/proc/self/fd/{descriptor}" for descriptor in descriptors)
         command = ["openssl", *(next(names) if word == "@" else word for word in words.split())]
@@ -37,7 +37,7 @@ def openssl(words: str, *files: bytes) -> subprocess.CompletedProcess[bytes]:
 
 
 def printed(words: str, *files: bytes) -> bytes:
-    """What openssl prints. It must succeed."""
+    """The output of openssl, which must succeed."""
     ran = openssl(words, *files)
     if ran.returncode:
         raise SignatureFault(f"openssl {words.split()[0]}: {ran.stderr.decode(errors='replace').strip()}")

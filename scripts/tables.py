@@ -1,7 +1,7 @@
-"""The tables of an auction, as docs/formats.md lists their columns: each is the text of a CSV file.
+"""The tables of an auction, with the columns of docs/formats.md: each is the text of a CSV file.
 
-deploy/record writes them, and scripts/verify makes them again and compares. Both read only the set-up document and the
-journal, and count by scripts/recount.py.
+deploy/record writes them. scripts/verify makes them again and compares. Both read only the set-up document and the
+journal, and count with scripts/recount.py.
 """
 import csv
 import hashlib
@@ -17,7 +17,7 @@ Row = Iterable[Any]
 
 
 class Sheet(NamedTuple):
-    """An accepted sheet: its number among the texts of the journal, its round, its bidder, and its text's SHA-256."""
+    """An accepted sheet: its number among the requests of the journal, its round, its bidder, and its SHA-256."""
 
     number: int
     round: int
@@ -28,7 +28,7 @@ class Sheet(NamedTuple):
 
 
 class Auction(NamedTuple):
-    """A recounted auction, with what the recount does not store: every accepted sheet, and the ties of each closing."""
+    """A recounted auction, with what the recount does not store: each accepted sheet, and each closing's ties."""
 
     setup: Setup
     rounds: list[recount.Round]
@@ -37,7 +37,7 @@ class Auction(NamedTuple):
 
 
 def auction_in(document: bytes, journal: bytes, counted: recount.Recount) -> Auction:
-    """The auction of a set-up document and a journal that were recounted."""
+    """The auction of a set-up document and its recounted journal."""
     setup, sheets, ties = counted.auction.setup, list[Sheet](), list[list[list[int]]]()
     bidders = {bidder.token: number for number, bidder in enumerate(setup.bidders)}
     for number, (_, text, _) in enumerate(records_in(document, journal), 1):
@@ -112,7 +112,7 @@ def tie_rows(auction: Auction) -> Iterator[Row]:
 
 
 def winner_rows(auction: Auction) -> Iterator[Row]:
-    """What each bidder has won. Nothing if the auction has not ended."""
+    """What each bidder has won. Yields nothing if the auction has not ended."""
     last = auction.rounds[-1] if auction.rounds else None
     if last is None or not last.ended:
         return
@@ -122,7 +122,7 @@ def winner_rows(auction: Auction) -> Iterator[Row]:
                 yield bidder.name, product.name, blocks, line.posted, blocks * line.posted
 
 
-# Of each table its columns, and the rows of an auction.
+# Each table's columns, and the function for its rows.
 TABLES = {
     "sheets.csv": ("sheet,round,bidder,bids,in_force,sha256", sheet_rows),
     "bids.csv": ("round,bidder,product,bid_type,quantity,price,sheet,place,in_force", bid_rows),
@@ -155,7 +155,7 @@ def bare(document: bytes) -> str:
 
 
 def files_of(document: bytes, journal: bytes, counted: recount.Recount) -> dict[str, str]:
-    """What follows from a set-up document and a journal, by the names of files."""
+    """The files that follow from a set-up document and a journal, by name."""
     auction = auction_in(document, journal, counted)
     made = {name: table(columns, rows(auction)) for name, (columns, rows) in TABLES.items()}
     audit = "".join(line + "\n" for line in recount.report(counted))
@@ -163,7 +163,7 @@ def files_of(document: bytes, journal: bytes, counted: recount.Recount) -> dict[
 
 
 def published_files_of(published: dict[str, bytes]) -> dict[str, str]:
-    """What follows from the published files, given by name: digests with their times, and the key of receipts."""
+    """The files that follow from the published files, by name: digests with their times, and the key of receipts."""
     pages = [json.loads(text) for name, text in published.items() if name.startswith("rounds/")]
     rows = [
         [page["round"], page["digest"], page.get("published", ""), page.get("seed") or ""]

@@ -1,10 +1,10 @@
-"""Tie-breaking numbers that were fixed before the auction: a chain of seeds, of which the end is published first.
+"""Tie-breaking numbers that are fixed before the auction: a chain of seeds, whose end is published first.
 
     secret --SHA-256--> .. --SHA-256--> seed of round 2 --SHA-256--> seed of round 1 --SHA-256--> end
 
 The operator draws the secret and publishes the end before round 1 (docs/formats.md, commitment.json). The seed of each
-round is published after its closing. From a seed everyone computes those of earlier rounds, and the numbers of its
-round, but no later seed. deploy/close and the conductor make closings with these functions, and scripts/verify checks
+round is published after its closing. From a seed, anyone can compute those of earlier rounds and the numbers of its
+round, but no later seed. The conductor and deploy/close make closings with these functions, and scripts/verify checks
 published closings with them.
 """
 import base64
@@ -19,7 +19,7 @@ from collections.abc import Collection
 from pathlib import Path
 from typing import Any, Self
 
-LENGTH = 10_000  # rounds of a chain
+LENGTH = 10_000  # Rounds of a chain.
 SEED = 32  # bytes of a seed
 MOST_TIES = 16_384  # that a closing may list
 NUMBER = 6  # bytes of a number, so that each reader of JSON has it whole
@@ -30,12 +30,12 @@ Pair = tuple[int, int]
 
 
 class TiesFault(ValueError):
-    """What is wrong with a commitment, a seed, or a list of tie-breaking numbers, in words for people."""
+    """A wrong commitment, seed, or list of tie-breaking numbers, in words for people."""
 
 
 @dataclasses.dataclass(frozen=True)
 class Committed:
-    """What is published of a chain: its end, for how many rounds it is, and the result of a public draw, or nothing."""
+    """The published part of a chain: its end, its number of rounds, and the result of a public draw, or nothing."""
 
     end: bytes
     length: int
@@ -55,7 +55,7 @@ class Commitment:
 
     @classmethod
     def of(cls, value: Any) -> Self:
-        """The commitment that is a value of JSON."""
+        """The commitment in a JSON value."""
         try:
             has_keys(value, "auction", "chain", "key")
             chain = value["chain"]
@@ -69,18 +69,18 @@ class Commitment:
                 raise ValueError("the key")
             return cls(bytes_of(value["auction"], SEED).hex(), chain, value["key"])
         except (AttributeError, KeyError, TypeError, ValueError, binascii.Error) as error:
-            raise TiesFault(f"this is no commitment: {error}") from error
+            raise TiesFault(f"this is not a commitment: {error}") from error
 
     @classmethod
     def read(cls, path: Path) -> Self:
-        """The commitment in a file."""
+        """Reads the commitment in a file."""
         try:
             return cls.of(json.loads(path.read_bytes()))
         except (OSError, ValueError) as error:
             raise TiesFault(f"{path}: {error}") from error
 
     def value(self) -> dict[str, Any]:
-        """The value of JSON that is published."""
+        """The published JSON value."""
         chain = self.chain and {"draw": self.chain.draw, "end": self.chain.end.hex(), "length": self.chain.length}
         return {"auction": self.auction, "chain": chain, "key": self.key}
 
@@ -91,14 +91,14 @@ def has_keys(value: Any, *keys: str) -> None:
 
 
 def bytes_of(text: Any, length: int) -> bytes:
-    """The bytes that a text has in lower case hexadecimal."""
+    """The bytes of a text in lower case hexadecimal."""
     if not isinstance(text, str) or not re.fullmatch(f"[0-9a-f]{{{2 * length}}}", text):
         raise ValueError(f"{text!r} is not {2 * length} hexadecimal digits")
     return bytes.fromhex(text)
 
 
 def checked_draw(words: Any) -> str:
-    """The result of a draw, which is at most 200 letters of printable ASCII."""
+    """The result of a draw, at most 200 characters of printable ASCII. Raises ValueError for any other."""
     if not isinstance(words, str) or len(words) > MOST_DRAW or not (words.isascii() and words.isprintable()):
         raise ValueError(f"a draw has at most {MOST_DRAW} letters of printable ASCII")
     return words
@@ -108,7 +108,7 @@ def checked_draw(words: Any) -> str:
 
 
 def seed_before(seed: bytes, steps: int = 1) -> bytes:
-    """The seed of an earlier round: SHA-256 applied this number of times."""
+    """The seed of an earlier round, or the end: SHA-256, applied `steps` times."""
     for _ in range(steps):
         seed = hashlib.sha256(seed).digest()
     return seed
@@ -143,8 +143,10 @@ def ties_of(seed: bytes, draw: str, number: int, pairs: Collection[Pair]) -> lis
 
 
 def needed_pairs(number: int, bidders: int, products: int, matter: Collection[Pair]) -> list[Pair]:
-    """The pairs that a closing must list: none in round 1, whose bids are not processed in order; later all pairs, or,
-    if these are too many for one closing, those that matter.
+    """The pairs that a closing must list.
+
+    In round 1 there are none, because its bids are not processed in order. Later the list has all pairs or, if these
+    are too many for one closing, those that matter.
     """
     if number == 1:
         return []
@@ -162,11 +164,11 @@ def check_ties(
     products: int,
     matter: Collection[Pair] = (),
 ) -> None:
-    """Refuses the list of a closing that is not as committed.
+    """Refuses the list of a closing that differs from the commitment.
 
     `bidders` and `products` are counts. `matter` has the pairs with processed demand before the closing, or with a bid
-    in force; it counts only if a closing cannot list all pairs. Numbers are checked one by one, so those of other pairs
-    may be listed too.
+    in force. It counts only if a closing cannot list all pairs. Each listed number is checked, so the list may have
+    other pairs too.
     """
     if chain is None:
         if ties:

@@ -1,4 +1,4 @@
-"""What every trial needs: facts that must hold, waiting for one, a bound on its time, and work side by side."""
+"""Tools of every trial: facts that must hold, waits, a time limit, and parallel work."""
 import os
 import pathlib
 import signal
@@ -14,12 +14,12 @@ WORKERS = os.cpu_count() or 1
 MOST_SHOWN = 1_500
 Item = TypeVar("Item")
 
-# The facts that held, in order.
+# The facts that were checked and true, in order.
 SEEN: list[str] = []
 
 
 class Failed(SystemExit):
-    """A fact does not hold. Unless it is caught, the script ends with status 1 and says which one."""
+    """A fact that does not hold. Unless it is caught, the script ends with status 1 and the fact's words."""
 
     def __init__(self, what: str) -> None:
         script = pathlib.Path(sys.argv[0]).resolve()
@@ -28,37 +28,37 @@ class Failed(SystemExit):
 
 
 def shown(value: object) -> str:
-    """A value for a message, cut to a length that can be read."""
+    """A value for a message, truncated to a readable length."""
     text = value if isinstance(value, str) else repr(value)
     return text if len(text) <= MOST_SHOWN else f"{text[:MOST_SHOWN]} and {len(text) - MOST_SHOWN} characters more"
 
 
 def ensure(what: str, holds: object, found: object = None) -> None:
-    """Notes a fact that holds, and fails if it does not. A message has what was found."""
+    """Notes a fact that holds. Fails if it does not, with what was found."""
     if not holds:
         raise Failed(what if found is None else f"{what}: {shown(found)}")
     SEEN.append(what)
 
 
 def expect(what: str, found: object, wanted: object) -> None:
-    """Notes that what was found is what was wanted, and fails if it is not."""
+    """Notes that the found value is the wanted one. Fails if it is not."""
     if found != wanted:
         raise Failed(f"{what}:\n  found  {shown(repr(found))}\n  wanted {shown(repr(wanted))}")
     SEEN.append(what)
 
 
 def wait_for(what: str, condition: Callable[[], object], seconds: float) -> None:
-    """Waits until a condition holds, and fails if it does not within these seconds."""
+    """Waits until a condition holds. Fails if it does not within these seconds."""
     end = time.monotonic() + seconds
     while not condition():
         if time.monotonic() > end:
-            raise Failed(f"waited {seconds} s in vain: {what}")
+            raise Failed(f"not within {seconds} s: {what}")
         time.sleep(0.02)
     SEEN.append(what)
 
 
 def bound(seconds: int) -> None:
-    """Lets the script fail if it is not done within these seconds."""
+    """Makes the script fail if it is not done within these seconds."""
 
     def out_of_time(*_: object) -> None:
         raise Failed(f"not done within {seconds} s")
@@ -68,9 +68,9 @@ def bound(seconds: int) -> None:
 
 
 def in_parallel(work: Callable[[int, Item], None], items: Iterable[Item]) -> None:
-    """Does the work on each item, as soon as a worker is free. The work is given the number of its worker too.
+    """Calls `work` on each item as soon as a worker is free, with the worker's number.
 
-    After the first failure no further item is begun, and the failure is raised here.
+    After the first failure, no further item is begun, and the failure is raised here.
     """
     rest, lock = iter(items), threading.Lock()
     has_failed = threading.Event()
