@@ -30,7 +30,7 @@ def free_port() -> int:
 
 
 def compact(value: object) -> bytes:
-    """A value as JSON without spaces, its keys sorted."""
+    """A value as JSON without spaces, with its keys in their order."""
     return json.dumps(value, separators=(",", ":")).encode()
 
 

@@ -1,1 +1,1 @@
-"""What .ci/crash consists of: servers with a journal, what a crash can leave of it, and what a start makes of that."""
+"""The parts of .ci/crash: servers with a journal, what a crash can leave of it, and what a start makes of that."""

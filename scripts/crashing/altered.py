@@ -1,4 +1,4 @@
-"""Records of servers that are wrong: those of a right one, in which one call is missing, early, late or too much."""
+"""Wrong records of servers: those of a right run, in which one call is missing, early, late, or extra."""
 from collections.abc import Iterator
 
 from .order import SYNCS
@@ -8,7 +8,7 @@ Calls = list[Call]
 
 
 def place_of(calls: Calls, *names: str) -> int:
-    """The place of the last of these calls."""
+    """The index of the last of these calls."""
     return max(place for place, call in enumerate(calls) if call.name in names)
 
 
@@ -22,7 +22,7 @@ def moved(calls: Calls, place: int, to: int) -> Calls:
 
 
 def altered_starts(calls: Calls, is_old: bool) -> Iterator[tuple[str, Calls]]:
-    """Starts that are wrong."""
+    """Yields the calls of a start with one of them wrong, and what is wrong."""
     synced, named = place_of(calls, *SYNCS), place_of(calls, "folder")
     yield "no sync of the journal at a start", without(calls, synced)
     yield "no sync of the folder", without(calls, named)
@@ -30,13 +30,13 @@ def altered_starts(calls: Calls, is_old: bool) -> Iterator[tuple[str, Calls]]:
     if not is_old:
         return
     first = min(place for place, call in enumerate(calls) if call.name in SYNCS)
-    yield "a torn tail is cut off before it is synced", without(calls, first)
+    yield "a torn record is cut off before it is synced", without(calls, first)
     anew = [Call("ftruncate"), Call("write", 0, b"the same bytes"), Call("fdatasync")]
-    yield "an old journal is written anew", calls[:synced] + anew + calls[synced:]
+    yield "an old journal is written again", calls[:synced] + anew + calls[synced:]
 
 
 def altered_exchanges(calls: Calls, outcome: Outcome) -> Iterator[tuple[str, Calls]]:
-    """Exchanges that are wrong, of a request with this outcome."""
+    """Yields the calls for a request of this outcome with one of them wrong, and what is wrong."""
     if outcome in (Outcome.PAGE, Outcome.REFUSED):
         yield f"a sync for what is not logged: {outcome.value}", [Call("fdatasync"), *calls]
         yield f"a write for what is not logged: {outcome.value}", [Call("write", 0, b"text"), *calls]
@@ -51,7 +51,7 @@ def altered_exchanges(calls: Calls, outcome: Outcome) -> Iterator[tuple[str, Cal
 
 
 def altered(generations: list[Recorded]) -> Iterator[tuple[str, list[Recorded]]]:
-    """Records with one wrong start or exchange, each with what is wrong in it."""
+    """Yields records with one wrong start or exchange, each with what is wrong in it."""
     for number, generation in enumerate(generations):
         calls = generation.calls
         accepts = [place for place, call in enumerate(calls) if call.name == "accept"] + [len(calls)]

@@ -1,4 +1,4 @@
-"""The auction that is served, its requests, and its pages."""
+"""The served auction, its requests, and its pages."""
 import json
 import random
 from collections.abc import Iterator
@@ -31,10 +31,11 @@ def next_price(price: int) -> int:
 
 
 def requests() -> Iterator[bytes]:
-    """Requests without end: in each round a sheet of each bidder, some twenty more, pages, refused sheets, its closing.
+    """Yields requests without end.
 
-    Each sheet asks for one block or both, so three bidders ask for more than the two that there are, and no round ends
-    the auction. The last round is never closed: some 2,300 rounds on no price is left, and a fast machine gets there.
+    Each round has a sheet of each bidder, about twenty more, pages, refused sheets, and its closing. Each sheet asks
+    for one block or both, so three bidders ask for more than the two blocks, and no round ends the auction. After some
+    2,300 rounds no price is left, and the last round is never closed. A fast machine gets there.
     """
     number, price = 1, 100
     while True:
@@ -66,7 +67,7 @@ def pages_of(port: int) -> list[bytes]:
 
 
 def same_auction(trial: Trial, texts: list[bytes], pages: list[bytes]) -> None:
-    """Compares pages with those of a server without a journal that was sent these texts."""
+    """Compares pages with those of a server without a journal that received these requests."""
     server = trial.server()
     try:
         for text in texts:
@@ -78,7 +79,7 @@ def same_auction(trial: Trial, texts: list[bytes], pages: list[bytes]) -> None:
 
 
 class Load:
-    """Sends requests one after the other. A request that gets no reply is sent again, to the next server."""
+    """Sends requests one after the other. A request without a reply is sent again, to the next server."""
 
     def __init__(self) -> None:
         self.requests = requests()
@@ -88,7 +89,7 @@ class Load:
         self.answers = 0
 
     def send_to(self, port: int) -> None:
-        """Sends until a request gets no reply."""
+        """Sends requests until one gets no reply."""
         while True:
             text = self.waiting
             self.sent.add(text)
@@ -99,7 +100,7 @@ class Load:
             if not reply.startswith(b"HTTP/1.1 ") or b"\r\n\r\n" not in reply:
                 return
             self.answers += 1
-            # what was not replied to may have been done, and is then refused if it is a closing
+            # A request without a reply may have taken effect. A closing is then refused.
             if accepted(reply) and not text.startswith(b"GET"):
                 self.replied.append(text)
             self.waiting = next(self.requests)

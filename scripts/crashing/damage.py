@@ -1,4 +1,4 @@
-"""A journal is cut off at each byte, each of its bytes is changed, and other bytes are put after it."""
+"""Truncates a journal at each byte, changes each of its bytes, and appends other bytes."""
 import hashlib
 import pathlib
 from dataclasses import dataclass
@@ -16,7 +16,7 @@ MARK_LENGTH = 8
 
 @dataclass(frozen=True)
 class Ten:
-    """A journal of ten texts: where its head and each record end, and the digests of the set-up and of each text."""
+    """A journal of ten requests: where its head and each record end, and the digests of the set-up and each request."""
 
     journal: pathlib.Path
     content: bytes
@@ -25,7 +25,7 @@ class Ten:
 
 
 def play_damage(trial: Trial, texts: list[bytes]) -> Ten:
-    """Cuts a journal of ten texts at each byte, and changes each of its bytes."""
+    """Truncates a journal of ten requests at each byte, and changes each of its bytes."""
     ten = journal_of_ten(trial, texts[:10])
     size = len(ten.content)
 
@@ -54,7 +54,7 @@ def play_damage(trial: Trial, texts: list[bytes]) -> Ten:
 
 
 def journal_of_ten(trial: Trial, texts: list[bytes]) -> Ten:
-    """Has a server log these texts."""
+    """Makes a server log these requests. Returns their journal."""
     journal = trial.folder / "ten.journal"
     server = trial.server(journal)
     for text in texts:
@@ -70,20 +70,20 @@ def journal_of_ten(trial: Trial, texts: list[bytes]) -> Ten:
 
 
 def last_line_of_changed(ten: Ten, place: int) -> str:
-    """What `audit` must print last of the ten texts if the byte at this place is changed."""
+    """The last line that `audit` must print of the ten requests if the byte at this index is changed."""
     if place < KIND_LENGTH:
         return "fault: journal_unknown"
     if place < HEAD:
         return "fault: journal_setup"
     record = max(count for count, end in enumerate(ten.ends) if end <= place)
-    # the last record reads as torn, unless one of its two lengths was changed
+    # The last record reads as torn, unless one of its two lengths was changed.
     if record == 9 and place >= ten.ends[9] + MARK_LENGTH:
         return f"journal 9 {ten.digests[9]}"
     return f"fault: journal_damaged {ten.ends[record]}"
 
 
 def play_tails(trial: Trial, ten: Ten) -> None:
-    """Puts other bytes after a journal: a start cuts torn ones off, and refuses all others and leaves them there."""
+    """Appends other bytes to a journal. A start must cut off torn ones, and refuse all others unchanged."""
     file, end = trial.folder / "tail.journal", ten.ends[10]
     for name, tail, fault in (
         ("seven bytes", b"1234567", None),

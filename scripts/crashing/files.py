@@ -1,4 +1,4 @@
-"""Files that are no journal of the set-up, a disk that is full, and journals made by hand."""
+"""Files that are no journal of the set-up, and a full disk."""
 import os
 import pathlib
 import resource
@@ -45,13 +45,13 @@ def play_refused_files(trial: Trial, journal: pathlib.Path) -> None:
 
 
 def limited() -> None:
-    """Makes a disk full: no file of this process grows beyond a limit."""
+    """Makes the disk full for this process: no file grows beyond a limit."""
     signal.signal(signal.SIGXFSZ, signal.SIG_IGN)
     resource.setrlimit(resource.RLIMIT_FSIZE, (FULL, FULL))
 
 
 def play_full_disk(trial: Trial) -> None:
-    """Fills the disk of a server under load, and starts another on its journal."""
+    """Fills the disk of a server under load, and starts another with its journal."""
     file = trial.folder / "full.journal"
     server, load = trial.server(file, before=limited), Load()
     load.send_to(server.port)
@@ -61,4 +61,4 @@ def play_full_disk(trial: Trial) -> None:
     again = trial.server(file)
     expect("a start after it", again.lines[0].split()[:2], ["journal", str(len(found))])
     again.kill()
-    print(f"on a full disk {len(found)} texts were logged and replied to, and the server ended")
+    print(f"on a full disk {len(found)} requests were logged and got replies, and the server ended")

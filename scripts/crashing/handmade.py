@@ -1,4 +1,4 @@
-"""Journals that no server wrote: their last record is whole, and its text is none that the auction accepts there."""
+"""Journals that no server wrote: the last record is whole, but the auction does not accept its request."""
 from journal import FRONT, HEAD, journal_of
 from loopback import text_of
 from trial import ensure, expect
@@ -18,7 +18,7 @@ REFUSED_TEXTS = (
 
 
 def play_handmade(trial: Trial) -> None:
-    """Starts on each, audits it, and lists it: `journal` shows its texts, whatever they are."""
+    """Starts on each journal, audits it, and lists it. `journal` shows any request."""
     file, first, document = trial.folder / "handmade.journal", sheet(BIDDERS[0], 1, 100, 2), trial.setup.read_bytes()
     fault = f"fault: journal_refused {HEAD + FRONT + len(first)}\n"
     for name, text in REFUSED_TEXTS:
@@ -31,4 +31,4 @@ def play_handmade(trial: Trial) -> None:
         ensure(f"journal shows {name}", text.decode() in listed.output, listed.output)
         expect(f"the file with {name}", file.read_bytes(), journal)
     names = ", ".join(name for name, _text in REFUSED_TEXTS)
-    print(f"journals made by hand that end with {names}: serve and audit refuse each there, and journal shows it")
+    print(f"journals made by hand that end with {names}: serve and audit refuse that record, and journal shows it")

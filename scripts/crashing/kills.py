@@ -1,4 +1,4 @@
-"""A server under load is killed again and again."""
+"""Kills a server under load again and again."""
 import hashlib
 import pathlib
 import signal
@@ -14,7 +14,7 @@ Texts = list[tuple[bytes, str]]
 
 
 def play_kills(trial: Trial, kills: int) -> list[bytes]:
-    """Kills a server under load at random moments, and replays without a crash what its journal has."""
+    """Kills a server under load at random moments. Replays its journal on a server that is not killed."""
     journal, load = trial.folder / "kills.journal", Load()
     closed: dict[int, str] = {}
     cuts = 0
@@ -43,7 +43,7 @@ def play_kills(trial: Trial, kills: int) -> list[bytes]:
 
 
 def killed(trial: Trial, journal: pathlib.Path, load: Load) -> tuple[list[str], str]:
-    """Starts a server, loads it and kills it, and returns the lines that it printed after `ready`, and its errors."""
+    """Starts a server, loads it, and kills it. Returns the lines that it printed after `ready`, and its errors."""
     server = trial.server(journal).ready()
     timer = threading.Timer(DRAW.uniform(0, 0.12), server.child.send_signal, [signal.SIGKILL])
     timer.start()
@@ -53,7 +53,7 @@ def killed(trial: Trial, journal: pathlib.Path, load: Load) -> tuple[list[str], 
 
 
 def compare_texts(load: Load, texts: list[bytes], kills: int) -> None:
-    """Compares the texts of the journal with those that were sent and replied to."""
+    """Compares the journal's requests with those that were sent, and with those that got a reply."""
     rest = iter(texts)
     lost = next((text for text in load.replied if text not in rest), None)
     expect("a text that was replied to, and is not in the journal in order", lost, None)
@@ -72,7 +72,7 @@ def compare_commands(trial: Trial, journal: pathlib.Path, found: Texts, closings
 
 
 def listing_of(document: bytes, found: Texts) -> str:
-    """What `journal` prints of these texts, each with its digest."""
+    """What `journal` must print of these requests, each with its digest."""
     lines, place = [f"setup {hashlib.sha256(document).hexdigest()}"], HEAD
     for number, (text, digest) in enumerate(found, 1):
         lines += [f"text {number} {place} {len(text)} {digest}", text.decode()]

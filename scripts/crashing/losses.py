@@ -1,4 +1,4 @@
-"""Losses of power: what the program makes of each file that one can leave."""
+"""Power losses: what the program makes of each file that one can leave."""
 import pathlib
 from collections import Counter
 
@@ -17,18 +17,18 @@ from .trial import Trial
 
 
 def play_losses(trial: Trial, shims: Shims) -> None:
-    """Records a run, judges its calls, and starts the program on each file that a loss of power could have left."""
+    """Records a run, judges its calls, and starts the program on each file that a power loss could have left."""
     journal, document = trial.folder / "recorded.journal", trial.setup.read_bytes()
     generations = recorded(trial, shims, journal)
     refuse_altered(generations, document)
     texts = texts_in(document, journal.read_bytes())
     moments = moments_of(generations, texts)
     expect("the journal of the record", moments[-1].written, texts.journal)
-    # what was on the disk before, where a page is absent: other texts of the same auction
+    # The bytes of an absent page: what was on the disk before, here other requests of the same auction.
     filler = journal_of(document, [sheet(token, 1, 100, 1) for token in BIDDERS] * (len(texts.journal) // 500))
     tally = play_states(trial, shims, states_of(moments, texts, filler), texts)
     states, served = (sum(tally[kind.name, of] for kind in KINDS) for of in ("states", "served"))
-    print(f"files that a loss of power can leave at {len(moments)} moments: {states} audited, {served} served too")
+    print(f"files that a power loss can leave at {len(moments)} moments: {states} audited, {served} served too")
     show(tally)
 
 
@@ -50,7 +50,7 @@ def recorded(trial: Trial, shims: Shims, journal: pathlib.Path) -> list[Recorded
 
 
 def refuse_altered(generations: list[Recorded], document: bytes) -> None:
-    """Sees that a run with one wrong call is refused."""
+    """Checks that each run with one wrong call is refused."""
     wrong: Counter[str] = Counter()
     for name, changed in altered(generations):
         ensure(f"a wrong record is refused: {name}", fault_in(changed, document))

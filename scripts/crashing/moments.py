@@ -1,4 +1,4 @@
-"""What a journal has on the disk, and what it has beyond that, from one call of the system to the next."""
+"""The bytes of a journal that are synced, and those that are only written, from one system call to the next."""
 import hashlib
 from dataclasses import dataclass, field
 
@@ -10,18 +10,18 @@ from .record import Outcome, Recorded, Request
 
 @dataclass(frozen=True)
 class Texts:
-    """A whole journal: where its head and each record end, and the digests of the set-up and of each text."""
+    """A whole journal: where its head and each record end, and the digests of the set-up and of each request."""
 
     journal: bytes
     ends: list[int]
     digests: list[str]
 
     def within(self, length: int) -> int:
-        """How many of its texts end within this many bytes."""
+        """The number of requests whose records end within this length."""
         return sum(end <= length for end in self.ends[1:])
 
     def whole_in(self, file: bytes) -> int:
-        """How many of its first texts a file begins with."""
+        """The number of requests whose records a file has whole, from the first on."""
         return sum(end <= len(file) and file[:end] == self.journal[:end] for end in self.ends[1:])
 
 
@@ -29,9 +29,9 @@ class Texts:
 class Moment:
     """The calls from one sync to the next: what is synced, and what is written before the next sync.
 
-    `sizes` are the lengths of the file after each write. If the file was cut off, `cut` is the place. `replied` counts
-    the texts up to the last one to which the reply had begun, `least` also those that are synced, `most` all that are
-    written.
+    `sizes` are the lengths of the file after each write. If the file was truncated, `cut` is the new length. `replied`
+    counts the requests up to the last one whose reply had begun, `least` also those that are synced, and `most` all
+    that are written.
     """
 
     synced: bytes
@@ -45,7 +45,7 @@ class Moment:
 
 @dataclass
 class Disk:
-    """The file while the calls of a record are made."""
+    """The file during the calls of a record."""
 
     texts: Texts
     synced: bytes = b""
@@ -69,7 +69,7 @@ class Disk:
         self.synced, self.written, self.sizes = self.synced[:place], self.written[:place], []
 
     def end(self) -> None:
-        """The last moment, if something was never synced."""
+        """Adds the last moment, if some bytes were never synced."""
         self.sync()
 
     def add_moment(self, cut: int | None) -> None:
@@ -83,7 +83,7 @@ class Disk:
 
 
 def texts_in(document: bytes, journal: bytes) -> Texts:
-    """The texts of a whole journal."""
+    """The requests of a whole journal."""
     ends, digests = [HEAD], [hashlib.sha256(document).hexdigest()]
     for text, digest in each_text_of(document, journal, len(journal)):
         ends.append(ends[-1] + FRONT + len(text))
@@ -92,7 +92,7 @@ def texts_in(document: bytes, journal: bytes) -> Texts:
 
 
 def moments_of(generations: list[Recorded], texts: Texts) -> list[Moment]:
-    """The moments of all generations of a journal. What one leaves without a sync is there at the start of the next."""
+    """The moments of all generations of a journal. The next start finds what a generation leaves unsynced."""
     disk = Disk(texts)
     for generation in generations:
         requests = iter(generation.requests)

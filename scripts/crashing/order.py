@@ -1,4 +1,4 @@
-"""Whether a server made each call that its journal needs, in the right order, and no other."""
+"""Checks that a server made each call that its journal needs, in the right order, and no other."""
 import hashlib
 
 from journal import FRONT, HEAD, head_of, record_of
@@ -16,7 +16,7 @@ def exchanges_of(calls: list[Call]) -> tuple[list[Call], list[list[Call]]]:
 
 
 def fault_of_start(calls: list[Call], document: bytes, size: int) -> str | None:
-    """What is wrong with the calls of a start on a file of this length, up to `ready`."""
+    """What is wrong with the calls of a start, up to `ready`, on a file of this length."""
     is_synced, folders, syncs, printed = size == 0, 0, 0, b""
     for call in calls:
         match call.name:
@@ -26,7 +26,7 @@ def fault_of_start(calls: list[Call], document: bytes, size: int) -> str | None:
                 is_synced, syncs = False, 0
             case "ftruncate":
                 if not is_synced:
-                    return "the file is cut off before all of it is synced"
+                    return "the file is truncated before all of it is synced"
                 is_synced = False
             case "fdatasync" | "fsync":
                 is_synced, syncs = True, syncs + 1
@@ -40,7 +40,7 @@ def fault_of_start(calls: list[Call], document: bytes, size: int) -> str | None:
 
 
 def fault_of_ready(is_synced: bool, folders: int, syncs: int) -> str | None:
-    """What is wrong when `ready` is printed, after this many syncs of the folder, and of the head since its write."""
+    """What is wrong at `ready`, after these counts of syncs: of the folder, and of the head since its write."""
     if not is_synced:
         return "it is ready before its file is synced"
     if folders != 1:
@@ -51,7 +51,7 @@ def fault_of_ready(is_synced: bool, folders: int, syncs: int) -> str | None:
 
 
 def fault_of_exchange(calls: list[Call], request: Request, record: bytes, size: int) -> str | None:
-    """What is wrong with the calls of one connection. Its text has this record, and the journal had this length."""
+    """What is wrong with the calls of one connection, by its record and the journal's length before it."""
     changes = [call for call in calls if call.name in CHANGES]
     if request.outcome in (Outcome.REFUSED, Outcome.PAGE):
         return f"a request that is not logged calls {changes[0].name}" if changes else None
@@ -74,14 +74,14 @@ def fault_of_exchange(calls: list[Call], request: Request, record: bytes, size: 
 
 
 def fault_in(generations: list[Recorded], document: bytes) -> str | None:
-    """What is wrong with the calls of all generations of a journal, if anything is."""
+    """What is wrong with the calls of all generations of a journal, or None."""
     chain, size, torn = hashlib.sha256(document).digest(), 0, 0
     for generation in generations:
         start, exchanges = exchanges_of(generation.calls)
         if fault := fault_of_start(start, document, size + torn):
             return fault
         if len(exchanges) != len(generation.requests):
-            return f"{len(exchanges)} connections are taken for {len(generation.requests)} requests"
+            return f"{len(exchanges)} connections are accepted for {len(generation.requests)} requests"
         size, torn = max(size, HEAD), 0
         for request, calls in zip(generation.requests, exchanges):
             record = record_of(chain, request.text)

@@ -1,4 +1,4 @@
-"""A run of servers on one journal, with every call of the system on which the journal rests."""
+"""Runs servers on one journal, and records each system call on which the journal depends."""
 import pathlib
 from dataclasses import dataclass
 from enum import Enum
@@ -16,7 +16,7 @@ STATUS = text_of("GET /v1/status")
 
 
 class Outcome(Enum):
-    """What must become of a request."""
+    """The required result of a request."""
 
     LOGGED = "logged"
     REFUSED = "refused"
@@ -26,7 +26,7 @@ class Outcome(Enum):
 
 @dataclass(frozen=True)
 class Request:
-    """A request, and what must become of it."""
+    """A request, and its required result."""
 
     text: bytes
     outcome: Outcome
@@ -34,7 +34,7 @@ class Request:
 
 @dataclass(frozen=True)
 class Generation:
-    """A server from start to end: its requests, and the call that is refused once the file has this many bytes."""
+    """A server from start to end: its requests, and the call that is refused once the file has this length."""
 
     requests: list[Request]
     refused: tuple[str, int] | None = None
@@ -42,7 +42,7 @@ class Generation:
 
 @dataclass(frozen=True)
 class Call:
-    """A call of the system: its name, its place, length or count, and its bytes."""
+    """A system call: its name, its index, length, or count, and its bytes."""
 
     name: str
     number: int = 0
@@ -58,7 +58,7 @@ class Recorded:
 
 
 def calls_in(record: pathlib.Path) -> list[Call]:
-    """The calls of a record, which is removed. A server that makes none leaves none."""
+    """The calls of a record, which is removed. A server without calls leaves no record."""
     lines = record.read_text().splitlines() if record.exists() else []
     record.unlink(missing_ok=True)
     return [call_in(line) for line in lines]
@@ -79,7 +79,7 @@ def call_in(line: str) -> Call:
 
 
 def padded(token: str, number: int, price: int, length: int) -> bytes:
-    """A sheet of exactly this length, by spaces after its body."""
+    """A sheet of exactly this length, with spaces after its body."""
     spaces = 0
     while short := length - len(sheet(token, number, price, 2, spaces)):
         spaces += short
@@ -87,7 +87,7 @@ def padded(token: str, number: int, price: int, length: int) -> bytes:
 
 
 class Plan:
-    """Requests that are sent to one generation after another, and the length that the journal must have then."""
+    """Plans the requests to one generation after another, with the journal's length after them."""
 
     def __init__(self) -> None:
         self.size = HEAD
@@ -99,7 +99,7 @@ class Plan:
         self.size += FRONT + len(text)
 
     def logs_up_to(self, size: int, token: str, number: int, price: int) -> None:
-        """Logs a sheet with which the journal has this length."""
+        """Logs a sheet after which the journal has this length."""
         self.logs(padded(token, number, price, size - self.size - FRONT))
 
     def shows(self, *texts: bytes) -> None:
@@ -109,11 +109,11 @@ class Plan:
         self.requests += [Request(text, Outcome.REFUSED) for text in texts]
 
     def ends_by_write(self, text: bytes) -> None:
-        """Ends a generation: half of this text can be written."""
+        """Ends a generation: only half of this request can be written."""
         self.ends(Request(text, Outcome.NO_REPLY), ("write", self.size + FRONT))
 
     def ends_by_sync(self, text: bytes) -> None:
-        """Ends a generation: this text is written and can't be synced. The next start finds it."""
+        """Ends a generation: this request is written, but cannot be synced. The next start finds it."""
         self.size += FRONT + len(text)
         self.ends(Request(text, Outcome.NO_REPLY), ("fdatasync", self.size))
 
@@ -123,7 +123,7 @@ class Plan:
 
 
 def planned() -> list[Generation]:
-    """Three generations of a journal. Texts end before, at and after the end of a page, and one covers three pages."""
+    """Three generations of a journal. Records end before, at, and after a page's end, and one spans three pages."""
     plan, (x, y, z) = Plan(), BIDDERS
     plan_first(plan, x, y, z)
     price = next_price(100)
@@ -142,7 +142,7 @@ def planned() -> list[Generation]:
 
 
 def plan_first(plan: Plan, x: str, y: str, z: str) -> None:
-    """The first generation: round 1, and a sheet of round 2 of which half can be written."""
+    """Plans the first generation: round 1, and a sheet of round 2 of which only half can be written."""
     plan.shows(STATUS)
     plan.refuses(text_of("GET /none"), closing(2))
     plan.logs(sheet(x, 1, 100, 1))
@@ -157,7 +157,7 @@ def plan_first(plan: Plan, x: str, y: str, z: str) -> None:
 
 
 def run(trial: Trial, shims: Shims, journal: pathlib.Path, generation: Generation) -> Recorded:
-    """Runs a generation, and compares what becomes of each request with what must become of it."""
+    """Runs a generation, and compares each request's result with the required one."""
     lines = trial.folder / "record"
     refusal = None
     if generation.refused:
@@ -177,7 +177,7 @@ def run(trial: Trial, shims: Shims, journal: pathlib.Path, generation: Generatio
 
 
 def outcome_of(request: Request, reply: bytes) -> Outcome:
-    """What has become of a request, by its reply."""
+    """The result of a request, by its reply."""
     if not reply:
         return Outcome.NO_REPLY
     if not reply.startswith(b"HTTP/1.1 200 OK"):

@@ -1,4 +1,4 @@
-"""Each call of the system that a server makes on its journal is refused in turn, on a new file and on old ones."""
+"""Refuses each system call of a server on its journal in turn, on a new file and on old ones."""
 import pathlib
 from collections.abc import Callable
 from functools import partial
@@ -14,16 +14,16 @@ from .shims import Shims
 from .trial import Trial
 
 CALLS = ("open", "statx", "flock", "read", "write", "fdatasync", "ftruncate", "fsync")
-# Calls that a server must make on a new journal, and that a start must make on a whole one and on one with a torn tail.
+# Calls that a server must make on a new journal, and a start on a whole journal and on one with a torn record.
 NEEDED_FOR_NEW = ("open", "write", "fdatasync", "fsync")
 NEEDED_FOR_WHOLE = ("open", "read", "fdatasync", "fsync")
 NEEDED_FOR_TORN = (*NEEDED_FOR_WHOLE, "ftruncate")
-# Calls of which some come after a torn tail was cut off.
+# Calls of which some come after a torn record was cut off.
 CALLS_AFTER_CUT = ("open", "fsync")
 
 
 def refuse_each(name: str, needed: tuple[str, ...], is_refused: Callable[[str, int], bool]) -> None:
-    """Refuses each call in turn, until there is none of its number, and prints how many there are."""
+    """Refuses each call in turn, until none has the number, and prints how many there are."""
     counts = {}
     for call in CALLS:
         count = 0
@@ -32,18 +32,18 @@ def refuse_each(name: str, needed: tuple[str, ...], is_refused: Callable[[str, i
         counts[call] = count
         ensure(f"{name}: {call} is called", count > 0 or call not in needed)
     shown = ", ".join(f"{count} of {call}" for call, count in counts.items() if count)
-    print(f"{name}, with each call refused in turn: {shown}; each is a fault, and the file has all that was replied to")
+    print(f"{name}, with each call refused in turn: {shown}; each is a fault, and no request with a reply is lost")
 
 
 def play_new_file(trial: Trial, shims: Shims) -> None:
-    """Refuses in turn each call that a start on a new journal, three texts and a closing make."""
+    """Refuses in turn each call that a start on a new journal, three requests, and a closing make."""
     texts = [sheet(token, 1, 100, 1) for token in BIDDERS] + [closing(1)]
     name = "a server that begins a journal and logs four texts"
     refuse_each(name, NEEDED_FOR_NEW, partial(is_refused, trial, shims, texts))
 
 
 def is_refused(trial: Trial, shims: Shims, texts: list[bytes], call: str, at: int) -> bool:
-    """Refuses a call of this number. Returns False if the server makes fewer of them."""
+    """Refuses a call of this number. Returns False if the server makes fewer calls."""
     file = trial.folder / f"{call}.journal"
     file.unlink(missing_ok=True)
     server = trial.server(file, connections=len(texts), environment=shims.refuse(file, call, at))
@@ -65,7 +65,7 @@ def is_refused(trial: Trial, shims: Shims, texts: list[bytes], call: str, at: in
 
 
 def replied_by(server: Server, texts: list[bytes]) -> list[bytes]:
-    """Sends the texts up to the first that gets no reply, and returns those that were accepted."""
+    """Sends requests up to the first without a reply. Returns those that were accepted."""
     replied = []
     for text in texts:
         try:
@@ -78,14 +78,14 @@ def replied_by(server: Server, texts: list[bytes]) -> list[bytes]:
 
 
 def play_old_files(trial: Trial, shims: Shims, ten: Ten) -> None:
-    """Refuses in turn each call of a start on a journal of ten texts, whole and with a torn tail."""
+    """Refuses in turn each call of a start on a journal of ten requests, whole and with a torn record."""
     torn = ten.content[HEAD : HEAD + 60]
     for name, needed, tail in (("whole", NEEDED_FOR_WHOLE, b""), ("torn", NEEDED_FOR_TORN, torn)):
         refuse_each(f"a start on a {name} journal", needed, partial(is_start_refused, trial, shims, ten, tail))
 
 
 def is_start_refused(trial: Trial, shims: Shims, ten: Ten, tail: bytes, call: str, at: int) -> bool:
-    """Refuses a call of a start of this number. Returns False if it makes fewer of them."""
+    """Refuses a call of this number at a start. Returns False if the start makes fewer calls."""
     file = trial.folder / "old.journal"
     file.write_bytes(ten.content + tail)
     server = trial.server(file, connections=1, environment=shims.refuse(file, call, at))
@@ -106,7 +106,7 @@ def is_start_refused(trial: Trial, shims: Shims, ten: Ten, tail: bytes, call: st
 
 
 def start_again(trial: Trial, file: pathlib.Path, ten: Ten, what: str) -> None:
-    """Starts on the file once more, and no call is refused."""
+    """Starts on the file once more, without a refusal."""
     again = trial.server(file)
     expect(f"the start after {what}", again.lines[0], f"journal 10 {ten.digests[10]}")
     again.kill()

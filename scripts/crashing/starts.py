@@ -1,4 +1,4 @@
-"""What a start makes of each file that a loss of power can leave."""
+"""Starts the program on each file that a power loss can leave."""
 from collections import Counter
 from collections.abc import Iterable
 
@@ -12,14 +12,14 @@ from .shims import Shims
 from .states import KINDS, State
 from .trial import Run, Trial, last_line, run_of
 
-# One state of this many is started by `serve` too: of those that must be resumed, and of the others.
+# `serve` also starts one state of this number: of those that must be resumed, and of the others.
 SAMPLE_OF_RESUMED, SAMPLE = 100, 8
-# By kind and by what became of it, how many states there were.
+# The number of states, by kind and by result.
 Tally = Counter[tuple[str, str]]
 
 
 def counted(state: State, count: int | None, is_served: bool) -> Tally:
-    """The tally of one state, with the count of texts that were resumed, or none if the start was refused."""
+    """The tally of one state, with the number of resumed requests, or none if the start was refused."""
     name = state.kind.name
     lost = count is not None and count < state.moment.replied
     facts = {"states": True, "resumed": count is not None, "refused": count is None, "lost": lost, "served": is_served}
@@ -31,12 +31,15 @@ def show(tally: Tally) -> None:
     for kind in KINDS:
         states, resumed, refused, lost = (tally[kind.name, of] for of in ("states", "resumed", "refused", "lost"))
         shown = f"{states} {kind.name}: {resumed} resumed, {refused} refused"
-        losses = f", {lost} resumed without a text that was replied to" if lost else ""
+        losses = f", {lost} resumed without a request that got a reply" if lost else ""
         print(f"  {shown}{losses}; breaks: {kind.assumption or 'no assumption'}")
 
 
 def resumed(state: State, found: Run, texts: Texts, audits: list[Run]) -> bool:
-    """Whether a start resumed the file or refused it. Ends the script if it did neither as it must."""
+    """Whether a start resumed the file. If not, it refused the file.
+
+    Ends the script if the start is wrong.
+    """
     synced, written = len(state.moment.synced), len(state.moment.written)
     where = f"{state.kind.name}, {len(state.file)} bytes, {synced} synced, {written} written"
     whole = texts.whole_in(state.file)
@@ -55,7 +58,7 @@ def resumed(state: State, found: Run, texts: Texts, audits: list[Run]) -> bool:
 
 
 def audits_of(trial: Trial, texts: Texts) -> list[Run]:
-    """What `audit` prints of the first texts of the journal, for each count of them."""
+    """What `audit` prints of the first requests of the journal, for each number of them."""
     audits = []
     for count, end in enumerate(texts.ends):
         file = trial.file_of(0)
@@ -66,7 +69,7 @@ def audits_of(trial: Trial, texts: Texts) -> list[Run]:
 
 
 def serve_once(trial: Trial, shims: Shims, worker: int, state: State, found: Run, texts: Texts) -> None:
-    """Starts a server on a state, and compares what it says and does to the file with what `audit` has said."""
+    """Starts a server on a state, and compares its output and its changes to the file with what `audit` printed."""
     file, record = trial.file_of(worker), trial.folder / f"record{worker}"
     server = trial.server(file, connections=1, environment=shims.record(file, record))
     if found.status != 0:
@@ -79,7 +82,7 @@ def serve_once(trial: Trial, shims: Shims, worker: int, state: State, found: Run
     expect("the file after serve has resumed it", file.read_bytes(), texts.journal[:end])
     calls = calls_in(record)
     expect("the calls of a start", fault_of_start(calls, trial.setup.read_bytes(), len(state.file)), None)
-    # so a crash during this start leaves a length of this file that is tried by itself
+    # So a crash during this start leaves a length of this file that is a state itself.
     kept = end if len(state.file) >= HEAD else 0
     expect("where a start cuts", {call.number for call in calls if call.name == "ftruncate"} - {kept}, set())
 

@@ -1,4 +1,4 @@
-"""The files that a loss of power can leave, by what it takes of a disk to leave them."""
+"""The files that a power loss can leave, by the assumption on the disk that each breaks."""
 from collections.abc import Iterable, Iterator
 from dataclasses import dataclass
 from itertools import product
@@ -8,19 +8,19 @@ from journal import HEAD
 from .moments import Moment, Texts
 
 PAGE, SECTOR = 4096, 512
-# Where a sector is torn.
+# The bytes of a sector at which it is torn.
 SPLITS = (1, 40, 256, 511)
 
 
 @dataclass(frozen=True)
 class Kind:
-    """A kind of states, and the assumption on the disk that is broken if a crash leaves one."""
+    """A kind of states, and the assumption on the disk that a crash breaks if it leaves one."""
 
     name: str
     assumption: str = ""
 
     def must_resume(self) -> bool:
-        """Whether a start may not refuse such a file: a crash leaves it even if all assumptions hold."""
+        """Whether a start must resume such a file, because a crash leaves it even if all assumptions hold."""
         return not self.assumption
 
 
@@ -38,7 +38,7 @@ KINDS = (PREFIX, CUT, ZEROS, PAGES, STALE, TORN, CUT_PAGES, LOST, UNKEPT)
 
 @dataclass(frozen=True)
 class State:
-    """A file that was left. Its head must be there if `has_head`, and its first texts up to `least`."""
+    """A file after a power loss. It must have its head if `has_head`, and its first `least` requests."""
 
     kind: Kind
     file: bytes
@@ -48,12 +48,12 @@ class State:
 
 
 def units(begin: int, end: int, unit: int) -> range:
-    """Where the pages or sectors begin in which these bytes are."""
+    """The starts of the pages or sectors that have these bytes."""
     return range(begin // unit * unit, end, unit)
 
 
 def with_filler(file: bytes, begin: int, end: int, filler: bytes = b"") -> bytes:
-    """A file in which the bytes between two places are those of a filler there, or zeros where it has none."""
+    """A file in which the bytes of a range are those of a filler, or zeros if it is too short."""
     end = min(end, len(file))
     if begin >= end:
         return file
@@ -102,7 +102,7 @@ def torn_sectors(moment: Moment) -> Iterator[bytes]:
 
 
 def lost_units(moment: Moment) -> Iterator[tuple[int, bytes]]:
-    """Files in which a sector or page was lost and reads as zeros or ones, and where it began."""
+    """Yields files with a lost sector or page, which reads as zeros or ones, and where it begins."""
     ones = b"\xff" * len(moment.written)
     for unit in (SECTOR, PAGE):
         begin = len(moment.synced) // unit * unit
@@ -112,7 +112,7 @@ def lost_units(moment: Moment) -> Iterator[tuple[int, bytes]]:
 
 
 def unkept_syncs(moment: Moment, earlier: list[Moment]) -> Iterator[tuple[int, bytes]]:
-    """Files that have no more of what was synced than was synced earlier, and how many bytes that are."""
+    """Yields files with only the synced bytes of an earlier moment, and how many these are."""
     for kept in {len(one.synced) for one in earlier if moment.synced.startswith(one.synced)}:
         yield kept, moment.written[:kept]
         yield kept, with_filler(moment.written, kept, len(moment.synced))
@@ -124,7 +124,10 @@ def cut_lengths(moment: Moment, cut: int) -> Iterator[bytes]:
 
 
 def cut_pages(moment: Moment, cut: int) -> Iterator[bytes]:
-    """The old length, with zeros from the place to the end of its page, and each further page as it was or zeros."""
+    """Yields files of the old length that are zeros from the cut to the end of its page.
+
+    Each further page is unchanged or zeros.
+    """
     places = units(cut, len(moment.written), PAGE)[1:]
     for present in product((True, False), repeat=len(places)):
         file = with_filler(moment.written, cut, cut // PAGE * PAGE + PAGE)
@@ -135,7 +138,7 @@ def cut_pages(moment: Moment, cut: int) -> Iterator[bytes]:
 
 
 def states_of(moments: list[Moment], texts: Texts, filler: bytes) -> Iterator[State]:
-    """All states, each once. The filler is what was on the disk before, where a page is absent."""
+    """Yields all states, each once. The filler is what was on the disk before, for an absent page."""
     for number, moment in enumerate(moments):
         if moment.cut is None:
             yield from states_of_writes(moment, moments[:number], texts, filler)
@@ -145,7 +148,7 @@ def states_of(moments: list[Moment], texts: Texts, filler: bytes) -> Iterator[St
 
 
 def states_of_writes(moment: Moment, earlier: list[Moment], texts: Texts, filler: bytes) -> Iterator[State]:
-    """The states of a moment in which the file is only written."""
+    """Yields the states of a moment in which the file is only written."""
     for kind, files in (
         (PREFIX, prefixes(moment)),
         (ZEROS, lengths_without_data(moment)),
@@ -162,7 +165,7 @@ def states_of_writes(moment: Moment, earlier: list[Moment], texts: Texts, filler
 
 
 def once(states: Iterable[State]) -> Iterator[State]:
-    """Each of these states once."""
+    """Yields each of these states once."""
     seen = set()
     for state in states:
         if state.file not in seen:

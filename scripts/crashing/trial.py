@@ -1,4 +1,4 @@
-"""The program that is tried, its servers, and how its commands ended."""
+"""The tried program, its servers, and how its commands end."""
 import pathlib
 import subprocess
 from collections.abc import Callable, Mapping
@@ -9,7 +9,7 @@ from servers import PATIENCE, Server
 
 @dataclass(frozen=True)
 class Trial:
-    """The program, a folder for its files, and the file of the set-up document with which it is started."""
+    """The program, a folder for its files, and its set-up document's file."""
 
     program: pathlib.Path
     folder: pathlib.Path
@@ -49,5 +49,5 @@ def run_of(trial: Trial, command: str, journal: pathlib.Path) -> Run:
 
 
 def last_line(run: Run) -> str:
-    """The last line of its output, or else its fault."""
+    """The last line of a run's output, or its fault if it has no output."""
     return run.output.splitlines()[-1] if run.output else run.errors.strip()

@@ -1,4 +1,4 @@
-"""What a document may contain, in the order in which the program checks it.
+"""The checks of a document, in the order of the program's.
 
 A fault has a path, words for a person, and the program's code. Its rank is the step of docs/formats.md that finds it.
 The program reports the first fault of the lowest rank.
@@ -14,7 +14,7 @@ TOKEN_WORDS = "a token of 16 to 64 ASCII letters or digits"
 KINDS = {dict: "an object", list: "a list", str: "a text", bool: "true or false", type(None): "null", int: "a number"}
 TIE_WORDS = "expected bidder, product, and tie-breaking number"
 BID_KEYS = ("price", "product", "quantity")
-# The numbers of a bid that an auction can accept at all, and the code for others.
+# The numbers of a bid that some auction can accept, and the code for others.
 BID_RANGES = [
     ("product", 0, 4095, "unknown_product"),
     ("price", 1, PRICE, "price_range"),
@@ -31,7 +31,7 @@ def kind_of(value):
 
 
 class Checks:
-    """The faults found in one document."""
+    """The faults of one document."""
 
     def __init__(self):
         self.faults = []
@@ -46,7 +46,7 @@ class Checks:
         return type(value) is kind
 
     def has_keys(self, value, wanted, rank, code, path, other=()):
-        """Notes missing and unknown keys of an object. Returns whether it is an object at all."""
+        """Notes missing and unknown keys of an object. Returns whether the value is an object."""
         if not self.is_kind(value, dict, rank, code, path):
             return False
         for key in wanted:
@@ -73,7 +73,7 @@ class Checks:
 
 
 def setup(checks, value, path=(), rank=1):
-    """Checks a set-up. It uses six ranks, from the given one on."""
+    """Checks a set-up. Uses six ranks, from `rank` on."""
     shape = "setup_shape"
     if not checks.is_kind(value, dict, rank, shape, path):
         return
@@ -115,7 +115,7 @@ def setup_shape(checks, value, second, path, rank):
 
 
 def of(value, key, kind):
-    """Returns the value under a key if it is of this kind, else None."""
+    """Returns the value under a key if it has this kind, or None."""
     part = value.get(key) if type(value) is dict else None
     return part if type(part) is kind else None
 
@@ -158,7 +158,7 @@ def bidder_ranges(checks, item, number, _, here, rank, ranged):
 
 
 def setup_twice(checks, value, path, rank):
-    """Checks that no two products, no two bidders, and no two tokens are equal."""
+    """Checks that all products, all bidders, and all tokens are different."""
     operator = of(value, "operator", str)
     tokens = {} if operator is None else {operator: "operator"}
     for key, name, seen, code in (
@@ -176,7 +176,7 @@ def setup_twice(checks, value, path, rank):
 
 
 def numbers(checks, values, rank, code, path):
-    """Checks a list of whole numbers. Returns whether it is one."""
+    """Checks a list of whole numbers. Returns whether the value is one."""
     if not checks.is_kind(values, list, rank, code, path):
         return False
     if set(map(type, values)) <= {int}:
@@ -215,7 +215,10 @@ def ties(checks, values, code, path):
 
 
 def closing(checks, value, version, code, path, keys=()):
-    """Checks a closing's shape, for a version, or for either if it is None. The other's form has a later rank."""
+    """Checks a closing's shape, for a version, or for either if `version` is None.
+
+    The shape of the other version has a later rank.
+    """
     has_one, has_many = (type(value) is dict and key in value for key in ("increment", "increments"))
     if has_one and has_many:
         checks.note(1, code, path, 'expected either "increment" or "increments", found both', "increments")
@@ -329,7 +332,7 @@ def body_round(checks, value):
 
 
 def sheet(checks, value):
-    """Checks the body of a bidder's sheet, and what every auction refuses. The rest only the auction knows."""
+    """Checks the body of a bidder's sheet, as far as every auction checks it. Only a server can check the rest."""
     if not checks.has_keys(value, ("bids", "round"), 1, "422 shape", ()):
         return
     body_round(checks, value)

@@ -1,6 +1,6 @@
-"""Reads a document as the program does, and finds where its parts are.
+"""Reads a document as the program does, and finds the locations of its parts.
 
-Python's own reader reads the values, because it is fast. The location of a part is looked up only if it has a fault.
+Python's own reader reads the values, because it is fast. The location of a part is computed only if it has a fault.
 """
 import json
 import re
@@ -26,7 +26,7 @@ WORDS = {
 
 
 class NotJson(Exception):
-    """The text is not JSON; where, and the words for it."""
+    """The fault that the text is not JSON, with its location and words."""
 
 
 class Odd:
@@ -62,10 +62,10 @@ class Reader:
             self.begin = SPACE.match(self.text).end()
 
     def value(self):
-        """The whole value, or NotJson."""
+        """The whole value. Raises NotJson."""
         if self.text.startswith("\ufeff"):
             raise NotJson(0, "a byte order mark: save the file as UTF-8 without one")
-        # the reader's own whole numbers are much faster, and right where none is long or has a minus
+        # Python's own whole numbers are much faster, and right if no number is long or has a minus.
         plain = not re.search(r"-[0-9]|[0-9]{19}", self.text)
         decoder = json.JSONDecoder(
             object_pairs_hook=self.object_of, parse_int=None if plain else whole, parse_float=Odd, parse_constant=never
@@ -99,7 +99,7 @@ class Reader:
         return found
 
     def look_at_depth(self):
-        """Checks that there are at most 127 levels. This is slow, and only needed for a document of another shape."""
+        """Checks that there are at most 127 levels. It is slow, and needed only if the shape is wrong."""
         depth = 0
         for found in BRACKETS.finditer(self.text):
             mark = found[0]
@@ -116,7 +116,7 @@ class Reader:
                 raise NotJson(found.start(), f"{found[0][:40]} is not an accepted number")
 
     def look_at_escapes(self):
-        """Checks that no escape is half a letter."""
+        """Checks that no escape is half a character."""
         if not re.search(r"\\u[dD]", self.text):
             return
         half = None
@@ -140,7 +140,7 @@ class Reader:
         return SPACE.match(self.text, at).end()
 
     def table(self, at):
-        """Of the object or list at a place: where its parts begin, where its keys are, and which keys occur twice."""
+        """The starts of the parts and keys of the object or list at this place, and the keys that occur twice."""
         if at in self.tables:
             return self.tables[at]
         parts, keys, twice = {}, {}, []
@@ -161,7 +161,7 @@ class Reader:
         return self.tables[at]
 
     def place(self, path, key=None):
-        """Returns where the part at a path begins, or a key of it."""
+        """The start of the part at a path, or of one of its keys."""
         at = self.begin
         for step in path:
             at = self.table(at)[0][step]

@@ -1,4 +1,4 @@
-"""Forgeries of a journal whose digests are published: all digests in it are made again, so that it is whole."""
+"""Forgeries of a journal whose digests are published. All its digests are made again, so it looks whole."""
 import json
 import shutil
 import sys
@@ -14,13 +14,13 @@ AFTER = "after the closing, and all digests made again"
 
 
 def place_of(texts: list[bytes], bidder: str, number: int) -> int:
-    """Where the first sheet of a bidder for a round is in the journal."""
+    """The index in the journal of a bidder's first sheet for a round."""
     mark = f'"round":{number}'.encode()
     return next(at for at, text in enumerate(texts) if token_in(text) == bidder * 16 and mark in body_in(text))
 
 
 def audit_of(honest: Auction, journal: bytes) -> str:
-    """What the program prints of a forged journal, with which it and scripts/journal.py are content."""
+    """What the program prints of a forged journal, which it and scripts/journal.py accept."""
     path = honest.folder / "forged.journal"
     path.write_bytes(journal)
     done = ran(sys.executable, TOP / "scripts/journal.py", honest.setup, path)
@@ -31,33 +31,33 @@ def audit_of(honest: Auction, journal: bytes) -> str:
 
 
 def try_honest(honest: Auction) -> None:
-    """The honest auction verifies, as a witness saved it and as the operator published it, with all receipts."""
+    """Checks that the honest auction verifies, as the witness saved it and as the operator published it."""
     expect("what fails of an honest auction, by what a witness saved", honest.shown(receipts=BIDDERS), {})
     expect("what fails of an honest auction, as it was published", honest.failed(published="public"), {})
     say("an honest auction: every check holds, with the receipts of all bidders")
 
 
 def changed(honest: Auction, texts: list[bytes]) -> list[bytes]:
-    """X reduces at 112 and not at 115, so its own reduction is applied, and all pay less."""
+    """Changes X's price from 115 to 112, so that its own reduction is applied, and everyone pays less."""
     at = place_of(texts, "X", LAST)
     ensure("the price of X in the last round", texts[at].count(b'"price":115') == 1, texts[at])
     return [*texts[:at], texts[at].replace(b'"price":115', b'"price":112'), *texts[at + 1 :]]
 
 
 def left_out(honest: Auction, texts: list[bytes]) -> list[bytes]:
-    """The sheet of Y in round 2 that its next one replaced."""
+    """Leaves out the sheet of Y in round 2 that its next one replaced."""
     at = place_of(texts, "Y", 2)
     return texts[:at] + texts[at + 1 :]
 
 
 def put_in(honest: Auction, texts: list[bytes]) -> list[bytes]:
-    """The last sheet of Y once more, in the name of Z: Z asks to give up its block."""
+    """Adds the last sheet of Y again, in the name of Z: Z asks to give up its block."""
     at = place_of(texts, "Y", LAST)
     return [*texts[: at + 1], texts[at].replace(b"Y" * 16, b"Z" * 16), *texts[at + 1 :]]
 
 
 def cut_off(honest: Auction, texts: list[bytes]) -> list[bytes]:
-    """The last closing."""
+    """Cuts off the last closing."""
     return texts[:-1]
 
 

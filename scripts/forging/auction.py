@@ -43,7 +43,7 @@ class Auction:
         self.server = self.started()
 
     def make_folder(self) -> None:
-        """What the operator has before round 1, and what others save of it."""
+        """Makes what the operator has before round 1. The others save what is published of it."""
         for name in ("public/rounds", "saved/rounds", "receipts"):
             (self.folder / name).mkdir(parents=True)
         bidders = [setups.bidder(name, name * 16, 4) for name in BIDDERS]
@@ -53,7 +53,7 @@ class Auction:
         self.witness("commitment.json")
 
     def branch(self, name: str) -> "Auction":
-        """An auction that was the same up to now, from copies of all files."""
+        """A copy of the auction up to now, with all its files."""
         folder = self.folder.with_name(name)
         shutil.copytree(self.folder, folder)
         return Auction(self.program, folder, self.number)
@@ -64,19 +64,19 @@ class Auction:
         return SERVERS[-1].ready()
 
     def tool(self, name: str, *words: str | pathlib.Path) -> str:
-        """What a tool of the operator prints. It must succeed."""
+        """Runs a tool of the operator, which must succeed. Returns its output."""
         done = ran(TOP / name, *words)
         ensure(f"{name} succeeds", done.returncode == 0, done.stdout + done.stderr)
         return done.stdout
 
     def witness(self, name: str) -> None:
-        """Somebody saves a published file."""
+        """Saves a published file for the witness."""
         shutil.copy(self.folder / "public" / name, self.folder / "saved" / name)
 
     # ---- Rounds
 
     def put(self, bidder: str, quantity: int, price: int, number: int | None = None) -> None:
-        """A bidder, or somebody with its token, sends a sheet, which is accepted."""
+        """Sends a sheet with a bidder's token, which is accepted."""
         bids = [{"price": price, "product": 0, "quantity": quantity}]
         body = compact({"bids": bids, "round": number or self.number})
         status, page = answer_to(self.server.port, text_of("PUT /v1/me/bids", bidder * 16, body))
@@ -84,14 +84,14 @@ class Auction:
         COUNTS["sheets"] += 1
 
     def close(self) -> None:
-        """The operator closes the current round with its tool, and publishes it."""
+        """Closes the current round with the operator's tool, and publishes it."""
         url, kept, number = f"http://127.0.0.1:{self.server.port}", self.folder / "kept", self.number
         words = [url, self.folder / "operator.token", self.setup, self.journal, kept, "10", "--yes", str(number)]
         self.tool("deploy/close", *words)
         self.publish()
 
     def publish(self) -> None:
-        """The operator publishes the round that was closed, and the witness saves it."""
+        """Publishes the closed round. The witness saves it."""
         name = f"rounds/{self.number}.json"
         shutil.copy(self.folder / "kept" / f"round-{self.number}.json", self.folder / "public" / name)
         self.witness(name)
@@ -99,12 +99,12 @@ class Auction:
         COUNTS["closings"] += 1
 
     def bid(self) -> None:
-        """The sheets of the current round."""
+        """Sends the sheets of the current round."""
         for bidder, quantity, price in ROUNDS[self.number - 1]:
             self.put(bidder, quantity, price)
 
     def receive(self) -> None:
-        """The operator's service makes the receipts of the journal, and each bidder saves its own."""
+        """Makes the receipts of the journal. Each bidder saves its own."""
         kept, made = self.folder / "kept", self.folder / "receipts"
         self.tool("deploy/receipts", self.setup, self.journal, kept, made, "--once")
         commitment = (self.folder / "saved/commitment.json").read_text()
@@ -114,7 +114,7 @@ class Auction:
             (self.folder / f"{name}.jsonl").write_text("".join(line.strip() + "\n" for line in lines))
 
     def play(self, last: int) -> "Auction":
-        """Plays it up to the closing of a round."""
+        """Plays the auction up to the closing of a round."""
         while self.number <= last:
             self.bid()
             self.receive()
@@ -125,19 +125,19 @@ class Auction:
         self.server.kill()
         return self
 
-    # ---- What anyone finds
+    # ---- Verification
 
     def texts(self) -> list[bytes]:
         return [text for text, _ in texts_of(self.setup.read_bytes(), self.journal.read_bytes())]
 
     def words(self, journal: bytes | None, published: str, receipts: str) -> list[pathlib.Path]:
-        """What scripts/verify is given: a journal, what somebody saved, and receipts of bidders by their letters."""
+        """The arguments of scripts/verify: a journal, what someone saved, and receipts of bidders by their letters."""
         path = self.folder / "published.journal"
         path.write_bytes(self.journal.read_bytes() if journal is None else journal)
         return [self.setup, path, self.folder / published, *(self.folder / f"{name}.jsonl" for name in receipts)]
 
     def failed(self, journal: bytes | None = None, published: str = "saved", receipts: str = "") -> dict[str, str]:
-        """The checks of scripts/verify that fail, each with its first words, without a process of its own."""
+        """The checks of scripts/verify that fail, each with its first words, without starting a process."""
         COUNTS["verdicts"] += 1
         failed: dict[str, str] = {}
         for found in findings(Case(*self.words(journal, published, receipts))):
@@ -146,7 +146,7 @@ class Auction:
         return failed
 
     def shown(self, journal: bytes | None = None, published: str = "saved", receipts: str = "") -> dict[str, str]:
-        """The checks that fail by scripts/verify itself, which must say so in each of its lines and by its status."""
+        """The checks that fail by scripts/verify itself, which must report them in its lines and by its status."""
         done = ran(TOP / "scripts/verify", *self.words(journal, published, receipts))
         *lines, last = done.stdout.splitlines()
         found = [re.fullmatch("(ok|FAILED|absent) +([a-z-]+): (.*)", line) for line in lines]
@@ -161,13 +161,13 @@ class Auction:
 
 
 def stop_all() -> None:
-    """Ends each server that still runs, as after a failure."""
+    """Ends each server that still runs, such as after a failure."""
     for server in SERVERS:
         if server.child.poll() is None:
             server.kill()
 
 
 def say(words: str) -> None:
-    """Reports one forgery, as it is done."""
+    """Reports a forgery when it is done."""
     COUNTS["forgeries"] += 1
     print(words, flush=True)

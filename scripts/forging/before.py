@@ -12,7 +12,10 @@ from .auction import LAST, Auction, ran, say
 
 
 def only_receipts_fail(auction: Auction, what: str, victim: str, other: str) -> None:
-    """What is published shows nothing. The receipts of the bidder show it, and those of another are right."""
+    """Checks that the victim's receipts show the forgery.
+
+    What is published does not show it, and the receipts of `other` are right.
+    """
     expect(f"what fails without receipts if {what}", auction.failed(), {})
     expect(f"what fails by the receipts of {other} if {what}", auction.failed(receipts=other), {})
     failed = auction.shown(receipts=victim)
@@ -23,21 +26,21 @@ def only_receipts_fail(auction: Auction, what: str, victim: str, other: str) -> 
 
 
 def rewritten(auction: Auction, texts: list[bytes]) -> None:
-    """The operator stops the server, and starts it again on a journal of these texts."""
+    """Stops the server, and starts it again with a journal of these requests."""
     auction.stop()
     auction.journal.write_bytes(journal_of(auction.setup.read_bytes(), texts))
     auction.server = auction.started()
 
 
 def cut(auction: Auction) -> None:
-    """The operator cuts off the last sheet, which is Y's, closes, and publishes."""
+    """Cuts off the last sheet, which is Y's, closes, and publishes."""
     rewritten(auction, auction.texts()[:-1])
     auction.close()
     only_receipts_fail(auction, "an accepted sheet was cut off before the closing", "Y", "X")
 
 
 def changed(auction: Auction) -> None:
-    """The operator changes the price of X, closes, and publishes."""
+    """Changes the price of X, closes, and publishes."""
     texts = auction.texts()
     at = place_of(texts, "X", LAST)
     rewritten(auction, [*texts[:at], texts[at].replace(b'"price":115', b'"price":112'), *texts[at + 1 :]])
@@ -46,14 +49,14 @@ def changed(auction: Auction) -> None:
 
 
 def put_in(auction: Auction) -> None:
-    """The operator sends a sheet with the token of Z, closes, and publishes."""
+    """Sends a sheet with the token of Z, closes, and publishes."""
     auction.put("Z", 0, 115)
     auction.close()
     only_receipts_fail(auction, "a sheet was put in before the closing", "Z", "Y")
 
 
 def ties_of(chance: random.Random, first: int, second: int) -> list[list[int]]:
-    """Numbers that are drawn until the first bidder comes before the second, as often as that takes."""
+    """Draws numbers again and again, until the first bidder comes before the second."""
     while True:
         numbers = chance.sample(range(1, 1000), 3)
         if numbers[first] < numbers[second]:
@@ -61,7 +64,7 @@ def ties_of(chance: random.Random, first: int, second: int) -> list[list[int]]:
 
 
 def drawn_twice(auction: Auction) -> None:
-    """The operator looks at the sheets, draws numbers until Y keeps its block, closes, and publishes with its tool."""
+    """Looks at the sheets, draws numbers until Y keeps its block, and closes and publishes with the tool."""
     body = compact({"increment": 10, "round": LAST, "ties": ties_of(random.Random(1), 0, 1)})
     status, page = answer_to(auction.server.port, text_of("POST /v1/close", setups.OPERATOR, body))
     expect(f"the reply to a closing by hand: {page!r}", status, 200)
@@ -76,7 +79,7 @@ def drawn_twice(auction: Auction) -> None:
 
 
 def other_chain(auction: Auction) -> None:
-    """The operator looks at the sheets, makes another chain, closes by it, and publishes its commitment."""
+    """Looks at the sheets, makes another chain, closes by it, and publishes its commitment."""
     folder = auction.folder
     auction.tool("deploy/commit", auction.setup, folder / "other", folder / "other")
     shutil.copy(folder / "other/chain.json", folder / "kept/chain.json")
@@ -88,7 +91,7 @@ def other_chain(auction: Auction) -> None:
 
 
 def try_all(begun: Auction) -> None:
-    """Each on an auction in its last round, in which all have bid."""
+    """Tries each forgery on an auction in its last round, in which all have bid."""
     for number, forge in enumerate((cut, changed, put_in, drawn_twice, other_chain)):
         auction = begun.branch(f"before-{number}")
         auction.bid()

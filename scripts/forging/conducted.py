@@ -16,13 +16,13 @@ STRANGE = ["digests", "results", "announcements", "ties"]
 
 
 def results_of(folder: pathlib.Path, wanted: str) -> list[str]:
-    """The subjects of the checks that come to a result, with what the conductor published in a folder."""
+    """The subjects of the checks with a result, for what the conductor published in a folder."""
     case = Case(folder.parent / "setup.json", folder.parent / "auction.journal", folder)
     return list(dict.fromkeys(found.subject for found in findings(case) if found.result == wanted))
 
 
 def false_words() -> Iterator[tuple[str, str, str, str]]:
-    """Of each false word: the file that has it, what it is instead of, the word, and the checks that fail."""
+    """Yields each false word: its file, the right word, the false one, and the checks that fail."""
     yield "rounds/2.json", '"posted":', '"posted":1', "results"
     yield "rounds/2.json", '"ended":false', '"ended":true', "results"
     yield "rounds/2.json", '"digest":"', '"digest":"0', "digests announcements"

@@ -1,4 +1,4 @@
-"""Files with a fault: a journal that is cut, changed, or has too much, and one whose requests the rules refuse."""
+"""Damaged files: a journal that is truncated, changed, or too long, and one whose requests the rules refuse."""
 import random
 import sys
 
@@ -14,7 +14,7 @@ FAULTS = 60
 
 
 def with_fault(chance: random.Random, journal: bytes) -> bytes:
-    """A journal that is cut off, or has another bit, or more bytes at its end."""
+    """A journal that is truncated, or has a changed bit, or has more bytes at its end."""
     at, kind = chance.randrange(len(journal)), chance.randrange(3)
     if kind == 0:
         return journal[:at]

@@ -1,4 +1,4 @@
-"""Things that are exchanged for others after the end: the set-up, the key of receipts, and a bidder's own receipt."""
+"""Exchanges after the end: of the set-up, the key of receipts, and a bidder's own receipt."""
 import json
 import shutil
 
@@ -11,7 +11,7 @@ from .auction import Auction, say
 
 
 def setup(honest: Auction) -> None:
-    """The operator gives X less eligibility than in the set-up of the auction, and makes all digests again."""
+    """Gives X less eligibility than in the auction's set-up, and makes all digests again."""
     document = honest.setup.read_bytes()
     other = document.replace(b'"eligibility": 4', b'"eligibility": 3', 1)
     ensure("the set-up was changed", other != document)
@@ -25,7 +25,7 @@ def setup(honest: Auction) -> None:
 
 
 def key(honest: Auction) -> None:
-    """The operator publishes another key of receipts, with which it signed other receipts."""
+    """Publishes another key of receipts, with which the operator signed other receipts."""
     folder = honest.folder / "other-key"
     shutil.copytree(honest.folder / "public", folder)
     honest.tool("deploy/commit", honest.setup, honest.folder / "other-kept", honest.folder / "other-public")

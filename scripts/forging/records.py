@@ -1,4 +1,4 @@
-"""The record of an auction: what it has, when it is refused, and that each change of it is found."""
+"""The record of an auction: its files, when deploy/record refuses it, and that each change of it is found."""
 import hashlib
 import os
 import pathlib
@@ -14,12 +14,12 @@ from .auction import BIDDERS, COUNTS, Auction, ran
 
 RECORD = TOP / "deploy/record"
 INDEX = "SHA256SUMS"
-KILLS = (1, 2, 9, 16, 99, 99)  # at how many files it is killed; at 99 when the record is there
+KILLS = (1, 2, 9, 16, 99, 99)  # The number of files at which it is killed; 99 is when the record is complete.
 WITH_TOKENS = {"setup.json", "auction.journal"}
 
 
 def made(auction: Auction, *words: str) -> tuple[int, str]:
-    """Calls deploy/record, and returns its status and what it said."""
+    """Runs deploy/record. Returns its status and its output."""
     folder = auction.folder
     done = ran(RECORD, auction.setup, auction.journal, folder / "public", folder / "record", *words)
     return done.returncode, done.stdout + done.stderr
@@ -31,14 +31,14 @@ def files_of(folder: pathlib.Path) -> dict[str, bytes]:
 
 
 def write_index(folder: pathlib.Path) -> None:
-    """Makes the index again, as whoever changed a file would."""
+    """Makes the index again, as anyone who changed a file would."""
     files = {name: content for name, content in files_of(folder).items() if name != INDEX}
     lines = [f"{hashlib.sha256(files[name]).hexdigest()}  {name}\n" for name in sorted(files)]
     (folder / INDEX).write_text("".join(lines))
 
 
 def try_honest(auction: Auction) -> None:
-    """The record is made once, its index is right for sha256sum too, and only two of its files have tokens."""
+    """Checks a record: it is made once, sha256sum accepts its index, and only two of its files have tokens."""
     folder = auction.folder / "record"
     status, words = made(auction)
     ensure("deploy/record makes a record", status == 0 and (folder / INDEX).is_file(), words)
@@ -56,7 +56,7 @@ def try_honest(auction: Auction) -> None:
 
 
 def changes(folder: pathlib.Path) -> Iterator[tuple[str, pathlib.Path]]:
-    """Copies of a record, each with one change, and what it is."""
+    """Yields copies of the record, each with one change, and words for the change."""
     copy = folder.with_name("changed")
     for name, text in sorted(files_of(folder).items()):
         for kind in ("changed", "removed"):
@@ -75,7 +75,10 @@ def changes(folder: pathlib.Path) -> Iterator[tuple[str, pathlib.Path]]:
 
 
 def try_changes(auction: Auction) -> None:
-    """Each change of a file is found by the index, and if that is made again, each change of a table by its content."""
+    """Checks that the index shows each change of a file.
+
+    If the index is made again, the content must show each change of a table.
+    """
     folder = auction.folder / "record"
     for what, copy in changes(folder):
         name, _, kind = what.partition(" ")
@@ -90,7 +93,7 @@ def try_changes(auction: Auction) -> None:
 
 
 def try_early(auction: Auction) -> None:
-    """Before the end no record is made, unless somebody says so."""
+    """Checks that before the end, deploy/record makes a record only with --not-ended."""
     folder = auction.folder / "record"
     status, words = made(auction)
     ensure("no record before the end", status == 1 and "has not ended" in words and not folder.exists(), words)
@@ -100,7 +103,7 @@ def try_early(auction: Auction) -> None:
 
 
 def names_in(folder: pathlib.Path) -> int:
-    """How many files and folders are in a folder, which may not be there."""
+    """The number of files and folders in a folder, or 0 if it does not exist."""
     try:
         return len(os.listdir(folder))
     except FileNotFoundError:
@@ -108,7 +111,7 @@ def names_in(folder: pathlib.Path) -> int:
 
 
 def try_kills(auction: Auction) -> None:
-    """The tool is killed when it has written some of its files, and its record is whole, or not there."""
+    """Kills the tool when it has written some of its files. The record must then be whole, or not exist."""
     folder = auction.folder / "record"
     fresh = folder.with_name("record.new")
     for least in KILLS:
@@ -128,7 +131,7 @@ def try_kills(auction: Auction) -> None:
 
 
 def try_all(honest: Auction, early: Auction) -> None:
-    """The record of an auction that has ended, and of one that has not."""
+    """Tries the record of an auction that has ended, and of one that has not."""
     try_honest(honest)
     try_changes(honest)
     try_kills(honest)

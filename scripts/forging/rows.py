@@ -56,7 +56,7 @@ def rows_of(file: pathlib.Path, *left_out: int) -> list[list[str]]:
 
 
 def check(record: pathlib.Path) -> None:
-    """Each table of a record has the rows that were calculated."""
+    """Compares each table of a record with the rows that were calculated."""
     expect("bids.csv", (record / "bids.csv").read_text(), BIDS)
     expect("product_results.csv", (record / "product_results.csv").read_text(), PRODUCTS)
     expect("sheets.csv", rows_of(record / "sheets.csv", 5), SHEETS)

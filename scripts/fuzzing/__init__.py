@@ -1,1 +1,1 @@
-"""What scripts/fuzz is made of: mutations, and how requests and documents are sent and judged."""
+"""The parts of scripts/fuzz: mutations, and how requests and documents are sent and judged."""

@@ -1,4 +1,4 @@
-"""Mutated documents, fed to the program."""
+"""Sends mutated documents to the program."""
 import collections
 import json
 import pathlib
@@ -24,7 +24,7 @@ REPLAY_FAULT = rf"{SCRIPT_FAULT}|refused \d+ \d+ (?:{CODE})|closing \d+ (?:{CODE
 
 ROUND = rf"round \d+\n(?:{NAME} \d+ \d+ \d+ (?:\d+|-) (?:\d+|-)\n)+"
 
-# The words of the program, its documents, what it prints of a good one, and the faults that there are.
+# The program's arguments, its documents, what it prints of a good one, and its faults.
 KINDS = [
     (
         ["prices"],
@@ -49,7 +49,7 @@ def run(program, words, document):
 
 
 def answer_of(found, output, fault):
-    """What a run gave, in a word or two, or None where it may not."""
+    """The word for the result of a run, or None if such a result is wrong."""
     status, printed, shown = found
     if status == 0 and not shown and re.fullmatch(output, printed.decode(errors="replace")):
         return "lines"
@@ -60,7 +60,7 @@ def answer_of(found, output, fault):
 
 
 def play(program, top, seed, count):
-    """Feeds so many mutated documents to the program, and judges each answer and that of a good document at the end."""
+    """Sends `count` mutated documents to the program. Judges each answer, and that of a good document at the end."""
     random, counted, faults = randoms.Random(seed), collections.Counter(), []
     words, names, output, fault = random.choice(KINDS)
     good = (pathlib.Path(top) / "examples" / f"{random.choice(names)}.json").read_bytes()

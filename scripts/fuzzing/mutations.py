@@ -1,4 +1,4 @@
-"""Inputs that are a little wrong: changed bytes, and JSON values with something changed in them."""
+"""Mutations: changed bytes, and JSON values with a changed part."""
 import copy
 import json
 
@@ -50,14 +50,14 @@ def much_changed_bytes(random, text):
 
 
 class Raw:
-    """A number that is written as it stands."""
+    """A number that is written exactly so."""
 
     def __init__(self, text):
         self.text = text
 
 
 def written(value):
-    """The value as compact JSON, where raw numbers stand as they are."""
+    """The value as compact JSON, with raw numbers unchanged."""
     if isinstance(value, Raw):
         return value.text
     if isinstance(value, dict):
@@ -76,7 +76,7 @@ def places(value, path=()):
 
 
 def other_value(random, value):
-    """Something else in the place of a value."""
+    """A value to replace another one."""
     way = random.randrange(6)
     if way < 3 and isinstance(value, (int, float)) and not isinstance(value, bool):
         return Raw(random.choice(NUMBERS)) if random.random() < 0.7 else max(0, value + random.choice([-1, 1]))
@@ -88,7 +88,7 @@ def other_value(random, value):
 
 
 def changed_value(random, value):
-    """The value with one part changed, left out or added."""
+    """The value with one part changed, left out, or added."""
     value = copy.deepcopy(value)
     path = random.choice(list(places(value)))
     if not path:
@@ -110,7 +110,10 @@ def changed_value(random, value):
 
 
 def changed_document(random, value):
-    """The bytes of a document with something changed: mostly in its value, else in its bytes, or in both."""
+    """The bytes of a changed document.
+
+    Mostly its value is changed, otherwise its bytes, or both.
+    """
     way = random.random()
     for _ in range(random.choice([1, 1, 1, 2, 4]) if way < 0.8 else 0):
         value = changed_value(random, value)

@@ -1,4 +1,4 @@
-"""The replies that there are, as docs/formats.md tells them."""
+"""The replies of a server, by the tables of docs/formats.md."""
 import json
 import re
 
@@ -16,7 +16,7 @@ REASONS = {
     501: "Not Implemented",
 }
 
-# Which codes there are with a status, and what stands beside the code in their pages.
+# The codes of each status, and what their pages have in addition to the code.
 CODES = {
     400: {"bad_head": "", "bad_length": "", "cut_short": "", "bad_json": ""},
     401: {"token": ""},
@@ -63,7 +63,7 @@ HEAD = re.compile(
 
 
 def code_of(page, status):
-    """The code of a refusal's page, where it is one of the table."""
+    """The code of a refusal's page, or None if it is not in the table."""
     for code, beside in CODES.get(status, {}).items():
         if (
             page.get("code") == code
@@ -75,7 +75,7 @@ def code_of(page, status):
 
 
 def answer_of(reply):
-    """What a reply is, in a word or two, or None where it is no reply of the table."""
+    """The word for a reply, or None if it is not in the table."""
     head = HEAD.match(reply)
     if not head:
         return None

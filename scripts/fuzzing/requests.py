@@ -54,14 +54,14 @@ def good_request(random):
     else:
         line = f"{random.choice(METHODS)} /v1/{random.choice(PATHS)}"
         return request(line, random.choice(["", "O", *BIDDERS]))
-    # a closing that is good ends rounds, and soon the auction: most are changed
+    # A good closing ends a round, and a few end the auction, so most are changed.
     for _ in range(random.choice([0, 0, 0, 1, 2]) if line.startswith("PUT") else random.choice([0, 1, 1, 2, 2])):
         value = changed_value(random, value)
     return request(line, letter, written(value).encode(errors="replace"))
 
 
 def with_line(random, text):
-    """The request with a line more in its head."""
+    """The request with one more header line."""
     lines = text.split(b"\r\n")
     head = next((number for number, line in enumerate(lines) if not line), len(lines))
     lines.insert(random.randrange(1, head + 1), random.choice(LINES))
@@ -69,7 +69,7 @@ def with_line(random, text):
 
 
 def with_long_part(random, text):
-    """The request with a head or a body at a limit: lines, bytes, nesting, bids or ties."""
+    """The request with a head or a body at a limit: lines, bytes, nesting, bids, or ties."""
     way = random.randrange(6)
     if way == 0:
         return text.replace(b"\r\n", b"\r\n" + b"x: y\r\n" * random.choice([59, 60, 61, 62, 63, 64, 65, 400]), 1)
@@ -89,7 +89,7 @@ def with_long_part(random, text):
 
 
 def mutated(random):
-    """Something that is more or less a request."""
+    """A mutated request."""
     text, way = good_request(random), random.random()
     if way < 0.35:
         return text
@@ -107,7 +107,7 @@ def mutated(random):
 
 
 def last_requests():
-    """Good requests, whose replies tell all of the auction, and two that change it in round 1 or 2."""
+    """Yields good requests whose replies show the whole auction, and two that change it in round 1 or 2."""
     yield request("GET /v1/status")
     yield request("GET /v1/products")
     yield request("GET /v1/results", "O")
@@ -128,7 +128,7 @@ def has_changed(answer):
 
 
 def play(program, top, seed, count):
-    """Sends mutated requests to one server, and judges each reply, what good requests then give, and its end."""
+    """Sends mutated requests to one server. Judges each reply, the replies to good requests, and the server's end."""
     random, counted, faults, changes = randoms.Random(seed), collections.Counter(), [], []
     last = list(last_requests())
     setup = str(pathlib.Path(top) / "examples" / f"{random.choice(SETUPS)}.json")
@@ -153,5 +153,5 @@ def play(program, top, seed, count):
             faults.append(f"{seed}: {texts}")
     for one in (server, second):
         if one.ended() != (0, ""):
-            faults.append(f"{seed}: a server ended otherwise than with status 0")
+            faults.append(f"{seed}: a server did not end with status 0")
     return counted, faults

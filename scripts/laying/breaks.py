@@ -1,7 +1,7 @@
-"""Where a line of clauses, definitions, or proofs is best broken.
+"""The best line breaks in clauses, definitions, and proofs.
 
-A break costs more inside brackets and between a function and its argument, and less after `=` and `in`, and before an
-arrow or an operator. The breaks of a line are those that cost least together.
+A break costs more inside brackets and between a function and its argument. It costs less after `=` and `in`, and before
+an arrow or an operator. The breaks of a line are those with the least total cost.
 """
 import re
 from typing import NamedTuple
@@ -35,7 +35,7 @@ class Bracket(NamedTuple):
 
 
 class Gap(NamedTuple):
-    """A place between two words where a line may be broken, and what that costs."""
+    """A place between two words where a line may be broken, and the cost of that."""
 
     place: int
     cost: int
@@ -66,7 +66,7 @@ def is_operator(word: str) -> bool:
 
 
 def cost(before: str, after: str, is_first: bool) -> int | None:
-    """What a break between two words costs, or None where there is none. A first word is a function's."""
+    """The cost of a break between two words, or None if none is allowed. A first word is a function's name."""
     if after in NEVER_BEFORE or before.lstrip("(") in NEVER_AFTER:
         return None
     if before in AFTER:
@@ -85,7 +85,7 @@ def cost(before: str, after: str, is_first: bool) -> int | None:
 
 
 def gaps(line: str, lists_break: bool) -> list[Gap]:
-    """The places where a line may be broken. The lists of a line are broken only if `lists_break`."""
+    """The places where a line may be broken. Breaks the lists of a line only if `lists_break`."""
     pairs = brackets(line)
     words = list(WORD.finditer(line))
     found = []
@@ -106,7 +106,7 @@ def gaps(line: str, lists_break: bool) -> list[Gap]:
 
 
 def broken(line: str, most: int, indent: int, lists_break: bool) -> list[str] | None:
-    """The lines that a line is best broken into. The later ones begin at an indent. None if it cannot be done."""
+    """The best lines for a wide one, or None if there are none. Indents all but the first."""
     last = len(line)
     places = [Gap(0, 0), *gaps(line, lists_break), Gap(last, 0)]
     best: list[tuple[int, int]] = [(0, -1)]
@@ -135,7 +135,7 @@ def broken(line: str, most: int, indent: int, lists_break: bool) -> list[str] | 
 
 
 def opened(line: str, indent: int) -> list[str] | None:
-    """A line that is broken behind the bracket that opens its first list, if it has one. rt fmt does the rest."""
+    """A line broken after the bracket that opens its first list, or None without a list. rt fmt does the rest."""
     lists = [pair for pair in brackets(line) if pair.is_list and line[pair.start + 1 :].strip()]
     if not lists:
         return None

@@ -11,7 +11,7 @@ NARROWER = 20
 
 
 def filled(text: str, mark: str, most: int, first: str, later: str) -> list[str]:
-    """A text in lines behind a mark, narrower ones if the last would be very short."""
+    """A text in lines after a mark. They are narrower if the last one would be very short."""
     words = {"break_long_words": False, "break_on_hyphens": False}
     words |= {"initial_indent": mark + first, "subsequent_indent": mark + later}
     widest = textwrap.wrap(text, most, **words)
@@ -23,7 +23,7 @@ def filled(text: str, mark: str, most: int, first: str, later: str) -> list[str]
 
 
 def wrapped(lines: list[str], most: int) -> list[str]:
-    """The lines with each comment that is too wide wrapped, together with what follows it in its paragraph."""
+    """The lines with each comment that is too wide wrapped, together with the rest of its paragraph."""
     done: list[str] = []
     place = 0
     is_code = False

@@ -1,1 +1,1 @@
-"""What .ci/live consists of: connections of every kind, and bidders that are examples/bidder.py."""
+"""The parts of .ci/live: connections of every kind, and bidders that are examples/bidder.py."""

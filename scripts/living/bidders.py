@@ -1,4 +1,4 @@
-"""examples/bidder.py as a bidder: its start, and what it has submitted."""
+"""Runs examples/bidder.py as a bidder, and asks a server what it has submitted."""
 import contextlib
 import http.server
 import json
@@ -41,12 +41,12 @@ def close(port: int, number: int) -> None:
 
 
 def bids_of(port: int, token: str) -> list | None:
-    """The bids of the sheet that a bidder has in force, or None."""
+    """The bids of a bidder's sheet in force, or None."""
     return asked(port, "GET /v1/me/bids", token)["bids"]
 
 
 def wait_for_sheet(port: int, token: str = X, other_than: list | None = None) -> None:
-    """Waits until a bidder has a sheet in force, or another one than this."""
+    """Waits until a bidder has a sheet in force other than `other_than`."""
     waits = 0
     while bids_of(port, token) == other_than:
         waits += 1
@@ -65,7 +65,7 @@ class Bidder:
         self.child = subprocess.Popen(command, env={**os.environ, "TOKEN": token, **environment}, **streams)
 
     def ended(self) -> tuple[int, str, str]:
-        """Its status, its output and its errors, once it has ended by itself.
+        """Waits until the bidder ends by itself. Returns its status, its output, and its errors.
 
         On a busy machine a receipt may come late, which is no error here.
         """
@@ -74,22 +74,23 @@ class Bidder:
         return self.child.returncode, output, "".join(lines)
 
     def expect_failure(self, words: str) -> None:
-        """It ends with status 1, and says so in these words."""
+        """Checks that the bidder ends with status 1, and prints these words."""
         status, _output, errors = self.ended()
         expect(f"the status of a bidder that says {errors!r}", status, 1)
         ensure(f"a bidder says {words!r}", words in errors, errors)
 
     def kill(self) -> None:
-        """Ends it, if it has not ended by itself."""
+        """Ends the bidder, if it has not ended by itself."""
         if self.child.poll() is None:
             self.child.kill()
         self.child.communicate()
 
 
 class Spoiler(http.server.ThreadingHTTPServer):
-    """Between a bidder and a server: answers with its replies or its pages for a path as long as there is one.
+    """A proxy that spoils replies.
 
-    What comes later it hands on to the server at `port`.
+    It answers a path with its own replies or pages while it has some left, and passes later requests to the server at
+    `port`.
     """
 
     def __init__(self, port: int) -> None:
@@ -118,12 +119,12 @@ class Spoiling(http.server.BaseHTTPRequestHandler):
     do_PUT = do_GET
 
     def log_message(self, *_words: object) -> None:
-        """Nothing is logged."""
+        """Logs nothing."""
 
 
 @contextlib.contextmanager
 def spoiler_before(port: int) -> Iterator[Spoiler]:
-    """A Spoiler in front of the server at a port."""
+    """Runs a Spoiler in front of the server at a port."""
     with Spoiler(port) as spoiler:
         threading.Thread(target=spoiler.serve_forever, daemon=True).start()
         try:
@@ -133,7 +134,7 @@ def spoiler_before(port: int) -> Iterator[Spoiler]:
 
 
 class Played(contextlib.ExitStack):
-    """Servers and bidders, all of which are ended with it."""
+    """Servers and bidders, which all end with this object."""
 
     def server(self, port: int | None = None) -> Server:
         """A server of examples/one_product.json."""

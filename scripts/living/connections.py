@@ -1,4 +1,4 @@
-"""Connections of clients that behave well and badly, and what a server's port says of them."""
+"""Connections of clients that behave well and badly, and the faults of a server's port and start."""
 import pathlib
 import resource
 import socket
@@ -27,18 +27,18 @@ def connected(port: int, text: bytes = b"") -> socket.socket:
     try:
         client.sendall(text)
     except (BrokenPipeError, ConnectionResetError):
-        pass  # it was answered, and ended, before all of it was sent
+        pass  # The server answered, and closed the connection, before all of the text was sent.
     return client
 
 
 def reset(client: socket.socket) -> None:
-    """Ends a connection as a client does that is gone."""
+    """Ends a connection as a client does that has disappeared."""
     client.setsockopt(socket.SOL_SOCKET, socket.SO_LINGER, b"\1\0\0\0\0\0\0\0")
     client.close()
 
 
 def reply(client: socket.socket) -> tuple[int, bytes]:
-    """The status and the page that come over a connection until it ends."""
+    """The status and the page that arrive over a connection until it ends."""
     text = b""
     with client:
         while piece := client.recv(65_536):
@@ -47,7 +47,7 @@ def reply(client: socket.socket) -> tuple[int, bytes]:
 
 
 def listening_at(port: int) -> list[str]:
-    """The addresses at which the system says that a port is open, as it writes them in hexadecimal."""
+    """The addresses at which a port is open, in hexadecimal, as the system prints them."""
     lines = [
         line for table in ("tcp", "tcp6") for line in pathlib.Path("/proc/net", table).read_text().splitlines()[1:]
     ]
@@ -56,7 +56,7 @@ def listening_at(port: int) -> list[str]:
 
 
 def play_open_port() -> None:
-    """The port is open at 127.0.0.1, and at no other address of the machine."""
+    """Checks that the port is open at 127.0.0.1, and at no other address of the machine."""
     server = Server(built.program(), SETUP, connections=1)
     expect("where the port is open", listening_at(server.port), ["0100007F"])
     expect("a status", reply(connected(server.port, STATUS)), FIRST_ROUND)
@@ -64,7 +64,10 @@ def play_open_port() -> None:
 
 
 def play_waiting_clients() -> None:
-    """Clients that have written before any is served are served in turn, also after those that are gone by then."""
+    """Checks that clients that have written before any is served are served in turn.
+
+    Some of them are gone by then.
+    """
     server = Server(built.program(), SETUP, connections=6)
     silent = connected(server.port)
     texts = (PUT, PUT[:10], STATUS, STATUS, STATUS)
@@ -80,7 +83,7 @@ def play_waiting_clients() -> None:
 
 
 def play_broken_clients() -> None:
-    """After each client that breaks its connection the next one is answered as it would have been."""
+    """Checks that after each client that breaks its connection, the next one is answered as usual."""
     longest = BIDS.ljust(MOST_BODY)
     too_long = text_of("PUT /v1/me/bids", X, longest).replace(b": %d\r" % MOST_BODY, b": %d\r" % (MOST_BODY + 1))
     silent = (text_of("PUT /v1/me/bids", X, longest), too_long, b" " * MOST_BODY, PUT + b" " * MOST_BODY)
@@ -99,14 +102,17 @@ def play_broken_clients() -> None:
 
 
 def refused(words: list[str], error: bytes, **streams: object) -> None:
-    """A start of a server on these words, which must end with this error."""
+    """Checks that a start of a server with these arguments ends with this error."""
     streams = streams or {"stdout": subprocess.PIPE, "stderr": subprocess.PIPE}
     run = subprocess.run([built.program(), "serve", *words], stdin=subprocess.DEVNULL, timeout=60, **streams)
     expect(f"serve {words}", (run.returncode, run.stdout or b"", run.stderr), (1, b"", error))
 
 
 def play_faults(folder: pathlib.Path) -> None:
-    """The first fault is told: of the file, of reading, of the document, of the port, of the output."""
+    """Checks that a start reports its first fault.
+
+    The order is: the file, reading it, the document, the port, the output.
+    """
     faulty = folder / "faulty.json"
     faulty.write_text("{")
     with socket.create_server(("127.0.0.1", 0)) as taken:
@@ -121,7 +127,7 @@ def play_faults(folder: pathlib.Path) -> None:
 
 
 def play_accept_fault() -> None:
-    """A server that may open no further file serves the connections that it has, and ends."""
+    """Checks that a server that cannot open another file serves its connections, and ends."""
     server = Server(built.program(), SETUP, connections=2)
     client = connected(server.port)
     time.sleep(0.2)
@@ -132,7 +138,7 @@ def play_accept_fault() -> None:
 
 
 def play(folder: pathlib.Path) -> None:
-    """All of these."""
+    """Plays all of these."""
     play_open_port()
     play_waiting_clients()
     play_broken_clients()

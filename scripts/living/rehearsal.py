@@ -1,4 +1,4 @@
-"""examples/rehearsal.json, played live by examples/bidder.py, with the rounds and results of its report."""
+"""Plays examples/rehearsal.json live with examples/bidder.py, and compares it with the rehearsal's report."""
 import json
 import pathlib
 
@@ -29,7 +29,7 @@ class Rehearsal:
     def bidders(
         self, played: Played, folder: pathlib.Path, url: str, every: float, **environment: str
     ) -> dict[str, Bidder]:
-        """examples/bidder.py for each sincere script, by the bidder's name."""
+        """Starts examples/bidder.py for each sincere script. Returns the bidders by name."""
         bidders = {}
         names = [product["name"] for product in self.setup["products"]]
         for bidder, script in self.scripts:
@@ -40,7 +40,7 @@ class Rehearsal:
         return bidders
 
     def wait_for_sheets(self, port: int, number: int) -> None:
-        """Submits the listed sheets of a round, and waits until each sincere bidder has one in force."""
+        """Submits the listed sheets of a round. Waits until each sincere bidder has one in force."""
         for bidder, script in self.scripts:
             sheets = script.get("sheets", [])
             if number <= len(sheets) and sheets[number - 1] is not None:
@@ -49,7 +49,7 @@ class Rehearsal:
                 wait_for_sheet(port, bidder["token"])
 
     def lines_of_round(self, port: int, number: int) -> list[str]:
-        """A closed round's results as the report has them."""
+        """A closed round's results, as the report has them."""
         lines = [f"round {number}"]
         for product in asked(port, f"GET /v1/rounds/{number}", self.setup["operator"])["products"]:
             told = (product[key] for key in ("name", "start", "clock", "posted", "demand", "next"))
@@ -57,7 +57,7 @@ class Rehearsal:
         return lines
 
     def play(self, port: int, bidders: dict[str, Bidder], how: str) -> None:
-        """The bidders come to the rounds and the results of the report, and miss no round."""
+        """Plays the rounds. They and the results must be the report's, and no bidder may miss a round."""
         rounds: list[str] = []
         for number, closing in enumerate(self.closings, 1):
             self.wait_for_sheets(port, number)
@@ -78,7 +78,7 @@ class Rehearsal:
 
 
 def play_straight(rehearsal: Rehearsal, folder: pathlib.Path) -> None:
-    """The rehearsal at the port of a server."""
+    """Plays the rehearsal at the server's port."""
     setup = folder / "rehearsal.json"
     setup.write_text(json.dumps(rehearsal.setup))
     with Played() as played:
@@ -88,7 +88,7 @@ def play_straight(rehearsal: Rehearsal, folder: pathlib.Path) -> None:
 
 
 def play_behind_nginx(rehearsal: Rehearsal, folder: pathlib.Path) -> None:
-    """The rehearsal over TLS behind nginx. No window is open when the bidders begin, so they wait for one."""
+    """Plays it over TLS behind nginx. No window is open at first, so the bidders wait for one."""
     if absent := packages.missing("nginx", "openssl"):
         print(f"no {absent[0]} here: examples/bidder.py is not played over TLS")
         return
@@ -107,7 +107,7 @@ def play_behind_nginx(rehearsal: Rehearsal, folder: pathlib.Path) -> None:
 
 
 def check_receipts(place: Place, bidders: dict[str, Bidder]) -> None:
-    """Each bidder has a receipt for each of its sheets, and the journal has these sheets."""
+    """Checks that each bidder has a receipt for each of its sheets, and that the journal has these sheets."""
     journal, count = (place.folder / "auction.journal").read_bytes(), 0
     for name, bidder in bidders.items():
         file = receipts.read_kept(bidder.receipts)
@@ -116,11 +116,11 @@ def check_receipts(place: Place, bidders: dict[str, Bidder]) -> None:
         files = list((place.folder / "receipts" / name).iterdir())
         expect(f"receipts of {name}", len(file.receipts), len(files))
         count += len(files)
-    print(f"{count} sheets have receipts, which their bidders keep and which fit the journal")
+    print(f"{count} sheets have receipts, which their bidders stored and which match the journal")
 
 
 def play(folder: pathlib.Path) -> None:
-    """Both."""
+    """Plays both."""
     rehearsal = Rehearsal()
     play_straight(rehearsal, folder)
     play_behind_nginx(rehearsal, folder)

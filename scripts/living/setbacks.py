@@ -14,7 +14,7 @@ FAULTY_LIMITS = [
     ('{"A": [', "Expecting"),
 ]
 
-# What is no reply of the server.
+# Replies that are not the server's.
 REPLIES = [
     b"HTTP/1.1 200 OK\r\n\r\n<html>",
     b'HTTP/1.1 200 OK\r\ncontent-length: 50\r\n\r\n{"products"',
@@ -22,7 +22,7 @@ REPLIES = [
     b"HTTP/1.1 500 Internal Server Error\r\ncontent-length: 2\r\n\r\n{}",
     b"",
 ]
-# Pages with status 200: such as a proxy may give for any path, and a server's own with one thing changed.
+# Pages with status 200: those that a proxy may send for any path, and a server's own with one change.
 OF_PROXIES = ["null", "[]", '{"status":200}', "[" * 100_000]
 CHANGED = {
     "/v1/products": [
@@ -43,7 +43,7 @@ CHANGED = {
 
 
 def play_fallen_round(limits: pathlib.Path) -> None:
-    """A bidder ends if the number of the round falls."""
+    """Checks that a bidder ends if the number of the round falls."""
     with Played() as played:
         server = played.server()
         put(server.port, Y, 1, ONE_BLOCK)
@@ -57,14 +57,14 @@ def play_fallen_round(limits: pathlib.Path) -> None:
 
 
 def play_missed_round(limits: pathlib.Path, is_last: bool) -> None:
-    """A bidder ends if it missed a round, also the last one."""
+    """Checks that a bidder ends if it missed a round, also the last one."""
     with Played() as played:
         server = played.server()
         put(server.port, Y, 1, ONE_BLOCK)
         bidder = played.bidder(f"http://127.0.0.1:{server.port}", X, limits, 2)
         wait_for_sheet(server.port)
         close(server.port, 1)
-        if not is_last:  # without bids all demands are reduced to 0, and the auction ends
+        if not is_last:  # Without bids, all demands are reduced to 0, and the auction ends.
             for token, quantity in ((X, 2), (Y, 1)):
                 put(server.port, token, 2, [{"price": 110, "product": 0, "quantity": quantity}])
         close(server.port, 2)
@@ -72,7 +72,7 @@ def play_missed_round(limits: pathlib.Path, is_last: bool) -> None:
 
 
 def play_faulty_limits(played: Played, port: int, limits: pathlib.Path) -> None:
-    """A bidder whose limits are wrong ends before any bid."""
+    """Checks that a bidder with wrong limits ends before any bid."""
     for text, words in FAULTY_LIMITS:
         limits.write_text(text)
         played.bidder(f"http://127.0.0.1:{port}", X, limits, 0.1).expect_failure(words)
@@ -80,7 +80,10 @@ def play_faulty_limits(played: Played, port: int, limits: pathlib.Path) -> None:
 
 
 def play_spoiled_replies(played: Played, port: int, limits: pathlib.Path) -> None:
-    """A bidder asks again after what is no reply of the server, and takes its token nowhere else."""
+    """Checks that a bidder repeats a request after a reply that is not the server's.
+
+    It may send its token to no other address.
+    """
     elsewhere = played.enter_context(socket.create_server(("127.0.0.1", 0)))
     other_url = f"http://127.0.0.1:{elsewhere.getsockname()[1]}/"
     spoiler = played.enter_context(spoiler_before(port))
@@ -104,7 +107,10 @@ def play_spoiled_replies(played: Played, port: int, limits: pathlib.Path) -> Non
 
 
 def play_held_block(played: Played, port: int, limits: pathlib.Path) -> None:
-    """In round 2, a bidder that has two blocks and a limit for one gives the other up at the start-of-round price."""
+    """Checks a bidder that has two blocks and a limit for one.
+
+    In round 2 it must give up the other block at the start-of-round price.
+    """
     put(port, X, 2, [])
     limits.write_text('{"A": [1000]}')
     bidder = played.bidder(f"http://127.0.0.1:{port}", X, limits, 0.1)
@@ -115,7 +121,10 @@ def play_held_block(played: Played, port: int, limits: pathlib.Path) -> None:
 
 
 def play_stubborn_bidder(limits: pathlib.Path) -> None:
-    """One auction: faulty limits, spoiled replies in round 1, a block without a limit in round 2."""
+    """Plays one auction with three setbacks.
+
+    These are faulty limits, spoiled replies in round 1, and a block without a limit in round 2.
+    """
     with Played() as played:
         server = played.server()
         play_faulty_limits(played, server.port, limits)
@@ -128,10 +137,10 @@ def play_stubborn_bidder(limits: pathlib.Path) -> None:
 
 
 def play_lost_sheet(limits: pathlib.Path) -> None:
-    """A bidder whose server is started again in round 1 submits its sheet again.
+    """Checks that a bidder submits its sheet again if its server is restarted in round 1.
 
-    It does so after some time if no request met the crash, and soon if one did. It leaves a sheet that was submitted
-    for it in another way.
+    It does so after some time if no request met the crash, and soon if one did. It leaves a sheet that someone
+    submitted for it in another way.
     """
     with Played() as played:
         first, second, slow = (played.server() for _ in range(3))
@@ -153,17 +162,17 @@ def play_lost_sheet(limits: pathlib.Path) -> None:
         expect("what it won", output.splitlines()[-1], "won X 1 100")
         played.server(slow.port)
         wait_for_sheet(slow.port)
-    print("a bidder of examples/bidder.py whose sheet is lost with its server submits it again")
+    print("examples/bidder.py submits its sheet again if it is lost with its server")
 
 
 def play(folder: pathlib.Path) -> None:
-    """All of these."""
+    """Plays all of these."""
     limits = folder / "limits.json"
     limits.write_text('{"A": [1000, 1000]}')
     play_fallen_round(limits)
     play_missed_round(limits, is_last=False)
     play_missed_round(limits, is_last=True)
-    print("a bidder of examples/bidder.py ends if the round falls, and if it missed a round, also the last one")
+    print("examples/bidder.py ends if the round falls, and if it missed a round, also the last one")
     play_stubborn_bidder(limits)
     limits.write_text('{"A": [1000, 1000]}')
     play_lost_sheet(limits)

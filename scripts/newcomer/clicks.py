@@ -10,7 +10,7 @@ from collections.abc import Callable
 from newcomer.ending import check_end
 from newcomer.practice import TOKEN, Practice, expect
 
-# from here on the page keeps each of its messages, since the next one may follow at once
+# From here on the page stores each of its messages, since the next one may follow at once.
 LISTEN = """window.said = '';
 new MutationObserver(() => { window.said += document.getElementById('say').textContent + '\\n'; })
     .observe(document.getElementById('say'), {childList: true});"""
@@ -25,7 +25,7 @@ PATHS = {
 
 
 def wait(look: Callable[[], object], seconds: float = 120) -> None:
-    """Waits until something is as it must be."""
+    """Waits until a condition holds. Ends the script if it does not within these seconds."""
     end = time.monotonic() + seconds
     while not look():
         if time.monotonic() > end:
@@ -45,7 +45,7 @@ class Newcomer:
         self.window, self.work = window, work
 
     def first_bid(self, top: pathlib.Path, words: list[str]) -> float:
-        """Clones, starts a practice, enters, and bids in round 1; returns the seconds."""
+        """Clones, starts a practice, enters, and bids in round 1. Returns the seconds."""
         begun = time.monotonic()
         clone = self.work / "newcomer"
         subprocess.run(["git", "clone", "-q", top, clone], check=True)
@@ -58,7 +58,10 @@ class Newcomer:
         return time.monotonic() - begun
 
     def worths(self) -> list[tuple[list[int], int]]:
-        """For each product what its blocks are worth, as the page says, and how many are worth its clock price."""
+        """The worth of each product's blocks, by the page.
+
+        With it is the number of blocks that are worth the clock price.
+        """
         found = []
         for row in self.window.rows("body"):
             values = [money(text) for text in re.findall(r"\d[\d,]*\d", row[0].partition("worth $")[2])]
@@ -66,7 +69,7 @@ class Newcomer:
         return found
 
     def bid(self, number: int, pictures: pathlib.Path | None = None) -> None:
-        """Bids as the values say: blocks worth the opening price, later only those that are worth the clock price."""
+        """Bids by the values: in round 1, blocks worth the opening price; later, blocks worth the clock price."""
         rows = self.window.rows("body")
         for place, ((values, wanted), row) in enumerate(zip(self.worths(), rows)):
             blocks = wanted if number == 1 else money(row[4])
@@ -81,7 +84,7 @@ class Newcomer:
         wait(lambda: words in self.window.run("return window.said"))
 
     def play(self, pictures: pathlib.Path | None) -> int:
-        """Plays the rounds after the first one; returns how many rounds there were."""
+        """Plays the rounds after the first one. Returns the number of rounds."""
         values = json.loads((self.practice.folder / "values.json").read_text())
         expect("the page says what blocks are worth", [row for row, _ in self.worths()], list(values.values()))
         number = 1
@@ -93,7 +96,7 @@ class Newcomer:
             self.bid(number, pictures if number == 4 else None)
 
     def look_at_end(self, pictures: pathlib.Path | None) -> None:
-        """The page, the terminal and the public page say the same of the end."""
+        """Checks that the page, the terminal, and the public page show the same end."""
         window, practice = self.window, self.practice
         practice.until("All files are in")
         check_end(practice.folder, practice.said)
@@ -109,7 +112,7 @@ class Newcomer:
 
 
 def look_at_address(practice: Practice) -> None:
-    """What the address of a practice gives and refuses."""
+    """Checks what a practice's address serves and refuses."""
     for status, paths in PATHS.items():
         for path in paths:
             expect(f"{path} is answered with {status}", practice.asked(path)[0], status)

@@ -1,4 +1,4 @@
-"""What a practice says of its end, compared with its files alone."""
+"""Compares what a practice says of its end with its files only."""
 import json
 import pathlib
 from typing import Any
@@ -7,7 +7,7 @@ from newcomer.practice import TOKEN, expect
 
 
 def check_end(folder: pathlib.Path, said: str) -> str:
-    """Compares the end of a practice with its files; returns the player's gain."""
+    """Compares the end of a practice with its files. Returns the player's gain."""
 
     def read(name: str) -> Any:
         return json.loads((folder / name).read_text())
@@ -42,7 +42,7 @@ def check_recount(text: str, rounds: list[dict[str, Any]], winners: list[dict[st
 
 
 def gain_words(setup: dict[str, Any], values: dict[str, list[int]], winners: list[dict[str, Any]]) -> str:
-    """What the player gained, as the practice must say it."""
+    """The practice's words for what the player gained."""
     you = next(place for place, bidder in enumerate(setup["bidders"]) if bidder["token"] == TOKEN)
     demands, pays = winners[you]["demands"], winners[you]["pays"]
     worth = sum(sum(values[product["name"]][:blocks]) for product, blocks in zip(setup["products"], demands))
@@ -50,7 +50,7 @@ def gain_words(setup: dict[str, Any], values: dict[str, list[int]], winners: lis
 
 
 def check_secrets(folder: pathlib.Path, setup: dict[str, Any]) -> None:
-    """No token is published, and only its owner may read the folder."""
+    """Checks that no token is published, and that only its owner may read the folder."""
     tokens = {bidder["token"] for bidder in setup["bidders"]} | {setup["operator"]}
     texts = {file.name: file.read_text() for file in (folder / "public").rglob("*.json")}
     told = [name for name, text in texts.items() if any(token in text for token in tokens)]

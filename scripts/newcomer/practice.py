@@ -1,4 +1,4 @@
-"""A practice that runs, with what it prints and what its address gives."""
+"""A running practice, its output, and its address."""
 import atexit
 import contextlib
 import http.client
@@ -14,14 +14,14 @@ SEEN: list[str] = []
 
 
 def expect(what: str, found: object, wanted: object = True) -> None:
-    """Counts what is as it must be, and ends the script at the first thing that is not."""
+    """Counts a check that passes, and ends the script at the first one that fails."""
     if found != wanted:
         sys.exit(f".ci/practice: {what}:\n  found  {found!r}\n  wanted {wanted!r}")
     SEEN.append(what)
 
 
 def free_ports() -> int:
-    """A port that is free, and whose next one is."""
+    """A port that is free, and whose next one is free too."""
     while True:
         port = random.SystemRandom().randrange(10_000, 32_000)
         with contextlib.suppress(OSError):
@@ -38,7 +38,7 @@ class Practice:
         self.process = subprocess.Popen(
             command, stdout=subprocess.PIPE, stderr=subprocess.STDOUT, text=True, start_new_session=True
         )
-        atexit.register(self.stop)  # if something is not as it must be
+        atexit.register(self.stop)  # Also after a failed check.
 
     def stop(self) -> None:
         """Ends a practice that still runs, with its server."""
@@ -47,7 +47,7 @@ class Practice:
             self.process.wait(20)
 
     def until(self, words: str) -> None:
-        """Reads what it prints until it has these words."""
+        """Reads the output until it has these words."""
         while words not in self.said:
             line = self.process.stdout.readline()
             if not line:
@@ -55,7 +55,7 @@ class Practice:
             self.said += line
 
     def rest(self) -> int:
-        """Reads what it prints until it ends; returns its status."""
+        """Reads the output until the practice ends. Returns its status."""
         self.said += self.process.stdout.read()
         return self.process.wait()
 
@@ -72,7 +72,7 @@ class Practice:
         expect("no process is left", mine, [])
 
     def asked(self, path: str, method: str = "GET", **headers: str) -> tuple[int, bytes]:
-        """Status and page of one request to its address."""
+        """The status and the page of one request to its address."""
         link = http.client.HTTPConnection("127.0.0.1", self.port, timeout=20)
         with contextlib.closing(link):
             link.request(method, path, headers=headers)
@@ -80,5 +80,5 @@ class Practice:
             return reply.status, reply.read()
 
     def address(self, page: str) -> str:
-        """Where a page is, for a browser window."""
+        """The address of a page, for a browser window."""
         return f"http://127.0.0.1:{self.port}/{page}"

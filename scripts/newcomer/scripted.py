@@ -1,4 +1,4 @@
-"""Practices that play the player's part too, of each kind, and what a practice refuses."""
+"""Practices of each kind that play the player's part too, and what a practice refuses."""
 import json
 import pathlib
 import socket
@@ -10,7 +10,7 @@ from newcomer.practice import TOKEN, Practice, expect, free_ports
 
 
 class Kinds:
-    """The words for each kind of practice, with the files that they name."""
+    """The arguments of each kind of practice, with the files that they name."""
 
     def __init__(self, top: pathlib.Path, work: pathlib.Path) -> None:
         self.own = json.loads((top / "examples" / "rehearsal_version_2.json").read_text())["setup"]
@@ -42,7 +42,7 @@ def demos(clone: pathlib.Path, work: pathlib.Path, program: pathlib.Path, kinds:
     for name, practice in running.items():
         expect(f"{name} ends by itself", practice.rest(), 0)
         gains.append(check_end(work / name, practice.said))
-        # the script follows the values, so it does as well as a bidder that does so
+        # The script follows the values, so its gain is that of a bidder that follows them.
         expect("the values' own gain is the same", f": a gain of {gains[-1]}." in practice.said)
     check_setups({name: json.loads((work / name / "setup.json").read_text()) for name in running}, kinds.own)
     expect("one's own values", json.loads((work / "limits" / "values.json").read_text()), {"A": [140, 111]})
@@ -50,7 +50,7 @@ def demos(clone: pathlib.Path, work: pathlib.Path, program: pathlib.Path, kinds:
 
 
 def check_setups(setups: dict[str, Any], own: dict[str, Any]) -> None:
-    """The set-ups are what the words ask for."""
+    """Checks that the set-ups are those that the arguments ask for."""
     large, version_2, mine = setups["large"], setups["v2"], setups["own"]
     expect("the numbers of products and bidders", (len(large["products"]), len(large["bidders"])), (30, 9))
     expect("version 2", (version_2["version"], version_2["limit"], setups["plain"]["version"]), (2, 120, 1))
@@ -66,7 +66,10 @@ def check_setups(setups: dict[str, Any], own: dict[str, Any]) -> None:
 
 
 def refusals(clone: pathlib.Path, work: pathlib.Path, program: pathlib.Path, kinds: Kinds) -> None:
-    """What a practice does not begin with, each said in a line, without a traceback."""
+    """Checks the arguments with which a practice does not start.
+
+    Each must give one line, without a traceback.
+    """
     (work / "full").mkdir()
     (work / "full" / "file").touch()
     one, readme = str(kinds.one), str(clone / "README.md")

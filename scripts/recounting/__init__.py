@@ -1,5 +1,5 @@
-"""What .ci/recount is made of.
+"""The parts of .ci/recount.
 
-    auctions    random auctions, as the texts of their journals
-    spoiling    journals and set-ups in which something is wrong
+- `auctions`: random auctions, as the requests of their journals
+- `spoiling`: journals and set-ups with a fault
 """

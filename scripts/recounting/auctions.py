@@ -1,4 +1,7 @@
-"""Random auctions, as the texts of their journals. The recount decides which sheets and closings are accepted."""
+"""Random auctions, as the requests of their journals.
+
+The recount decides which sheets and closings are accepted.
+"""
 import dataclasses
 import json
 from random import Random
@@ -7,7 +10,7 @@ from typing import Any
 from recount import Auction, Price, activity_limit, take
 from formats import Bid, Product, Refused, setup_in
 
-HIGH = 5 * 10**11  # above half of the highest price, so a few rounds reach it
+HIGH = 5 * 10**11  # Above half of the highest price, so a few rounds reach it.
 
 OPERATOR = "OPERATOROPERATOR"
 
@@ -46,7 +49,10 @@ def random_setup(chance: Random) -> dict[str, Any]:
 
 
 def chain_of(chance: Random, product: Product, price: Price, demand: int, most: int) -> list[tuple[int, int]]:
-    """Quantities and prices for one product. Most keep the demand, or move to another one in up to three steps."""
+    """The quantities and prices of bids for one product.
+
+    Most maintain demand, or move to another quantity in up to three steps.
+    """
     if price.start == price.clock:  # round 1
         return [(chance.randint((most + 1) // 2, most), price.clock)]
     kind = chance.random()
@@ -63,7 +69,7 @@ def chain_of(chance: Random, product: Product, price: Price, demand: int, most: 
 
 
 def random_sheet(chance: Random, auction: Auction, bidder: int) -> list[Bid]:
-    """A sheet that the rules most often accept."""
+    """A sheet that the rules mostly accept."""
     products, demands = auction.setup.products, auction.demands[bidder]
     left = activity_limit(auction.setup, len(auction.rounds) + 1, auction.eligibilities[bidder])
     bids = []
@@ -91,7 +97,7 @@ def spoiled(chance: Random, bids: list[Bid]) -> list[Bid]:
 
 
 def random_ties(chance: Random, auction: Auction) -> list[list[int]]:
-    """Tie-breaking numbers for all pairs, some, or none. A few numbers come several times."""
+    """Tie-breaking numbers for all pairs, some, or none. Some numbers occur several times."""
     share = chance.choice([0, 0.5, 1, 1])
     pairs = [[b, p] for b in range(len(auction.demands)) for p in range(len(auction.prices)) if chance.random() < share]
     chance.shuffle(pairs)
@@ -131,7 +137,7 @@ def closing_text(chance: Random, auction: Auction, number: int) -> bytes:
 
 @dataclasses.dataclass
 class Played:
-    """An auction: its set-up document, the accepted texts, and the texts that were refused after a number of them."""
+    """An auction: its set-up document, the accepted requests, and those that were refused after a number of them."""
 
     document: bytes
     auction: Auction
@@ -139,7 +145,7 @@ class Played:
     refused: list[tuple[int, bytes, str]] = dataclasses.field(default_factory=list)
 
     def offer(self, text: bytes) -> bool:
-        """Adds a text if the recount accepts it."""
+        """Adds a request if the recount accepts it."""
         bidders = {bidder.token: number for number, bidder in enumerate(self.auction.setup.bidders)}
         try:
             take(self.auction, bidders, text)
@@ -151,7 +157,7 @@ class Played:
 
 
 def played(chance: Random) -> Played:
-    """An auction of up to 13 rounds, which bidders join with no sheet, one, or several."""
+    """An auction of up to 13 rounds, in each of which a bidder sends no sheet, one, or several."""
     document = json.dumps(random_setup(chance), indent=chance.choice([None, 1])).encode()
     game = Played(document, Auction(setup_in(document)))
     auction = game.auction

@@ -1,4 +1,4 @@
-"""Journals and set-ups with something wrong: by a fault of the disk, or by somebody who makes all digests again."""
+"""Spoils journals and set-ups, as a fault of the disk does, or as a person who makes all digests again."""
 import json
 from collections.abc import Iterator
 from random import Random
@@ -8,7 +8,7 @@ from journal import HEAD, head_of, journal_of
 
 
 def spoiled(chance: Random, document: bytes, texts: list[bytes]) -> Iterator[tuple[str, bytes, bytes]]:
-    """What was done, and the set-up document and the journal that it left."""
+    """Words for the change, and the changed set-up document and journal."""
     journal = journal_of(document, texts)
     yield "cut off", document, journal[: chance.randint(0, len(journal))]
     at = chance.randrange(len(journal))
@@ -23,7 +23,7 @@ def spoiled(chance: Random, document: bytes, texts: list[bytes]) -> Iterator[tup
 
 
 def rewritten(chance: Random, texts: list[bytes]) -> list[bytes]:
-    """The texts of somebody who rewrites a journal: one changed, left out, put in again, or exchanged for another."""
+    """The requests after a forgery: one changed, left out, repeated, or exchanged for another."""
     texts, kind, at, other = list(texts), chance.random(), chance.randrange(len(texts)), chance.randrange(len(texts))
     if kind < 0.7:
         texts[at] = changed_bytes(chance, texts[at]) or b"\0"

@@ -1,4 +1,4 @@
-//! The calls of a hub, each watched, and made again where there was no memory.
+//! Makes the calls of a hub, each watched, and repeats a call that reports out of memory.
 use crate::houses::{still_tells, told_by};
 use crate::record::{Record, is_refusal};
 use crate::steering::watched;
@@ -7,14 +7,14 @@ use clock_front::{Conn, Event, Fed, Front, Hub, HubFault, Reply};
 use clock_processor::Processor;
 use std::alloc::Global;
 
-/// A connection, and the bytes that were fed to it.
+/// A connection, and the bytes that it received.
 #[derive(Drop)]
 struct Line {
     conn: Conn,
     text: Text,
 }
 
-/// A hub, its connections, and what its house told after the last reply.
+/// A hub, its connections, and what its house's reading calls returned after the last reply.
 #[derive(Drop)]
 pub struct Calls<P> {
     alloc: Global,
@@ -23,7 +23,7 @@ pub struct Calls<P> {
     told: Text,
 }
 
-/// The reply to a text that comes whole, after which the input ends, over a new connection.
+/// The reply to a whole text over a new connection, whose input then ends.
 fn reply_over_new<P: Processor>(hub: &mut Hub<P>, text: &[u8]) -> anyhow::Result<Reply> {
     let conn = hub.connect()?;
     match hub.feed(conn, text)? {
@@ -49,18 +49,18 @@ impl<P: Processor> Calls<P> {
         })
     }
 
-    /// Adds all that the reading calls tell.
+    /// Adds everything that the reading calls return to the record.
     pub fn tell(&self, record: &mut Record) -> anyhow::Result<()> {
         let told = told_by(self.alloc, self.hub.front().house())?;
         record.push_bytes(told.as_slice())
     }
 
-    /// Whether the reading calls tell what they told after the last reply.
+    /// Whether the reading calls return what they returned after the last reply.
     fn is_as_before(&self) -> anyhow::Result<bool> {
         still_tells(self.alloc, self.hub.front().house(), &self.told)
     }
 
-    /// The connection of a number.
+    /// The connection with this number.
     fn conn(&self, number: u64) -> anyhow::Result<Conn> {
         match self.lines.get(number as usize) {
             Some(line) => Ok(line.conn),
@@ -68,7 +68,7 @@ impl<P: Processor> Calls<P> {
         }
     }
 
-    /// Connects.
+    /// Makes a connection. Repeats the call if it is out of memory.
     fn connect(&mut self, record: &mut Record) -> anyhow::Result<()> {
         let mut made = watched(|| self.hub.connect());
         if made == Err(HubFault::NoMemory) {
@@ -80,7 +80,8 @@ impl<P: Processor> Calls<P> {
         Ok(())
     }
 
-    /// Feeds a piece. Where there was no memory the connection must stand with the bytes that it had: the piece is fed again.
+    /// Feeds a piece. If the call is out of memory, the connection must still have its earlier
+    /// bytes, and the piece is fed again.
     fn feed(&mut self, record: &mut Record, number: u64, piece: &[u8]) -> anyhow::Result<()> {
         let conn = self.conn(number)?;
         if let Some(line) = self.lines.get_mut(number as usize) {
@@ -99,15 +100,15 @@ impl<P: Processor> Calls<P> {
         }
     }
 
-    /// Ends the input of a connection.
+    /// Ends the input of a connection, and notes the reply.
     fn finish(&mut self, record: &mut Record, number: u64) -> anyhow::Result<()> {
         let conn = self.conn(number)?;
         let reply = watched(|| self.hub.finish(conn))?;
         self.settle(record, number, &reply)
     }
 
-    /// Notes the reply to a connection's text. Where there was no memory the connection must be gone, and the same bytes over a
-    /// new one get the reply.
+    /// Notes the reply to a connection's text. If it is an out-of-memory reply, the connection must
+    /// be gone, and the bytes are sent again over a new one.
     fn settle(&mut self, record: &mut Record, number: u64, reply: &Reply) -> anyhow::Result<()> {
         record.push_number(number)?;
         if is_refusal(reply) {
@@ -123,7 +124,7 @@ impl<P: Processor> Calls<P> {
         Ok(())
     }
 
-    /// Takes an event.
+    /// Makes the call for an event.
     pub fn take(&mut self, record: &mut Record, event: &Event) -> anyhow::Result<()> {
         match event {
             Event::Connect => self.connect(record),

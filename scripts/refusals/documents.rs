@@ -1,4 +1,4 @@
-//! Documents: what they mean, and what a replay comes to.
+//! Reads documents, plays replays, and repeats each call that reports out of memory.
 use crate::record::Record;
 use crate::steering::watched;
 use clock_device::NoMemory;
@@ -9,7 +9,7 @@ use clock_sim::{
 use clock_views::products_page;
 use std::alloc::Global;
 
-/// Adds what is told of a set-up.
+/// Adds a set-up to the record.
 fn show_setup(alloc: Global, record: &mut Record, setup: &Setup) -> anyhow::Result<()> {
     let page = products_page(alloc, setup)?;
     record.push_bytes(page.as_slice())?;
@@ -22,7 +22,7 @@ fn show_setup(alloc: Global, record: &mut Record, setup: &Setup) -> anyhow::Resu
     Ok(())
 }
 
-/// Reads a set-up document, again where there was no memory.
+/// Reads a set-up document, and again if the first call is out of memory.
 pub fn play_setup(alloc: Global, record: &mut Record, document: &[u8]) -> anyhow::Result<()> {
     match watched(|| read_setup(alloc, document)) {
         Err(SetupFault::NoMemory) => record.refuse(true),
@@ -31,7 +31,7 @@ pub fn play_setup(alloc: Global, record: &mut Record, document: &[u8]) -> anyhow
     show_setup(alloc, record, &read_setup(alloc, document)?)
 }
 
-/// Adds what is told of an opening.
+/// Adds an opening to the record.
 fn show_opening(alloc: Global, record: &mut Record, opening: &Opening) -> anyhow::Result<()> {
     record.push_number(opening.increment)?;
     for bidder in 0..opening.setup.bidders.as_slice().len() {
@@ -42,7 +42,7 @@ fn show_opening(alloc: Global, record: &mut Record, opening: &Opening) -> anyhow
     show_setup(alloc, record, &opening.setup)
 }
 
-/// Reads an opening document, again where there was no memory.
+/// Reads an opening document, and again if the first call is out of memory.
 pub fn play_opening(alloc: Global, record: &mut Record, document: &[u8]) -> anyhow::Result<()> {
     match watched(|| read_opening(alloc, document)) {
         Err(OpeningFault::NoMemory) => record.refuse(true),
@@ -51,13 +51,13 @@ pub fn play_opening(alloc: Global, record: &mut Record, document: &[u8]) -> anyh
     show_opening(alloc, record, &read_opening(alloc, document)?)
 }
 
-/// Adds what a replay comes to.
+/// Adds the result of a replay to the record.
 fn show_replay(alloc: Global, record: &mut Record, replay: &Replay) -> anyhow::Result<()> {
     let report = simulate(alloc, replay)?;
     record.push_bytes(report_text(alloc, &report)?.as_slice())
 }
 
-/// Reads a replay document, again where there was no memory.
+/// Reads a replay document, and again if the first call is out of memory.
 pub fn play_replay(alloc: Global, record: &mut Record, document: &[u8]) -> anyhow::Result<()> {
     match watched(|| read_replay(alloc, document)) {
         Err(ScriptFault::NoMemory) => record.refuse(true),
@@ -66,7 +66,7 @@ pub fn play_replay(alloc: Global, record: &mut Record, document: &[u8]) -> anyho
     show_replay(alloc, record, &read_replay(alloc, document)?)
 }
 
-/// Adds the text of a report, which is written again where there was no memory.
+/// Adds the text of a report to the record. Writes it again if the first call is out of memory.
 fn show_report(alloc: Global, record: &mut Record, report: &Report) -> anyhow::Result<()> {
     match watched(|| report_text(alloc, report)) {
         Ok(text) => return record.push_bytes(text.as_slice()),
@@ -75,7 +75,7 @@ fn show_report(alloc: Global, record: &mut Record, report: &Report) -> anyhow::R
     record.push_bytes(report_text(alloc, report)?.as_slice())
 }
 
-/// Plays the replay of a document, again where there was no memory.
+/// Plays the replay of a document, and again if the first call is out of memory.
 pub fn play_simulation(alloc: Global, record: &mut Record, document: &[u8]) -> anyhow::Result<()> {
     let replay = read_replay(alloc, document)?;
     match watched(|| simulate(alloc, &replay)) {
@@ -85,7 +85,8 @@ pub fn play_simulation(alloc: Global, record: &mut Record, document: &[u8]) -> a
     show_report(alloc, record, &simulate(alloc, &replay)?)
 }
 
-/// Plays the replay of a document and writes its report at once, again where there was no memory.
+/// Plays the replay of a document and writes its report in one call, and again if the first is
+/// out of memory.
 pub fn play_replay_text(
     alloc: Global,
     record: &mut Record,

@@ -1,4 +1,5 @@
-//! Fronts: the reply to the last text is watched, and where there is none the making of the front.
+//! Plays scenarios of a front. The reply to the last text is watched, or `Front::new` if there is
+//! no text.
 use crate::houses::{still_tells, told_by};
 use crate::record::{Record, is_refusal};
 use crate::steering::watched;
@@ -8,7 +9,7 @@ use clock_processor::Processor;
 use clock_setup::read_setup;
 use std::alloc::Global;
 
-/// A front.
+/// Makes a front for the set-up of a document.
 pub fn opened<P: Processor>(
     alloc: Global,
     processor: P,
@@ -18,7 +19,7 @@ pub fn opened<P: Processor>(
     Ok(Front::new(alloc, setup, processor)?)
 }
 
-/// A front whose making is watched, of a second set-up where there was no memory for the first.
+/// Makes a front, watched. Reads the set-up and makes it again if the first call is out of memory.
 fn opened_at_last<P: Processor + Copy>(
     alloc: Global,
     record: &mut Record,
@@ -33,7 +34,7 @@ fn opened_at_last<P: Processor + Copy>(
     opened(alloc, processor, document)
 }
 
-/// Answers the last text, again where there was no memory.
+/// Answers the last text, watched, and again if the first reply is out of memory.
 fn answer_last<P: Processor>(
     alloc: Global,
     record: &mut Record,
@@ -63,7 +64,7 @@ pub fn play<P: Processor + Copy>(
             let mut front = opened(alloc, processor, document)?;
             for text in before {
                 let reply = front.answer(text.as_bytes());
-                anyhow::ensure!(!is_refusal(&reply), "no memory where none was refused");
+                anyhow::ensure!(!is_refusal(&reply), "out of memory without a refusal");
                 record.push_bytes(reply.bytes())?;
             }
             answer_last(alloc, record, &mut front, last)?;

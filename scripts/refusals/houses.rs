@@ -1,4 +1,4 @@
-//! Houses: the last step is watched, and where there is none the making of the house.
+//! Plays scenarios of a house. The last step is watched, or `House::new` if there is no step.
 use crate::record::Record;
 use crate::steering::watched;
 use clock_device::{NoMemory, Text};
@@ -9,7 +9,7 @@ use clock_setup::read_setup;
 use clock_views::{bids_page, results_page, sheet_page, slip_page};
 use std::alloc::Global;
 
-/// Adds what is told of a bidder: its sheet in force, and its slips.
+/// Adds the pages of a bidder: its sheet in force, and its slips.
 fn tell_bidder<P>(alloc: Global, told: &mut Text, house: &House<P>, bidder: u32) -> anyhow::Result<()> {
     told.extend_from_slice(bids_page(alloc, house.round(), house.bids(bidder))?.as_slice())?;
     for round in 0..house.round().saturating_add(2) {
@@ -20,7 +20,7 @@ fn tell_bidder<P>(alloc: Global, told: &mut Text, house: &House<P>, bidder: u32)
     Ok(())
 }
 
-/// Adds the sheets of the closed rounds.
+/// Adds the pages of the closed rounds.
 fn tell_rounds<P>(alloc: Global, told: &mut Text, house: &House<P>) -> anyhow::Result<()> {
     for round in 0..house.round().saturating_add(2) {
         if let Some(sheet) = house.sheet(round) {
@@ -30,7 +30,7 @@ fn tell_rounds<P>(alloc: Global, told: &mut Text, house: &House<P>) -> anyhow::R
     Ok(())
 }
 
-/// All that the reading calls of a house tell.
+/// Everything that the reading calls of a house return, as pages.
 pub fn told_by<P>(alloc: Global, house: &House<P>) -> anyhow::Result<Text> {
     let mut told = results_page(alloc, house)?;
     tell_rounds(alloc, &mut told, house)?;
@@ -40,7 +40,7 @@ pub fn told_by<P>(alloc: Global, house: &House<P>) -> anyhow::Result<Text> {
     Ok(told)
 }
 
-/// Whether the reading calls still tell this.
+/// Whether the reading calls still return what they returned before.
 pub fn still_tells<P>(alloc: Global, house: &House<P>, before: &Text) -> anyhow::Result<bool> {
     Ok(told_by(alloc, house)?.as_slice() == before.as_slice())
 }
@@ -61,7 +61,7 @@ fn step_of(alloc: Global, row: &str) -> anyhow::Result<Step> {
     Ok(Step::Put(word.parse::<u32>()?, read_put(alloc, body.as_bytes())?))
 }
 
-/// What a step is answered.
+/// The result of a step.
 #[derive(Clone, Copy, PartialEq, Eq)]
 enum Answer {
     Done,
@@ -75,7 +75,7 @@ impl Answer {
     }
 }
 
-/// Takes a step.
+/// Makes the call for a step.
 fn take<P: Processor>(house: &mut House<P>, step: &Step) -> Answer {
     match step {
         Step::Put(bidder, body) => match house.put_sheet(
@@ -95,7 +95,7 @@ fn take<P: Processor>(house: &mut House<P>, step: &Step) -> Answer {
     }
 }
 
-/// Adds what a step was answered.
+/// Adds the result of a step to the record.
 fn show(alloc: Global, record: &mut Record, answer: Answer) -> anyhow::Result<()> {
     match answer {
         Answer::Done => record.push("done"),
@@ -104,7 +104,7 @@ fn show(alloc: Global, record: &mut Record, answer: Answer) -> anyhow::Result<()
     }
 }
 
-/// Takes the last step, again where there was no memory.
+/// Takes the last step, watched, and again if the first call is out of memory.
 fn take_last<P: Processor>(
     alloc: Global,
     record: &mut Record,
@@ -121,7 +121,7 @@ fn take_last<P: Processor>(
     show(alloc, record, second)
 }
 
-/// A house whose making is watched, of a second set-up where there was no memory for the first.
+/// Makes a house, watched. Reads the set-up and makes it again if the first call is out of memory.
 fn opened<P: Processor + Copy>(
     alloc: Global,
     record: &mut Record,

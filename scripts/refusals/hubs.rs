@@ -1,4 +1,6 @@
-//! Requests that come in pieces: a list of events at once, and the calls of a hub one by one. All these calls are watched.
+//! Plays requests that arrive in pieces, as a list of events and by the calls of a hub.
+//!
+//! All calls are watched.
 use crate::calls::Calls;
 use crate::fronts::opened;
 use crate::record::{Record, is_refusal};
@@ -34,7 +36,7 @@ fn events_of(alloc: Global, rows: &[&str]) -> anyhow::Result<Items<Event>> {
     Ok(events)
 }
 
-/// The events without those of the request of one connection.
+/// The events without those of one connection's request.
 fn without(alloc: Global, events: &[Event], left_out: u64) -> anyhow::Result<Items<Event>> {
     let mut others = Items::new(alloc);
     for event in events {
@@ -59,7 +61,7 @@ fn is_same(one: &EventReply, other: &EventReply) -> bool {
     one.number == other.number && one.reply.bytes() == other.reply.bytes()
 }
 
-/// Whether replies are the others, but for the one of a connection.
+/// Whether the replies without the one of a connection are the other replies.
 fn are_same_else(replies: &[EventReply], left_out: u64, others: &[EventReply]) -> bool {
     let rest = replies.iter().filter(|one| one.number != left_out);
     replies.len() == others.len().saturating_add(1)
@@ -77,7 +79,7 @@ fn replies_to<P: Processor>(
     Ok(run_events(alloc, setup, processor, events)?)
 }
 
-/// Notes the replies that say that there was no memory. All others must be as if that request had not come.
+/// Notes each out-of-memory reply. All other replies must be as if that request had not arrived.
 fn note_refusals<P: Processor + Copy>(
     alloc: Global,
     record: &mut Record,
@@ -97,7 +99,7 @@ fn note_refusals<P: Processor + Copy>(
     Ok(())
 }
 
-/// Plays a list of events, again where there was no memory for it or for one of its replies.
+/// Plays a list of events, and again if the call or one of its replies is out of memory.
 pub fn play_events<P: Processor + Copy>(
     alloc: Global,
     record: &mut Record,

@@ -1,8 +1,10 @@
-//! Plays scenarios whose last calls are watched, each with one growth of these calls refused after the other.
+//! Plays scenarios whose last calls are watched, with each allocation of these calls refused in
+//! turn.
 //!
-//! The input is scenarios, between which stands the byte 2. Each is parts, between which stands the byte 1: its name, its kind, where
-//! it has one the processor, a document, and what is done with it. A call that finds no memory is made again. For each scenario a line
-//! tells its name, how many growths there are, and what went wrong in which run.
+//! The input is scenarios, separated by the byte 2. The parts of a scenario are separated by the
+//! byte 1: its name, its kind, the processor if its kind has one, a document, and its steps. A call
+//! that reports out of memory is repeated. The program prints a line for each scenario: its name,
+//! its count of allocations, and what went wrong in which run.
 #![tactic(auto)]
 
 mod calls;
@@ -19,7 +21,7 @@ use record::Record;
 use std::alloc::Global;
 use std::io::Read;
 
-/// What came of a scenario over all its runs.
+/// The result of a scenario over all its runs.
 #[derive(Drop)]
 struct Counts {
     growths: u64,
@@ -59,7 +61,7 @@ fn play(alloc: Global, record: &mut Record, parts: &[&str]) -> anyhow::Result<()
     }
 }
 
-/// What comes of a scenario where the growth of this number is refused.
+/// The record of a scenario with the allocation of this number refused.
 fn played(alloc: Global, parts: &[&str], number: u64) -> anyhow::Result<Record> {
     let mut record = Record::new(alloc);
     steering::refuse(number);
@@ -67,24 +69,24 @@ fn played(alloc: Global, parts: &[&str], number: u64) -> anyhow::Result<Record> 
     Ok(record)
 }
 
-/// What is wrong with a run, of whose growths so many were refused.
+/// What is wrong with a run in which `refused` allocations were refused.
 fn fault_of(record: &Record, refused: u64, wanted: &Record) -> Option<&'static str> {
     if record.refusals() < refused {
-        return Some("no call found that there was no memory");
+        return Some("no call reported out of memory");
     }
     if record.refusals() > refused {
-        return Some("more than one call found no memory");
+        return Some("more than one call reported out of memory");
     }
     if !record.is_clean() {
-        return Some("a call that found no memory said it in other words, or changed something");
+        return Some("a call that was out of memory reported it wrongly, or changed something");
     }
     if record.text() != wanted.text() {
-        return Some("at last it comes to something else");
+        return Some("the last result differs");
     }
     None
 }
 
-/// Plays a scenario for each growth, from the first until none is refused.
+/// Plays a scenario with each allocation refused, and once with the number after the last.
 fn play_each(alloc: Global, parts: &[&str]) -> anyhow::Result<Counts> {
     let wanted = played(alloc, parts, 0)?;
     let growths = steering::growths();
@@ -94,11 +96,11 @@ fn play_each(alloc: Global, parts: &[&str]) -> anyhow::Result<Counts> {
         match played(alloc, parts, number) {
             Ok(record) => {
                 if let Some(fault) = fault_of(&record, refused, &wanted) {
-                    faults.push_str(format!(in alloc; "; growth {number}: {fault}")?.as_str())?;
+                    faults.push_str(format!(in alloc; "; allocation {number}: {fault}")?.as_str())?;
                 }
             }
             Err(fault) => faults.push_str(format!(in alloc;
-                "; growth {number}: {fault}"
+                "; allocation {number}: {fault}"
             )?.as_str())?,
         }
     }

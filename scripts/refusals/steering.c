@@ -1,6 +1,8 @@
-/* Counts growths, and refuses one of them: linked with the program of this folder, which says by the first three functions when.
+/* Counts allocations, and refuses one of them. Linked with the program of this folder, which calls the first three
+ * functions.
  *
- * `rt try` builds a program with a sanitizer, whose allocating functions a program may put its own before, under these names. */
+ * `rt try` builds a program with a sanitizer. A program may replace the sanitizer's allocating functions under these
+ * names. */
 #include <errno.h>
 #include <stddef.h>
 #include <stdint.h>
@@ -8,16 +10,16 @@
 static uint64_t seen, refused;
 static uint8_t is_watched;
 
-/* From now on the growth of this number is refused; none is at 0. */
+/* From now on, refuses the allocation of this number; 0 refuses none. */
 void refuse_growth(uint64_t number) {
     seen = 0;
     refused = number;
 }
 
-/* Whether growths count from now on. */
+/* Sets whether allocations count from now on. */
 void watch_growths(uint8_t is_on) { is_watched = is_on; }
 
-/* How many have counted since it was said which is refused. */
+/* Returns how many have counted since the last call of refuse_growth. */
 uint64_t growths_seen(void) { return seen; }
 
 static int refuses(void) { return is_watched && ++seen == refused; }

@@ -1,4 +1,4 @@
-//! Which growth is refused, and which calls' growths count.
+//! Chooses the refused allocation, and the calls whose allocations count.
 
 unsafe extern "C" {
     safe fn refuse_growth(number: u64);
@@ -8,17 +8,17 @@ unsafe extern "C" {
     safe fn growths_seen() -> u64;
 }
 
-/// From now on the growth of this number is refused; none is at 0.
+/// From now on, refuses the allocation of this number; 0 refuses none.
 pub fn refuse(number: u64) {
     refuse_growth(number)
 }
 
-/// How many growths the watched calls have had since it was said which is refused.
+/// The number of allocations of watched calls since the last call of [`refuse`].
 pub fn growths() -> u64 {
     growths_seen()
 }
 
-/// Makes a call whose growths count.
+/// Makes a call whose allocations count.
 pub fn watched<T, F: FnOnce() -> T>(call: F) -> T {
     watch_growths(true);
     let answer = call();

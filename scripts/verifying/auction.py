@@ -23,7 +23,7 @@ def check_setup(case: Case) -> str:
 
 
 def check_journal(case: Case) -> str:
-    """Each record is whole, and its digest follows from the one before. Nothing else is in the file."""
+    """Checks that each record is whole and follows from the one before, and that the file has nothing else."""
     last = case.records[-1] if case.records else None
     end = last.place + 40 + len(last.text) if last else 56
     if end != len(case.journal):
@@ -36,7 +36,7 @@ def check_journal(case: Case) -> str:
 
 
 def check_rules(case: Case) -> str:
-    """Every request is one that the rules accept."""
+    """Checks that the rules accept every request."""
     auction = case.counted.auction
     sheets = case.counted.texts - len(auction.rounds)
     ending = "the auction has ended" if auction.ended else "the auction has not ended"
@@ -44,7 +44,10 @@ def check_rules(case: Case) -> str:
 
 
 def check_digests(case: Case) -> str:
-    """Of each closing the published digest is that of the journal, and nothing is published that the journal lacks."""
+    """Compares the published digest of each closing with the journal's.
+
+    Nothing may be published that the journal lacks.
+    """
     if not case.rounds and not case.closings:
         raise Absent("no round is closed")
     if not case.rounds:
@@ -80,7 +83,7 @@ def page_of(setup_names: list[str], supplies: list[int], number: int, closed: Ro
 
 
 def check_results(case: Case) -> str:
-    """The published results of each round are those of the recount."""
+    """Compares the published results of each round with those of the recount."""
     names = [product.name for product in case.setup.products]
     supplies = [product.supply for product in case.setup.products]
     faults = []
@@ -97,7 +100,7 @@ def check_results(case: Case) -> str:
 
 
 def check_announcements(case: Case) -> str:
-    """The digest of each round was announced as it was published with the round."""
+    """Checks that each round was announced with the digest that was published with it."""
     made = case.json("announcements.json")["announcements"]
     announced = {one["key"]: re.findall(r"\b[0-9a-f]{64,}\b", one["text"]) for one in made}
     faults = [
@@ -111,7 +114,7 @@ def check_announcements(case: Case) -> str:
 
 
 def check_winners(case: Case) -> str:
-    """The published winners are those of the recount."""
+    """Compares the published winners with those of the recount."""
     winners, auction = case.json("winners.json"), case.counted.auction
     if not auction.ended:
         raise Failed("winners are published, and by the journal the auction has not ended")

@@ -1,4 +1,4 @@
-"""The files that are checked, and what is read of them."""
+"""The files that are checked, and their content."""
 import functools
 import hashlib
 import json
@@ -21,7 +21,7 @@ class Absent(Exception):
 class Case:
     """A set-up document, a journal, the folder of what was published, and bidders' files of receipts.
 
-    Each is read when a check needs it.
+    A check reads each when it needs it.
     """
 
     def __init__(self, setup: Path, journal: Path, published: Path, *receipts: Path) -> None:
@@ -45,7 +45,7 @@ class Case:
 
     @functools.cached_property
     def records(self) -> list[Record]:
-        """The whole records of the journal, which each follow from the one before."""
+        """The whole records of the journal. Each follows from the one before."""
         return list(records_in(self.document, self.journal))
 
     @functools.cached_property
@@ -58,7 +58,7 @@ class Case:
         return recount.recounted(self.document, self.journal)
 
     def json(self, name: str) -> Any:
-        """The value of a published file. It is Absent if there is no such file."""
+        """The value of a published file. Raises Absent if it does not exist."""
         path = self.published / name
         if not path.is_file():
             raise Absent(f"{path} is not there")
@@ -66,7 +66,7 @@ class Case:
 
     @functools.cached_property
     def rounds(self) -> dict[int, dict[str, Any]]:
-        """The published rounds, by number. It has Failed if there is a file of another name."""
+        """The published rounds, by number. Raises Failed if there is a file of another name."""
         files = list((self.published / "rounds").glob("*.json"))
         if strange := [file for file in files if not re.fullmatch("[1-9][0-9]{0,15}", file.stem)]:
             raise Failed(f"{strange[0]} is no round")

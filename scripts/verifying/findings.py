@@ -1,4 +1,4 @@
-"""All checks of a case, in order, and what each comes to."""
+"""All checks of a case, in order, and the result of each."""
 from collections.abc import Iterator
 from typing import NamedTuple
 
@@ -13,7 +13,7 @@ CHECKS = [*auction.FILES, promised.COMMITMENT_CHECK, *auction.ROUNDS, *promised.
 
 # What a fault of the set-up or of the journal means, by the first word of its fault line.
 MEANINGS = {
-    "journal_unknown": "the file is no journal",
+    "journal_unknown": "the file is not a journal",
     "journal_setup": "the journal is of another set-up document",
     "journal_damaged": "the file was changed from this byte on",
     "journal_refused": "the rules refuse the request at this byte, so it was changed, or one before it is missing",
@@ -21,7 +21,7 @@ MEANINGS = {
 
 
 class Finding(NamedTuple):
-    """What one check found: a result, its subject, and words."""
+    """The result of one check, with its subject, and words."""
 
     result: str
     subject: str
@@ -29,7 +29,7 @@ class Finding(NamedTuple):
 
 
 def findings(case: Case) -> Iterator[Finding]:
-    """What each check comes to. One that fails has a finding for each thing that is wrong."""
+    """The results of all checks. One that fails has a finding for each thing that is wrong."""
     for subject, check in CHECKS:
         try:
             yield Finding(OK, subject, check(case))
@@ -40,5 +40,5 @@ def findings(case: Case) -> Iterator[Finding]:
         except Refused as fault:
             meaning = MEANINGS.get(str(fault).partition(" ")[0], "the set-up document is refused")
             yield Finding(FAILED, subject, f"{fault}: {meaning}")
-        except Exception as fault:  # a file that somebody else wrote may be anything
+        except Exception as fault:  # A file that someone else wrote may have any content.
             yield Finding(FAILED, subject, f"cannot be checked: {fault!r}")

@@ -9,7 +9,7 @@ INDEX = "SHA256SUMS"
 
 
 def check_tables(case: Case) -> str:
-    """Each table of a record is the one that follows from the set-up, the journal, and what was published."""
+    """Compares each table of a record with what follows from the set-up, the journal, and what was published."""
     if not (case.published / INDEX).is_file():
         raise Absent(f"{case.published} is no record of deploy/record, and has no tables")
     published = {str(path.relative_to(case.published)): path.read_bytes() for path in case.published.rglob("*.json")}
@@ -30,7 +30,7 @@ def check_tables(case: Case) -> str:
 
 
 def check_index(case: Case) -> str:
-    """The index of a record lists each of its files once, with its SHA-256."""
+    """Checks that the index of a record lists each of its files once, with its SHA-256."""
     if not (case.published / INDEX).is_file():
         raise Absent(f"{case.published} has no {INDEX}")
     lines = (case.published / INDEX).read_text(encoding="utf-8").splitlines()

@@ -16,7 +16,7 @@ def commitment_of(case: Case) -> ties.Commitment:
 
 
 def check_commitment(case: Case) -> str:
-    """What was fixed before round 1 is about this set-up."""
+    """Checks that what was fixed before round 1 is about this set-up."""
     commitment = commitment_of(case)
     if commitment.auction != case.setup_digest:
         raise Failed(f"{COMMITMENT} is about the set-up {commitment.auction}, and this one is {case.setup_digest}")
@@ -33,7 +33,10 @@ def pairs_that_matter(case: Case, number: int) -> set[tuple[int, int]]:
 
 
 def check_ties(case: Case) -> str:
-    """The tie-breaking numbers of each closing follow from its seed, and the seed from the end of the chain."""
+    """Checks that the tie-breaking numbers of each closing follow from its seed.
+
+    The seed must lead to the end of the chain.
+    """
     chain, setup = commitment_of(case).chain, case.setup
     bodies = [request_in(record.text).body for record in case.records if record.text.startswith(b"POST ")]
     faults = []
@@ -54,7 +57,10 @@ def check_ties(case: Case) -> str:
 
 
 def check_receipts(case: Case) -> str:
-    """Each receipt that a bidder saved is about a sheet of the journal, which has no further sheet of this bidder."""
+    """Checks that each receipt that a bidder saved is about a sheet of the journal.
+
+    The journal may have no further sheet of this bidder.
+    """
     if not case.receipts:
         raise Absent("no bidder's receipts are given, and only they show a sheet cut or added before a closing")
     published, faults, count = commitment_of(case), [], 0
