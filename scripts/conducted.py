@@ -10,13 +10,14 @@ sys.path[:0] = [str(TOP / "deploy"), str(TOP / "scripts")]
 from conducting import commands
 from conducting.receiving import Desk, Sheets
 from conducting.report import State
-from trying import timetables as rows
+from trying import orders, timetables as rows
 from trying.stage import Stage
 
 CONDUCTOR, PUBLIC = "conductor.schema.json", "public.schema.json"
 FILES = [
     ("conductor.json", CONDUCTOR, "settings"),
     ("operator/conductor.json", CONDUCTOR, "report"),
+    ("asked/close.json", CONDUCTOR, "asked"),
     ("public/commitment.json", PUBLIC, "commitment"),
     ("public/timetable.json", PUBLIC, "timetable"),
     ("public/announcements.json", PUBLIC, "announcements"),
@@ -39,6 +40,8 @@ def texts(program: pathlib.Path) -> set[tuple[str, str, str]]:
         for until in (State.BEFORE, State.OPEN, State.DRAINING, State.CLOSED):
             stage.play(until)
             note()
+        orders.ask(stage)
+        note()
         commands.pause(stage.office(), "A fire alarm.")
         stage.look()
         note()

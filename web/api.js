@@ -5,6 +5,7 @@
 const SECONDS = 20;
 const CLOSING_SECONDS = 300;
 const SLOW_SECONDS = 3;
+const ASKED = "/asked/close.json";
 
 /** A refusal of the server, or no answer: then `status` is 0, and the request may have taken effect or not. */
 export class Fault extends Error {
@@ -37,6 +38,7 @@ export class Asker {
         continue;
       }
       const page = await reply.json().catch(() => null);
+      if (path === ASKED && reply.ok) return null;
       if (reply.ok && ["round", "products", "closed", "state", "auction"].some((key) => page?.[key])) return page;
       // nginx without the server, or neither of them
       if (reply.ok || !page?.code || (page.code === "proxy" && reply.status >= 500)) throw noAnswer();
@@ -65,6 +67,7 @@ export class Asker {
   slip(n) { return this.ask("/v1/me/rounds/" + n); }
   put(round, bids) { return this.ask("/v1/me/bids", "PUT", { bids, round }); }
   close(closing) { return this.ask("/v1/close", "POST", closing); }
+  askConductor(closing) { return this.ask(ASKED, "PUT", closing); }
   results() { return this.ask("/v1/results"); }
   conductor() { return this.ask("/conductor.json"); }
   commitment() { return this.ask("/public/commitment.json"); }

@@ -123,10 +123,10 @@ function closing() {
   return page.version === 1 ? { ...base, increment: Number(one) } : { ...base, increments: all.map(Number) };
 }
 
-/** Why this page may not close a round, or nothing. From round 2 on, tie-breaking numbers come from a seed, which no browser has. */
-async function whyNot(round) {
+/** Whether only the conductor can close a round: from round 2 on, tie-breaking numbers come from a seed, which no browser has. */
+async function needsSeed(round) {
   const { chain } = round === 1 ? {} : await asker.commitment().catch(() => ({ chain: "not known" }));
-  return chain ? `round ${round} needs tie-breaking numbers from its seed: use deploy/close, or let the conductor close it` : "";
+  return Boolean(chain);
 }
 
 /** Who has submitted bids, for the question before a closing. */
@@ -146,7 +146,21 @@ function questionOf(asked) {
   const sheets = conductor.sheetsOf(asked.round, results.bidders.map((bidder) => bidder.name));
   const words = `Close round ${asked.round} for all bidders? Clock prices rise by ${low === high ? low : `${low} to ${high}`} percent. ` +
     `${sheetWords(sheets, asked.round)}${conductor.early()} Bids that have not arrived will not count. This cannot be undone.`;
-  return [words, sheets?.submitted.length === 0 ? "Close it without any bids" : "Close the round"];
+  return [words, isEmpty(asked.round) ? "Close it without any bids" : "Close the round"];
+}
+
+/** Whether it is known that nobody has submitted bids in a round. */
+const isEmpty = (round) => conductor.sheetsOf(round, results.bidders.map((bidder) => bidder.name))?.submitted.length === 0;
+
+/** Has the conductor close the round with the numbers of its seed. It says in its report if it does not. */
+async function closeBySeed({ ties: _, ...asked }) {
+  if (!conductor.isRunning()) {
+    return say(`⚠ Not closed: round ${asked.round} needs tie-breaking numbers from its seed. Start the conductor, or use deploy/close.`);
+  }
+  const [words, yes] = questionOf(asked), without_sheets = isEmpty(asked.round);
+  if (!await question(words, yes)) return;
+  say(`Asking the conductor to close round ${asked.round} …`);
+  await asker.askConductor({ ...asked, without_sheets }).catch(tellRefused);
 }
 
 /** Asks first, and closes the round that the question names, even if another one is open by then. `heard` says when it is closed. */
@@ -154,8 +168,7 @@ async function close() {
   const asked = closing();
   if (!asked) return say("⚠ Not closed: " + wordsOf("increment") + ".");
   if (asked.round === underWay) return say(`Round ${underWay} is already being closed.`);
-  const why = await whyNot(asked.round);
-  if (why) return say(`⚠ Not closed: ${why}.`);
+  if (await needsSeed(asked.round)) return closeBySeed(asked);
   if (!await question(...questionOf(asked))) return;
   underWay = asked.round;
   say(`Closing round ${underWay} …`);

@@ -155,6 +155,16 @@ def fixed_increments(auction: Auction, number: int) -> Increments | None:
     return [body["increment"]] if auction.setup.version == 1 else body["increments"]
 
 
+def check_fixed(auction: Auction, number: int, increments: Increments) -> None:
+    """Refuses other increments than those of a body that is on disk already."""
+    before = fixed_increments(auction, number)
+    if before not in (None, spread(auction.setup, increments)):
+        raise NotClosed(
+            f"{auction.body_file(number)} was made before, with the increments {before}, and may still arrive. Give "
+            "these."
+        )
+
+
 def fix(auction: Auction, number: int, increments: Increments, ties: Ties) -> Origin:
     """Brings the body of this round's closing to the disk.
 

@@ -85,7 +85,7 @@ class Conductor:
         if doubt := self.watch.answered(plan, self.number):
             self.doubt(plan, doubt)
         self.publish(plan, closed, status["ended"])
-        return self.follow(plan, self.number, status["ended"])
+        return self.close_as_asked(plan, self.number, status["ended"]) or self.follow(plan, self.number, status["ended"])
 
     def look_at_clock(self, plan: Plan) -> None:
         """If the clock was set before the end, shuts the gate and pauses: the time of day then decides nothing."""
@@ -115,8 +115,9 @@ class Conductor:
             return Report(State.ENDED, f"The auction ended after round {number}.")
         if plan.paused:
             return Report(State.PAUSED, f"Round {number} is paused. {plan.paused.words} To continue: resume.")
+        doubt = f" It waits for your word: {plan.doubt.words}." if plan.doubt and plan.doubt.round == number else ""
         if window is None:
-            return Report(State.UNPLANNED, f"Round {number} has no window. To give it one: plan FILE.")
+            return Report(State.UNPLANNED, f"Round {number} has no window. To give it one: plan FILE.{doubt}")
         if now < window.opens:
             return Report(State.BEFORE, f"Round {number} opens at {in_words(window.opens)}.", window.opens)
         closes = window.closes + self.office.settings.drain
@@ -153,22 +154,56 @@ class Conductor:
 
     def close(self, plan: Plan, number: int, window: Window) -> Report:
         """Closes the round unless something speaks against it, and publishes it at once."""
+        self.check_journal(number)
+        if reason := self.reason_to_wait(plan, number, window):
+            word = f"next {number}" + ("" if self.office.journal.sheets else " --without-sheets")
+            return Report(
+                State.HELD,
+                f"Round {number} is not closed: {reason}. To close it: {word}. To open its window again: extend "
+                "MINUTES.",
+            )
+        results = self.office.board.results(number - 1)
+        return self.send(plan, number, increments_for(plan.increments, self.office.setup, number + 1, results))
+
+    def check_journal(self, number: int) -> None:
+        """Refuses a journal that is in another round than the server."""
         journal = self.office.journal
         if journal.round != number:
             raise JournalFault(
                 f"{journal.path} is in round {journal.round}, and the server in round {number}. Is it the server's "
                 "own, and no copy?"
             )
-        if reason := self.reason_to_wait(plan, number, window):
-            word = f"next {number}" + ("" if journal.sheets else " --without-sheets")
-            return Report(
-                State.HELD,
-                f"Round {number} is not closed: {reason}. To close it: {word}. To open its window again: extend "
-                "MINUTES.",
-            )
-        auction, results = self.office.auction, self.office.board.results(number - 1)
+
+    def close_as_asked(self, plan: Plan, number: int, ended: bool) -> Report | None:
+        """Closes the round now if the operator's page asks for it, or returns None.
+
+        If something speaks against it, the round waits for a word. If the server is gone, the request stays until it is
+        too old.
+        """
+        office = self.office
+        asked = office.asked.read(office.clock.wall())
+        if asked is None:
+            return None
+        if ended or asked.round != number:
+            office.asked.remove()  # it was carried out before a kill, or comes too late
+            return None
+        self.check_journal(number)
+        office.gate.shut()
+        try:
+            if not office.journal.sheets and not asked.without_sheets:
+                raise NotClosed("nobody has a sheet in force")
+            closing.check_fixed(office.auction, number, asked.increments)
+            report = self.send(plan, number, asked.increments)
+        except NotClosed as reason:
+            self.doubt(plan, Doubt(number, f"the operator's page asked for it, but {reason}"))
+            report = Report(State.HELD, f"Round {number} is not closed: {reason}.")
+        office.asked.remove()
+        return report
+
+    def send(self, plan: Plan, number: int, increments: closing.Increments) -> Report:
+        """Closes the round, unless the server refuses, and publishes it at once."""
+        auction = self.office.auction
         with disk.locked(auction.lock()):
-            increments = increments_for(plan.increments, self.office.setup, number + 1, results)
             origin: Origin = closing.fix(auction, number, increments, Ties.OF_CHAIN)
             answer = closing.send(auction, number, origin)
         if answer.outcome is Outcome.REFUSED:

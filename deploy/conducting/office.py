@@ -4,6 +4,7 @@ from collections.abc import Callable, Iterator
 from pathlib import Path
 
 from . import disk
+from .asked import Asked
 from .board import Board
 from .clock import Clock, MachineClock
 from .closing import Auction
@@ -29,6 +30,7 @@ class Office:
         self.operator = Operator(self.settings.url, self.settings.token.read_text(encoding="utf-8").strip())
         self.auction = Auction(self.operator, self.setup, self.journal, self.folders.kept)
         self.auction.chain()  # there must be one
+        self.asked = Asked(self.folders.asked / "close.json", self.setup)
         self.plan_file, self.board, self.gate = (
             PlanFile(self.folders.state / "plan.json"),
             Board(self.folders),

@@ -84,6 +84,11 @@ class Folders:
         return self.top / "operator"
 
     @property
+    def asked(self) -> Path:
+        """For nginx's workers to write: what the operator's page asks for."""
+        return self.top / "asked"
+
+    @property
     def kept(self) -> Path:
         """For the operator: closings and pages, as deploy/close stores them."""
         return self.top / "kept"
@@ -102,20 +107,22 @@ class Folders:
             (self.public, 0o755),
             (self.rounds, 0o755),
             (self.operator, 0o750),
+            (self.asked, 0o770),
             (self.kept, 0o700),
             (self.state, 0o700),
         ):
             disk.make_folder(folder, mode)
             disk.sync_folder(folder)
         if os.geteuid() == 0:  # else nginx's workers are this user
-            self.give_report_to(readers)
+            self.give_to(readers)
 
-    def give_report_to(self, readers: str) -> None:
-        """Gives the folder of the report, and the files made in it, to this group."""
+    def give_to(self, readers: str) -> None:
+        """Gives the folders of the report and of requests, and the files made in them, to this group."""
         try:
             group = grp.getgrnam(readers).gr_gid
         except KeyError as error:
             raise SettingsFault(f"conductor.json: no group is called {readers!r}") from error
-        if self.operator.stat().st_gid != group or not self.operator.stat().st_mode & stat.S_ISGID:
-            os.chown(self.operator, -1, group)
-            self.operator.chmod(0o2750)
+        for folder, mode in ((self.operator, 0o2750), (self.asked, 0o2770)):
+            if folder.stat().st_gid != group or not folder.stat().st_mode & stat.S_ISGID:
+                os.chown(folder, -1, group)
+                folder.chmod(mode)

@@ -1,11 +1,13 @@
 """What the operator says to a running auction, by the fake clock."""
 import json
+import os
 import pathlib
 from collections.abc import Iterator
+from typing import Any
 
 from conducting import commands
 from conducting.report import State
-from trying.stage import BEGIN, WINDOWS, ensure, is_refused, nothing_goes_wrong, stage_of
+from trying.stage import BEGIN, WINDOWS, Stage, ensure, is_refused, nothing_goes_wrong, stage_of
 
 
 def try_pause(program: pathlib.Path) -> str:
@@ -153,6 +155,93 @@ def try_killed_commands(program: pathlib.Path) -> str:
     )
 
 
+def ask(stage: Stage, age: float = 0, **request: Any) -> None:
+    """The operator's page asks for a closing, this number of seconds ago."""
+    text = json.dumps({"round": 1, "increment": 20, "without_sheets": False, **request})
+    path, asked_at = stage.folder / "asked/close.json", stage.time.wall() - age
+    path.write_text(text)
+    os.utime(path, (asked_at, asked_at))
+
+
+def is_left(stage: Stage) -> bool:
+    """Whether a request of the page is there."""
+    return (stage.folder / "asked/close.json").exists()
+
+
+def try_asked(program: pathlib.Path) -> str:
+    """A round is closed early, with its seed, if the operator's page asks for it."""
+    with stage_of(program) as stage:
+        stage.play(State.OPEN)
+        stage.bid()
+        for words in ({"age": 16}, {"age": -16}, {"round": 2}, {"increment": "20"}, {"increments": [20]}, {"round": 1.0}):
+            ask(stage, **words)
+            ensure(f"not closed: {words}", stage.look() is State.OPEN and not is_left(stage), stage.words())
+        for text in ("", "{", "[" * 65_000, "[]", '{"round":1}'):
+            (stage.folder / "asked/close.json").write_text(text)
+            ensure(f"not closed: {text[:9]}", stage.look() is State.OPEN and not is_left(stage), stage.words())
+        ask(stage)
+        ensure("closed", stage.look() is State.CLOSED and not is_left(stage) and not stage.is_open(), stage.words())
+        body = json.loads((stage.folder / "kept/closing-1.json").read_text())
+        ensure("with the increment of the page", body["increment"] == 20, body)
+        ask(stage, age=5)
+        ensure("not once more", stage.look() is State.BEFORE and not is_left(stage), stage.words())
+        stage.play(State.OPEN)
+        stage.bid()
+        ask(stage, round=2)
+        ensure("a later round", stage.look() is State.CLOSED, stage.words())
+        nothing_goes_wrong(stage)
+    return "asked: the operator's page has a round closed with its seed; what is old, of another round, or no request is not"
+
+
+def try_asked_in_vain(program: pathlib.Path) -> str:
+    """A round for which the page asks in vain waits for a word."""
+    with stage_of(program, []) as stage:
+        stage.play(State.UNPLANNED)
+        ask(stage)
+        ensure("nobody has a sheet", stage.look() is State.HELD and not is_left(stage), stage.words())
+        ensure("and it says so", stage.look() is State.UNPLANNED and "but nobody has a sheet" in stage.words())
+        for name in "XY":
+            ensure("a sheet", stage.put(name, 1, 2, 100))
+        ask(stage, increment=51)
+        ensure("refused by the server", stage.look() is State.HELD and "'increment'" in stage.words(), stage.words())
+        stage.kill_server()
+        ask(stage)
+        ensure("without a server it stays", stage.look() is State.GONE and is_left(stage), stage.words())
+        stage.begin_server()
+        ensure("and is carried out", stage.look() is State.CLOSED, stage.words())
+        ask(stage, round=2, without_sheets=True)
+        stage.last = 2
+        ensure("without sheets", stage.look() is State.CLOSED and not is_left(stage), stage.words())
+        stage.play()
+        stage.check()
+    return "asked in vain: without sheets, or refused by the server, the round waits for a word"
+
+
+def try_asked_and_killed(program: pathlib.Path) -> str:
+    """A conductor that is killed at any step of such a closing closes the round once."""
+    kills, was_killed = 0, True
+    while was_killed:
+        with stage_of(program, []) as stage:
+            stage.last = 2
+            for name in "XY":
+                ensure("a sheet", stage.put(name, 1, 2 if name == "X" else 1, 100))
+            stage.look()
+            ask(stage)
+            stage.disk.count, stage.disk.kill_at = 0, kills + 1
+            was_killed = stage.look() is None
+            kills += was_killed
+            stage.disk.kill_at = 0
+            stage.conductor = stage.fresh()
+            stage.look()
+            stage.look()
+            ensure(f"killed before step {kills}", stage.conductor.office.board.published() == 1, stage.states)
+            ask(stage, round=2, without_sheets=True)
+            stage.play()
+            stage.check()
+    return f"asked and killed: before each of {kills} steps, the round is closed once"
+
+
 def try_orders(program: pathlib.Path) -> Iterator[str]:
-    for part in (try_pause, try_extend, try_pause_in_a_look, try_pause_without_server, try_killed_commands):
+    parts = (try_pause, try_extend, try_pause_in_a_look, try_pause_without_server, try_killed_commands)
+    for part in (*parts, try_asked, try_asked_in_vain, try_asked_and_killed):
         yield part(program)

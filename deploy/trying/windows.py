@@ -4,6 +4,7 @@ report.
 import concurrent.futures
 import http.client
 import json
+import os
 import shutil
 import time
 
@@ -201,3 +202,44 @@ def try_report(place, server, operator):
         "report: the conductor's report is for the operator's token at the operator's port only, and never reaches the "
         "server"
     )
+
+
+def asks(port, path, method, body, **lines):
+    """The status with which a request at the operator's port is answered."""
+    connection = http.client.HTTPConnection("127.0.0.1", port, timeout=10)
+    connection.request(method, path, body, {name.replace("_", "-"): text for name, text in lines.items()})
+    status = connection.getresponse().status
+    connection.close()
+    return status
+
+
+def try_asked(place, server, operator):
+    """The operator's page asks for a closing by a file that nginx writes for the operator's token only."""
+    before, folder, path, body = len(server.seen), place.folder / "asked", "/asked/close.json", b'{"round":2}'
+    token = f"Bearer {operator}"
+    folder.mkdir()
+    if os.geteuid() == 0:  # else nginx's workers are this user
+        shutil.chown(folder, group="nogroup")
+    folder.chmod(0o2770)
+    for words in ({}, {"authorization": f"Bearer {BIDDER}"}):
+        ensure(f"asked with {words}", asks(place.inside, path, "PUT", body, **words) == 401)
+    refused = [
+        (403, path, "PUT", body, {"sec_fetch_site": "cross-site"}),
+        (413, path, "PUT", b"x" * 65_537, {}),
+        (405, path, "DELETE", None, {}),
+        (404, "/asked/other.json", "PUT", body, {}),
+        (404, "/asked/", "PUT", body, {}),
+    ]
+    for status, other, method, text, words in refused:
+        found = asks(place.inside, other, method, text, authorization=token, **words)
+        ensure(f"{method} {other} with {len(text or b'')} bytes and {words}", found == status, found)
+    ensure("nothing is written", not list(folder.iterdir()), list(folder.iterdir()))
+    answer = Client(place.outside).ask("PUT", path, operator, body=body)
+    ensure("asked at the bidders' port", is_refusal(answer, 404, "no_page"), answer)
+    for text, status in ((body, 201), (b'{"round":3}', 204)):
+        ensure("asked", asks(place.inside, path, "PUT", text, authorization=token) == status)
+        ensure("what is asked", (folder / "close.json").read_bytes() == text)
+    mode = (folder / "close.json").stat().st_mode & 0o777
+    ensure("it is for nginx's workers and root only", mode == 0o600, oct(mode))
+    ensure("a request to the conductor cost the server a connection", len(server.seen) == before)
+    print("asked: only the operator's token at the operator's port asks the conductor for something")

@@ -3,6 +3,7 @@ import json
 import os
 import pathlib
 import ssl
+import subprocess
 import sys
 import time
 import urllib.error
@@ -45,9 +46,18 @@ def wait_for(what, look):
 class Stand:
     """An auction of its own: bidders come over TLS, the operator on the machine itself."""
 
-    def __init__(self, program, setup):
-        # without tie-breaking numbers, since the operator's page can close such an auction
-        self.place = Place(program, json.dumps(setup), has_ties=False)
+    def __init__(self, program, setup, has_ties=False):
+        """Without tie-breaking numbers the operator's page can close each round by itself."""
+        self.place = Place(program, json.dumps(setup), has_ties=has_ties)
+
+    def begin_conductor(self):
+        """Starts the conductor, without a timetable."""
+        folder, port = self.place.folder, self.place.inside
+        files = {"setup": "setup.json", "token": "operator.token", "journal": "auction.journal"}
+        (folder / "operator.token").write_text("OPERATOROPERATOR")
+        (folder / "conductor.json").write_text(json.dumps({"url": f"http://127.0.0.1:{port}", **files}))
+        words = [sys.executable, TOP / "deploy/conductor", folder, "run"]
+        return self.place.keep(subprocess.Popen(words, stdin=subprocess.DEVNULL, stdout=subprocess.DEVNULL))
 
     def address(self, page):
         place = self.place
