@@ -5,8 +5,8 @@
 
 URL begins with http:// or https://. LIMITS is a file such as {"North": [2300, 1900], "South": [610]}: for each product,
 up to which price you want the first block, the second, and so on, never rising. The token is in the environment, and so
-neither in the shell's history nor in the list of processes. CA names a file of certificates if the system's do not cover
-the server.
+neither in the shell's history nor in the list of processes. CA names a file of certificates if the system's do not
+cover the server.
 
 It prints each round's sheet, then the round's results for this bidder ("slip"), and at the end what it won.
 
@@ -59,9 +59,15 @@ RECEIPT = {"auction": str, "bidder": str, "body": str, "round": int, "sheet": in
 def has_shape(page, shape, products):
     """Whether a page has what is read of it. The number of products is None until it is known."""
     if isinstance(shape, dict):
-        return isinstance(page, dict) and all(key in page and has_shape(page[key], inner, products) for key, inner in shape.items())
+        return isinstance(page, dict) and all(
+            key in page and has_shape(page[key], inner, products) for key, inner in shape.items()
+        )
     if isinstance(shape, list):
-        return isinstance(page, list) and products in (None, len(page)) and all(has_shape(part, shape[0], products) for part in page)
+        return (
+            isinstance(page, list)
+            and products in (None, len(page))
+            and all(has_shape(part, shape[0], products) for part in page)
+        )
     return isinstance(page, shape)
 
 
@@ -83,11 +89,14 @@ class Auction:
         self.url, self.token, self.every = url.rstrip("/"), token, every
         self.products, self.is_in_doubt = None, False
         tls = ssl.create_default_context(cafile=os.environ.get("CA")) if url.startswith("https") else None
-        proxies = urllib.request.ProxyHandler(None if tls else {})      # without TLS, the proxy of `http_proxy` would see the token
+        proxies = urllib.request.ProxyHandler(
+            None if tls else {}
+        )  # without TLS, the proxy of `http_proxy` would see the token
         self.opener = urllib.request.build_opener(EachReply, proxies, urllib.request.HTTPSHandler(context=tls))
 
     def ask(self, path, shape, sheet=None, may_lack=False):
-        """Returns the page. Repeats the request if no reply came, another page, or a busy server. A refusal ends the program.
+        """Returns the page. Repeats the request if no reply came, another page, or a busy server. A refusal ends the
+        program.
 
         With `may_lack`, a page that does not exist is None.
         """
@@ -99,7 +108,7 @@ class Auction:
             try:
                 with self.opener.open(request, timeout=30) as reply:
                     text = reply.read()
-                if reply.status == 409 and b'"window"' in text:         # from nginx; the timetable says for how long
+                if reply.status == 409 and b'"window"' in text:  # from nginx; the timetable says for how long
                     given_up = time.monotonic() + PATIENCE
                     time.sleep(self.every)
                     continue
@@ -121,7 +130,9 @@ class Auction:
         """The start-of-round and clock prices of a round."""
         if number == 1:
             return [(product["opening"], product["opening"]) for product in products]
-        return [(product["posted"], product["next"]) for product in self.ask(f"/v1/rounds/{number - 1}", PRICES)["products"]]
+        return [
+            (product["posted"], product["next"]) for product in self.ask(f"/v1/rounds/{number - 1}", PRICES)["products"]
+        ]
 
     def wait(self, number, sheet):
         """Returns when a round is closed. It sleeps first, because a proxy's status may be a second old."""
@@ -131,7 +142,9 @@ class Auction:
                 return
             looks, self.is_in_doubt = self.is_in_doubt or times % LOOK == 0, False
             if looks and self.ask("/v1/me/bids", IN_FORCE)["bids"] is None:
-                if last_closed(self.ask("/v1/me", ACCOUNT), number) < number:       # else none is in force because the round is closed
+                if (
+                    last_closed(self.ask("/v1/me", ACCOUNT), number) < number
+                ):  # else none is in force because the round is closed
                     print(f"the sheet of round {number} is no longer in force: submitting it again", file=sys.stderr)
                     self.ask("/v1/me/bids", ACCEPTED, sheet)
 
@@ -230,7 +243,8 @@ def is_signed(key, receipt):
 
 
 def last_closed(page, number):
-    """The last closed round, by a page that has the current one. Ends the program if that fell, or a round was missed."""
+    """The last closed round, by a page that has the current one. Ends the program if that fell, or a round was missed.
+    """
     closed = page["round"] if page["ended"] else page["round"] - 1
     if page["round"] < number:
         sys.exit(f"the round fell from {number} to {page['round']}: another server answers")
@@ -240,7 +254,8 @@ def last_closed(page, number):
 
 
 def steps_of(limits, held, start, clock):
-    """Quantities and prices. A block leaves at its limit, but not below the start-of-round price, and there if it has none.
+    """Quantities and prices. A block leaves at its limit, but not below the start-of-round price, and there if it has
+    none.
 
     If no block leaves, the bid maintains demand.
     """
@@ -257,7 +272,10 @@ def bids_of(wanted, products, prices, held, number):
         limits = wanted.get(product["name"], [])
         # in round 1 it bids for the blocks with a limit at or above the opening price
         blocks = sum(limit >= clock for limit in limits) if number == 1 else held[place]
-        bids += [{"price": price, "product": place, "quantity": quantity} for quantity, price in steps_of(limits, blocks, start, clock)]
+        bids += [
+            {"price": price, "product": place, "quantity": quantity}
+            for quantity, price in steps_of(limits, blocks, start, clock)
+        ]
     return bids
 
 
@@ -286,14 +304,17 @@ def play(auction, wanted, path):
     receipts = Receipts(auction, path)
     while not account["ended"]:
         number = account["round"]
-        sheet = {"bids": bids_of(wanted, products, auction.prices(products, number), account["demands"], number), "round": number}
+        sheet = {
+            "bids": bids_of(wanted, products, auction.prices(products, number), account["demands"], number),
+            "round": number,
+        }
         print("sheet", json.dumps(sheet), auction.ask("/v1/me/bids", ACCEPTED, sheet)["accepted"], flush=True)
         receipts.await_one(sheet)
         for closed in range(1, number)[-1:]:
-            receipts.check_seed(closed)         # of the round before, which is published by now
+            receipts.check_seed(closed)  # of the round before, which is published by now
         auction.wait(number, sheet)
         while receipts.take(number, text_of(sheet)):
-            pass                                # those that came late, or of sheets that were submitted in another way
+            pass  # those that came late, or of sheets that were submitted in another way
         print("slip", json.dumps(auction.ask(f"/v1/me/rounds/{number}", SLIP)), flush=True)
         account = auction.ask("/v1/me", ACCOUNT)
         last_closed(account, number)

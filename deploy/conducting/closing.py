@@ -121,7 +121,10 @@ def pairs_that_matter(auction: Auction) -> set[tuple[int, int]]:
     """The pairs with processed demand or with a bid in force."""
     bidders = auction.operator.page("/v1/results")["bidders"]
     demands = {
-        (bidder, product) for bidder, row in enumerate(bidders) for product, blocks in enumerate(row["demands"]) if blocks
+        (bidder, product)
+        for bidder, row in enumerate(bidders)
+        for product, blocks in enumerate(row["demands"])
+        if blocks
     }
     return demands | auction.journal.asked()
 

@@ -1,4 +1,5 @@
-"""What the operator fixes before round 1: the chain of seeds and the key of receipts, and what everyone sees of both."""
+"""What the operator fixes before round 1: the chain of seeds and the key of receipts, and what everyone sees of both.
+"""
 import dataclasses
 import json
 from pathlib import Path

@@ -77,15 +77,19 @@ class Conductor:
             self.office.gate.shut()
             return Report(
                 State.MISMATCH,
-                f"The server is in round {self.number}, and round {self.office.board.published()} is published as "
-                "closed: "
-                "another server answers, or it has lost its journal. Tell bidders to stop.",
+                (
+                    f"The server is in round {self.number}, and round {self.office.board.published()} is published as "
+                    "closed: "
+                    "another server answers, or it has lost its journal. Tell bidders to stop."
+                ),
             )
         self.office.journal.read_on()
         if doubt := self.watch.answered(plan, self.number):
             self.doubt(plan, doubt)
         self.publish(plan, closed, status["ended"])
-        return self.close_as_asked(plan, self.number, status["ended"]) or self.follow(plan, self.number, status["ended"])
+        return self.close_as_asked(plan, self.number, status["ended"]) or self.follow(
+            plan, self.number, status["ended"]
+        )
 
     def look_at_clock(self, plan: Plan) -> None:
         """If the clock was set before the end, shuts the gate and pauses: the time of day then decides nothing."""
@@ -159,8 +163,10 @@ class Conductor:
             word = f"next {number}" + ("" if self.office.journal.sheets else " --without-sheets")
             return Report(
                 State.HELD,
-                f"Round {number} is not closed: {reason}. To close it: {word}. To open its window again: extend "
-                "MINUTES.",
+                (
+                    f"Round {number} is not closed: {reason}. To close it: {word}. To open its window again: extend "
+                    "MINUTES."
+                ),
             )
         results = self.office.board.results(number - 1)
         return self.send(plan, number, increments_for(plan.increments, self.office.setup, number + 1, results))

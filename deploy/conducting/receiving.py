@@ -53,8 +53,8 @@ class Desk:
     def look(self, pause: Callable[[], None] = lambda: None) -> int:
         """Signs what the journal has and is not published. Returns how many receipts that is.
 
-        The journal is brought to the disk first: a receipt is never for a sheet that a crash could still take. After the
-        pause all are published at once. So the moment says nothing of how many sheets came from others.
+        The journal is brought to the disk first: a receipt is never for a sheet that a crash could still take. After
+        the pause all are published at once. So the moment says nothing of how many sheets came from others.
         """
         self.sheets.read_on()
         missing = [receipt for receipt in self.sheets.fresh if not self.file(receipt).exists()]

@@ -4,8 +4,10 @@ import threading
 
 
 class Between:
-    """Hands requests on to a server of this machine. `lose` is None, "request", "reply" or "half" of it, and holds for closings alone;
-    `closings` are the texts of closings that came; `look` is called for each before anything is done with it."""
+    """Hands requests on to a server of this machine. `lose` is None, "request", "reply" or "half" of it, and holds for
+    closings alone; `closings` are the texts of closings that came; `look` is called for each before anything is done
+    with it.
+    """
 
     def __init__(self, port, server_port):
         self.server_port, self.lose, self.closings, self.look = server_port, None, [], lambda: None

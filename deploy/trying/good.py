@@ -1,4 +1,6 @@
-"""Good clients: bidders over TLS with one connection each, whose sheets follow from what they see and from a seed alone."""
+"""Good clients: bidders over TLS with one connection each, whose sheets follow from what they see and from a seed
+alone.
+"""
 import asyncio
 import json
 import random
@@ -8,7 +10,7 @@ import time
 from .place import Failed
 
 TLS = ssl.create_default_context()
-TLS.check_hostname, TLS.verify_mode = False, ssl.CERT_NONE      # the certificate of a trial is its own
+TLS.check_hostname, TLS.verify_mode = False, ssl.CERT_NONE  # the certificate of a trial is its own
 SECONDS = 20
 MOST_PRODUCTS = 40
 
@@ -25,14 +27,19 @@ class Good:
         self.number, self.token, self.port = number, token, port
         self.random = random.Random(f"good {number}")
         wanted = self.random.sample(range(products), min(products, MOST_PRODUCTS))
-        self.wants = {product: (self.random.randrange(1, 4), 100 * self.random.randrange(10, 26)) for product in sorted(wanted)}
+        self.wants = {
+            product: (self.random.randrange(1, 4), 100 * self.random.randrange(10, 26)) for product in sorted(wanted)
+        }
         self.waits, self.seen = [], {}
         self.reader = self.writer = None
 
     async def ask(self, method, path, value=None):
         """The page for a path. Another status than 200 is a fault: each request is one that the rules allow."""
         body = json.dumps(value).encode() if value is not None else b""
-        head = f"{method} {path} HTTP/1.1\r\nhost: localhost\r\nauthorization: Bearer {self.token}\r\ncontent-length: {len(body)}\r\n\r\n"
+        head = (
+            f"{method} {path} HTTP/1.1\r\nhost: localhost\r\nauthorization: Bearer {self.token}\r\ncontent-length:"
+            f" {len(body)}\r\n\r\n"
+        )
         start = time.monotonic()
         try:
             status, page = await asyncio.wait_for(self.exchanged(head.encode() + body), SECONDS)
@@ -47,14 +54,18 @@ class Good:
     async def exchanged(self, text):
         """Status and page of a reply on the connection that is kept; the first one makes it."""
         if self.writer is None:
-            self.reader, self.writer = await asyncio.open_connection("127.0.0.1", self.port, ssl=TLS, local_addr=(address(self.number), 0))
+            self.reader, self.writer = await asyncio.open_connection(
+                "127.0.0.1", self.port, ssl=TLS, local_addr=(address(self.number), 0)
+            )
         self.writer.write(text)
         head = (await self.reader.readuntil(b"\r\n\r\n")).lower()
         length = int(head.partition(b"content-length: ")[2].split(b"\r\n")[0])
         return int(head.split()[1]), await self.reader.readexactly(length)
 
     def sheet(self, number, account, last):
-        """In round 1 what it wants at the opening price; later it keeps what its limits pay for, and lets go of the rest."""
+        """In round 1 what it wants at the opening price; later it keeps what its limits pay for, and lets go of the
+        rest.
+        """
         bids = []
         for product, (quantity, limit) in self.wants.items():
             if number == 1:
@@ -62,7 +73,13 @@ class Good:
             elif held := account["demands"][product]:
                 start, clock = last["products"][product]["posted"], last["products"][product]["next"]
                 keeps = limit >= clock
-                bids.append({"price": clock if keeps else max(start, limit), "product": product, "quantity": held if keeps else 0})
+                bids.append(
+                    {
+                        "price": clock if keeps else max(start, limit),
+                        "product": product,
+                        "quantity": held if keeps else 0,
+                    }
+                )
         return {"bids": bids, "round": number}
 
     async def bid(self, number, last):

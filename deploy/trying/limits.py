@@ -83,7 +83,9 @@ def held_too_many(port, address, token, most):
 
 
 def try_limits(port, tokens):
-    """Returns how many requests were refused or answered otherwise than the bare server does. The tokens are of bidders whose auction has ended."""
+    """Returns how many requests were refused or answered otherwise than the bare server does. The tokens are of bidders
+    whose auction has ended.
+    """
     one, other = tokens
     body = b'{"round":1,"bids":[]}'
     chunked = b"%x\r\n%s\r\n0\r\n\r\n" % (len(body), body)
@@ -100,11 +102,26 @@ def try_limits(port, tokens):
     with connected(port, "127.9.0.1", ("h2", "http/1.1")) as peer:
         if peer.selected_alpn_protocol() != "h2":
             raise Failed("HTTP/2 is not spoken")
-    expect("a body that is too long", asked(port, "127.9.0.1", head("PUT", "/v1/me/bids", one, "content-length: 1048577")), 413, "long_body")
-    expect("a line that is too long", asked(port, "127.9.0.1", head("GET", "/v1/status", one, "x: " + "y" * 5000)), 431, "long_head")
+    expect(
+        "a body that is too long",
+        asked(port, "127.9.0.1", head("PUT", "/v1/me/bids", one, "content-length: 1048577")),
+        413,
+        "long_body",
+    )
+    expect(
+        "a line that is too long",
+        asked(port, "127.9.0.1", head("GET", "/v1/status", one, "x: " + "y" * 5000)),
+        431,
+        "long_head",
+    )
     expect("no host", asked(port, "127.9.0.1", b"GET /v1/status HTTP/1.1\r\n\r\n"), 400, "bad_head")
     expect("another method", asked(port, "127.9.0.1", head("TRACE", "/v1/status", one)), 405, "method")
-    expect("another coding", asked(port, "127.9.0.1", head("PUT", "/v1/me/bids", one, "transfer-encoding: gzip")), 501, "coding")
+    expect(
+        "another coding",
+        asked(port, "127.9.0.1", head("PUT", "/v1/me/bids", one, "transfer-encoding: gzip")),
+        501,
+        "coding",
+    )
     with socket.create_connection(("127.0.0.1", port), 10) as peer:
         peer.sendall(b"GET /v1/status HTTP/1.1\r\nhost: localhost\r\n\r\n")
         expect("plain HTTP at the TLS port", reply(peer), 400, "bad_head")

@@ -173,7 +173,14 @@ def try_asked(program: pathlib.Path) -> str:
     with stage_of(program) as stage:
         stage.play(State.OPEN)
         stage.bid()
-        for words in ({"age": 16}, {"age": -16}, {"round": 2}, {"increment": "20"}, {"increments": [20]}, {"round": 1.0}):
+        for words in (
+            {"age": 16},
+            {"age": -16},
+            {"round": 2},
+            {"increment": "20"},
+            {"increments": [20]},
+            {"round": 1.0},
+        ):
             ask(stage, **words)
             ensure(f"not closed: {words}", stage.look() is State.OPEN and not is_left(stage), stage.words())
         for text in ("", "{", "[" * 65_000, "[]", '{"round":1}'):
@@ -190,7 +197,10 @@ def try_asked(program: pathlib.Path) -> str:
         ask(stage, round=2)
         ensure("a later round", stage.look() is State.CLOSED, stage.words())
         nothing_goes_wrong(stage)
-    return "asked: the operator's page has a round closed with its seed; what is old, of another round, or no request is not"
+    return (
+        "asked: the operator's page has a round closed with its seed; what is old, of another round, or no request"
+        " is not"
+    )
 
 
 def try_asked_in_vain(program: pathlib.Path) -> str:

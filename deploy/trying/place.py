@@ -57,9 +57,10 @@ def commit(folder, has_ties=True):
 
 
 class Place:
-    """Program and nginx in a folder of their own, on free ports of this machine, as docs/operators.md starts them. Without a program nginx
-    is there alone, and whoever wants to be its server listens at `server_port`. `more` are lines for nginx.conf. nginx's workers are of the user
-    `worker`, or of Debian's default."""
+    """Program and nginx in a folder of their own, on free ports of this machine, as docs/operators.md starts them.
+    Without a program nginx is there alone, and whoever wants to be its server listens at `server_port`. `more` are
+    lines for nginx.conf. nginx's workers are of the user `worker`, or of Debian's default.
+    """
 
     def __init__(self, program, setup_text, more="", worker="", has_ties=True):
         self.folder = pathlib.Path(tempfile.mkdtemp(prefix="deploy-"))
@@ -70,7 +71,15 @@ class Place:
             self.program, self.kills = program, 0
             if program is not None:
                 self.begin()
-            words = [shutil.which("nginx", path=PATHS) or "nginx", "-p", self.folder, "-c", "nginx.conf", "-g", "daemon off;"]
+            words = [
+                shutil.which("nginx", path=PATHS) or "nginx",
+                "-p",
+                self.folder,
+                "-c",
+                "nginx.conf",
+                "-g",
+                "daemon off;",
+            ]
             with open(self.folder / "nginx.words", "wb") as said:
                 self.nginx = self.keep(subprocess.Popen(words, stdin=subprocess.DEVNULL, stdout=said, stderr=said))
             wait_for("nginx listens", lambda: listens(self.outside) or self.nginx.poll() is not None, 10)
@@ -82,13 +91,15 @@ class Place:
 
     def begin(self):
         """Starts the server, or starts it again, on its journal."""
-        self.server = self.keep(started(self.program, self.folder / "setup.json", self.server_port, self.folder / "auction.journal"))
+        self.server = self.keep(
+            started(self.program, self.folder / "setup.json", self.server_port, self.folder / "auction.journal")
+        )
 
     def begin_receipts(self):
         """Starts the service that signs receipts, in a folder that nginx's workers read."""
         folder = self.folder / "receipts"
         folder.mkdir()
-        if os.geteuid() == 0:                 # else nginx's workers are this user
+        if os.geteuid() == 0:  # else nginx's workers are this user
             shutil.chown(folder, group="nogroup")
         folder.chmod(0o2750)
         files = ("setup.json", "auction.journal", "kept", "receipts")
@@ -108,31 +119,57 @@ class Place:
         return child
 
     def write(self, program, setup_text, more, worker, has_ties):
-        """The folder's files: the set-up and its tokens for their owner alone, the pages, the certificate, nginx's configuration."""
-        self.folder.chmod(0o755)              # nginx's workers are another user
+        """The folder's files: the set-up and its tokens for their owner alone, the pages, the certificate, nginx's
+        configuration.
+        """
+        self.folder.chmod(0o755)  # nginx's workers are another user
         for name in ("tmp", "log", "gate"):
             (self.folder / name).mkdir(0o755)
         (self.folder / "log" / "access.log").touch(0o600)
-        (self.folder / "gate" / "open").touch()      # sheets are taken at any time
+        (self.folder / "gate" / "open").touch()  # sheets are taken at any time
         setup = self.folder / "setup.json"
         setup.touch(0o600)
         setup.write_text(setup_text)
         commit(self.folder, has_ties)
         lines = subprocess.run([sys.executable, TOP / "deploy/tokens", setup], check=True, capture_output=True).stdout
-        for name, text in (("bidders.map", lines), ("operator.map", b'"Bearer %s" yes;\n' % json.loads(setup_text)["operator"].encode())):
+        for name, text in (
+            ("bidders.map", lines),
+            ("operator.map", b'"Bearer %s" yes;\n' % json.loads(setup_text)["operator"].encode()),
+        ):
             (self.folder / name).touch(0o600)
             (self.folder / name).write_bytes(text)
         if program is not None:
             self.bound_sheets()
         shutil.copytree(TOP / "web", self.folder / "web")
         shutil.copy(TOP / "schemas/openapi.json", self.folder)
-        text = (TOP / "deploy/nginx.conf").read_text().replace("listen 8443", "listen 127.0.0.1:8443")   # a trial is for this machine alone
+        text = (
+            (TOP / "deploy/nginx.conf").read_text().replace("listen 8443", "listen 127.0.0.1:8443")
+        )  # a trial is for this machine alone
         text = re.sub(r"\n *listen \[::\][^\n]*", "", text).replace("\nhttp {", "\nhttp {" + more)
         text = re.sub(r"\nuser [^\n]*", f"\nuser {worker};" if worker else "", text)
         (self.folder / "nginx.conf").write_text(self.with_ports(text))
-        subprocess.run(["openssl", "req", "-x509", "-newkey", "rsa:2048", "-nodes", "-days", "30", "-subj", "/CN=localhost",
-                        "-addext", "subjectAltName=DNS:localhost,IP:127.0.0.1", "-keyout", self.folder / "key.pem",
-                        "-out", self.folder / "cert.pem"], check=True, capture_output=True)
+        subprocess.run(
+            [
+                "openssl",
+                "req",
+                "-x509",
+                "-newkey",
+                "rsa:2048",
+                "-nodes",
+                "-days",
+                "30",
+                "-subj",
+                "/CN=localhost",
+                "-addext",
+                "subjectAltName=DNS:localhost,IP:127.0.0.1",
+                "-keyout",
+                self.folder / "key.pem",
+                "-out",
+                self.folder / "cert.pem",
+            ],
+            check=True,
+            capture_output=True,
+        )
 
     def bound_sheets(self):
         """Writes sheet.conf, and returns the most bytes of a sheet."""

@@ -1,4 +1,6 @@
-"""A stand-in for the server, which writes down each request that reaches it: what nginx hands on, and what it keeps, is seen there."""
+"""A stand-in for the server, which writes down each request that reaches it: what nginx hands on, and what it keeps, is
+seen there.
+"""
 import json
 import re
 import socket
@@ -40,15 +42,24 @@ class Recorder:
                     head = text.partition(b"\r\n\r\n")[0]
                     found = re.search(rb"(?i)\r\ncontent-length: *(\d+)", head)
                     length = int(found[1]) if found else 0
-            note = {"head": head.decode("latin1"), "body": text[len(head) + 4:], "at": begun, "took_in": time.monotonic() - begun}
+            note = {
+                "head": head.decode("latin1"),
+                "body": text[len(head) + 4 :],
+                "at": begun,
+                "took_in": time.monotonic() - begun,
+            }
             with self.lock:
                 self.seen.append(note)
                 number = len(self.seen)
             time.sleep(self.delay)
             status, page = self.page_for(note["head"], number)
-            peer.sendall(f"HTTP/1.1 {status} X\r\nconnection: close\r\ncontent-length: {len(page)}\r\ncontent-type: application/json\r\n\r\n".encode() + page)
+            peer.sendall(
+                f"HTTP/1.1 {status} X\r\nconnection: close\r\ncontent-length: {len(page)}\r\ncontent-type:"
+                " application/json\r\n\r\n".encode()
+                + page
+            )
             peer.shutdown(socket.SHUT_WR)
-            rest = peer.recv(65_536)          # ends as soon as nginx has taken the reply
+            rest = peer.recv(65_536)  # ends as soon as nginx has taken the reply
             note.update(rest=rest, took=time.monotonic() - begun)
 
     def page_for(self, head, number):

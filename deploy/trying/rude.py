@@ -1,5 +1,7 @@
-"""Slow and hostile clients, each kind in a process of its own, so that their work does not slow the good ones. Their bidders have no
-eligibility, so nothing that they may do changes the auction, and each page of theirs that tells of blocks is somebody else's."""
+"""Slow and hostile clients, each kind in a process of its own, so that their work does not slow the good ones. Their
+bidders have no eligibility, so nothing that they may do changes the auction, and each page of theirs that tells of
+blocks is somebody else's.
+"""
 import asyncio
 import collections
 import random
@@ -11,7 +13,8 @@ from fuzzing.requests import mutated
 
 from .good import TLS, address
 
-# What no reply to a bidder with no eligibility, nor to nobody, can hold: another's name, blocks held or asked for, the operator's pages.
+# What no reply to a bidder with no eligibility, nor to nobody, can hold: another's name, blocks held or asked for, the
+# operator's pages.
 FOREIGN = re.compile(rb'"name":"[GS]\d|"quantity":[1-9]|"activity":[1-9]|"demands":\[[0,]*[1-9]|"bidders":\[|"closed":')
 FAULTS = (OSError, EOFError, asyncio.TimeoutError)
 
@@ -24,7 +27,9 @@ async def connected(port, number, small=False):
         peer.setsockopt(socket.SOL_SOCKET, socket.SO_RCVBUF, 2048)
     peer.bind((address(number), 0))
     await asyncio.get_running_loop().sock_connect(peer, ("127.0.0.1", port))
-    return await asyncio.open_connection(sock=peer, ssl=TLS, server_hostname="localhost", limit=1024 if small else 65_536)
+    return await asyncio.open_connection(
+        sock=peer, ssl=TLS, server_hostname="localhost", limit=1024 if small else 65_536
+    )
 
 
 async def dripped(writer, text, over):
@@ -32,7 +37,7 @@ async def dripped(writer, text, over):
     for place in range(len(text)):
         if over():
             return
-        writer.write(text[place:place + 1])
+        writer.write(text[place : place + 1])
         await writer.drain()
         await asyncio.sleep(1)
 
@@ -49,7 +54,7 @@ async def slow(port, number, token, over, counted):
     head = f"host: localhost\r\nauthorization: Bearer {token}\r\n"
     while not over():
         try:
-            if kind == "says nothing":            # not even TLS
+            if kind == "says nothing":  # not even TLS
                 _, writer = await asyncio.open_connection("127.0.0.1", port, local_addr=(address(number), 0))
                 await idle(over)
             else:
@@ -76,7 +81,7 @@ async def hostile(port, number, token, operator, over, counted, found):
         for letter in (b"X", b"Y", b"Z"):
             text = text.replace(letter * 16, token.encode())
         text = text.replace(b"OPERATOROPERATOR", operator.encode())
-        if chance.random() < 0.7:                 # without it nginx refuses the head
+        if chance.random() < 0.7:  # without it nginx refuses the head
             text = text.replace(b"\r\n", b"\r\nhost: localhost\r\n", 1)
         reply, writer = b"", None
         try:
@@ -90,13 +95,14 @@ async def hostile(port, number, token, operator, over, counted, found):
         if writer:
             writer.transport.abort()
         counted[reply.split()[1].decode("latin1") if len(reply.split()) > 1 else "no reply"] += 1
-        if FOREIGN.search(reply) or b"<html>" in reply.lower():      # nginx's own words are of docs/formats.md too
+        if FOREIGN.search(reply) or b"<html>" in reply.lower():  # nginx's own words are of docs/formats.md too
             found.append(f"{text[:600]!r} is answered {reply[:600]!r}")
         await asyncio.sleep(chance.random() * 0.2)
 
 
 def play(kind, port, clients, operator, end, stop, told):
     """All clients of a kind until the end, or until they are stopped; what came goes into the queue."""
+
     def over():
         return stop.is_set() or time.monotonic() > end
 
@@ -111,7 +117,9 @@ def play(kind, port, clients, operator, end, stop, told):
             await asyncio.sleep(0.1)
         # each looks at over() within some seconds; a cancelled wait_for may swallow its cancellation
         done, late = await asyncio.wait(tasks, timeout=10)
-        faults = [repr(task.exception()) for task in done if task.exception()] + [f"{kind}: a client does not end"] * len(late)
+        faults = [repr(task.exception()) for task in done if task.exception()] + [
+            f"{kind}: a client does not end"
+        ] * len(late)
         return dict(counted), found + faults
 
     told.put((kind, *asyncio.run(together())))

@@ -424,7 +424,6 @@ class Stage:
         left = [file.name for folder in folders for file in folder.glob("*.new") if file.name != "look.json.new"]
         ensure("half-written files", not left, left)
 
-
     def check_ties(self, pages: list[dict[str, Any]]) -> None:
         """Each round has the tie-breaking numbers that were committed, by the seed that is published with it."""
         chain = Commitment.read(self.folder / "public/commitment.json").chain

@@ -153,7 +153,11 @@ def try_receipts(place, server):
             (place.folder / "receipts" / name / f"{sheet}.json").write_text(json.dumps({"of": name, "sheet": sheet}))
     client = Client(place.outside)
     for token, name in ((BIDDER, "One"), (OTHER, "Other")):
-        for path, sheet in (("/receipts/1/1.json", "1-1"), ("/receipts/1/2.json", "1-2"), ("/receipts/12/3.json", "12-3")):
+        for path, sheet in (
+            ("/receipts/1/1.json", "1-1"),
+            ("/receipts/1/2.json", "1-2"),
+            ("/receipts/12/3.json", "12-3"),
+        ):
             status, head, page = answer = client.ask("GET", path, token)
             if sheet in files[name]:
                 mine = status == 200 and json.loads(page) == {"of": name, "sheet": sheet}
@@ -163,7 +167,14 @@ def try_receipts(place, server):
     for path in ("/receipts/1/1.json", "/receipts/9/9.json"):
         for token in (None, "N0B0DYST0KENATALL"):
             ensure(f"{path} with {token}", is_refusal(client.ask("GET", path, token), 401, "token"))
-    for path in ("/receipts/", "/receipts/One/1-1.json", "/receipts/1-1.json", "/receipts/1/01.json", "/receipts/1/1.json%0a", "/receipts/1/"):
+    for path in (
+        "/receipts/",
+        "/receipts/One/1-1.json",
+        "/receipts/1-1.json",
+        "/receipts/1/01.json",
+        "/receipts/1/1.json%0a",
+        "/receipts/1/",
+    ):
         ensure(path, is_refusal(answer := client.ask("GET", path, OTHER), 404, "no_page"), answer)
     ensure("PUT", is_refusal(client.ask("PUT", "/receipts/1/1.json", BIDDER, body=b"x"), 405, "method"))
     ensure("a receipt cost the server a connection", len(server.seen) == before)

@@ -21,7 +21,8 @@ def closed(operator, round_and_end):
 
 
 def by_conductor(stand, operator):
-    """Three rounds: the first by the page itself, the second without a conductor, then by it, and the last by it too."""
+    """Three rounds: the first by the page itself, the second without a conductor, then by it, and the last by it too.
+    """
     prices = {1: 100, 2: 110, 3: 121}
     enter(stand, (operator, OPERATOR))
     put_both(stand, 1, prices, (2, 1))
