@@ -23,13 +23,13 @@ class Failed(Exception):
     """What was tried did not come."""
 
 
-def wait_for(what, condition, seconds):
-    """Waits until the condition holds, at most so long."""
+def wait_for(what, condition, seconds, every=0.02):
+    """Waits until the condition holds, at most this long. It looks once in each `every` seconds."""
     end = time.monotonic() + seconds
     while not condition():
         if time.monotonic() > end:
             raise Failed(f"waited {seconds} s in vain: {what}")
-        time.sleep(0.02)
+        time.sleep(every)
 
 
 def listens(port):
@@ -82,7 +82,7 @@ class Place:
             ]
             with open(self.folder / "nginx.words", "wb") as said:
                 self.nginx = self.keep(subprocess.Popen(words, stdin=subprocess.DEVNULL, stdout=said, stderr=said))
-            wait_for("nginx listens", lambda: listens(self.outside) or self.nginx.poll() is not None, 10)
+            wait_for("nginx listens", lambda: listens(self.outside) or self.nginx.poll() is not None, 30)
             if self.nginx.poll() is not None:
                 raise Failed("nginx ended: " + (self.folder / "nginx.words").read_text().strip())
         except BaseException:

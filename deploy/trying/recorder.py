@@ -12,10 +12,14 @@ BIG = 3_000_000
 
 
 class Recorder:
-    """Listens on a port; `closed` is the last closed round, `delay` how long each answer takes."""
+    """Listens on a port. `closed` is the last closed round. Each answer takes `delay` seconds, and waits while `may_go`
+    is not set.
+    """
 
     def __init__(self, port):
         self.seen, self.closed, self.delay, self.lock = [], 2, 0.0, threading.Lock()
+        self.may_go = threading.Event()
+        self.may_go.set()
         self.listener = socket.create_server(("127.0.0.1", port), backlog=128)
         self.thread = threading.Thread(target=self.serve, daemon=True)
         self.thread.start()
@@ -52,6 +56,7 @@ class Recorder:
                 self.seen.append(note)
                 number = len(self.seen)
             time.sleep(self.delay)
+            self.may_go.wait(20)
             status, page = self.page_for(note["head"], number)
             peer.sendall(
                 f"HTTP/1.1 {status} X\r\nconnection: close\r\ncontent-length: {len(page)}\r\ncontent-type:"

@@ -41,14 +41,17 @@ def let_through(place, names):
     ensure("a sheet whose head came in the window", late.reply()[0] == 200)
 
 
-def try_windows(place, server):
-    """A sheet is taken while gate/ has the file of these ten seconds, or `open`, and not without."""
+def try_windows(place, server, often):
+    """A sheet is taken while gate/ has the file of these ten seconds, or `open`, and not without.
+
+    The bidder of the token `often` asks too often.
+    """
     gate, client, before = place.folder / "gate", Client(place.outside), server.count("PUT /v1/me/bids")
     shutil.rmtree(gate)
     for what, names in (
         ("no gate", None),
         ("an empty gate", ()),
-        ("other times", (ten(-1), ten(3), ten(-100000), "0")),
+        ("other times", (ten(-1), ten(30), ten(-100000), "0")),
     ):
         if names is not None:
             gate.mkdir(exist_ok=True)
@@ -63,7 +66,7 @@ def try_windows(place, server):
     let_through(place, (ten(), ten(1)))
     let_through(place, ("open",))
     ensure("four sheets reached the server", server.count("PUT /v1/me/bids") == before + 4)
-    refused = [put(client, OTHER)[0] for _ in range(80)]
+    refused = [put(client, often)[0] for _ in range(80)]
     ensure("sheets out of the window count against the rate", set(refused) == {409, 429}, refused)
     (gate / "open").touch()
     print(
