@@ -16,7 +16,7 @@ SHEET = b'{"bids":[],"round":1}'
 READERS, ASKING_ONCE = 100, 100
 
 
-def put(client, token=BIDDER):
+def put(client, token):
     return client.ask("PUT", "/v1/me/bids", token, body=SHEET)
 
 
@@ -25,23 +25,23 @@ def ten(after=0):
     return str(int(time.time()) // 10 + after)
 
 
-def let_through(place, names):
+def let_through(place, token, names):
     """While gate/ has these names, a sheet passes. One whose head has come by then passes after they are gone."""
     gate, client, late = place.folder / "gate", Client(place.outside), Client(place.outside)
     for name in names:
         (gate / name).touch()
-    head = f"PUT /v1/me/bids HTTP/1.1\r\nhost: x\r\nauthorization: Bearer {BIDDER}\r\ncontent-length: {len(SHEET)}"
+    head = f"PUT /v1/me/bids HTTP/1.1\r\nhost: x\r\nauthorization: Bearer {token}\r\ncontent-length: {len(SHEET)}"
     late.send(f"{head}\r\n\r\n".encode() + SHEET[:5])
-    ensure(f"a sheet with {names}", put(client)[0] == 200)
+    ensure(f"a sheet with {names}", put(client, token)[0] == 200)
     time.sleep(0.2)
     for name in names:
         (gate / name).unlink()
-    ensure("a sheet after the window", is_refusal(put(client), 409, "window"))
+    ensure("a sheet after the window", is_refusal(put(client, token), 409, "window"))
     late.send(SHEET[5:])
     ensure("a sheet whose head came in the window", late.reply()[0] == 200)
 
 
-def try_windows(place, server, often):
+def try_windows(place, server, bidder, often):
     """A sheet is taken while gate/ has the file of these ten seconds, or `open`, and not without.
 
     The bidder of the token `often` asks too often.
@@ -57,14 +57,14 @@ def try_windows(place, server, often):
             gate.mkdir(exist_ok=True)
         for name in names or ():
             (gate / name).touch()
-        ensure(f"a sheet with {what}", is_refusal(answer := put(client), 409, "window"), answer)
-        ensure(f"the sheet in force with {what}", client.ask("GET", "/v1/me/bids", BIDDER)[0] == 200)
-        ensure(f"an account with {what}", client.ask("GET", "/v1/me", BIDDER)[0] == 200)
+        ensure(f"a sheet with {what}", is_refusal(answer := put(client, bidder), 409, "window"), answer)
+        ensure(f"the sheet in force with {what}", client.ask("GET", "/v1/me/bids", bidder)[0] == 200)
+        ensure(f"an account with {what}", client.ask("GET", "/v1/me", bidder)[0] == 200)
     ensure("without a token", is_refusal(client.ask("PUT", "/v1/me/bids", body=SHEET), 401, "token"))
-    ensure("the page that refuses", is_refusal(client.ask("PUT", "/window", BIDDER, body=SHEET), 404, "no_page"))
+    ensure("the page that refuses", is_refusal(client.ask("PUT", "/window", bidder, body=SHEET), 404, "no_page"))
     ensure("a sheet out of the window reached the server", server.count("PUT /v1/me/bids") == before)
-    let_through(place, (ten(), ten(1)))
-    let_through(place, ("open",))
+    let_through(place, bidder, (ten(), ten(1)))
+    let_through(place, bidder, ("open",))
     ensure("four sheets reached the server", server.count("PUT /v1/me/bids") == before + 4)
     refused = [put(client, often)[0] for _ in range(80)]
     ensure("sheets out of the window count against the rate", set(refused) == {409, 429}, refused)
