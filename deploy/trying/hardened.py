@@ -348,7 +348,7 @@ def try_full_log(place, server, token):
     try:
         (folder / "access.log").touch(0o600)
         place.nginx.send_signal(signal.SIGUSR1)
-        wait_for("the new log", lambda: (folder / "error.log").exists(), 5)
+        wait_for("the new log", lambda: (folder / "error.log").exists(), 30)
         for _ in range(6):
             statuses(place.outside, [text("GET", "/" + "x" * 190)] * MORE)
         free = os.statvfs(folder).f_bfree

@@ -55,17 +55,26 @@ def head(method, path, token, *lines):
 
 def too_often(port, address, text, most):
     """How many of some requests that come at once on one connection are answered by 429; the others are not refused."""
-    with connected(port, address) as peer:
+    with connected(port, address) as peer, peer.makefile("rb") as reader:
+        peer.sendall(text * most)
         refused = 0
         for _ in range(most):
-            peer.sendall(text)
-            status, page = reply(peer)
+            status, page = next_reply(reader)
             if status == 429:
                 expect("too often", (status, page), 429, "too_often")
                 refused += 1
             elif status >= 500:
                 raise Failed(f"a request that came often: {status} {page[:100]!r}")
         return refused
+
+
+def next_reply(reader):
+    """The status and the page of the next of several replies on a connection."""
+    status, length = int(reader.readline().split()[1]), 0
+    while (line := reader.readline()) != b"\r\n":
+        if line.lower().startswith(b"content-length:"):
+            length = int(line.split()[1])
+    return status, reader.read(length)
 
 
 def held_too_many(port, address, token, most):
@@ -125,9 +134,9 @@ def try_limits(port, tokens):
     with socket.create_connection(("127.0.0.1", port), 10) as peer:
         peer.sendall(b"GET /v1/status HTTP/1.1\r\nhost: localhost\r\n\r\n")
         expect("plain HTTP at the TLS port", reply(peer), 400, "bad_head")
-    often = too_often(port, "127.9.0.2", head("GET", "/v1/status", "NOBODYNOBODYNOBODY"), 80)
+    often = too_often(port, "127.9.0.2", head("GET", "/v1/status", "NOBODYNOBODYNOBODY"), 150)
     by_token = too_often(port, "127.9.0.3", head("GET", "/v1/me", other), 80)
     if not often or not by_token:
-        raise Failed(f"of 80 requests at once {often} of nobody's and {by_token} of a bidder's were too often")
+        raise Failed(f"{often} of nobody's 150 requests at once and {by_token} of a bidder's 80 were too often")
     held_too_many(port, "127.9.0.4", one, 9)
     return 13 + often + by_token

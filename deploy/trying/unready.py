@@ -92,7 +92,7 @@ class Prepared:
             return bool(now) and not now & before
 
         self.place.nginx.send_signal(signal.SIGHUP)
-        wait_for("nginx reads its files again", is_done, 10)
+        wait_for("nginx reads its files again", is_done, 30)
 
     def serve(self, setup: Path, journal: Path) -> None:
         """Ends the server, and starts one on other files."""
@@ -280,7 +280,7 @@ def without_rules(prepared: Prepared) -> Iterator[None]:
 def neighbor(prepared: Prepared) -> Iterator[None]:
     """A program of nginx's user."""
     child = subprocess.Popen(["setpriv", "--reuid", WORKER, "--clear-groups", "sleep", "60"])
-    wait_for("a program of nginx's user", lambda: Path(f"/proc/{child.pid}/comm").read_text() == "sleep\n", 5)
+    wait_for("a program of nginx's user", lambda: Path(f"/proc/{child.pid}/comm").read_text() == "sleep\n", 30)
     yield
     child.kill()
     child.wait()
