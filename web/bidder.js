@@ -15,7 +15,7 @@ const sheet = new Sheet(), past = new Past(), receipts = new Receipts(), table =
 const LONG = 10_000_000; // dollars from which prices need more space in a narrow window
 const plain = (bids) => bids.map(({ price, product, quantity }) => ({ price, product, quantity }));
 
-const tabs = new BroadcastChannel("sheets"); // tells the other tabs of this browser that bids were submitted, and nothing about them
+const tabs = new BroadcastChannel("sheets"); // lets the other tabs of this browser know that bids were submitted, and nothing about them
 // who asks; the account; the terms by which bids are judged; the results before last; the submitted bids, or null
 let asker, me, terms, earlier, submitted = null, worth = null;
 // the server's refusal of the form as it is; whether something could not be loaded; whether bids are being sent; how many

@@ -149,7 +149,7 @@ function compareNumbers() {
   }
 }
 
-/** The words of each fault stand in a document, at its row of the table: what is wrong, and what to do. */
+/** The words of each fault are in a document, at its row of the table: what is wrong, and what to do. */
 function compareWords() {
   const rows = new Map();
   for (const name of ["operators", "bidders"]) {

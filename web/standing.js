@@ -1,4 +1,4 @@
-// Where a bidder stands in the round: what the form commits to, its activity and eligibility, what is wrong or missing in it,
+// A bidder's state in the round: what the form commits to, its activity and eligibility, what is wrong or missing in it,
 // and what is left to do.
 
 import { at, counted, dollars, facts, number, sentence, sum, tell } from "./page.js";

@@ -92,7 +92,7 @@ class Board:
         self.put(self.folders.public / "winners.json", {"bidders": bidders, "round": last})
 
     def put(self, path: Path, value: Page) -> None:
-        """Writes a file if it has changed, with the time of another second than before: nginx tells its versions apart
+        """Writes a file if it has changed, with the time of another second than before: nginx knows its versions
         by time and length.
         """
         text = json.dumps(value, separators=(",", ":")) + "\n"

@@ -5,7 +5,7 @@ import threading
 
 class Between:
     """Hands requests on to a server of this machine. `lose` is None, "request", "reply" or "half" of it, and holds for
-    closings alone; `closings` are the texts of closings that came; `look` is called for each before anything is done
+    closings only; `closings` are the texts of closings that came; `look` is called for each before anything is done
     with it.
     """
 

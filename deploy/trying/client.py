@@ -10,7 +10,7 @@ ADDRESSES = iter(f"127.8.{part}.{last}" for part in range(1, 200) for last in ra
 
 
 class Client:
-    """A connection over TLS that is kept, from an address of its own."""
+    """An open connection over TLS, from an address of its own."""
 
     def __init__(self, port, address=None):
         self.peer, self.rest = connected(port, address or next(ADDRESSES)), b""

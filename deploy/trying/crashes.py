@@ -81,8 +81,8 @@ def killed_at(program: pathlib.Path, step: int, wanted: list[str], with_the_mach
 
 
 def killed_at_each(program: pathlib.Path, wanted: list[str]) -> int:
-    """One auction in which each conductor is killed, a step farther than the one before, up to as many steps as storing
-    a round takes.
+    """One auction in which each conductor is killed, a step farther than the one before, up to the number of steps
+    that storing a round takes.
     """
     stage, kills = Stage(program, WINDOWS), 0
 

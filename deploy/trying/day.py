@@ -79,7 +79,7 @@ def lived(stage: Stage, milliseconds: float) -> bool:
 
 
 def try_day(program: pathlib.Path, seed: int | None = None) -> Iterator[str]:
-    """Plays days until so many conductors were killed."""
+    """Plays days until this number of conductors were killed."""
     seed = random.SystemRandom().randrange(1 << 32) if seed is None else seed
     chance, kills, days, announcements = random.Random(seed), 0, 0, 0
     while kills < KILLS:

@@ -1,6 +1,4 @@
-"""Good clients: bidders over TLS with one connection each, whose sheets follow from what they see and from a seed
-alone.
-"""
+"""Good clients: bidders over TLS with one connection each, whose sheets follow only from what they see and a seed."""
 import asyncio
 import json
 import random

@@ -173,7 +173,7 @@ def try_networks(place):
 
 
 def try_bidders(place, tokens):
-    """Bidders behind one address do not share a limit. What the trials before this one asked is forgotten first."""
+    """Bidders with one address do not share a limit. It waits until nginx counts nothing of the trials before."""
     time.sleep(MORE / A_SECOND)
     texts = [
         text("GET", "/v1/status", f"authorization: Bearer {tokens[number % len(tokens)]}")

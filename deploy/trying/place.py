@@ -58,8 +58,8 @@ def commit(folder, has_ties=True):
 
 class Place:
     """Program and nginx in a folder of their own, on free ports of this machine, as docs/operators.md starts them.
-    Without a program nginx is there alone, and whoever wants to be its server listens at `server_port`. `more` are
-    lines for nginx.conf. nginx's workers are of the user `worker`, or of Debian's default.
+    Without a program only nginx runs, and the caller may listen at `server_port` as its server. `more` has lines for
+    nginx.conf. nginx's workers are of the user `worker`, or of Debian's default.
     """
 
     def __init__(self, program, setup_text, more="", worker="", has_ties=True):
@@ -119,7 +119,7 @@ class Place:
         return child
 
     def write(self, program, setup_text, more, worker, has_ties):
-        """The folder's files: the set-up and its tokens for their owner alone, the pages, the certificate, nginx's
+        """The folder's files: the set-up and its tokens for their owner only, the pages, the certificate, nginx's
         configuration.
         """
         self.folder.chmod(0o755)  # nginx's workers are another user
@@ -144,7 +144,7 @@ class Place:
         shutil.copy(TOP / "schemas/openapi.json", self.folder)
         text = (
             (TOP / "deploy/nginx.conf").read_text().replace("listen 8443", "listen 127.0.0.1:8443")
-        )  # a trial is for this machine alone
+        )  # a trial is for this machine only
         text = re.sub(r"\n *listen \[::\][^\n]*", "", text).replace("\nhttp {", "\nhttp {" + more)
         text = re.sub(r"\nuser [^\n]*", f"\nuser {worker};" if worker else "", text)
         (self.folder / "nginx.conf").write_text(self.with_ports(text))

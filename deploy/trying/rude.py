@@ -1,6 +1,6 @@
 """Slow and hostile clients, each kind in a process of its own, so that their work does not slow the good ones. Their
-bidders have no eligibility, so nothing that they may do changes the auction, and each page of theirs that tells of
-blocks is somebody else's.
+bidders have no eligibility, so nothing that they may do changes the auction, and each page of theirs that has blocks
+is somebody else's.
 """
 import asyncio
 import collections
@@ -13,7 +13,7 @@ from fuzzing.requests import mutated
 
 from .good import TLS, address
 
-# What no reply to a bidder with no eligibility, nor to nobody, can hold: another's name, blocks held or asked for, the
+# What no reply to a bidder without eligibility, or to a client without a token, can have: another's name, blocks, the
 # operator's pages.
 FOREIGN = re.compile(rb'"name":"[GS]\d|"quantity":[1-9]|"activity":[1-9]|"demands":\[[0,]*[1-9]|"bidders":\[|"closed":')
 FAULTS = (OSError, EOFError, asyncio.TimeoutError)

@@ -378,7 +378,7 @@ class Stage:
         return subprocess.run(words, capture_output=True, text=True, check=True).stdout.splitlines()
 
     def check(self) -> list[str]:
-        """All that must hold of an auction of so many rounds, however often the conductor was killed.
+        """All that must hold of an auction of this number of rounds, however often the conductor was killed.
 
         Returns the audit without digests.
         """

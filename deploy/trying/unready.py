@@ -1,4 +1,4 @@
-"""An auction that deploy/ready finds ready, and faults of it, each of which is mended afterward."""
+"""An auction that deploy/ready finds ready, and faults of it, each of which is removed afterward."""
 import contextlib
 import json
 import os
@@ -150,7 +150,7 @@ def absent(name: str) -> Fault:
 
 
 def present(files: dict[str, str], seconds: int = 0) -> Fault:
-    """Files that are there besides, written so many seconds ago."""
+    """Additional files, written this number of seconds ago."""
 
     @contextlib.contextmanager
     def fault(prepared: Prepared) -> Iterator[None]:

@@ -28,7 +28,7 @@ class Board:
         (self.public / "rounds").mkdir(parents=True)
 
     def announce(self, text: str) -> None:
-        """Tells the player, on the page and in the terminal."""
+        """Informs the player, on the page and in the terminal."""
         number = len(self.announced) + 1
         self.announced.append({"key": f"practice-{number}", "number": number, "text": text, "time": utc(time.time())})
         put(self.public / "announcements.json", {"announcements": self.announced})

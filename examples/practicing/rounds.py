@@ -118,7 +118,7 @@ class Rounds:
         return self.server.page("/v1/me", token)["eligibility"] == 0
 
     def ties(self) -> list[list[int]]:
-        """Tie-breaking numbers for all pairs of bidder and product, or as many as a closing may list, at random."""
+        """Tie-breaking numbers for all pairs of bidder and product, or the most that a closing may list, at random."""
         products = len(self.game.products)
         pairs = len(self.game.names) * products
         drawn = self.chance.sample(range(pairs), min(pairs, MOST_TIES))

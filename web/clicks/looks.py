@@ -112,7 +112,7 @@ def pictured(stand, windows, folder):
 
 
 def first_rows(window):
-    """Where the first row of the form is, in pixels from the top, at 360 and at 1,024 pixels."""
+    """The position of the first row of the form, in pixels from the top, at 360 and at 1,024 pixels."""
     found = []
     for wide, high, most in ((360, 740, 400), (1024, 768, 350)):
         window.size(wide, high)

@@ -1,4 +1,4 @@
-"""Where tokens must not be, and how the pages' files are served."""
+"""That tokens are not where they must not be, and how the pages' files are served."""
 import re
 
 from clicks import scripts

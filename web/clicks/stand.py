@@ -19,7 +19,7 @@ PATIENCE = 90  # seconds: a machine with other work may take long, and whoever w
 
 
 def busy():
-    """How many processes there are for each processor, at least 1: as many times longer something may take."""
+    """How many processes there are for each processor, at least 1: something may take this many times longer."""
     return max(1, os.getloadavg()[0] / os.cpu_count())
 
 
@@ -38,7 +38,7 @@ def wait_for(what, look):
             if look():
                 return SEEN.append(what)
         except Exception:
-            pass  # not there yet, or drawn anew meanwhile
+            pass  # not there yet, or drawn again meanwhile
         time.sleep(0.04)
     sys.exit(f"web/try: not within {PATIENCE} s: {what}")
 
