@@ -267,6 +267,7 @@ def steps_of(limits, held, start, clock):
 
 
 def bids_of(wanted, products, prices, held, number):
+    """The bids of a sheet: for each product the steps from its processed demand to what the limits allow."""
     bids = []
     for place, (product, (start, clock)) in enumerate(zip(products, prices)):
         limits = wanted.get(product["name"], [])
@@ -296,6 +297,7 @@ def limits_of(path):
 
 
 def play(auction, wanted, path):
+    """Bids in each round until the auction has ended, and prints what it sent and what came of it."""
     products = auction.ask("/v1/products", PRODUCTS)["products"]
     auction.products = len(products)
     account = auction.ask("/v1/me", ACCOUNT)

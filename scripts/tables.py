@@ -69,6 +69,7 @@ def sheet_rows(auction: Auction) -> Iterator[Row]:
 
 
 def bid_rows(auction: Auction) -> Iterator[Row]:
+    """The rows of bids.csv: one for each bid of each accepted sheet."""
     for sheet in auction.sheets:
         demands = [0] * len(auction.setup.products)
         if sheet.round > 1:

@@ -32,6 +32,7 @@ def rules_of(value: Any) -> list[Rule]:
 
 
 def rule_of(entry: Any, where: str, is_last: bool) -> Rule:
+    """The rule that is a value of JSON. A ValueError says what is wrong, and where."""
     if not isinstance(entry, dict) or "percent" not in entry or entry.keys() - {"percent", "until", "excess"}:
         raise ValueError(f'{where} must have "percent", and may have "until" and "excess"')
     if any(type(number) is not int or number < 1 for number in entry.values()):

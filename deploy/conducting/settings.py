@@ -41,6 +41,7 @@ class Settings:
 
     @classmethod
     def read(cls, folder: Path) -> Self:
+        """The settings of a folder. A SettingsFault says what is wrong in them."""
         path = folder / "conductor.json"
         try:
             value = json.loads(path.read_text(encoding="utf-8"))

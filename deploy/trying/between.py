@@ -24,6 +24,7 @@ class Between:
                 self.hand_on(peer)
 
     def hand_on(self, peer):
+        """Hands one request on, and its reply back, unless one of them is to be lost."""
         text = b""
         while b"\r\n\r\n" not in text:
             text += peer.recv(65_536)

@@ -29,6 +29,7 @@ class Client:
         self.peer.sendall(text)
 
     def reply(self, method="GET"):
+        """The next reply: its status, its head in small letters, and its page."""
         while b"\r\n\r\n" not in self.rest:
             self.more()
         head, _, self.rest = self.rest.partition(b"\r\n\r\n")

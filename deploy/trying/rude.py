@@ -107,6 +107,7 @@ def play(kind, port, clients, operator, end, stop, told):
         return stop.is_set() or time.monotonic() > end
 
     async def together():
+        """Plays all clients of the kind at once. Returns what was counted, and the faults."""
         counted, found = collections.Counter(), []
         if kind == "slow":
             works = [slow(port, number, token, over, counted) for number, token in clients]

@@ -367,6 +367,7 @@ class Stage:
         return [time for time, state, _ in self.states if state is State.CLOSED]
 
     def audit(self) -> list[str]:
+        """The lines that `clock_auction audit` prints of the journal."""
         words = [
             self.program,
             "audit",

@@ -38,6 +38,7 @@ class Visit(http.server.BaseHTTPRequestHandler):
     server: Desk
 
     def do_GET(self) -> None:
+        """Gives a file of the pages, or what is published, or the server's reply."""
         path = self.path.partition("?")[0]
         path = "/index.html" if path == "/" else path
         if self.headers.get("host", "").rpartition(":")[0] not in ("127.0.0.1", "localhost"):
@@ -78,6 +79,7 @@ class Visit(http.server.BaseHTTPRequestHandler):
         self.answer(status, KINDS[".json"], json.dumps({"code": code, "status": status}).encode())
 
     def answer(self, status: int, kind: str, page: bytes) -> None:
+        """Answers with a page."""
         self.send_response(status)
         for name, value in (
             ("content-type", kind),

@@ -93,6 +93,7 @@ def play_states(trial: Trial, shims: Shims, states: Iterable[State], texts: Text
     tallies: list[Tally] = [Counter() for _worker in range(WORKERS)]
 
     def start(worker: int, numbered: tuple[int, State]) -> None:
+        """Starts the program on one state of the file."""
         number, state = numbered
         file = trial.file_of(worker)
         file.write_bytes(state.file)

@@ -80,6 +80,7 @@ def lengths_without_data(moment: Moment) -> Iterator[bytes]:
 
 
 def pages(moment: Moment, filler: bytes = b"") -> Iterator[bytes]:
+    """What a crash may leave of a file, if each page of what is not synced is there or not."""
     synced = len(moment.synced)
     for size in sizes_of(moment):
         places = units(synced, size, PAGE)

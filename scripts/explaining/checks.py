@@ -89,6 +89,7 @@ def setup(checks, value, path=(), rank=1):
 
 
 def setup_shape(checks, value, second, path, rank):
+    """Notes what is wrong with the shape of a set-up: keys, kinds of values, and lists."""
     keys = ["version", "requirement", "operator", "products", "bidders"] + ["limit"] * second
     checks.has_keys({"version": 0, **value}, keys, rank, "setup_shape", path)
     for key in ["requirement"] + ["limit"] * second:
@@ -121,6 +122,7 @@ def of(value, key, kind):
 
 
 def setup_ranges(checks, value, second, path, rank):
+    """Notes which numbers of a set-up are out of their range."""
     def ranged(item, key, least, most, code, where, words=""):
         checks.range(of(item, key, int), least, most, rank, f"setup_range {code}", (*where, key), words)
 
@@ -238,6 +240,7 @@ def closing(checks, value, version, code, path, keys=()):
 
 
 def opening(checks, value):
+    """Notes what is wrong with an opening: its shape, its set-up, its numbers, and its rows."""
     if not checks.has_keys(value, ("demands", "increment", "setup"), 1, "shape", ()):
         return
     rows = of(value, "demands", list)
@@ -276,6 +279,7 @@ def demands(checks, row, products, bidder, number):
 
 
 def replay(checks, value):
+    """Notes what is wrong with a replay: its shape, its set-up, its scripts, and its closings."""
     if not checks.has_keys(value, ("closings", "scripts", "setup"), 1, "shape", ()):
         return
     if "setup" in value:
@@ -293,6 +297,7 @@ def replay(checks, value):
 
 
 def script(checks, value, products, number):
+    """Notes what is wrong with one bidder's script of a replay."""
     path = ("scripts", number)
     kind = of(value, "kind", str)
     if kind not in ("literal", "sincere"):

@@ -73,6 +73,7 @@ def rewrite(honest: Auction, forged: bytes) -> None:
 
 
 def try_all(honest: Auction) -> None:
+    """Forges the journal of an auction that has ended. What was published, or a receipt, shows each forgery."""
     try_honest(honest)
     document, texts = honest.setup.read_bytes(), honest.texts()
     true = audit_of(honest, honest.journal.read_bytes())

@@ -35,6 +35,7 @@ def false_words() -> Iterator[tuple[str, str, str, str]]:
 
 
 def try_all(program: pathlib.Path) -> None:
+    """Verifies what the conductor publishes, and a record that is made of it."""
     with stage_of(program) as stage:
         stage.play()
         commands.winners(stage.office())
