@@ -168,38 +168,41 @@ def is_left(stage: Stage) -> bool:
     return (stage.folder / "asked/close.json").exists()
 
 
+def comes_to(stage: Stage, what: str, state: State) -> None:
+    """The next look comes to this state, and no request is left."""
+    ensure(what, stage.look() is state, stage.words())
+    ensure(f"{what}, and the request is removed", not is_left(stage))
+
+
 def try_asked(program: pathlib.Path) -> str:
     """A round is closed early, with its seed, if the operator's page asks for it."""
     with stage_of(program) as stage:
         stage.play(State.OPEN)
         stage.bid()
         for words in (
-            {"age": 16},
-            {"age": -16},
-            {"round": 2},
-            {"increment": "20"},
-            {"increments": [20]},
-            {"round": 1.0},
+            *({"age": 16}, {"age": -16}, {"round": 2}, {"round": 1.0}),
+            *({"increment": "20"}, {"increments": [20]}, {"increment": None}),
         ):
             ask(stage, **words)
-            ensure(f"not closed: {words}", stage.look() is State.OPEN and not is_left(stage), stage.words())
+            comes_to(stage, f"not closed: {words}", State.OPEN)
         for text in ("", "{", "[" * 65_000, "[]", '{"round":1}'):
             (stage.folder / "asked/close.json").write_text(text)
-            ensure(f"not closed: {text[:9]}", stage.look() is State.OPEN and not is_left(stage), stage.words())
+            comes_to(stage, f"not closed: {text[:9]}", State.OPEN)
         ask(stage)
-        ensure("closed", stage.look() is State.CLOSED and not is_left(stage) and not stage.is_open(), stage.words())
+        comes_to(stage, "closed", State.CLOSED)
+        ensure("the gate is shut", not stage.is_open())
         body = json.loads((stage.folder / "kept/closing-1.json").read_text())
         ensure("with the increment of the page", body["increment"] == 20, body)
         ask(stage, age=5)
-        ensure("not once more", stage.look() is State.BEFORE and not is_left(stage), stage.words())
+        comes_to(stage, "not once more", State.BEFORE)
         stage.play(State.OPEN)
         stage.bid()
         ask(stage, round=2)
-        ensure("a later round", stage.look() is State.CLOSED, stage.words())
+        comes_to(stage, "a later round", State.CLOSED)
         nothing_goes_wrong(stage)
     return (
-        "asked: the operator's page has a round closed with its seed; what is old, of another round, or no request"
-        " is not"
+        "asked: the operator's page has a round closed with its seed; what is old, of another round, or no request is "
+        "not carried out"
     )
 
 
@@ -208,20 +211,23 @@ def try_asked_in_vain(program: pathlib.Path) -> str:
     with stage_of(program, []) as stage:
         stage.play(State.UNPLANNED)
         ask(stage)
-        ensure("nobody has a sheet", stage.look() is State.HELD and not is_left(stage), stage.words())
-        ensure("and it says so", stage.look() is State.UNPLANNED and "but nobody has a sheet" in stage.words())
+        comes_to(stage, "nobody has a sheet", State.HELD)
+        comes_to(stage, "after that", State.UNPLANNED)
+        ensure("it says why", "but nobody has a sheet in force" in stage.words(), stage.words())
         for name in "XY":
             ensure("a sheet", stage.put(name, 1, 2, 100))
         ask(stage, increment=51)
-        ensure("refused by the server", stage.look() is State.HELD and "'increment'" in stage.words(), stage.words())
+        comes_to(stage, "refused by the server", State.HELD)
+        ensure("it says how", "'increment'" in stage.words(), stage.words())
         stage.kill_server()
         ask(stage)
-        ensure("without a server it stays", stage.look() is State.GONE and is_left(stage), stage.words())
+        ensure("without a server", stage.look() is State.GONE, stage.words())
+        ensure("the request stays", is_left(stage))
         stage.begin_server()
-        ensure("and is carried out", stage.look() is State.CLOSED, stage.words())
+        comes_to(stage, "with a server again", State.CLOSED)
         ask(stage, round=2, without_sheets=True)
         stage.last = 2
-        ensure("without sheets", stage.look() is State.CLOSED and not is_left(stage), stage.words())
+        comes_to(stage, "without sheets", State.CLOSED)
         stage.play()
         stage.check()
     return "asked in vain: without sheets, or refused by the server, the round waits for a word"
