@@ -113,14 +113,18 @@ def try_commit(program):
         for name, wanted in (("chain.json", "lost"), ("receipts.pem", "lost")):
             (auction.kept / name).rename(auction.folder / name)
             status, _, error = auction.commit()
-            ensure(f"{name} is lost", status == 1 and wanted in error and not (auction.kept / name).exists(), error)
+            ensure(f"{name} is lost", status == 1, error)
+            ensure(f"{name} is lost", wanted in error, error)
+            ensure(f"{name} is lost", not (auction.kept / name).exists(), error)
             status, _, error = auction.yes(1)
             words = "not closed: there is no" if name == "chain.json" else "nobody has a sheet"
-            ensure(f"a closing without {name}", status == 1 and words in error, error)
+            ensure(f"a closing without {name}", status == 1, error)
+            ensure(f"a closing without {name}", words in error, error)
             (auction.folder / name).rename(auction.kept / name)
         chain.write_bytes(texts[0].replace(texts[0][13:77], b"0" * 64))
         for status, _, error in (auction.commit(), auction.yes(1)):
-            ensure("another auction's chain", status == 1 and "another set-up" in error, error)
+            ensure("another auction's chain", status == 1, error)
+            ensure("another auction's chain", "another set-up" in error, error)
         chain.write_bytes(texts[0])
         others = commitment.Places(auction.folder / "others", auction.folder / "elsewhere")
         commitment.make(others, Setup.read(auction.folder / "setup.json"))

@@ -43,9 +43,10 @@ def check_moment(stage: Stage) -> None:
         kind, number = announcement["key"].split("-")[0], int(announcement["key"].split("-")[1])
         if kind == "closed":
             file = stage.conductor.office.board.round_file(number)
+            ensure("a closing that is announced is published", file.exists(), announcement)
             ensure(
                 "a closing that is announced is published",
-                file.exists() and json.loads(file.read_text())["digest"] in announcement["text"],
+                json.loads(file.read_text())["digest"] in announcement["text"],
                 announcement,
             )
         elif kind == "open":

@@ -68,11 +68,8 @@ def try_refused(place, server):
     for status, method, path in rows:
         written = len(lines_of(place))
         found, seconds = statuses(place.outside, [text(method, path)] * AT_ONCE)
-        ensure(
-            f"{AT_ONCE} of {method} {path}",
-            found.keys() == {status, 429} and found[status] <= MORE + 1 + A_SECOND * seconds + 1,
-            (found, seconds),
-        )
+        ensure(f"{AT_ONCE} of {method} {path}", found.keys() == {status, 429}, (found, seconds))
+        ensure(f"{AT_ONCE} of {method} {path}", found[status] <= MORE + 1 + A_SECOND * seconds + 1, (found, seconds))
         logged = 0 if status == 405 else found[status]
         wait_for("the lines of the log", lambda: len(lines_of(place)) - written >= logged, 20)
         grown = len(lines_of(place)) - written
@@ -119,9 +116,10 @@ def try_log(place):
     lines = lines_of(place)[written[0] :]
     ensure(
         "lines of hostile requests",
-        all(line.isascii() and line.isprintable() and json.loads(line) for line in lines) and len(lines) >= 4,
+        all(line.isascii() and line.isprintable() and json.loads(line) for line in lines),
         lines,
     )
+    ensure("lines of hostile requests", len(lines) >= 4, lines)
     print(
         f"log: {len(early)} requests that nginx refuses before it counts them wrote no line; {len(lines)} lines of"
         " hostile requests are JSON in ASCII"
@@ -162,10 +160,9 @@ def try_networks(place):
             ensure("as many networks", found == {200: AT_ONCE}, found)
         else:
             ensure(
-                f"{AT_ONCE} addresses of one network",
-                found[200] <= MORE + 1 + A_SECOND * seconds + 1 and found[429],
-                (network, found),
+                f"{AT_ONCE} addresses of one network", found[200] <= MORE + 1 + A_SECOND * seconds + 1, (network, found)
             )
+            ensure(f"{AT_ONCE} addresses of one network", found[429], (network, found))
     print(
         f"networks: {AT_ONCE} IPv6 addresses of one network of 64 bits share a limit, those of {AT_ONCE} networks"
         " do not"
@@ -209,7 +206,8 @@ def try_lines(place, token):
             )
             ensure(f"cache-control on {path}", head.count("\ncache-control: ") == 1, head)
     _, head, _ = Client(place.outside).ask("GET", "/v1/me")
-    ensure("www-authenticate", head.count("\nwww-authenticate: bearer") == 1 and "retry-after" not in head, head)
+    ensure("www-authenticate", head.count("\nwww-authenticate: bearer") == 1, head)
+    ensure("www-authenticate", "retry-after" not in head, head)
     print(
         "lines of replies: what may load and frame a page, HTTPS only but for localhost, no guess at types;"
         " `www-authenticate` with 401"
@@ -226,7 +224,8 @@ def try_large(place, token):
         )
 
     found, _ = statuses(place.outside, [sheet(10_000)] * 25)
-    ensure("25 large sheets at once", 20 < found[200] < 24 and found[200] + found[429] == 25, found)
+    ensure("25 large sheets at once", 20 < found[200] < 24, found)
+    ensure("25 large sheets at once", found[200] + found[429] == 25, found)
     chunked = (
         text("PUT", "/v1/me/bids", f"authorization: Bearer {token}", "transfer-encoding: chunked")
         + b"1\r\n \r\n0\r\n\r\n"
@@ -273,7 +272,8 @@ def try_at_once(place, server):
     found = collections.Counter(reply.result() for reply in replies)
     for peer in peers:
         peer.close()
-    ensure("18 at the same time of an address", found == {200: 16, 429: 2} and refused == [429, 429], (found, refused))
+    ensure("18 at the same time of an address", found == {200: 16, 429: 2}, (found, refused))
+    ensure("18 at the same time of an address", refused == [429, 429], (found, refused))
     print("at the same time: of 18 requests of an address that wait 16 are answered, two are too often")
 
 
@@ -317,16 +317,14 @@ def try_operators_port(place, server, operator):
             f"a page from {site}", inside(place, "/", None, f"localhost:{place.inside}", sec_fetch_site=site)[0] == 200
         )
     _, head, _ = inside(place, "/")
-    ensure(
-        "the operator's page in a frame",
-        f"content-security-policy: {PAGES_HAVE}" in head and "strict-transport" not in head,
-        head,
-    )
+    ensure("the operator's page in a frame", f"content-security-policy: {PAGES_HAVE}" in head, head)
+    ensure("the operator's page in a frame", "strict-transport" not in head, head)
     texts = [text("GET", path, host="localhost") for path in ("/v1/status", "/none", "/conductor.json")] * 50
     found, seconds = replies_of(socket.create_connection(("127.0.0.1", place.inside), 20), texts)
     passed = 150 - found[429]
     at_most = passed <= MORE + 1 + A_SECOND * seconds + 1
-    ensure("150 at once without the token", at_most and found.keys() == {200, 401, 404, 429}, (found, seconds))
+    ensure("150 at once without the token", at_most, (found, seconds))
+    ensure("150 at once without the token", found.keys() == {200, 401, 404, 429}, (found, seconds))
     ensure("the operator then", inside(place, "/v1/results", operator)[0] == 200)
     print(
         "the operator's port: 421 under other names, 403 from other sites, in no frame; without the token"

@@ -21,7 +21,8 @@ def try_pause(program: pathlib.Path) -> str:
         shown = json.loads((stage.folder / "public/timetable.json").read_text())["paused"]
         ensure("everyone sees it before the next look", shown == "A fire alarm.", shown)
         stage.wait(1200)
-        ensure("it stays so", stage.is_in(State.PAUSED) and not stage.closed_at())
+        ensure("it stays so", stage.is_in(State.PAUSED))
+        ensure("it stays so", not stage.closed_at())
         commands.resume(stage.office(), 15)
         windows = [stage.window(number) for number in (1, 2, 3)]
         ensure("300 seconds were left", windows[0] == (1260 + 900, 1260 + 1200), windows)
@@ -47,7 +48,8 @@ def try_extend(program: pathlib.Path) -> str:
     with stage_of(program) as stage:
         stage.play(State.OPEN)
         commands.extend(stage.office(), 2)
-        ensure("longer by two minutes", stage.window(1) == (60, 480) and stage.window(2)[0] == 510, stage.window(1))
+        ensure("longer by two minutes", stage.window(1) == (60, 480), stage.window(1))
+        ensure("longer by two minutes", stage.window(2)[0] == 510, stage.window(1))
         minutes = (0, -1, 1e9, float("nan"))
         ensure("wrong minutes", all(is_refused(commands.extend, stage.office(), wrong) for wrong in minutes))
         commands.announce(stage.office(), "The help desk is at extension 105.")
@@ -66,7 +68,8 @@ def try_extend(program: pathlib.Path) -> str:
         stage.begin_server()
         stage.time.now += 3600.0
         stage.look()
-        ensure("a clock that is set after the end", stage.is_in(State.ENDED) and not stage.announced("is paused"))
+        ensure("a clock that is set after the end", stage.is_in(State.ENDED))
+        ensure("a clock that is set after the end", not stage.announced("is paused"))
         fault = is_refused(commands.close_next, stage.office(), 3, True)
         ensure("a word after the end", "does not wait for a word" in fault, fault)
         for words in ("Round 1 is open until 12:08", "extension 105", "What each bidder has won"):

@@ -142,15 +142,15 @@ def try_changes(program: pathlib.Path) -> str:
         ensure("windows too close", "20 s after round 1 closes" in take(stage, (400, 700), (720, 900)))
         ensure("windows that overlap", "after round 1 closes" in take(stage, (400, 700), (600, 900)))
         ensure("windows in the past", "are in the past" in take(stage, (0, 60)))
-        ensure("nothing was taken", stage.office().plan_file.read().windows == {} and not stage.announcements())
+        ensure("nothing was taken", stage.office().plan_file.read().windows == {})
+        ensure("nothing was taken", not stage.announcements())
         ensure("a first timetable", take(stage, (400, 700), (800, 1000), (1100, 1300), (1400, 1500)) == "no fault")
         stage.play(State.OPEN)  # at 400
         stage.bid()
         ensure("a past window is left out", take(stage, (0, 60), (1000, 1200), (1300, 1400)) == "no fault")
-        ensure(
-            "the open window stays",
-            stage.window(1) == (400, 700) and stage.window(2) == (1000, 1200) and stage.window(3) == (1300, 1400),
-        )
+        ensure("the open window stays", stage.window(1) == (400, 700))
+        ensure("the open window stays", stage.window(2) == (1000, 1200))
+        ensure("the open window stays", stage.window(3) == (1300, 1400))
         ensure("there is no fourth", 4 not in stage.office().plan_file.read().windows)
         ensure(
             "a window in the open one",
@@ -170,10 +170,10 @@ def try_changes(program: pathlib.Path) -> str:
             "the auction ended" in is_refused(commands.plan, stage.office(), stage.folder / "timetable.json"),
         )
         texts = [one["text"] for one in stage.announcements() if "timetable" in one["text"]]
+        ensure("each change is announced", len(texts) == 3, texts)
         ensure(
             "each change is announced",
-            len(texts) == 3
-            and texts[1].startswith("The timetable has 2 windows from now on. Round 2 opens at 12:16:40 UTC"),
+            texts[1].startswith("The timetable has 2 windows from now on. Round 2 opens at 12:16:40 UTC"),
             texts,
         )
     return (

@@ -23,7 +23,8 @@ def try_full_disk(program: pathlib.Path) -> str:
             before = len(stage.announcements())
             stage.wait(20 if begin is State.BEFORE else 500)
             ensure("a full disk", begin is State.BEFORE or "No space left" in stage.words(), stage.words())
-            ensure("nothing is closed", stage.operator().page("/v1/status")["round"] == 1 and not stage.is_open())
+            ensure("nothing is closed", stage.operator().page("/v1/status")["round"] == 1)
+            ensure("nothing is closed", not stage.is_open())
             ensure("nothing is announced", len(stage.announcements()) == before)
             stage.disk.is_full = False
             nothing_goes_wrong(stage)
@@ -31,7 +32,8 @@ def try_full_disk(program: pathlib.Path) -> str:
         stage.play(State.BEFORE)
         stage.disk.is_full = True
         stage.wait(200)
-        ensure("no window is announced that nobody could open", not stage.announcements() and not stage.is_open())
+        ensure("no window is announced that nobody could open", not stage.announcements())
+        ensure("no window is announced that nobody could open", not stage.is_open())
         stage.disk.is_full = False
         stage.play(State.HELD)
         commands.close_next(stage.office(), 1, False)
@@ -58,9 +60,8 @@ def try_lost_replies(program: pathlib.Path) -> str:
 
             stage.conductor.office.operator.ask = ask_badly
             nothing_goes_wrong(stage)
-            ensure(
-                "each was the same closing", len(set(sent)) == 3 and len(sent) == (9 if lost == "request" else 3), sent
-            )
+            ensure("each was the same closing", len(set(sent)) == 3, sent)
+            ensure("each was the same closing", len(sent) == (9 if lost == "request" else 3), sent)
     return (
         "lost: closings whose request or reply is lost are sent again with the same tie-breaking numbers, and close "
         "one round"
@@ -113,7 +114,8 @@ def try_others(program: pathlib.Path) -> str:
         closing.fix(office.auction, 1, [10], Ties.OF_CHAIN)
         closing.send(office.auction, 1, closing.Origin.NOW)  # as deploy/close by hand, in the window
         stage.look()
-        ensure("a round closed by hand", stage.conductor.office.board.published() == 1 and not stage.is_open())
+        ensure("a round closed by hand", stage.conductor.office.board.published() == 1)
+        ensure("a round closed by hand", not stage.is_open())
         ensure("it waits for the next window", stage.is_in(State.BEFORE, "Round 2"), stage.words())
         stage.play(State.DRAINING)
         stage.close_by_hand(2, 7)
@@ -141,7 +143,8 @@ def try_lost_journal(program: pathlib.Path) -> str:
         (stage.folder / "auction.journal").rename(stage.folder / "lost.journal")
         stage.begin_server()
         stage.look()
-        ensure("a server without its journal", stage.is_in(State.MISMATCH) and not stage.is_open(), stage.words())
+        ensure("a server without its journal", stage.is_in(State.MISMATCH), stage.words())
+        ensure("a server without its journal", not stage.is_open(), stage.words())
         stage.kill_server()
         (stage.folder / "lost.journal").rename(stage.folder / "auction.journal")
         stage.begin_server()

@@ -20,20 +20,16 @@ def try_no_sheets(program: pathlib.Path) -> str:
             stage.words(),
         )
         stage.wait(3600, 60)
-        ensure(
-            "it waits for any time",
-            stage.states[-1][1] is State.HELD and stage.operator().page("/v1/status")["round"] == 1,
-        )
+        ensure("it waits for any time", stage.states[-1][1] is State.HELD)
+        ensure("it waits for any time", stage.operator().page("/v1/status")["round"] == 1)
         ensure(
             "another round",
             "round 2 does not wait for a word" in is_refused(commands.close_next, stage.office(), 2, True),
         )
         commands.close_next(stage.office(), 1, False)
         stage.wait(60)
-        ensure(
-            "a word that does not say so",
-            stage.states[-1][1] is State.HELD and stage.conductor.office.board.published() == 0,
-        )
+        ensure("a word that does not say so", stage.states[-1][1] is State.HELD)
+        ensure("a word that does not say so", stage.conductor.office.board.published() == 0)
         commands.extend(stage.office(), 5)
         stage.play(State.OPEN)
         stage.play(State.HELD, bidders="")
@@ -88,7 +84,8 @@ def try_missed_window(program: pathlib.Path) -> str:
         commands.extend(stage.office(), 5)
         stage.time.sleep(20)
         stage.disk.kill_in = stage.folder / "gate"
-        ensure("killed before the gate is open", stage.look() is None and not stage.is_open())
+        ensure("killed before the gate is open", stage.look() is None)
+        ensure("killed before the gate is open", not stage.is_open())
         stage.disk.kill_in = None
         stage.time.sleep(400)
         stage.conductor = stage.fresh()
@@ -164,13 +161,15 @@ def try_clock_set(program: pathlib.Path) -> str:
             ensure("the gate is shut", not list((stage.folder / "gate").iterdir()))
             ensure("why", f"was set by {jump:+.0f} seconds" in stage.words() or abs(jump) < 10, stage.words())
             stage.wait(600)
-            ensure("it stays so, and closes nothing", stage.is_in(State.PAUSED) and not stage.closed_at())
+            ensure("it stays so, and closes nothing", stage.is_in(State.PAUSED))
+            ensure("it stays so, and closes nothing", not stage.closed_at())
             stage.time.now -= jump  # a person sets it right
             stage.look()
             commands.resume(stage.office(), 10)
             opens, closes = stage.window(1)
             is_later = opens >= stage.time.wall() + 600 - BEGIN
-            ensure("the time that was left", 230 <= closes - opens <= 300 and is_later, (opens, closes))
+            ensure("the time that was left", 230 <= closes - opens <= 300, (opens, closes))
+            ensure("the time that was left", is_later, (opens, closes))
             nothing_goes_wrong(stage)
     return "clock set: by an hour or by 8 seconds, either way, while the conductor runs or not, it pauses the auction"
 

@@ -110,7 +110,9 @@ def try_published(place, server):
     names, client, before = publish(place), Client(place.outside), len(server.seen)
     for name in names:
         status, head, page = client.ask("GET", f"/public/{name}.json")
-        ensure(name, status == 200 and json.loads(page) == {"file": name} and "\ncache-control: no-cache" in head, head)
+        ensure(name, status == 200, head)
+        ensure(name, json.loads(page) == {"file": name}, head)
+        ensure(name, "\ncache-control: no-cache" in head, head)
         tag = head.partition("\netag: ")[2].split("\r")[0]
         ensure(f"{name} again", client.ask("GET", f"/public/{name}.json", None, f"if-none-match: {tag}")[0] == 304)
         ensure(f"HEAD of {name}", client.ask("HEAD", f"/public/{name}.json")[0] == 200)
@@ -164,7 +166,8 @@ def try_receipts(place, server):
             status, head, page = answer = client.ask("GET", path, token)
             if sheet in files[name]:
                 mine = status == 200 and json.loads(page) == {"of": name, "sheet": sheet}
-                ensure(f"{path} of {name}", mine and "\ncache-control: no-store" in head, answer)
+                ensure(f"{path} of {name}", mine, answer)
+                ensure(f"{path} of {name}", "\ncache-control: no-store" in head, answer)
             else:
                 ensure(f"{path} of {name}", is_refusal(answer, 404, "no_page"), answer)
     for path in ("/receipts/1/1.json", "/receipts/9/9.json"):

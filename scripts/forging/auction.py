@@ -150,7 +150,8 @@ class Auction:
         done = ran(TOP / "scripts/verify", *self.words(journal, published, receipts))
         *lines, last = done.stdout.splitlines()
         found = [re.fullmatch("(ok|FAILED|absent) +([a-z-]+): (.*)", line) for line in lines]
-        ensure("scripts/verify prints only its lines", all(found) and not done.stderr, done.stdout + done.stderr)
+        ensure("scripts/verify prints only its lines", all(found), done.stdout + done.stderr)
+        ensure("scripts/verify prints only its lines", not done.stderr, done.stdout + done.stderr)
         failed: dict[str, str] = {}
         for result, subject, words in (match.groups() for match in found if match):
             if result == FAILED:

@@ -21,7 +21,8 @@ def only_receipts_fail(auction: Auction, what: str, victim: str, other: str) -> 
     failed = auction.shown(receipts=victim)
     expect(f"what fails by the receipts of {victim} if {what}", list(failed), ["receipts"])
     done = ran(TOP / "scripts/check_receipts", auction.folder / f"{victim}.jsonl", auction.journal)
-    ensure(f"scripts/check_receipts says so too if {what}", done.returncode == 1 and done.stdout, done)
+    ensure(f"scripts/check_receipts says so too if {what}", done.returncode == 1, done)
+    ensure(f"scripts/check_receipts says so too if {what}", done.stdout, done)
     say(f"{what}: receipts FAILED, {failed['receipts']}")
 
 

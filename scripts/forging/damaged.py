@@ -36,11 +36,13 @@ def try_all(honest: Auction) -> None:
         path = honest.folder / "damaged.journal"
         path.write_bytes(damaged)
         done = ran(sys.executable, TOP / "scripts/journal.py", honest.setup, path)
-        ensure("scripts/journal.py says what is wrong", done.returncode == 1 and "fault: " in done.stderr, done)
+        ensure("scripts/journal.py says what is wrong", done.returncode == 1, done)
+        ensure("scripts/journal.py says what is wrong", "fault: " in done.stderr, done)
     at = place_of(texts, "X", LAST)
     refused = [*texts[:at], texts[at].replace(b'"price":115', b'"price":122'), *texts[at + 1 :]]
     failed = honest.failed(journal_of(document, refused))
-    ensure("a sheet that the rules refuse fails", "rules" in failed and "journal" not in failed, failed)
+    ensure("a sheet that the rules refuse fails", "rules" in failed, failed)
+    ensure("a sheet that the rules refuse fails", "journal" not in failed, failed)
     other = honest.folder / "other.json"
     other.write_bytes(document.replace(b'"requirement": 50', b'"requirement": 30'))
     ensure("the set-up was changed", other.read_bytes() != document)

@@ -41,9 +41,11 @@ def try_honest(auction: Auction) -> None:
     """Checks a record: it is made once, sha256sum accepts its index, and only two of its files have tokens."""
     folder = auction.folder / "record"
     status, words = made(auction)
-    ensure("deploy/record makes a record", status == 0 and (folder / INDEX).is_file(), words)
+    ensure("deploy/record makes a record", status == 0, words)
+    ensure("deploy/record makes a record", (folder / INDEX).is_file(), words)
     status, words = made(auction)
-    ensure("deploy/record leaves a record that is there", status == 1 and "is there already" in words, words)
+    ensure("deploy/record leaves a record that is there", status == 1, words)
+    ensure("deploy/record leaves a record that is there", "is there already" in words, words)
     expect("what fails of a record", auction.shown(published="record"), {})
     rows.check(folder)
     sums = ran("env", "-C", folder, "sha256sum", "--quiet", "--strict", "-c", INDEX)
@@ -96,9 +98,12 @@ def try_early(auction: Auction) -> None:
     """Checks that before the end, deploy/record makes a record only with --not-ended."""
     folder = auction.folder / "record"
     status, words = made(auction)
-    ensure("no record before the end", status == 1 and "has not ended" in words and not folder.exists(), words)
+    ensure("no record before the end", status == 1, words)
+    ensure("no record before the end", "has not ended" in words, words)
+    ensure("no record before the end", not folder.exists(), words)
     status, words = made(auction, "--not-ended")
-    ensure("a record of an auction that was given up", status == 0 and folder.is_dir(), words)
+    ensure("a record of an auction that was given up", status == 0, words)
+    ensure("a record of an auction that was given up", folder.is_dir(), words)
     expect("what fails of it", auction.failed(published="record"), {})
 
 
