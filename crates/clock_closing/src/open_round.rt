@@ -10,12 +10,14 @@ ghost use Rattle.clock_closing.specs.Closing as rules;
 
 use crate::closed_round::{ClosedRound, Prepared, Results, Slip, Slips};
 use crate::fault::CloseFault;
-use clock_bids::{Changes, Own, Sheet, asked_demands, bids_of, with_changes_of};
+use clock_bids::{Own, Sheet, asked_demands, bids_of, with_changes_of};
 use clock_device::NoMemory;
 use clock_order::{Tie, Ties, ordered};
 use clock_posting::{PostFault, Posting, post, post_first};
 use clock_processor::{Board, Processor, Settled};
-use clock_terms::{Amounts, Grid, Increments, Prices, Row, Setup, next_eligibility, units_held};
+use clock_terms::{
+    Amounts, Changes, Grid, Increments, Prices, Row, Setup, next_eligibility, units_held,
+};
 use std::alloc::Global;
 use std::marker::Model;
 

@@ -8,9 +8,10 @@ use crate::fault::Fault;
 use clock_device::{NoMemory, Text};
 use clock_money::clock_price;
 use clock_posting::{PostFault, post_first, sheet_lines};
-use clock_setup::{Increments, Opening, Setup, read_opening, read_setup};
-use clock_sim::{Replay, SimFault, read_replay, replay_text};
-use clock_terms::Product;
+use clock_replays::{Replay, read_replay};
+use clock_setup::{Opening, read_opening, read_setup};
+use clock_sim::{SimFault, replay_text};
+use clock_terms::{Increments, Product, Setup};
 use clock_words::Job;
 use std::alloc::Global;
 

@@ -9,9 +9,10 @@ ghost use Rattle.clock_commands.specs.inside.Lines.{behind, code_behind, text_of
 use clock_device::{Failed, NoMemory, Sink, write_all, write_number};
 use clock_http::Code;
 use clock_journal::JournalFault;
+use clock_replays::ScriptFault;
 use clock_serving::ServeFault;
 use clock_setup::{OpeningFault, Place, SetupFault};
-use clock_sim::{ScriptFault, SimFault};
+use clock_sim::SimFault;
 
 /// Why the program ended early. The faults are in the order in which they are checked; `Memory` can
 /// replace most others. `Bind` and `Accept` occur only in `serve`; `File` and the faults of a

@@ -6,14 +6,16 @@
 //! clock_http decides where a request ends, by its bytes only.
 #![tactic(auto)]
 
+// The public surface: names of other crates that callers of a front or a hub need.
+pub use clock_bodies::{BodyFault, CloseBody, PutBody, read_close, read_put};
+pub use clock_connections::{Conn, Event, HubFault};
+pub use clock_http::{Framing, Head, Reply, frame};
+
 mod front;
 mod hub;
 mod runs;
 mod stream;
 
-pub use clock_bodies::{BodyFault, CloseBody, PutBody, read_close, read_put};
-pub use clock_connections::{Conn, Event, HubFault, Unread, read_request};
-pub use clock_http::{Framing, Head, Page, Progress, Reply, frame};
 pub use front::{Effect, Front, Response, Unanswered, no_memory_reply};
 pub use hub::{Fed, Hub};
 pub use runs::{EventReplies, EventReply, Replies, run, run_events};

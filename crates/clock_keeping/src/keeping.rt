@@ -7,7 +7,8 @@ ghost use Rattle.clock_keeping.specs.Keeping.{GrowsBy, IsAccepted, IsInStep, IsK
 ghost use Rattle.clock_keeping.specs.Keeping.{is_change as is_change_of, no_journal};
 
 use clock_device::Failed;
-use clock_front::{Effect, Front, Progress, Response};
+use clock_front::{Effect, Front, Response};
+use clock_http::Progress;
 use clock_journal::{Durable, Journal, MOST_TEXT};
 use clock_processor::Processor;
 

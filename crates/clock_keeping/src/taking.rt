@@ -8,8 +8,8 @@ ghost use Rattle.clock_keeping.specs.Keeping.{HasTakenUp, IsRefused, IsTakenUp, 
 ghost use Rattle.clock_keeping.specs.Starts.{HasResumed, HasTakenUpFirst, IsGoingOn, IsNotGoingOn, IsLeftBy, IsOwn};
 ghost use Rattle.clock_keeping.specs.inside.Taken.{taken_as, untaken_as};
 
-use clock_front::{Effect, Front, frame};
-use clock_http::Code;
+use clock_front::{Effect, Front};
+use clock_http::{Code, frame};
 use clock_journal::{Durable, Journal, JournalFault, Link, Machine, Recovered, Untaken, recover};
 use clock_processor::Processor;
 

@@ -17,7 +17,8 @@ use clock_json::tree::{
     RowReader, ValueReader, each_at, each_of, has_members, read_value, text_at,
 };
 use clock_json::{PartReader, Scan, ScanStop, ScannedMembers, is_key, scanned_parts, scanned_text};
-use clock_setup::{HeldSetup, Product, Setup, SetupFault, setup_of};
+use clock_setup::{HeldSetup, SetupFault, setup_of};
+use clock_terms::{Product, Setup};
 use serde_json::Value;
 use std::alloc::Global;
 

@@ -10,8 +10,8 @@ use clock_order::Tie;
 use clock_posting::sheet_lines;
 use clock_processor::{Plain, Processor};
 use clock_queue::Woken;
-use clock_setup::{Amounts, Increments, read_setup};
-use clock_terms::KeptRow;
+use clock_setup::{Amounts, read_setup};
+use clock_terms::{Increments, KeptRow};
 use std::alloc::Global;
 use std::process::Abort;
 

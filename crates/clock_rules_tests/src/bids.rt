@@ -10,7 +10,8 @@ use clock_bids::{Bid, Changes, Kind, Own, asked_demands, changes_of, check_sheet
 use clock_device::NoMemory;
 use clock_fixtures::{ONE_PRODUCT, TWO_PRODUCTS};
 use clock_money::Price;
-use clock_setup::{Amounts, PricePair, Prices, Product, Row, Setup, read_setup};
+use clock_setup::{Amounts, PricePair, Prices, Product, Setup, read_setup};
+use clock_terms::Row;
 use std::alloc::Global;
 use std::process::Abort;
 

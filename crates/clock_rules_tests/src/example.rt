@@ -5,7 +5,8 @@ use clock_bids::Bid;
 use clock_fixtures::ONE_PRODUCT;
 use clock_house::House;
 use clock_processor::Plain;
-use clock_setup::{Increments, read_setup};
+use clock_setup::read_setup;
+use clock_terms::Increments;
 use std::process::Abort;
 use std::test::Fail;
 

@@ -2,7 +2,7 @@
 //!
 //! [`serve_all`] serves them by a front. What they are taken from is an [`Acceptor`], as a [`Listening`] on a port of the
 //! machine (clock_front_tests has one in memory), and a reply goes to an [`Outlet`]. Where accepted texts are kept is a
-//! [`Keeper`]: a journal, or [`Unkept`]. [`serve_on`] is that loop over a port, where nothing is kept.
+//! `Keeper`: a journal, or `Unkept`. [`serve_on`] is that loop over a port, where nothing is kept.
 #![tactic(auto)]
 
 mod acceptor;
@@ -11,7 +11,6 @@ mod outlet;
 mod serving;
 
 pub use acceptor::{Acceptor, Connection, Listening};
-pub use clock_keeping::{Keeper, Unkept};
 pub use generation::{GenerationFault, law_of_generations, serve_from};
 pub use outlet::Outlet;
 pub use serving::{ServeFault, law_told_bytes, serve_all, serve_on};

@@ -6,8 +6,9 @@ ghost use Rattle.clock_serving.specs.{Laws.{ToldBytes}, Serving.{EndsServing, is
 
 use crate::acceptor::{Acceptor, Listening};
 use crate::outlet::Outlet;
+use clock_connections::{Unread, read_request};
 use clock_device::{Failed, Source};
-use clock_front::{Effect, Front, Response, Unread, no_memory_reply, read_request};
+use clock_front::{Effect, Front, Response, no_memory_reply};
 use clock_keeping::{Keeper, Unkept};
 use clock_processor::Processor;
 use std::alloc::Global;

@@ -4,9 +4,11 @@
 //! live request, so a scripted bidder takes the same path as a live one.
 #![tactic(auto)]
 
+// The public surface: names of other crates that callers of a replay need.
+pub use clock_replays::{Replay, ScriptFault, read_replay};
+pub use clock_reports::{Report, report_text};
+
 mod rounds;
 mod simulation;
 
-pub use clock_replays::{Closing, Replay, Script, ScriptFault, read_replay};
-pub use clock_reports::{Report, report_text};
 pub use simulation::{SimFault, replay_text, simulate, simulate_with};

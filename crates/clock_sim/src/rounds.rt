@@ -13,9 +13,10 @@ ghost use Rattle.clock_sim.specs.inside.Groups.{AreApart, AreWritten, ComesUnder
 ghost use Rattle.clock_sim.specs.inside.Steps.{AreScriptsOf, IsGoing, IsTold, MakesStep};
 
 use crate::simulation::SimFault;
+use clock_connections::{Conn, HubFault};
 use clock_device::NoMemory;
-use clock_front::{Conn, Fed, Hub, HubFault, Reply};
-use clock_http::{Code, law_decided_once, law_one_head};
+use clock_front::{Fed, Hub};
+use clock_http::{Code, Reply, law_decided_once, law_one_head};
 use clock_processor::Processor;
 use clock_replays::{Closing, Script};
 use clock_scripts::{Written, write_close, write_put};

@@ -7,8 +7,9 @@ ghost use Rattle.clock_sim.specs.Rehearsal as rules;
 ghost use Rattle.clock_sim.specs.{inside.Steps.{AreScriptsOf, replay_of}, declared.simulation.SimFault.TheVariants.{NoMemory}};
 
 use crate::rounds::play;
+use clock_connections::HubFault;
 use clock_device::{NoMemory, Text};
-use clock_front::{Front, Hub, HubFault};
+use clock_front::{Front, Hub};
 use clock_http::Code;
 use clock_processor::Processor;
 use clock_queue::Woken;

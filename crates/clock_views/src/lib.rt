@@ -11,15 +11,16 @@
 //! they ask for is a function of the page's shape alone.
 #![tactic(auto)]
 
+// The public surface: a name of another crate that callers of these pages need.
+pub use clock_http::Code;
+
 mod pages;
 mod pieces;
 mod refusal;
 
-pub use clock_http::Code;
 pub use pages::{
     accepted_page, account_page, bids_page, closed_page, headed_accepted, headed_account,
     headed_bids, headed_closed, headed_results, headed_sheet, headed_slip, headed_status,
     products_page, results_page, sheet_page, slip_page, status_page,
 };
-pub use pieces::Headed;
-pub use refusal::{REFUSAL_ROOM, Refusal, headed_refusal, refusal_page};
+pub use refusal::{Refusal, headed_refusal, refusal_page};

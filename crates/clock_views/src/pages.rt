@@ -14,8 +14,9 @@ use crate::pieces::{
     push_number_or_null, push_truth,
 };
 use clock_bids::{Own, Sheet};
+use clock_closing::Slip;
 use clock_device::{NoMemory, Text};
-use clock_house::{House, Slip};
+use clock_house::House;
 use clock_http::text_with_room;
 use clock_posting::RoundSheet;
 use clock_terms::{Setup, units_held};

@@ -8,8 +8,9 @@ ghost use Rattle.clock_views.specs.Values.{IsPage};
 
 use crate::pieces::{Headed, push_number, push_number_if};
 use clock_bids::BidFault;
+use clock_closing::CloseFault;
 use clock_device::{NoMemory, Text};
-use clock_house::{CloseFault, PutFault};
+use clock_house::PutFault;
 use clock_http::{Code, text_with_room};
 use clock_order::TieFault;
 use std::alloc::Global;

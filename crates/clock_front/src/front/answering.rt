@@ -19,8 +19,9 @@ use crate::front::replies::{
 };
 use crate::front::response::{Effect, Response, unchanged};
 use clock_bodies::{BodyFault, CloseBody, is_of_version, read_close, read_put};
+use clock_closing::CloseFault;
 use clock_device::NoMemory;
-use clock_house::{CloseFault, House, PutFault};
+use clock_house::{House, PutFault};
 use clock_http::{Code, HEADROOM, Head, Page, Reply, last_segment};
 use clock_processor::Processor;
 use clock_terms::Setup;

@@ -4,8 +4,8 @@ ghost use Rattle.clock_http.specs.Shown.{Knows};
 
 use crate::comparing::{assert_is, assert_is_at};
 use crate::front::example::on_one_product;
-use clock_front::{Framing, Front, Progress, frame};
-use clock_http::Code;
+use clock_front::{Framing, Front, frame};
+use clock_http::{Code, Progress};
 use clock_processor::Plain;
 use std::alloc::Global;
 use std::process::Abort;

@@ -10,8 +10,9 @@ use clock_device::Stop;
 use clock_fixtures::MemoryDisk;
 use clock_front::Front;
 use clock_journal::Journal;
+use clock_keeping::{Keeper, Unkept};
 use clock_processor::Plain;
-use clock_serving::{Keeper, ServeFault, Unkept, serve_all};
+use clock_serving::{ServeFault, serve_all};
 use std::alloc::Global;
 use std::process::Abort;
 
