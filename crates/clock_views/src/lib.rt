@@ -1,19 +1,24 @@
-//! The pages of an auction, as compact JSON, and what a refusal shows.
+//! Writes the pages of an auction as compact JSON.
 //!
-//! Everyone may see [`status_page`], [`products_page`] and [`sheet_page`], which are functions of what is public of a
-//! set-up. A bidder sees its own [`account_page`], [`bids_page`], [`accepted_page`] and [`slip_page`], and the operator
-//! [`closed_page`] and [`results_page`]. A refused request is answered by a [`refusal_page`], of which a [`Refusal`]
-//! says what it shows: a [`Code`], and for some codes a place or a round.
+//! | page | who sees it |
+//! |---|---|
+//! | [`status_page`], [`products_page`], [`sheet_page`] | everyone |
+//! | [`account_page`], [`bids_page`], [`accepted_page`], [`slip_page`] | a bidder, its own |
+//! | [`closed_page`], [`results_page`] | the operator |
+//! | [`refusal_page`] | who sent the refused request |
 //!
-//! Contracts say of each page which value of JSON it is (specs/), and that its text is that value's compact text; of a
-//! flat page also its very bytes. Each page is written by pushes onto one text, in a time linear in that text, and no
-//! tree of values is built. The calls named `headed_..` write the page behind the head of a reply. The one room that
-//! they ask for is a function of the page's shape alone.
+//! The contract of a page names its JSON value (specs/). The page is the compact text of this
+//! value. For a page without arrays, the contract also has the bytes.
+//!
+//! Each page is written into memory that is reserved once. How much depends only on the shape of
+//! the page. No tree of values is built. `headed_status` and others write the page after the head
+//! of a reply.
 #![tactic(auto)]
 
 // The public surface: a name of another crate that callers of these pages need.
 pub use clock_http::Code;
 
+mod capacities;
 mod pages;
 mod pieces;
 mod refusal;

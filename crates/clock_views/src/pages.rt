@@ -1,14 +1,18 @@
-//! The pages that everyone may see, whose texts are functions of what is public of a set-up, those of one bidder, and
-//! those of the operator.
+//! The pages that everyone may see, which depend only on the public part of a set-up, the pages of
+//! a bidder, and those of the operator.
 
-ghost use Rattle.std.specs.{Prelude.{◌≡◌, ◌<◌, ◌+◌, length, option_copied, IfOk}, List.{range_with_len}};
+ghost use Rattle.std.specs.Prelude.{◌≡◌, ◌<◌, length, option_copied, IfOk};
 ghost use Rattle.clock_terms.specs.Limits.{IsName, IsRow, public_setup};
 ghost use Rattle.clock_house.specs.History.{bidder_at};
 ghost use Rattle.clock_views.specs.PublicPages.{status_value, status_bytes, sheet_value, products_value, from_version_2 as number_from_version_2};
 ghost use Rattle.clock_views.specs.BidderPages.{account_value, bids_value, accepted_value, accepted_bytes, slip_value};
-ghost use Rattle.clock_views.specs.OperatorPages.{closed_value, closed_bytes, results_value, result_in};
-ghost use Rattle.clock_views.specs.{Rooms.{IsHeaded, most_text}, Values.{list_of, IsPage}};
+ghost use Rattle.clock_views.specs.OperatorPages.{closed_value, closed_bytes, results_value};
+ghost use Rattle.clock_views.specs.{Rooms.{IsHeaded, most_text}, Values.{IsPage}};
 
+use crate::capacities::{
+    ACCEPTED, ACCOUNT, BID, BIDS, CLOSED, DEMAND, LINE, NO_BIDS, PRODUCT, PRODUCTS, RESULT,
+    RESULTS, SHEET, SLIP, STATUS,
+};
 use crate::pieces::{
     Headed, push_comma_if, push_demands, push_name, push_number, push_number_if,
     push_number_or_null, push_truth,
@@ -22,7 +26,7 @@ use clock_posting::RoundSheet;
 use clock_terms::{Setup, units_held};
 use std::alloc::Global;
 
-/// Where the auction stands: the current round, and whether the auction has ended.
+/// Writes the status: the current round, and whether the auction has ended.
 ///
 /// ```text
 /// {"ended":false,"round":1,"version":1}
@@ -35,11 +39,11 @@ pub fn status_page(alloc: Global, setup: &Setup, round: u64, ended: bool) -> Res
     Ok(headed_status(alloc, b"", setup, round, ended)?)
 }
 
-/// The same page behind a head.
+/// Like [`status_page`], after the head of a reply.
 pub fn headed_status(alloc: Global, head: &[u8], setup: &Setup, round: u64, ended: bool) -> Headed
     ensures { IsHeaded head.now (status_value (public_setup setup.now) round ended) result }
 {
-    let mut text = text_with_room(alloc, head, 76)?;
+    let mut text = text_with_room(alloc, head, STATUS)?;
     push_truth(&mut text, b"{\"ended\":", ended);
     push_number(&mut text, b",\"round\":", round);
     push_number(&mut text, b",\"version\":", setup.version);
@@ -47,8 +51,8 @@ pub fn headed_status(alloc: Global, head: &[u8], setup: &Setup, round: u64, ende
     Ok(text.into_items())
 }
 
-/// What is auctioned: the products in the order of the set-up, and the activity requirement, with the
-/// activity limit and the granules from version 2 of the set-up document on.
+/// Writes the products in order of the set-up, and the activity requirement. From version 2 of the
+/// set-up document on, the page also has the activity limit and the granules.
 ///
 /// ```text
 /// {"products":[{"cap":2,"name":"A","opening":100,"supply":2,"units":1}],"requirement":95,"version":1}
@@ -57,7 +61,7 @@ pub fn products_page(alloc: Global, setup: &Setup) -> Result<Text, NoMemory>
     ensures { IfOk result (IsPage (products_value (public_setup setup.now))) }
 {
     let products = setup.products.as_slice();
-    let mut text = text_with_room(alloc, b"", 111 + 193 * products.len() as u128)?;
+    let mut text = text_with_room(alloc, b"", PRODUCTS + PRODUCT * products.len() as u128)?;
     let limit = from_version_2(setup.version, setup.limit);
     text.extend_from_slice(b"{");
     push_number_if(&mut text, b"\"limit\":", limit);
@@ -80,7 +84,7 @@ pub fn products_page(alloc: Global, setup: &Setup) -> Result<Text, NoMemory>
     Ok(text.into_items())
 }
 
-/// What a closed round has posted. There is a line for each product of the set-up.
+/// Writes the results of a closed round by product. Requires a line for each product of the set-up.
 ///
 /// ```text
 /// {"ended":true,"products":[{"clock":110,"demand":null,"name":"A","next":null,"posted":103,"start":100}],"round":2}
@@ -92,12 +96,12 @@ pub fn sheet_page(alloc: Global, setup: &Setup, sheet: &RoundSheet) -> Result<Te
     Ok(headed_sheet(alloc, b"", setup, sheet)?)
 }
 
-/// The same page behind a head.
+/// Like [`sheet_page`], after the head of a reply.
 pub fn headed_sheet(alloc: Global, head: &[u8], setup: &Setup, sheet: &RoundSheet) -> Headed
     requires { length sheet.now.lines ≡ length setup.now.products }
     ensures { IsHeaded head.now (sheet_value (public_setup setup.now) sheet.now) result }
 {
-    let mut text = text_with_room(alloc, head, 59 + 191 * sheet.lines.len() as u128)?;
+    let mut text = text_with_room(alloc, head, SHEET + LINE * sheet.lines.len() as u128)?;
     push_truth(&mut text, b"{\"ended\":", sheet.ended);
     text.extend_from_slice(b",\"products\":[");
     for (i, line) in sheet.lines.iter().enumerate() {
@@ -116,15 +120,15 @@ pub fn headed_sheet(alloc: Global, head: &[u8], setup: &Setup, sheet: &RoundShee
     Ok(text.into_items())
 }
 
-/// A number that set-up documents have from version 2 on.
+/// Returns a number that set-up documents have from version 2 on.
 fn from_version_2(version: u64, number: u64) -> Option<u64>
     ensures { result ≡ number_from_version_2 version number }
 {
     if version >= 2 { Some(number) } else { None }
 }
 
-/// What a bidder holds before the current round. The bidder is one of the set-up's, and there is a
-/// demand for each product, none above its cap.
+/// Writes the account of a bidder before the current round. Requires a bidder of the set-up, and a
+/// demand for each product, at most its cap.
 ///
 /// ```text
 /// {"activity":2,"demands":[2],"eligibility":3,"ended":false,"name":"X","round":2}
@@ -144,7 +148,7 @@ pub fn account_page(
     Ok(headed_account(alloc, b"", setup, bidder, own, ended)?)
 }
 
-/// The same page behind a head.
+/// Like [`account_page`], after the head of a reply.
 pub fn headed_account(
     alloc: Global,
     head: &[u8],
@@ -159,7 +163,7 @@ pub fn headed_account(
         (record { eligibility = own.entry.eligibility; demands = own.entry.demands.now }) ended) result }
 {
     let activity = units_held(setup.products.as_slice(), own.demands);
-    let mut text = text_with_room(alloc, head, 167 + 21 * own.demands.len() as u128)?;
+    let mut text = text_with_room(alloc, head, ACCOUNT + DEMAND * own.demands.len() as u128)?;
     push_number(&mut text, b"{\"activity\":", activity);
     push_demands(&mut text, b",\"demands\":", own.demands.held());
     push_number(&mut text, b",\"eligibility\":", own.eligibility);
@@ -170,7 +174,7 @@ pub fn headed_account(
     Ok(text.into_items())
 }
 
-/// The name of a bidder of the set-up.
+/// Returns the name of a bidder. Requires a bidder of the set-up.
 pub(crate) fn name_of(setup: &Setup, bidder: u32) -> &[u8]
     requires { bidder < length setup.now.bidders }
     ensures value { result.now ≡ (bidder_at setup.now bidder).name }
@@ -179,7 +183,7 @@ pub(crate) fn name_of(setup: &Setup, bidder: u32) -> &[u8]
     setup.bidders.as_slice()[bidder as usize].name.as_slice()
 }
 
-/// A bidder's sheet in force, or null where it has none, and the current round.
+/// Writes a bidder's sheet in force, or null if it has none, and the current round.
 ///
 /// ```text
 /// {"bids":[{"price":100,"product":0,"quantity":2}],"round":1}
@@ -190,18 +194,18 @@ pub fn bids_page(alloc: Global, round: u64, sheet: Option<&Sheet>) -> Result<Tex
     Ok(headed_bids(alloc, b"", round, sheet)?)
 }
 
-/// The same page behind a head.
+/// Like [`bids_page`], after the head of a reply.
 pub fn headed_bids(alloc: Global, head: &[u8], round: u64, sheet: Option<&Sheet>) -> Headed
     ensures { IsHeaded head.now (bids_value round (option_copied sheet.entry)) result }
 {
     let Some(sheet) = sheet else {
-        let mut text = text_with_room(alloc, head, 59)?;
+        let mut text = text_with_room(alloc, head, NO_BIDS)?;
         push_number(&mut text, b"{\"bids\":null,\"round\":", round);
         text.extend_from_slice(b"}");
         return Ok(text.into_items());
     };
     let bids = sheet.bids();
-    let mut text = text_with_room(alloc, head, 41 + 95 * bids.len() as u128)?;
+    let mut text = text_with_room(alloc, head, BIDS + BID * bids.len() as u128)?;
     text.extend_from_slice(b"{\"bids\":[");
     for (i, bid) in bids.iter().enumerate() {
         push_comma_if(&mut text, i > 0);
@@ -215,7 +219,7 @@ pub fn headed_bids(alloc: Global, head: &[u8], round: u64, sheet: Option<&Sheet>
     Ok(text.into_items())
 }
 
-/// What answers a sheet that was accepted: how many bids it has, and the current round.
+/// Writes the reply to an accepted sheet: the number of its bids, and the current round.
 ///
 /// ```text
 /// {"accepted":true,"bids":1,"round":1}
@@ -228,18 +232,19 @@ pub fn accepted_page(alloc: Global, round: u64, bids: u64) -> Result<Text, NoMem
     Ok(headed_accepted(alloc, b"", round, bids)?)
 }
 
-/// The same page behind a head.
+/// Like [`accepted_page`], after the head of a reply.
 pub fn headed_accepted(alloc: Global, head: &[u8], round: u64, bids: u64) -> Headed
     ensures { IsHeaded head.now (accepted_value round bids) result }
 {
-    let mut text = text_with_room(alloc, head, 76)?;
+    let mut text = text_with_room(alloc, head, ACCEPTED)?;
     push_number(&mut text, b"{\"accepted\":true,\"bids\":", bids);
     push_number(&mut text, b",\"round\":", round);
     text.extend_from_slice(b"}");
     Ok(text.into_items())
 }
 
-/// What a closed round has left a bidder with: its activity and demands, and its eligibility for the next round.
+/// Writes a bidder's result of a closed round: its activity, its processed demands, and its
+/// eligibility for the next round.
 ///
 /// ```text
 /// {"activity":1,"demands":[1],"eligibility":2,"round":2}
@@ -250,11 +255,11 @@ pub fn slip_page(alloc: Global, slip: &Slip) -> Result<Text, NoMemory>
     Ok(headed_slip(alloc, b"", slip)?)
 }
 
-/// The same page behind a head.
+/// Like [`slip_page`], after the head of a reply.
 pub fn headed_slip(alloc: Global, head: &[u8], slip: &Slip) -> Headed
     ensures { IsHeaded head.now (slip_value slip.now) result }
 {
-    let mut text = text_with_room(alloc, head, 111 + 21 * slip.demands.len() as u128)?;
+    let mut text = text_with_room(alloc, head, SLIP + DEMAND * slip.demands.len() as u128)?;
     push_number(&mut text, b"{\"activity\":", slip.activity);
     push_demands(&mut text, b",\"demands\":", slip.demands.held());
     push_number(&mut text, b",\"eligibility\":", slip.eligibility);
@@ -263,7 +268,7 @@ pub fn headed_slip(alloc: Global, head: &[u8], slip: &Slip) -> Headed
     Ok(text.into_items())
 }
 
-/// What answers a closing that was accepted: the round that was closed, and whether the auction ends with it.
+/// Writes the reply to an accepted closing: the closed round, and whether the auction ends with it.
 ///
 /// ```text
 /// {"closed":1,"ended":false}
@@ -276,19 +281,19 @@ pub fn closed_page(alloc: Global, round: u64, ended: bool) -> Result<Text, NoMem
     Ok(headed_closed(alloc, b"", round, ended)?)
 }
 
-/// The same page behind a head.
+/// Like [`closed_page`], after the head of a reply.
 pub fn headed_closed(alloc: Global, head: &[u8], round: u64, ended: bool) -> Headed
     ensures { IsHeaded head.now (closed_value round ended) result }
 {
-    let mut text = text_with_room(alloc, head, 46)?;
+    let mut text = text_with_room(alloc, head, CLOSED)?;
     push_number(&mut text, b"{\"closed\":", round);
     push_truth(&mut text, b",\"ended\":", ended);
     text.extend_from_slice(b"}");
     Ok(text.into_items())
 }
 
-/// What each bidder holds now: its demands, its eligibility and its name, in the order of the
-/// set-up; whether the auction has ended, and the current round. At the end it is what each has won.
+/// Writes the demands, the eligibility, and the name of each bidder in order of the set-up, whether
+/// the auction has ended, and the current round. At the end, the demands are what each bidder won.
 ///
 /// ```text
 /// {"bidders":[{"demands":[1],"eligibility":2,"name":"X"}],"ended":true,"round":2}
@@ -299,22 +304,22 @@ pub fn results_page<P>(alloc: Global, house: &House<P>) -> Result<Text, NoMemory
     Ok(headed_results(alloc, b"", house)?)
 }
 
-/// How many bytes the page takes at most.
-fn results_room<P>(house: &House<P>) -> u128
-    ensures { result ≡ 56 + most_text (list_of (result_in house.now) (range_with_len 0 (length house.now.setup.bidders))) }
+/// Returns the most bytes of the page of the results.
+fn results_capacity<P>(house: &House<P>) -> u128
+    ensures { result ≡ most_text (results_value house.now) }
 {
-    let mut room = 58;
+    let mut capacity = RESULTS;
     for bidder in 0..bidder_count(house.setup()) {
-        room += 93 + 21 * house.own(bidder).demands.len() as u128;
+        capacity += RESULT + DEMAND * house.own(bidder).demands.len() as u128;
     }
-    room
+    capacity
 }
 
-/// The same page behind a head.
+/// Like [`results_page`], after the head of a reply.
 pub fn headed_results<P>(alloc: Global, head: &[u8], house: &House<P>) -> Headed
     ensures { IsHeaded head.now (results_value house.now) result }
 {
-    let mut text = text_with_room(alloc, head, results_room(house))?;
+    let mut text = text_with_room(alloc, head, results_capacity(house))?;
     text.extend_from_slice(b"{\"bidders\":[");
     for bidder in 0..bidder_count(house.setup()) {
         let own = house.own(bidder);
@@ -330,7 +335,7 @@ pub fn headed_results<P>(alloc: Global, head: &[u8], house: &House<P>) -> Headed
     Ok(text.into_items())
 }
 
-/// How many bidders a set-up has.
+/// Returns how many bidders a set-up has.
 fn bidder_count(setup: &Setup) -> u32
     ensures { result ≡ length setup.now.bidders }
 {

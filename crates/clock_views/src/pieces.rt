@@ -1,4 +1,4 @@
-//! Pieces of compact JSON, which are pushed onto one text. There is room for each: it is taken before the first.
+//! Appends parts of compact JSON to a text. The text has capacity for each part.
 
 ghost use Rattle.std.specs.Prelude.{◌≡◌, ◌≤◌, ◌+◌, ◌-◌, ◌*◌, ◌++◌, ℕ, List, decimal, drop, length, nat_lt};
 ghost use Rattle.std.specs.List.{AllWithin};
@@ -12,10 +12,10 @@ use clock_device::{Bounded, Text};
 use clock_http::NoRoom;
 use clock_terms::HeldProducts;
 
-/// A head and a page behind it, or how much room for the page was refused.
+/// A head and the page after it, or the size of the page for which an allocation failed.
 pub type Headed = Result<Text, NoRoom>;
 
-/// Adds a label, as `,"round":`, and the number behind it.
+/// Appends a label, such as `,"round":`, and a number.
 pub(crate) fn push_number(text: &mut Bounded<u8>, label: &[u8], number: u64)
     requires { length label.now + room_of_number ≤ text.old.room }
     ensures adds { Adds (label.now ++ decimal number) text.old.items text.new.items }
@@ -25,7 +25,7 @@ pub(crate) fn push_number(text: &mut Bounded<u8>, label: &[u8], number: u64)
     text.push_number(number);
 }
 
-/// Adds a label and the number behind it, where there is one.
+/// Appends a label and a number, if there is a number.
 pub(crate) fn push_number_if(text: &mut Bounded<u8>, label: &[u8], number: Option<u64>)
     requires { length label.now + room_of_number ≤ text.old.room }
     ensures adds { Adds (number_if label.now number) text.old.items text.new.items }
@@ -36,7 +36,7 @@ pub(crate) fn push_number_if(text: &mut Bounded<u8>, label: &[u8], number: Optio
     }
 }
 
-/// Adds a label and the number behind it, or null where there is none.
+/// Appends a label and a number, or null if there is no number.
 pub(crate) fn push_number_or_null(text: &mut Bounded<u8>, label: &[u8], number: Option<u64>)
     requires { length label.now + room_of_number ≤ text.old.room }
     ensures adds { Adds (label.now ++ compact_text (whole_or_null number)) text.old.items text.new.items }
@@ -49,7 +49,7 @@ pub(crate) fn push_number_or_null(text: &mut Bounded<u8>, label: &[u8], number: 
     }
 }
 
-/// Adds a label and the truth value behind it.
+/// Appends a label and a truth value.
 pub(crate) fn push_truth(text: &mut Bounded<u8>, label: &[u8], truth: bool)
     requires { length label.now + room_of_truth ≤ text.old.room }
     ensures adds { Adds (label.now ++ true_or_false truth) text.old.items text.new.items }
@@ -60,7 +60,7 @@ pub(crate) fn push_truth(text: &mut Bounded<u8>, label: &[u8], truth: bool)
     text.extend_from_slice(word.as_bytes());
 }
 
-/// Adds a label and the name behind it, in quotes. A name has no character that JSON escapes.
+/// Appends a label and a name in quotes. A name has no character that JSON escapes.
 pub(crate) fn push_name(text: &mut Bounded<u8>, label: &[u8], name: &[u8])
     requires name { IsName name.now }
     requires room { length label.now + room_of_name ≤ text.old.room }
@@ -73,7 +73,7 @@ pub(crate) fn push_name(text: &mut Bounded<u8>, label: &[u8], name: &[u8])
     text.push(b'"');
 }
 
-/// Adds the comma before an item, where it is a later one than the first.
+/// Appends the comma before an item, if the item is not the first.
 pub(crate) fn push_comma_if(text: &mut Bounded<u8>, later: bool)
     requires { 1 ≤ text.old.room }
     ensures adds { Adds (comma_if later) text.old.items text.new.items }
@@ -84,7 +84,7 @@ pub(crate) fn push_comma_if(text: &mut Bounded<u8>, later: bool)
     }
 }
 
-/// Adds zeros as items of an array of demands, for the products from one up to another.
+/// Appends zeros as items of an array of demands, for the products `from..until`.
 fn push_zeros(text: &mut Bounded<u8>, from: usize, until: usize)
     requires order { from ≤ until }
     requires room { room_of_item * (until - from) ≤ text.old.room }
@@ -99,7 +99,7 @@ fn push_zeros(text: &mut Bounded<u8>, from: usize, until: usize)
     }
 }
 
-/// Adds a label and the array of a row's demands behind it, of which nothing is looked at but those that are held.
+/// Appends a label and the array of a row's demands. The loop visits only demands above 0.
 pub(crate) fn push_demands(text: &mut Bounded<u8>, label: &[u8], mut held: HeldProducts<'_>)
     requires first { AllWithin (λ demand. demand ≡ 0) held.demands 0 held.from }
     requires room { length label.now + room_of_array room_of_item (length held.demands) ≤ text.old.room }

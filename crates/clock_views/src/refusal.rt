@@ -1,4 +1,4 @@
-//! What a refusal shows, and its page.
+//! Refusals, and their page.
 
 ghost use Rattle.std.specs.Prelude.{◌≡◌, ◌++◌, IsTrue, IfOk, IfErr, not};
 ghost use Rattle.serde_json.specs.Written.{compact_text};
@@ -6,6 +6,7 @@ ghost use Rattle.clock_views.specs.RefusalPage.{refusal_value, refusal_bytes};
 ghost use Rattle.clock_views.specs.Refusals.{Shown, IsShown, has_place, has_round, is_refusal, shown_bid, shown_tie, shown_put, shown_close, alone as code_alone};
 ghost use Rattle.clock_views.specs.Values.{IsPage};
 
+use crate::capacities::REFUSAL;
 use crate::pieces::{Headed, push_number, push_number_if};
 use clock_bids::BidFault;
 use clock_closing::CloseFault;
@@ -16,16 +17,13 @@ use clock_order::TieFault;
 use std::alloc::Global;
 use std::marker::Model;
 
-/// The room that the page of a refusal is given: for a code of 32 letters, a place, a round and a status.
-pub const REFUSAL_ROOM: u128 = 132;
-
-/// What the page of a refusal shows: the code, and beside it a place exactly for the codes that have
-/// one, and the current round exactly for [`Code::WrongRound`].
+/// The members of a refusal's page: a code; an index if the code has one; and the current round if
+/// the code is [`Code::WrongRound`].
 #[derive(Clone, Copy, Debug)]
 pub struct Refusal {
-    /// Why the request is refused; never [`Code::Done`].
+    /// Why the request is refused. Never [`Code::Done`].
     pub code: Code,
-    /// The place of the bid or of the tie number in its list, or the product's number, from 0.
+    /// The index of the bid or tie-breaking number in its list, or the product's number, from 0.
     pub place: Option<u64>,
     /// The current round.
     pub round: Option<u64>,
@@ -42,7 +40,7 @@ impl Model for Refusal {
 }
 
 impl Refusal {
-    /// A code that stands alone.
+    /// Makes a refusal with only a code. Requires a code without an index and a round.
     pub fn alone(code: Code) -> Refusal
         requires refused { IsTrue (is_refusal code) }
         requires placeless { IsTrue (not (has_place code)) }
@@ -52,7 +50,7 @@ impl Refusal {
         Refusal::with(code, None, None)
     }
 
-    /// A code, with a place or the current round exactly where it has one.
+    /// Makes a refusal with an index or a round. Requires them exactly if the code has them.
     fn with(code: Code, place: Option<u64>, round: Option<u64>) -> Refusal
         requires { IsShown (record { code = code; place = place; round = round }) }
         ensures { result ≡ record { code = code; place = place; round = round } }
@@ -120,8 +118,8 @@ impl From<CloseFault> for Refusal {
     }
 }
 
-/// Why a request is refused: the code and its status, with a place exactly for the codes that have
-/// one, and the current round exactly for [`Code::WrongRound`]. The code is not [`Code::Done`].
+/// Writes the page of a refusal: its code and status, with `place` and `round` as in [`Refusal`].
+/// Requires that `code` is not [`Code::Done`], and `place` and `round` exactly if it has them.
 ///
 /// ```text
 /// {"code":"price_limit","place":0,"status":422}
@@ -140,12 +138,12 @@ pub fn refusal_page(
     Ok(headed_refusal(alloc, b"", Refusal { code, place, round })?)
 }
 
-/// The page of a refusal behind a head.
+/// Like [`refusal_page`], after the head of a reply.
 pub fn headed_refusal(alloc: Global, head: &[u8], refusal: Refusal) -> Headed
     ensures page { IfOk result (λ text. text ≡ head.now ++ compact_text (refusal_value refusal)) }
-    ensures room { IfErr result (λ room. room ≡ REFUSAL_ROOM) }
+    ensures room { IfErr result (λ room. room ≡ REFUSAL) }
 {
-    let mut text = text_with_room(alloc, head, REFUSAL_ROOM)?;
+    let mut text = text_with_room(alloc, head, REFUSAL)?;
     text.extend_from_slice(b"{\"code\":\"");
     text.extend_from_slice(refusal.code.text().as_bytes());
     text.extend_from_slice(b"\"");

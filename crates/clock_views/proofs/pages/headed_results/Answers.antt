@@ -26,28 +26,35 @@ has_room house setup bidder bidders demands wanted given opened now same all bel
     let rest = result_in_most house bidder (length house.setup.bidders) (rw (all, same) at below) in
     omega (arith, rest, held, is, asked, label, left)
 
+pub extend_from_slice-requires : goal.extend_from_slice-requires
+extend_from_slice-requires g c = omega (arith, c.results_capacity.ensures, results_most c.args.house.now, c.in_ok-text.ensures.room)
+
+pub push_comma_if-requires : goal.push_comma_if-requires
+push_comma_if-requires g c =
+    omega (arith, c.results_capacity.ensures, results_most c.args.house.now, c.in_ok-text.ensures.room, c.extend_from_slice.ensures.room, c.loop-bidder.invariant.room)
+
 pub push_demands-requires-clause-room : goal.push_demands-requires-clause-room
 push_demands-requires-clause-room g c =
     let room = has_room c.args.house.now _ c.loop-bidder.bidder _ _ _ _ _ _ c.setup.ensures c.bidder_count-bidder-end.ensures c.loop-bidder-test.true
-    (ap length (c.held.ensures.row ∙ c.own-own.ensures.demands)) c.results_room.ensures c.in_ok-text.ensures.room c.extend_from_slice.ensures.room c.loop-bidder.invariant.room in
+    (ap length (c.held.ensures.row ∙ c.own-own.ensures.demands)) (c.results_capacity.ensures ∙ results_most c.args.house.now) c.in_ok-text.ensures.room c.extend_from_slice.ensures.room c.loop-bidder.invariant.room in
     omega (arith, room, c.push_comma_if.ensures.room)
 
 pub push_number-requires : goal.push_number-requires
 push_number-requires g c =
     let room = has_room c.args.house.now _ c.loop-bidder.bidder _ _ _ _ _ _ c.setup.ensures c.bidder_count-bidder-end.ensures c.loop-bidder-test.true
-    (ap length (c.held.ensures.row ∙ c.own-own.ensures.demands)) c.results_room.ensures c.in_ok-text.ensures.room c.extend_from_slice.ensures.room c.loop-bidder.invariant.room in
+    (ap length (c.held.ensures.row ∙ c.own-own.ensures.demands)) (c.results_capacity.ensures ∙ results_most c.args.house.now) c.in_ok-text.ensures.room c.extend_from_slice.ensures.room c.loop-bidder.invariant.room in
     omega (arith, room, c.push_comma_if.ensures.room, c.push_demands.ensures.room)
 
 pub push_name-requires-clause-room : goal.push_name-requires-clause-room
 push_name-requires-clause-room g c =
     let room = has_room c.args.house.now _ c.loop-bidder.bidder _ _ _ _ _ _ c.setup.ensures c.bidder_count-bidder-end.ensures c.loop-bidder-test.true
-    (ap length (c.held.ensures.row ∙ c.own-own.ensures.demands)) c.results_room.ensures c.in_ok-text.ensures.room c.extend_from_slice.ensures.room c.loop-bidder.invariant.room in
+    (ap length (c.held.ensures.row ∙ c.own-own.ensures.demands)) (c.results_capacity.ensures ∙ results_most c.args.house.now) c.in_ok-text.ensures.room c.extend_from_slice.ensures.room c.loop-bidder.invariant.room in
     omega (arith, room, c.push_comma_if.ensures.room, c.push_demands.ensures.room, c.push_number.ensures.room)
 
 pub extend_from_slice-requires-in-loop-bidder : goal.extend_from_slice-requires-in-loop-bidder
 extend_from_slice-requires-in-loop-bidder g c =
     let room = has_room c.args.house.now _ c.loop-bidder.bidder _ _ _ _ _ _ c.setup.ensures c.bidder_count-bidder-end.ensures c.loop-bidder-test.true
-    (ap length (c.held.ensures.row ∙ c.own-own.ensures.demands)) c.results_room.ensures c.in_ok-text.ensures.room c.extend_from_slice.ensures.room c.loop-bidder.invariant.room in
+    (ap length (c.held.ensures.row ∙ c.own-own.ensures.demands)) (c.results_capacity.ensures ∙ results_most c.args.house.now) c.in_ok-text.ensures.room c.extend_from_slice.ensures.room c.loop-bidder.invariant.room in
     omega (arith, room, c.push_comma_if.ensures.room, c.push_demands.ensures.room, c.push_number.ensures.room, c.push_name.ensures.room)
 
 pub loop-bidder-preserved : goal.loop-bidder-preserved
@@ -85,7 +92,32 @@ push_truth-requires g c =
     let house = c.args.house.now in
     let bidders = length house.setup.bidders in
     let done : bidders ≤ c.loop-bidder.bidder = rw (c.bidder_count-bidder-end.ensures, c.setup.ensures) at c.loop-bidder-test.false in
-    omega (arith, c.results_room.ensures, c.in_ok-text.ensures.room, c.extend_from_slice.ensures.room, c.loop-bidder.invariant.room, none_most (result_in house) c.loop-bidder.bidder bidders done)
+    omega (arith, c.results_capacity.ensures, results_most house, c.in_ok-text.ensures.room, c.extend_from_slice.ensures.room, c.loop-bidder.invariant.room, none_most (result_in house) c.loop-bidder.bidder bidders done)
+
+pub push_number-requires-2 : goal.push_number-requires-2
+push_number-requires-2 g c =
+    omega (
+      arith,
+      c.results_capacity.ensures,
+      results_most c.args.house.now,
+      c.in_ok-text.ensures.room,
+      c.extend_from_slice.ensures.room,
+      c.loop-bidder.invariant.room,
+      c.push_truth.ensures.room,
+    )
+
+pub extend_from_slice-requires-2 : goal.extend_from_slice-requires-2
+extend_from_slice-requires-2 g c =
+    omega (
+      arith,
+      c.results_capacity.ensures,
+      results_most c.args.house.now,
+      c.in_ok-text.ensures.room,
+      c.extend_from_slice.ensures.room,
+      c.loop-bidder.invariant.room,
+      c.push_truth.ensures.room,
+      c.push_number-2.ensures.room,
+    )
 
 pub returns : goal.returns
 returns g c =
@@ -104,4 +136,4 @@ returns g c =
 
 pub returns-in_err-text : goal.returns-in_err-text
 returns-in_err-text g c =
-    refused _ _ c.from_residual.result _ c.from_residual.ensures.1 (c.in_err-text.ensures.refused ∙ c.results_room.ensures ∙ sym (results_most c.args.house.now))
+    refused _ _ c.from_residual.result _ c.from_residual.ensures.1 (c.in_err-text.ensures.refused ∙ c.results_capacity.ensures)

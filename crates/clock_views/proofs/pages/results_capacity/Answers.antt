@@ -1,7 +1,7 @@
 use Rattle.std.proofs.Common.{◌<◌, ◌≤◌, ap, length, arith}
 use Rattle.clock_views.specs.OperatorPages.{result_in}
-use Rattle.clock_views.proofs.Rooms.{none_most, result_in_most}
-use Rattle.clock_views.proofs.pages.results_room.Goals as goal
+use Rattle.clock_views.proofs.Rooms.{none_most, result_in_most, results_most}
+use Rattle.clock_views.proofs.pages.results_capacity.Goals as goal
 
 pub loop-bidder-preserved : goal.loop-bidder-preserved
 loop-bidder-preserved g c =
@@ -18,4 +18,4 @@ returns g c =
     let house = c.args.house.now in
     let bidders = length house.setup.bidders in
     let done : bidders ≤ c.loop-bidder.bidder = rw (c.bidder_count-bidder-end.ensures, c.setup.ensures) at c.loop-bidder-test.false in
-    omega (arith, c.loop-bidder.invariant.all, none_most (result_in house) c.loop-bidder.bidder bidders done)
+    omega (arith, c.loop-bidder.invariant.all, none_most (result_in house) c.loop-bidder.bidder bidders done, results_most house)
