@@ -1,12 +1,12 @@
-//! Bids as most programs write them: without white space, and their keys in one order. Eight bytes are compared at
-//! once.
+//! Reads a bid as most programs write it: without white space, and with its keys in order of their
+//! bytes. Compares eight bytes at once.
 ghost use Rattle.std.specs.Prelude.{◌≡◌, ◌+◌, ◌≤◌, ◌<◌, ◌^◌, ◌∷◌, ◌++◌, length, take, drop, codes, decimal, IsTrue, IfSome};
 ghost use Rattle.json.specs.{Token.{begin_object, end_object, number, string}, Lex.{lex, between, token, comma, colon}};
 ghost use Rattle.clock_json.specs.inside.Digits.{IsNumberUpTo};
 
 use crate::digits::{digit_before, digits_up_to, uneven_digits_at};
 
-/// Whether these eight bytes stand there.
+/// Returns whether `bytes` has these eight bytes at index `at`.
 #[inline(always)]
 fn has_eight(bytes: &[u8], at: usize, word: &[u8; 8]) -> bool
     requires { at + 8 ≤ length bytes.now }
@@ -18,7 +18,7 @@ fn has_eight(bytes: &[u8], at: usize, word: &[u8; 8]) -> bool
     u64::from_le_bytes(there) == u64::from_le_bytes(*word)
 }
 
-/// Whether so many bytes stand from a place on.
+/// Returns whether `bytes` has at least `count` bytes from index `at` on.
 #[inline(always)]
 pub(crate) fn has_room(bytes: &[u8], at: usize, count: usize) -> bool
     ensures { IsTrue result → at + count ≤ length bytes.now }
@@ -26,7 +26,7 @@ pub(crate) fn has_room(bytes: &[u8], at: usize, count: usize) -> bool
     count <= bytes.len() && at <= bytes.len() - count
 }
 
-/// Whether eight bytes stand there, and eight others that begin among these, behind a part of them.
+/// Returns whether `bytes` has eight bytes at an index, and eight others a few bytes later.
 #[inline(always)]
 fn has_both(bytes: &[u8], at: usize, first: &[u8; 8], part: usize, second: &[u8; 8]) -> bool
     requires first { at + 8 ≤ length bytes.now }
@@ -37,7 +37,7 @@ fn has_both(bytes: &[u8], at: usize, first: &[u8; 8], part: usize, second: &[u8;
     has_eight(bytes, at, first) && has_eight(bytes, at + part, second)
 }
 
-/// The quantity of a bid that stands there: mostly a single digit, with the bid's end behind it.
+/// Reads the quantity of a bid at an index. Most are a single digit, and the bid ends after it.
 #[inline(always)]
 fn quantity_at(bytes: &[u8], start: usize) -> Option<(u64, usize)>
     requires { start + 16 ≤ length bytes.now }
@@ -49,22 +49,21 @@ fn quantity_at(bytes: &[u8], start: usize) -> Option<(u64, usize)>
     digits_up_to(bytes, start, start + 16)
 }
 
-/// The numbers of a bid that is written so.
+/// The numbers of a bid.
 #[derive(Clone, Copy)]
 pub struct CompactBid {
-    /// Under the first key.
+    /// The value of the first key.
     pub price: u64,
-    /// Under the second.
+    /// The value of the second key.
     pub product: u64,
-    /// Under the third.
+    /// The value of the third key.
     pub quantity: u64,
 }
 
-/// How many bytes a bid has at most that is read so, with its comma: three numbers of sixteen digits, and what is
-/// around them.
+/// The most bytes of such a bid and its comma: three numbers of sixteen digits, and the rest.
 const MOST_BYTES: usize = 82;
 
-/// The bid that stands there, with a comma behind it, and where that ends.
+/// Reads a bid and a comma at an index. Returns the bid, and the index after the comma.
 #[inline(always)]
 pub(crate) fn compact_bid_at(bytes: &[u8], start: usize) -> Option<(CompactBid, usize)>
     ensures small { IfSome result (λ r. (r.0.price < 2 ^ 64) × (r.0.product < 2 ^ 64) × (r.0.quantity < 2 ^ 64)) }

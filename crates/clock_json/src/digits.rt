@@ -1,5 +1,5 @@
-//! Numbers of digits alone, whose digits are counted sixteen at a time, and such numbers one behind the other with
-//! nothing between them but a comma.
+//! Reads numbers that have only digits, sixteen digits at a time, and lists of such numbers with
+//! only a comma between two of them.
 ghost use Rattle.std.specs.Prelude.{◌≡◌, ◌+◌, ◌≤◌, ◌<◌, ◌^◌, ◌∷◌, drop, get_or, length, take, IfSome, decimal};
 ghost use Rattle.std.specs.Str.Parse.{AllDigits, digits_value};
 ghost use Rattle.json.specs.{Token.{number}, Lex.{lex, between, token, comma}};
@@ -8,7 +8,7 @@ ghost use Rattle.clock_json.specs.inside.Digits.{AreDigits, IsNumberUpTo};
 use crate::compact::has_room;
 use std::simd::prelude::*;
 
-/// How many of the next sixteen bytes are digits, before the first that is none.
+/// Returns how many of the next sixteen bytes are digits, before the first other byte.
 #[inline(always)]
 fn digits_ahead(bytes: &[u8], at: usize) -> usize
     requires { at + 16 ≤ length bytes.now }
@@ -25,13 +25,13 @@ fn digits_ahead(bytes: &[u8], at: usize) -> usize
     }
 }
 
-/// What the first of eight digits, the one behind it and so on count. Behind the eight, nothing counts.
+/// The weight of each of eight digits. After the eighth digit, the weight is 0.
 const WEIGHTS: [u32; 16] = [
     10_000_000, 1_000_000, 100_000, 10_000, 1_000, 100, 10, 1, 0, 0, 0, 0, 0, 0, 0, 0,
 ];
 
-/// The number that the first of eight bytes write, which are digits. All eight are gone through, each by what it
-/// counts, since a loop that ends where the digits do is mostly guessed wrong.
+/// Returns the number that the first `count` of eight bytes write. The loop visits all eight, with
+/// their weights: the processor mostly mispredicts a loop that ends with the digits.
 #[inline(always)]
 fn value_of(bytes: &[u8], at: usize, count: usize) -> u64
     requires room { at + 8 ≤ length bytes.now }
@@ -49,8 +49,8 @@ fn value_of(bytes: &[u8], at: usize, count: usize) -> u64
     value as u64
 }
 
-/// The number that stands there in its digits, of which there are at most nineteen, before a place, with no zero before
-/// them, and where they end.
+/// Reads a number of at most nineteen digits, without leading zeros, that ends before an index.
+/// Returns the number, and the index after it.
 #[inline(always)]
 pub(crate) fn digits_up_to(bytes: &[u8], start: usize, stop: usize) -> Option<(u64, usize)>
     requires order { start ≤ stop }
@@ -74,7 +74,7 @@ pub(crate) fn digits_up_to(bytes: &[u8], start: usize, stop: usize) -> Option<(u
     Some((value, end))
 }
 
-/// The number of one digit that stands there with a mark behind it.
+/// Reads a number of one digit that a mark follows.
 #[inline(always)]
 pub(crate) fn digit_before(bytes: &[u8], at: usize, mark: u8) -> Option<u64>
     requires { at + 2 ≤ length bytes.now }
@@ -88,7 +88,7 @@ pub(crate) fn digit_before(bytes: &[u8], at: usize, mark: u8) -> Option<u64>
     Some(byte as u64 - 48)
 }
 
-/// A number of at most sixteen digits, where numbers often have another count of digits than the one before.
+/// Reads a number of at most sixteen digits. It is fast if the count of digits varies.
 #[inline(always)]
 pub(crate) fn uneven_digits_at(bytes: &[u8], start: usize) -> Option<(u64, usize)>
     requires { start + 16 ≤ length bytes.now }
@@ -104,11 +104,11 @@ pub(crate) fn uneven_digits_at(bytes: &[u8], start: usize) -> Option<(u64, usize
     Some((value_of(bytes, start, count), start + count))
 }
 
-/// How many bytes a number has at most that is read with the comma right behind it, and that comma.
+/// The most bytes of a number and of the comma right after it.
 const MOST_NUMBER: usize = 17;
 
-/// The number that stands there with a comma right behind it, and where that ends. One of a single digit takes a few
-/// steps.
+/// Reads a number and the comma right after it. Returns the number, and the index after the comma.
+/// A single digit takes few steps.
 #[inline(always)]
 pub(crate) fn number_and_comma(bytes: &[u8], at: usize) -> Option<(u64, usize)>
     ensures order { IfSome result (λ r. (at < r.1) × (r.1 ≤ length bytes.now)) }

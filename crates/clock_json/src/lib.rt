@@ -1,6 +1,8 @@
-//! JSON texts (RFC 8259), read in two ways that agree. By bytes, without a tree of values, where they have the shape
-//! that is wanted: what is read is what `serde_json` reads, and where nothing is read, nothing is said of the text. And
-//! by `serde_json`'s tree ([`tree`]), which decides every text.
+//! Reads JSON texts (RFC 8259) in two ways, which agree.
+//!
+//! - By bytes, without a tree of values, if the text has the expected shape. The result is then
+//!   what `serde_json` reads. No result says nothing about the text.
+//! - By the tree of `serde_json` ([`tree`]), which decides every text.
 #![tactic(auto)]
 
 mod compact;

@@ -1,32 +1,32 @@
-//! Parts of one kind: lists of them, whole texts, and objects of known keys, which may stand in any order.
+//! Reads lists of parts, a part that is a whole text, and objects of known keys in any order.
 ghost use Rattle.std.specs.{Prelude.{◌≡◌, ◌<◌, ◌≤◌, ℕ, suc, length, map, Some, IfSome, OnSome, IfOk, OnOk}, Str.{IsUtf8}};
 ghost use Rattle.serde_json.specs.{Data.{Data, array, no_members, object}, Read.{read}};
 ghost use Rattle.clock_json.specs.{Reading.{items_of, Reads, Fields, members_of}, Members.{ReadsField}};
 
 use crate::room::with_room;
 use crate::scan::{Scan, ScanStop};
-use crate::words::is_text;
+use crate::words::text_of;
 use clock_device::{Items, NoMemory};
 use std::alloc::Global;
 
-/// How a part of a text is read, where it has the shape that is wanted.
+/// Reads a part of a text, if it has the expected shape.
 pub trait PartReader<'v> {
-    /// What is read.
+    /// The type of a part.
     type Part: Drop;
 
-    /// How deep it nests.
+    /// How deep the part nests.
     ghost levels: { ℕ };
 
-    /// The value of JSON that it is.
+    /// The JSON value of a part.
     ghost shown: { Self.Part → Data };
 
-    /// The one that is next.
+    /// Reads the next part.
     fn part(alloc: Global, scan: &mut Scan<'v>) -> Result<Self::Part, ScanStop>
         ensures value { IfOk result (λ part. Reads levels scan.old (shown part) scan.new) }
         ensures shorter { OnOk result (length scan.new < length scan.old) };
 }
 
-/// The list of parts that is next, with room for so many made at once.
+/// Reads the next list of parts. Reserves memory for `room` of them at once.
 pub fn scanned_parts<'v, R: PartReader<'v>>(
     alloc: Global,
     scan: &mut Scan<'v>,
@@ -45,7 +45,7 @@ pub fn scanned_parts<'v, R: PartReader<'v>>(
     Ok(parts)
 }
 
-/// The part that a whole text is, or none where it has not the shape that is wanted.
+/// Reads a whole text as a part. Returns `None` if it does not have the expected shape.
 pub fn scanned_text<'v, R: PartReader<'v>>(
     alloc: Global,
     bytes: &'v [u8],
@@ -54,10 +54,10 @@ pub fn scanned_text<'v, R: PartReader<'v>>(
     ensures text { IfOk result (λ part. OnSome part (IsUtf8 bytes.now)) }
     ensures value { IfOk result (λ part. IfSome part (λ part. read bytes.now ≡ Some (R.shown part))) }
 {
-    if !is_text(bytes) {
+    let Some(text) = text_of(bytes) else {
         return Ok(None);
-    }
-    let mut scan = Scan::new(bytes);
+    };
+    let mut scan = Scan::new(text);
     match R::part(alloc, &mut scan) {
         Ok(part) if scan.ends() => Ok(Some(part)),
         Err(ScanStop::NoMemory) => Err(NoMemory),
@@ -65,30 +65,30 @@ pub fn scanned_text<'v, R: PartReader<'v>>(
     }
 }
 
-/// What was found of an object while its members are read. Where all of it is found, the object is a part that is read.
+/// The members of an object that were read so far. When all were read, the object is a part.
 pub trait ScannedMembers<'v>: Sized + Drop {
-    /// What a whole object is.
+    /// The type of a whole object.
     type Whole: Drop;
 
-    /// How deep the values of its members nest.
+    /// How deep the values of the members nest.
     ghost levels: { ℕ };
 
-    /// Its keys, each with the value of JSON that was found.
+    /// The keys, each with the JSON value that was read.
     ghost fields: { Self → Fields };
 
-    /// The value of JSON that a whole one is.
+    /// The JSON value of a whole object.
     ghost shown: { Self.Whole → Data };
 
-    /// An object of which nothing was found.
+    /// Returns an object of which nothing was read.
     fn nothing() -> Self
         ensures { members_of (fields result) ≡ no_members };
 
-    /// Reads the value that is next under a key, if the key is one of these.
+    /// Reads the next value, which is that of `key`, if the object has this key.
     fn read(&mut self, alloc: Global, key: &[u8], scan: &mut Scan<'v>) -> Result<(), ScanStop>
         ensures value { OnOk result (ReadsField levels key.now scan.old (fields self.old) scan.new (fields self.new)) }
         ensures shorter { OnOk result (length scan.new < length scan.old) };
 
-    /// What the object is, where all of it was found.
+    /// Returns the object, if all of it was read.
     fn whole(self) -> Option<Self::Whole>
         ensures { IfSome result (λ whole. object (members_of (fields self)) ≡ shown whole) };
 }

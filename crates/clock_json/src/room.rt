@@ -1,17 +1,17 @@
-//! Lists that grow where there is memory.
+//! Lists whose growth may return an error.
 ghost use Rattle.std.specs.Prelude.{◌≡◌, [], ◌∷◌, ◌++◌, IfOk, OnOk};
 
 use clock_device::NoMemory;
 use std::alloc::Global;
 
-/// No items yet, and room for so many. More can be added than there is room for.
+/// Makes an empty list with memory for `room` items. It can grow beyond this.
 pub fn with_room<T>(alloc: Global, room: usize) -> Result<Vec<T>, NoMemory>
     ensures items { IfOk result (λ list. list.items ≡ []) }
 {
     Ok(Vec::with_capacity(alloc, room)?)
 }
 
-/// Adds an item at the end of a list.
+/// Appends an item to a list.
 #[inline(always)]
 pub fn push<T: Drop>(list: &mut Vec<T>, item: T) -> Result<(), NoMemory>
     ensures items { OnOk result (list.new.items ≡ list.old.items ++ item ∷ []) }

@@ -1,17 +1,17 @@
-//! Rows of numbers that take two bytes each.
+//! Rows of numbers of two bytes each.
 ghost use Rattle.std.specs.Prelude.{◌≡◌, map, IsTrue, IfOk, OnOk};
 ghost use Rattle.clock_json.specs.Rows.{shortened};
 
 use clock_device::{Items, NoMemory};
 use std::alloc::Global;
 
-/// The largest number that two bytes hold.
+/// The largest number of two bytes.
 const MOST_SHORT: u64 = 65_535;
 
-/// Rows of numbers that two bytes hold.
+/// Rows of numbers of two bytes.
 pub type ShortRows = Items<Items<u16>>;
 
-/// The numbers of some lists as rows, those above 65,535 as 65,535.
+/// Makes rows of the numbers in `lists`. A number above 65,535 becomes 65,535.
 pub fn short_rows(alloc: Global, lists: &[Items<u64>]) -> Result<ShortRows, NoMemory>
     ensures { IfOk result (λ rows. rows ≡ map (map shortened) lists.now) }
 {
@@ -23,8 +23,8 @@ pub fn short_rows(alloc: Global, lists: &[Items<u64>]) -> Result<ShortRows, NoMe
     Ok(rows)
 }
 
-/// Numbers as a row, one above 65,535 as 65,535, and whether none is above. Each is looked at, since a loop that may end
-/// early is slow.
+/// Makes a row of `numbers`, and returns whether all are at most 65,535. A number above becomes
+/// 65,535. The loop visits all numbers, since a loop with an early end is slow.
 pub(crate) fn short_row(alloc: Global, numbers: &[u64]) -> Result<(Items<u16>, bool), NoMemory>
     ensures row { IfOk result (λ r. r.0 ≡ map shortened numbers.now) }
     ensures same { IfOk result (λ r. IsTrue r.1 → map shortened numbers.now ≡ numbers.now) }
@@ -38,7 +38,7 @@ pub(crate) fn short_row(alloc: Global, numbers: &[u64]) -> Result<(Items<u16>, b
     Ok((Items::from_vec(row), !has_long))
 }
 
-/// Puts the numbers of a row in the place of what a list held.
+/// Replaces the items of `list` by the numbers of `row`.
 pub fn read_row(row: &[u16], list: &mut Vec<u64>) -> Result<(), NoMemory>
     ensures { OnOk result (list.new.items ≡ row.now) }
 {

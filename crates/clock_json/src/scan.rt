@@ -1,4 +1,4 @@
-//! A text read mark by mark.
+//! Reads a text from its start to its end, one mark or value at a time.
 ghost use Rattle.std.specs.Prelude.{◌≡◌, ◌∷◌, ◌++◌, [], ◌<◌, ℕ, List, drop, length, map, replicate, IsTrue, IfSome, IfNone, IfOk, OnOk, true, false};
 ghost use Rattle.std.specs.Bool.{MatchBool};
 ghost use Rattle.json.specs.{Token.{Token, key as key_token, tokens_code}, Lex.{may_begin, may_close, tokens}};
@@ -12,18 +12,18 @@ use crate::digits::number_and_comma;
 use crate::room::push;
 use crate::rows::{ShortRows, short_row};
 use crate::words::{
-    after_space, after_value, decimal_at, ends_text, ends_word, is_at, is_key, quoted,
+    after_space, after_value, decimal_at, ends_text, ends_word, is_at, is_key, quoted, quoted_text,
 };
 use clock_device::{Items, NoMemory};
 use std::alloc::Global;
 use std::marker::Model;
 
-/// Why a text was not read.
+/// Why a text could not be read.
 #[derive(Clone, Copy, Debug, PartialEq, Eq)]
 pub enum ScanStop {
-    /// The text has another shape. Nothing is said of what it means.
+    /// The text does not have the expected shape. It may still be valid.
     Unusual,
-    /// There was no memory.
+    /// An allocation failed.
     NoMemory,
 }
 
@@ -35,7 +35,7 @@ impl From<NoMemory> for ScanStop {
     }
 }
 
-/// What may stand next.
+/// What may come next.
 #[derive(Clone, Copy, Drop)]
 pub(crate) enum Expected {
     Fresh,
@@ -44,7 +44,7 @@ pub(crate) enum Expected {
 }
 
 impl Expected {
-    /// Whether a value or a key may begin here.
+    /// Returns whether a value or a key may begin here.
     #[inline(always)]
     pub(crate) fn may_begin(self) -> bool
         ensures { result ≡ may_begin (place_of self) }
@@ -52,7 +52,7 @@ impl Expected {
         matches!(self, Expected::Fresh | Expected::AfterComma)
     }
 
-    /// Whether a comma was right before, so that no bracket and no brace may close here.
+    /// Returns whether a comma was read last, so that no bracket and no brace may close here.
     #[inline(always)]
     pub(crate) fn is_after_comma(self) -> bool
         ensures comma { IsTrue result → self ≡ Expected.AfterComma }
@@ -62,10 +62,13 @@ impl Expected {
     }
 }
 
-/// A text that is being read. Contracts see the tokens that are still to come. A call that reads nothing may leave it
-/// anywhere, except that where nothing closes it stays as it is.
+/// A text that is being read. In contracts, it is the list of the tokens not read yet.
+///
+/// A call that returns an error may leave it at any token. `closes` or `null` that returns false,
+/// and `compact_bid` that returns `None`, leave it unchanged.
 #[derive(Drop)]
 pub struct Scan<'a> {
+    text: &'a str,
     bytes: &'a [u8],
     at: usize,
     expected: Expected,
@@ -77,26 +80,29 @@ impl<'a> Model for Scan<'a> {
     ghost coded = { tokens_code };
 
     ghost view = { λ s. left s.expected (drop s.at s.bytes.now) };
+
+    ghost invariant = { λ s. s.text.now ≡ s.bytes.now };
 }
 
 impl<'a> Scan<'a> {
-    /// The text from its first byte on.
-    pub fn new(bytes: &'a [u8]) -> Scan<'a>
-        ensures { result ≡ tokens bytes.now }
+    /// Reads a text from its first byte on.
+    pub fn new(text: &'a str) -> Scan<'a>
+        ensures { result ≡ tokens text.now }
     {
         Scan {
-            bytes,
+            text,
+            bytes: text.as_bytes(),
             at: 0,
             expected: Expected::Fresh,
         }
     }
 
-    /// How many bytes of the text are left.
+    /// Returns how many bytes are left.
     pub fn bytes_left(&self) -> usize {
         self.bytes.len().saturating_sub(self.at)
     }
 
-    /// Passes a mark that opens, `[` or `{`.
+    /// Reads a mark that opens, `[` or `{`.
     #[inline(always)]
     pub fn opens(&mut self, mark: u8) -> Result<(), ScanStop>
         ensures { OnOk result (IfSome (opening mark) (λ token. self.old ≡ token ∷ self.new)) }
@@ -109,7 +115,7 @@ impl<'a> Scan<'a> {
         Ok(())
     }
 
-    /// Passes a mark that closes, `]` or `}`.
+    /// Reads a mark that closes, `]` or `}`, if it comes next.
     #[inline(always)]
     pub fn closes(&mut self, mark: u8) -> bool
         ensures { MatchBool result (IfSome (closing mark) (λ token. self.old ≡ token ∷ self.new)) (self.new ≡ self.old) }
@@ -125,7 +131,7 @@ impl<'a> Scan<'a> {
         true
     }
 
-    /// Reads a key with no escape in it, and its colon.
+    /// Reads a key without escapes, and its colon.
     #[inline(always)]
     pub fn key(&mut self) -> Result<&'a [u8], ScanStop>
         ensures { IfOk result (λ key. self.old ≡ key_token key.now ∷ self.new) }
@@ -143,7 +149,7 @@ impl<'a> Scan<'a> {
         Ok(key)
     }
 
-    /// Reads a number below 10^19 that is written in digits alone.
+    /// Reads a number below 10^19 that has only digits.
     #[inline(always)]
     pub fn number(&mut self) -> Result<u64, ScanStop>
         ensures value { IfOk result (λ n. Reads 0 self.old (whole n) self.new) }
@@ -158,7 +164,7 @@ impl<'a> Scan<'a> {
         Ok(n)
     }
 
-    /// Reads a bid that is written without white space, its keys in the order of their bytes, where a comma follows it.
+    /// Reads a bid without white space, its keys in order of their bytes, if a comma follows it.
     #[inline(always)]
     pub fn compact_bid(&mut self) -> Option<CompactBid>
         ensures value { IfSome result (λ bid. Reads 1 self.old (compact_bid bid) self.new) }
@@ -173,7 +179,7 @@ impl<'a> Scan<'a> {
         Some(bid)
     }
 
-    /// Reads a list of numbers that are below 10^19 and written in digits alone.
+    /// Reads a list of numbers below 10^19 that have only digits.
     pub fn numbers(&mut self, alloc: Global) -> Result<Items<u64>, ScanStop>
         ensures value { IfOk result (λ list. Reads 1 self.old (numbers list) self.new) }
         ensures shorter { OnOk result (length self.new < length self.old) }
@@ -183,7 +189,7 @@ impl<'a> Scan<'a> {
         Ok(Items::from_vec(list))
     }
 
-    /// Reads a list of numbers as [`numbers`](Scan::numbers) does, behind those that are there.
+    /// Like [`Scan::numbers`], but appends the numbers to `list`.
     pub fn numbers_behind(&mut self, list: &mut Vec<u64>) -> Result<(), ScanStop>
         ensures value { OnOk result ((row : List ℕ) × (list.new.items ≡ list.old.items ++ row)
             × Reads 1 self.old (numbers row) self.new) }
@@ -198,7 +204,7 @@ impl<'a> Scan<'a> {
         Ok(())
     }
 
-    /// Reads the numbers that are next, where each has a comma right behind it, behind those of a list.
+    /// Reads the next numbers while a comma is right after each, and appends them to `list`.
     #[inline(never)]
     fn further_numbers(&mut self, list: &mut Vec<u64>) -> Result<(), ScanStop>
         ensures { OnOk result ((row : List ℕ) × (list.new.items ≡ list.old.items ++ row)
@@ -217,7 +223,7 @@ impl<'a> Scan<'a> {
         Ok(())
     }
 
-    /// Reads a list of such lists, of numbers up to 65,535.
+    /// Reads a list of lists of numbers up to 65,535.
     pub fn short_rows(&mut self, alloc: Global) -> Result<ShortRows, ScanStop>
         ensures value { IfOk result (λ list. Reads 2 self.old (rows list) self.new) }
         ensures shorter { OnOk result (length self.new < length self.old) }
@@ -237,8 +243,8 @@ impl<'a> Scan<'a> {
         Ok(rows)
     }
 
-    /// Passes the empty lists that are next, where each has a comma right behind it and one comma is before them, and
-    /// tells how many they are.
+    /// Reads the next empty lists while a comma is right after each, if a comma was read last.
+    /// Returns how many there were.
     #[inline(always)]
     pub fn empty_arrays(&mut self) -> usize
         ensures { ReadsAll 1 self.old (replicate result (numbers [])) self.new }
@@ -259,7 +265,7 @@ impl<'a> Scan<'a> {
         count
     }
 
-    /// Passes the word `null`.
+    /// Reads the word `null`, if it comes next.
     #[inline(always)]
     pub fn null(&mut self) -> bool
         ensures { MatchBool result (Reads 0 self.old null self.new) (self.new ≡ self.old) }
@@ -276,7 +282,7 @@ impl<'a> Scan<'a> {
         true
     }
 
-    /// Reads a text with no escape in it.
+    /// Reads a text without escapes.
     #[inline(always)]
     pub fn text(&mut self) -> Result<&'a str, ScanStop>
         ensures value { IfOk result (λ text. Reads 0 self.old (string text.now) self.new) }
@@ -286,8 +292,7 @@ impl<'a> Scan<'a> {
         if !self.expected.may_begin() {
             return Err(ScanStop::Unusual);
         }
-        let (bytes, at) = quoted(self.bytes, at)?;
-        let text = str::from_utf8(bytes).or(Err(ScanStop::Unusual))?;
+        let (text, at) = quoted_text(self.text, at)?;
         if !ends_text(self.bytes, after_space(self.bytes, at)) {
             return Err(ScanStop::Unusual);
         }
@@ -295,7 +300,7 @@ impl<'a> Scan<'a> {
         Ok(text)
     }
 
-    /// Whether nothing follows.
+    /// Returns whether nothing follows.
     #[inline(always)]
     pub fn ends(&self) -> bool
         ensures { IsTrue result → self.now ≡ [] }

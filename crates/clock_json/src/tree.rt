@@ -1,5 +1,5 @@
-//! What a JSON value has: the value that bytes are, and under a key a number, a text, or the items of a list.
-//! `Value::get` gives the value under a key itself.
+//! Reads a JSON value from bytes, and numbers, texts, and lists from its members. `Value::get`
+//! returns a member itself.
 
 ghost use Rattle.std.specs.Prelude.{◌≡◌, Option, option_and_then, option_map, IfOk};
 ghost use Rattle.serde_json.specs.{View.{view, items_view}, Data.{Data}};
@@ -10,21 +10,21 @@ use clock_device::{Items, NoMemory};
 use serde_json::Value;
 use std::alloc::Global;
 
-/// A whole number from 0 to 2^64 - 1 under a key.
+/// Returns the member `key`, if it is a whole number from 0 to 2^64 - 1.
 pub fn number_at(value: &Value, key: &str) -> Option<u64>
     ensures { result ≡ members.number_at key.now (view value.now) }
 {
     value.get(key).and_then(Value::as_u64)
 }
 
-/// A text under a key.
+/// Returns the member `key`, if it is a text.
 pub fn text_at<'v>(value: &'v Value, key: &str) -> Option<&'v str>
     ensures { option_map (λ text. text.now) result ≡ members.text_at key.now (view value.now) }
 {
     value.get(key).and_then(Value::as_str)
 }
 
-/// Whether a value is an object of so many members.
+/// Returns whether a value is an object of `count` members.
 pub fn has_members(value: &Value, count: usize) -> bool
     ensures { result ≡ members.has_members count (view value.now) }
 {
@@ -34,28 +34,28 @@ pub fn has_members(value: &Value, count: usize) -> bool
     }
 }
 
-/// How a value is read as a part of a document.
+/// Reads a value as a part of a document.
 pub trait ValueReader<'v> {
-    /// What is read.
+    /// The type of a part.
     type Part: Drop;
 
-    /// What a value means.
+    /// The part that a value means.
     ghost meaning: { Self → Data → Option Self.Part };
 
-    /// What the value means, or none where it is of another shape.
+    /// Reads the value. Returns `None` if it does not have the expected shape.
     fn part_of(&self, alloc: Global, value: &'v Value) -> Result<Option<Self::Part>, NoMemory>
         ensures { IfOk result (λ part. part ≡ meaning self.now (view value.now)) };
 }
 
-/// How a value is read as a part of a document, where that needs no memory.
+/// Like [`ValueReader`], for parts that allocate nothing.
 pub trait PlainReader<'v> {
-    /// What is read.
+    /// The type of a part.
     type Part: Drop;
 
-    /// What a value means.
+    /// The part that a value means.
     ghost meaning: { Self → Data → Option Self.Part };
 
-    /// What the value means, or none where it is of another shape.
+    /// Reads the value. Returns `None` if it does not have the expected shape.
     fn plain_part(&self, value: &'v Value) -> Option<Self::Part>
         ensures { result ≡ meaning self.now (view value.now) };
 }
@@ -70,7 +70,7 @@ impl<'v, R: PlainReader<'v>> ValueReader<'v> for R {
     }
 }
 
-/// What the items of a list mean, in order, or none where one is of another shape.
+/// Reads each item, in order. Returns `None` if one does not have the expected shape.
 pub fn each_of<'v, R: ValueReader<'v>>(
     alloc: Global,
     reader: &R,
@@ -88,7 +88,8 @@ pub fn each_of<'v, R: ValueReader<'v>>(
     Ok(Some(parts))
 }
 
-/// What the items of a list under a key mean, in order, or none where there is no list or one is of another shape.
+/// Reads each item of the list `key`, in order. Returns `None` if there is no such list, or if an
+/// item does not have the expected shape.
 pub fn each_at<'v, R: ValueReader<'v>>(
     alloc: Global,
     value: &'v Value,
@@ -104,7 +105,7 @@ pub fn each_at<'v, R: ValueReader<'v>>(
     }
 }
 
-/// A number is read from a whole number from 0 to 2^64 - 1.
+/// Reads a whole number from 0 to 2^64 - 1.
 #[derive(Drop)]
 pub struct NumberReader;
 
@@ -118,7 +119,7 @@ impl<'v> PlainReader<'v> for NumberReader {
     }
 }
 
-/// A row of numbers is read from a list of them.
+/// Reads a list of whole numbers.
 #[derive(Drop)]
 pub struct RowReader;
 
@@ -136,12 +137,12 @@ impl<'v> ValueReader<'v> for RowReader {
     }
 }
 
-/// The JSON value (RFC 8259) that the bytes are, or none.
+/// Reads bytes as a JSON value (RFC 8259). Returns `None` if they are none.
 #[tactic(auto, unfolding(crate::specs::Tree::json))]
 pub fn read_value(alloc: Global, bytes: &[u8]) -> Result<Option<Value>, NoMemory>
     ensures { IfOk result (λ value. option_map view value ≡ members.json bytes.now) }
 {
-    // White space alone needs no reader, which would look for the place of an error that nobody is shown.
+    // skips the reader for white space: it would compute the index of an error that nobody sees
     if is_blank(bytes) {
         return Ok(None);
     }

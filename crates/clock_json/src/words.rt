@@ -1,18 +1,20 @@
-//! Bytes of a text as lexemes: white space, commas, quoted words, numbers and empty lists. Where plain text ends, at a quote, a
-//! backslash or a control character, is looked for in sixteen bytes together.
-ghost use Rattle.std.specs.Prelude.{◌≡◌, ◌∷◌, ◌<◌, ◌^◌, ◌||◌, ◌+◌, ◌≤◌, true, false, None, IsTrue, drop, length, get_or, decimal, IfSome, IfOk, map};
+//! Reads the lexemes of a text: white space, commas, quoted words, numbers, and empty lists.
+//!
+//! Plain text ends at a quote, a backslash, or a control character. Its end is searched in sixteen
+//! bytes at once.
+ghost use Rattle.std.specs.Prelude.{◌≡◌, ◌∷◌, ◌<◌, ◌^◌, ◌||◌, ◌+◌, ◌≤◌, ℕ, true, false, None, IsTrue, drop, length, get_or, decimal, IfSome, IfOk, map};
 ghost use Rattle.std.specs.{Str.{IsUtf8}, List.{prefix_len}, Simd.Lanes.{mask_l}};
 ghost use Rattle.json.specs.Lex.{lex, between, token, class, begins_colon, after_value as past_value, punctuate};
 ghost use Rattle.json.specs.{Token.{number, string}, Run.{is_stop, is_plain}, Word.{is_operator, is_space as is_blank_byte}};
 ghost use Rattle.json.specs.Align.{is_blank as is_blank_class};
 ghost use Rattle.serde_json.specs.Read.{read};
-ghost use Rattle.clock_json.specs.Left.{left};
+ghost use Rattle.clock_json.specs.{Left.{left}, inside.Quotes.{IsQuoted}};
 
 use crate::digits::digits_up_to;
 use crate::scan::{Expected, ScanStop};
 use std::simd::prelude::*;
 
-/// Whether this byte stands there.
+/// Returns whether `bytes` has this byte at index `at`.
 #[inline(always)]
 pub(crate) fn is_at(bytes: &[u8], at: usize, byte: u8) -> bool
     ensures { IsTrue result → (at < length bytes.now) × (get_or bytes.now at 0 ≡ byte) }
@@ -27,7 +29,7 @@ fn is_space(byte: u8) -> bool
     byte == b' ' || (byte == b'\t') | (byte == b'\n') | (byte == b'\r')
 }
 
-/// Where the white space ends that is there.
+/// Returns the index after the white space at `start`.
 #[inline(always)]
 pub(crate) fn after_space(bytes: &[u8], start: usize) -> usize
     ensures { lex between (drop result bytes.now) ≡ lex between (drop start bytes.now) }
@@ -42,8 +44,8 @@ pub(crate) fn after_space(bytes: &[u8], start: usize) -> usize
     at
 }
 
-/// Whether a text has nothing but white space. It is then no JSON. Behind a first byte that is white space each one is
-/// looked at, since a loop that may end early is slow.
+/// Returns whether a text has only white space, and so is no JSON. If the first byte is white
+/// space, the loop visits all bytes, since a loop with an early end is slow.
 pub fn is_blank(bytes: &[u8]) -> bool
     ensures { IsTrue result → read bytes.now ≡ None }
 {
@@ -57,14 +59,21 @@ pub fn is_blank(bytes: &[u8]) -> bool
     !has_other
 }
 
-/// Whether the bytes of a text can be those of JSON: they are UTF-8, and not all white space.
-pub fn is_text(bytes: &[u8]) -> bool
-    ensures { IsTrue result → IsUtf8 bytes.now }
+/// Returns the text that `bytes` are, if they can be JSON: they are UTF-8, and not all white space.
+pub(crate) fn text_of(bytes: &[u8]) -> Option<&str>
+    ensures same { IfSome result (λ text. text.now ≡ bytes.now) }
+    ensures utf8 { IfSome result (λ _. IsUtf8 bytes.now) }
 {
-    !is_blank(bytes) && simdutf8::basic::from_utf8(bytes).is_ok()
+    if is_blank(bytes) {
+        return None;
+    }
+    match simdutf8::basic::from_utf8(bytes) {
+        Ok(text) => Some(text),
+        Err(_) => None,
+    }
 }
 
-/// Whether a key is a word.
+/// Returns whether a key is `word`.
 #[inline(always)]
 pub fn is_key(key: &[u8], word: &str) -> bool
     ensures { IsTrue result → key.now ≡ word.now }
@@ -72,7 +81,7 @@ pub fn is_key(key: &[u8], word: &str) -> bool
     key == word.as_bytes()
 }
 
-/// Passes the comma that may follow a value.
+/// Reads the comma that may follow a value. Returns what may come next, and its index.
 #[inline(always)]
 pub(crate) fn after_value(bytes: &[u8], start: usize) -> (Expected, usize)
     ensures { left result.0 (drop result.1 bytes.now) ≡ punctuate past_value (lex between (drop start bytes.now)) }
@@ -85,7 +94,7 @@ pub(crate) fn after_value(bytes: &[u8], start: usize) -> (Expected, usize)
     }
 }
 
-/// The bytes among these at which plain text ends, as bits.
+/// Returns a bit for each of these bytes: whether plain text ends there.
 #[inline(always)]
 fn stops(bytes: u8x16) -> u64
     ensures { result ≡ mask_l (map is_stop bytes) }
@@ -95,7 +104,7 @@ fn stops(bytes: u8x16) -> u64
         | bytes.simd_lt(u8x16::splat(b' '))).to_bitmask()
 }
 
-/// Where the plain text ends that begins there, byte by byte.
+/// Returns the index after the plain text at `start`. Visits one byte at a time.
 #[inline(never)]
 fn plain_end_slowly(bytes: &[u8], start: usize) -> usize
     requires { start ≤ length bytes.now }
@@ -112,7 +121,7 @@ fn plain_end_slowly(bytes: &[u8], start: usize) -> usize
     end
 }
 
-/// Where the plain text ends that begins there.
+/// Returns the index after the plain text at `start`.
 #[inline(always)]
 fn plain_end(bytes: &[u8], start: usize) -> usize
     requires { start ≤ length bytes.now }
@@ -129,11 +138,13 @@ fn plain_end(bytes: &[u8], start: usize) -> usize
     plain_end_slowly(bytes, end)
 }
 
-/// The bytes that are quoted there, with no escape among them, and where they end.
+/// Returns the bytes between a quote at `at` and the next quote, and the index after that quote.
+/// There is no escape among them.
 #[inline(always)]
 pub(crate) fn quoted(bytes: &[u8], at: usize) -> Result<(&[u8], usize), ScanStop>
-    ensures { IfOk result (λ r. lex between (drop at bytes.now)
+    ensures lexes { IfOk result (λ r. lex between (drop at bytes.now)
         ≡ token (string r.0.now) ∷ lex between (drop r.1 bytes.now)) }
+    ensures quotes { IfOk result (λ r. (last : ℕ) × (r.1 ≡ last + 1) × IsQuoted bytes.now at last r.0.now) }
 {
     if !is_at(bytes, at, b'"') {
         return Err(ScanStop::Unusual);
@@ -146,7 +157,17 @@ pub(crate) fn quoted(bytes: &[u8], at: usize) -> Result<(&[u8], usize), ScanStop
     Ok((&bytes[start..end], end + 1))
 }
 
-/// Whether the byte there, behind a quoted text, leaves it a text, and makes no key of it.
+/// Like [`quoted`], for a text. Quotes are ASCII characters, so what they enclose is a text.
+#[inline(always)]
+pub(crate) fn quoted_text(text: &str, at: usize) -> Result<(&str, usize), ScanStop>
+    ensures { IfOk result (λ r. lex between (drop at text.now)
+        ≡ token (string r.0.now) ∷ lex between (drop r.1 text.now)) }
+{
+    let (_, end) = quoted(text.as_bytes(), at)?;
+    Ok((&text[at + 1..end - 1], end))
+}
+
+/// Returns whether the byte after a quoted text shows that it is a text, not a key.
 #[inline(always)]
 pub(crate) fn ends_text(bytes: &[u8], at: usize) -> bool
     ensures { IsTrue result → begins_colon (lex between (drop at bytes.now)) ≡ false }
@@ -154,7 +175,7 @@ pub(crate) fn ends_text(bytes: &[u8], at: usize) -> bool
     at < bytes.len() && (bytes[at] == b',') | (bytes[at] == b'}') | (bytes[at] == b']')
 }
 
-/// Whether a byte ends a word or a number before it.
+/// Returns whether a byte ends the word or number before it.
 #[inline(always)]
 pub(crate) fn ends_word(byte: u8) -> bool
     ensures { result ≡ true → (is_operator byte || is_blank_byte byte) ≡ true }
@@ -162,8 +183,8 @@ pub(crate) fn ends_word(byte: u8) -> bool
     matches!(byte, b',' | b'}' | b']' | b' ' | b'\n' | b'\r' | b'\t')
 }
 
-/// The number there in its digits, with no zero before them, below 10^19, and where it ends. It stands apart: within a
-/// caller LLVM keeps the number in memory while its digits are read.
+/// Reads a number below 10^19 without leading zeros. Returns it, and the index after it. Not
+/// inlined: in a caller, LLVM would store the number in memory while its digits are read.
 #[inline(never)]
 pub(crate) fn decimal_at(bytes: &[u8], at: usize) -> Option<(u64, usize)>
     ensures small { IfSome result (λ r. r.0 < 2 ^ 64) }

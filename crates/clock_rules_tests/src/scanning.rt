@@ -24,7 +24,7 @@ fn sum_of(alloc: Global, rows: &ShortRows) -> Option<u64> {
 
 /// The number of rows, the sum of their numbers, and whether each row has three numbers; or 9 and
 /// the reason that reading stopped.
-fn short_rows_of(alloc: Global, text: &[u8]) -> (usize, u64, bool) {
+fn short_rows_of(alloc: Global, text: &str) -> (usize, u64, bool) {
     match Scan::new(text).short_rows(alloc) {
         Ok(rows) => match sum_of(alloc, &rows) {
             Some(sum) => (rows.len(), sum, rows.iter().all(|row| row.len() == 3)),
@@ -48,28 +48,28 @@ fn next_member(scan: &mut Scan<'_>) -> Option<(usize, usize)> {
 }
 
 /// The lengths of [`next_member`], if the object is the whole text.
-fn member_of(text: &[u8]) -> Option<(usize, usize)> {
+fn member_of(text: &str) -> Option<(usize, usize)> {
     let mut scan = Scan::new(text);
     let member = next_member(&mut scan);
     if scan.ends() { member } else { None }
 }
 
 /// Texts, and the results for their rows.
-const ROWS: &[(&[u8], (usize, u64, bool))] = &[
-    (b"[[1,2],[ 3 ]\n,[]]", (3, 6, false)),
-    (b"[[1,2,3],[4,5,6]]", (2, 21, true)),
-    (b"[[1,2,3],[4,5]]", (2, 15, false)),
-    (b"[[65535,2],[1]]", (2, 65_538, false)),
-    (b" [ ] ", (0, 0, true)),
-    (b"[[65535,65536],[1]]", (9, 0, false)),
-    (b"[[9999999999999999999]]", (9, 0, false)),
-    (b"[[10000000000000000000]]", (9, 0, false)),
-    (b"[[01]]", (9, 0, false)),
-    (b"[[1.0]]", (9, 0, false)),
-    (b"[[-1]]", (9, 0, false)),
-    (b"[[1,],[2]]", (9, 0, false)),
-    (b"[[1][2]]", (9, 0, false)),
-    (b"[1]", (9, 0, false)),
+const ROWS: &[(&str, (usize, u64, bool))] = &[
+    ("[[1,2],[ 3 ]\n,[]]", (3, 6, false)),
+    ("[[1,2,3],[4,5,6]]", (2, 21, true)),
+    ("[[1,2,3],[4,5]]", (2, 15, false)),
+    ("[[65535,2],[1]]", (2, 65_538, false)),
+    (" [ ] ", (0, 0, true)),
+    ("[[65535,65536],[1]]", (9, 0, false)),
+    ("[[9999999999999999999]]", (9, 0, false)),
+    ("[[10000000000000000000]]", (9, 0, false)),
+    ("[[01]]", (9, 0, false)),
+    ("[[1.0]]", (9, 0, false)),
+    ("[[-1]]", (9, 0, false)),
+    ("[[1,],[2]]", (9, 0, false)),
+    ("[[1][2]]", (9, 0, false)),
+    ("[1]", (9, 0, false)),
 ];
 
 #[test]
@@ -80,14 +80,14 @@ fn rows_in_one_list(rt: HostRuntime) {
 }
 
 /// Texts, and the member of each that is an object with one.
-const MEMBERS: &[(&[u8], Option<(usize, usize)>)] = &[
-    (b"{\"name\":\"P1\"}", Some((4, 2))),
-    (b" {\"\" : \"a b\" }\t", Some((0, 3))),
-    (b"{\"name\":\"P\\n\"}", None),
-    (b"{\"na\\u006de\":\"P\"}", None),
-    (b"{\"name\":\"P\"} 1", None),
-    (b"{\"name\":\"P\":1}", None),
-    (b"{\"name\" \"P\"}", None),
+const MEMBERS: &[(&str, Option<(usize, usize)>)] = &[
+    ("{\"name\":\"P1\"}", Some((4, 2))),
+    (" {\"\" : \"a b\" }\t", Some((0, 3))),
+    ("{\"name\":\"P\\n\"}", None),
+    ("{\"na\\u006de\":\"P\"}", None),
+    ("{\"name\":\"P\"} 1", None),
+    ("{\"name\":\"P\":1}", None),
+    ("{\"name\" \"P\"}", None),
 ];
 
 #[test]
@@ -98,23 +98,23 @@ fn members_with_texts(rt: HostRuntime) {
 }
 
 /// Whether a text is a list of one `null`.
-fn is_one_null(text: &[u8]) -> bool {
+fn is_one_null(text: &str) -> bool {
     let mut scan = Scan::new(text);
     scan.opens(b'[').is_ok() && scan.null() && scan.closes(b']') && scan.ends()
 }
 
 /// Texts, whether each is blank, and whether it is a list of one `null`.
-const WORDS: &[(&[u8], bool, bool)] = &[
-    (b"", true, false),
-    (b" \n\t\r ", true, false),
-    (b"  0", false, false),
-    (b"\x0b", false, false),
-    (b"[null]", false, true),
-    (b" [ null\n]", false, true),
-    (b"[null,1]", false, false),
-    (b"[nul]", false, false),
-    (b"[nullx]", false, false),
-    (b"[null", false, false),
+const WORDS: &[(&str, bool, bool)] = &[
+    ("", true, false),
+    (" \n\t\r ", true, false),
+    ("  0", false, false),
+    ("\x0b", false, false),
+    ("[null]", false, true),
+    (" [ null\n]", false, true),
+    ("[null,1]", false, false),
+    ("[nul]", false, false),
+    ("[nullx]", false, false),
+    ("[null", false, false),
 ];
 
 #[test]
@@ -123,7 +123,7 @@ fn blank_texts_and_the_word_null(rt: HostRuntime) {
         assert_is_at(
             &rt,
             text,
-            (is_blank(text), is_one_null(text)),
+            (is_blank(text.as_bytes()), is_one_null(text)),
             (is_empty, is_null),
         );
     }
