@@ -1,5 +1,5 @@
-//! The bodies of requests, as compact JSON. The items of an array are written with a comma before each, and at its end
-//! the first comma becomes the bracket.
+//! Writes the bodies of requests as compact JSON. In an array, a comma is written before each item,
+//! and the first comma is then overwritten by the bracket.
 
 ghost use Rattle.std.specs.Prelude.{◌≡◌, ◌++◌, ℕ, List, codes, decimal, length, OnOk};
 ghost use Rattle.serde_json.specs.Written.{compact_text};
@@ -15,7 +15,7 @@ use clock_replays::Closing;
 use clock_terms::Increments;
 use itoa::{Buffer, write_digits};
 
-/// Adds a label, as `{"bids":`.
+/// Appends a label, such as `{"bids":`.
 #[inline(always)]
 pub(crate) fn push_label(text: &mut Vec<u8>, label: &[u8]) -> Result<(), NoMemory>
     ensures { OnOk result (Adds label.now text.old.items text.new.items) }
@@ -23,7 +23,7 @@ pub(crate) fn push_label(text: &mut Vec<u8>, label: &[u8]) -> Result<(), NoMemor
     Ok(text.extend_from_slice(label)?)
 }
 
-/// Adds a label, as `,"round":`, and the number behind it.
+/// Appends a label, such as `,"round":`, and a number.
 #[inline(always)]
 pub(crate) fn push_number(text: &mut Vec<u8>, label: &[u8], number: u64) -> Result<(), NoMemory>
     ensures { OnOk result (Adds (label.now ++ decimal number) text.old.items text.new.items) }
@@ -33,7 +33,7 @@ pub(crate) fn push_number(text: &mut Vec<u8>, label: &[u8], number: u64) -> Resu
     push_label(text, buffer.format(number).as_bytes())
 }
 
-/// Ends an array whose items stand from a place on.
+/// Ends the array whose items begin at index `start`.
 fn end_array(text: &mut Vec<u8>, start: usize) -> Result<(), NoMemory>
     ensures { OnOk result (text.new.items ≡ array_ended start text.old.items) }
 {
@@ -45,7 +45,7 @@ fn end_array(text: &mut Vec<u8>, start: usize) -> Result<(), NoMemory>
     push_label(text, b"]")
 }
 
-/// Adds an array of numbers.
+/// Appends an array of numbers.
 fn push_numbers(text: &mut Vec<u8>, numbers: &[u64]) -> Result<(), NoMemory>
     ensures { OnOk result (Adds (compact_text (list_of whole numbers.now)) text.old.items text.new.items) }
 {
@@ -56,7 +56,7 @@ fn push_numbers(text: &mut Vec<u8>, numbers: &[u64]) -> Result<(), NoMemory>
     end_array(text, start)
 }
 
-/// Adds an array of tie numbers.
+/// Appends an array of tie-breaking numbers.
 fn push_ties(text: &mut Vec<u8>, ties: &[Tie]) -> Result<(), NoMemory>
     ensures { OnOk result (Adds (compact_text (list_of tie_value ties.now)) text.old.items text.new.items) }
 {
@@ -68,7 +68,7 @@ fn push_ties(text: &mut Vec<u8>, ties: &[Tie]) -> Result<(), NoMemory>
     end_array(text, start)
 }
 
-/// Adds the body of a closing.
+/// Appends the body of a closing.
 pub(crate) fn push_closing(
     text: &mut Vec<u8>,
     round: u64,
@@ -90,10 +90,10 @@ pub(crate) fn push_closing(
     push_label(text, b"}")
 }
 
-/// How many bytes a bid takes at most, with a comma before it: three numbers of 20 digits, and what is around them.
+/// The most bytes of a bid and the comma before it: three numbers of 20 digits, and the rest.
 const BID_ROOM: usize = 94;
 
-/// Adds a bid. It is written into a line of its own, from its end to its start, and copied at once.
+/// Appends a bid. Writes it into an array from its end to its start, and copies it once.
 pub(crate) fn push_bid(
     text: &mut Vec<u8>,
     product: u64,
@@ -113,7 +113,7 @@ pub(crate) fn push_bid(
     push_label(text, &line[start..])
 }
 
-/// Ends the body of a sheet, whose bids stand from a place on.
+/// Ends the body of a sheet whose bids begin at index `start`.
 pub(crate) fn end_sheet(text: &mut Vec<u8>, start: usize, round: u64) -> Result<(), NoMemory>
     ensures { (old begun : List ℕ) (bids : List Bid) → Adds (codes "{\"bids\":") old begun → start ≡ length begun
         → Adds (bids_text bids) begun text.old.items
@@ -124,7 +124,7 @@ pub(crate) fn end_sheet(text: &mut Vec<u8>, start: usize, round: u64) -> Result<
     push_label(text, b"}")
 }
 
-/// Adds the body of a sheet.
+/// Appends the body of a sheet.
 pub(crate) fn push_sheet(text: &mut Vec<u8>, round: u64, bids: &[Bid]) -> Result<(), NoMemory>
     ensures { OnOk result (Adds (written_put round bids.now) text.old.items text.new.items) }
 {

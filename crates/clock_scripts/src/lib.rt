@@ -1,4 +1,4 @@
-//! What scripted bidders and the operator send, as the texts of live requests.
+//! Writes the requests of scripted bidders and their operator, as live ones would send them.
 #![tactic(auto)]
 
 mod bodies;

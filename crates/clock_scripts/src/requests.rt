@@ -1,5 +1,5 @@
-//! The requests of scripted bidders and of the operator. They are written one behind the other into one text: of each
-//! the body, and behind it the head, which tells how long the body is.
+//! Writes the requests of scripted bidders and of the operator into one text. For each, the body
+//! comes before the head, since the head has the length of the body.
 
 ghost use Rattle.std.specs.Prelude.{◌≡◌, ◌<◌, ◌≤◌, ◌-◌, false, length, IfOk, IfSome};
 ghost use Rattle.clock_house.specs.House.{standing_in};
@@ -14,19 +14,19 @@ use clock_house::House;
 use clock_http::{MOST_BODY, law_head_of_grammar};
 use clock_replays::{Closing, Script};
 
-/// Where a request stands in the text that it was written into.
+/// The position of a request in the text into which it was written.
 #[derive(Clone, Copy)]
 pub struct Written {
-    /// Where its body begins.
+    /// The index at which its body begins.
     pub body: usize,
-    /// Where its body ends, and its head begins.
+    /// The index at which its body ends and its head begins.
     pub head: usize,
-    /// Where its head ends.
+    /// The index at which its head ends.
     pub end: usize,
 }
 
 impl Written {
-    /// Whether the body needs to come. Where it is too long it does not: the request is answered at its head.
+    /// Returns whether the server reads the body. It does not read a body that is empty or too long.
     pub fn needs_body(&self) -> bool
         requires { self.now.body ≤ self.now.head }
         ensures { result ≡ is_awaited (self.now.head - self.now.body) }
@@ -35,7 +35,7 @@ impl Written {
     }
 }
 
-/// Writes the head of a request, whose body is all that stands from a place on.
+/// Writes the head of the request whose body begins at index `body` and ends the text.
 fn push_head(
     text: &mut Vec<u8>,
     body: usize,
@@ -55,7 +55,7 @@ fn push_head(
     Ok(Written { body, head, end })
 }
 
-/// Writes the request by which a bidder puts the sheet that its script gives, if there is one.
+/// Writes the request that submits the sheet of a bidder's script, if it has one for this round.
 #[tactic(auto, unfolding(crate::specs::ScriptedRequests::scripted_put))]
 pub fn write_put<P>(
     text: &mut Vec<u8>,
@@ -87,7 +87,7 @@ pub fn write_put<P>(
     Ok(Some(written))
 }
 
-/// Writes the request by which the operator closes the current round.
+/// Writes the request that closes the current round.
 pub fn write_close<P>(
     text: &mut Vec<u8>,
     house: &House<P>,

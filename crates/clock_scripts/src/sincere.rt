@@ -1,4 +1,4 @@
-//! The sheets of sincere bidders.
+//! Writes the sheets of sincere bidders.
 
 ghost use Rattle.std.specs.Prelude.{◌≡◌, ◌≤◌, ◌<◌, [], All, false, length, take, reverse, OnOk};
 ghost use Rattle.clock_house.specs.House.{standing_in, holding_in};
@@ -15,14 +15,14 @@ use clock_house::House;
 use clock_replays::LimitLists;
 use clock_terms::{PricePair, Row};
 
-/// The price at which a block leaves, where it does not stay up to the clock price.
+/// Returns the price at which a block leaves, if it leaves below the clock price.
 fn leaving_price(pair: &PricePair, limit: u64) -> Option<u64>
     ensures { result ≡ rules.leaving_price pair.now limit }
 {
     (limit < pair.clock.get()).then_some(pair.start.get().max(limit))
 }
 
-/// The price at which the last of so many blocks leaves, where there is one that does.
+/// Returns the price at which the last of `blocks` blocks leaves, if it leaves.
 #[inline(always)]
 fn last_leaving(pair: &PricePair, limits: &[u64], blocks: usize) -> Option<u64>
     requires { blocks ≤ length limits.now }
@@ -34,8 +34,9 @@ fn last_leaving(pair: &PricePair, limits: &[u64], blocks: usize) -> Option<u64>
     leaving_price(pair, limits[blocks - 1])
 }
 
-/// Adds the bids for a product of which so many blocks are held, in a later round: one for each different price at
-/// which one of them leaves, rising, and where none leaves one that keeps them. The blocks past the limits stay.
+/// Appends the bids of a later round for a product with a demand of `held` blocks: one for each
+/// different price at which a block leaves, in rising order. If none leaves, appends the bid that
+/// maintains the demand. Blocks after the last limit stay.
 fn push_held(
     text: &mut Vec<u8>,
     product: u64,
@@ -65,7 +66,7 @@ fn push_held(
     Ok(())
 }
 
-/// Adds the bids of the first round, for one product after another.
+/// Appends the bids of the first round, product by product.
 fn push_first(text: &mut Vec<u8>, prices: &[PricePair], limits: &LimitLists) -> Result<(), NoMemory>
     requires { length limits.now ≡ length prices.now }
     ensures { OnOk result (Adds (bids_text (first_sheet prices.now limits.now)) text.old.items text.new.items) }
@@ -83,7 +84,7 @@ fn push_first(text: &mut Vec<u8>, prices: &[PricePair], limits: &LimitLists) -> 
     Ok(())
 }
 
-/// Adds the bids of a later round. Few of the products are held, and nothing is looked at of the others.
+/// Appends the bids of a later round. The loop visits only products with demand, which are few.
 #[inline(never)]
 fn push_later(
     text: &mut Vec<u8>,
@@ -107,7 +108,7 @@ fn push_later(
     Ok(())
 }
 
-/// Adds the body of the sheet that a sincere bidder puts.
+/// Appends the body of the sheet that a sincere bidder submits.
 pub(crate) fn push_sincere<P>(
     text: &mut Vec<u8>,
     house: &House<P>,
