@@ -118,6 +118,13 @@ impl From<ServeFault> for Fault {
 #[derive(Clone, Copy)]
 struct Words(&'static str, Option<u64>, Option<u64>, Option<Code>);
 
+/// The words of a fault without a code: a word, and the numbers after it.
+macro_rules! words {
+    ($word:literal) => { Words($word, None, None, None) };
+    ($word:literal, $number:expr) => { Words($word, Some($number), None, None) };
+    ($word:literal, $first:expr, $second:expr) => { Words($word, Some($first), Some($second), None) };
+}
+
 /// Writes the line of a fault: `fault: WORDS` and a line feed, or a prefix of it if a write fails.
 /// Allocates nothing.
 pub fn write_fault<W: Sink>(sink: &mut W, fault: Fault) -> Result<(), Failed>
@@ -162,36 +169,32 @@ fn words_of(fault: Fault) -> Words
     ensures { text_of_words result ≡ fault_words fault }
 {
     match fault {
-        Fault::File => Words("file", None, None, None),
-        Fault::Input => Words("input", None, None, None),
-        Fault::LongInput => Words("long_input", None, None, None),
+        Fault::File => words!("file"),
+        Fault::Input => words!("input"),
+        Fault::LongInput => words!("long_input"),
         Fault::Setup(fault) => words_of_setup(fault),
         Fault::Opening(fault) => words_of_opening(fault),
         Fault::Script(fault) => words_of_script(fault),
-        Fault::PriceLimit(product) => Words("price_limit", Some(product), None, None),
+        Fault::PriceLimit(product) => words!("price_limit", product),
         Fault::Simulation(SimFault::Refused(bidder, round, code)) => {
             Words("refused", Some(bidder), Some(round), Some(code))
         }
         Fault::Simulation(SimFault::Closing(round, code)) => {
             Words("closing", Some(round), None, Some(code))
         }
-        Fault::Simulation(SimFault::ClosingsSpent) => Words("closings_spent", None, None, None),
-        Fault::Simulation(SimFault::NoMemory) => Words("memory", None, None, None),
-        Fault::Journal => Words("journal", None, None, None),
-        Fault::JournalBusy => Words("journal_busy", None, None, None),
-        Fault::Recovery(JournalFault::Unknown) => Words("journal_unknown", None, None, None),
-        Fault::Recovery(JournalFault::Setup) => Words("journal_setup", None, None, None),
-        Fault::Recovery(JournalFault::Damaged(place)) => {
-            Words("journal_damaged", Some(place as u64), None, None)
-        }
-        Fault::Recovery(JournalFault::Refused(place)) => {
-            Words("journal_refused", Some(place as u64), None, None)
-        }
-        Fault::Recovery(JournalFault::NoMemory) => Words("memory", None, None, None),
-        Fault::Bind => Words("bind", None, None, None),
-        Fault::Output => Words("output", None, None, None),
-        Fault::Accept => Words("accept", None, None, None),
-        Fault::Memory => Words("memory", None, None, None),
+        Fault::Simulation(SimFault::ClosingsSpent) => words!("closings_spent"),
+        Fault::Simulation(SimFault::NoMemory) => words!("memory"),
+        Fault::Journal => words!("journal"),
+        Fault::JournalBusy => words!("journal_busy"),
+        Fault::Recovery(JournalFault::Unknown) => words!("journal_unknown"),
+        Fault::Recovery(JournalFault::Setup) => words!("journal_setup"),
+        Fault::Recovery(JournalFault::Damaged(place)) => { words!("journal_damaged", place as u64) }
+        Fault::Recovery(JournalFault::Refused(place)) => { words!("journal_refused", place as u64) }
+        Fault::Recovery(JournalFault::NoMemory) => words!("memory"),
+        Fault::Bind => words!("bind"),
+        Fault::Output => words!("output"),
+        Fault::Accept => words!("accept"),
+        Fault::Memory => words!("memory"),
     }
 }
 
@@ -200,13 +203,13 @@ fn words_of_opening(fault: OpeningFault) -> Words
     ensures { text_of_words result ≡ opening_words fault }
 {
     match fault {
-        OpeningFault::NotJson => Words("not_json", None, None, None),
-        OpeningFault::Shape => Words("shape", None, None, None),
+        OpeningFault::NotJson => words!("not_json"),
+        OpeningFault::Shape => words!("shape"),
         OpeningFault::Setup(fault) => words_of_setup(fault),
-        OpeningFault::Demand(bidder, product) => Words("demand", Some(bidder), Some(product), None),
-        OpeningFault::Activity(bidder) => Words("activity", Some(bidder), None, None),
-        OpeningFault::Increment => Words("increment", None, None, None),
-        OpeningFault::NoMemory => Words("memory", None, None, None),
+        OpeningFault::Demand(bidder, product) => words!("demand", bidder, product),
+        OpeningFault::Activity(bidder) => words!("activity", bidder),
+        OpeningFault::Increment => words!("increment"),
+        OpeningFault::NoMemory => words!("memory"),
     }
 }
 
@@ -215,12 +218,12 @@ fn words_of_script(fault: ScriptFault) -> Words
     ensures { text_of_words result ≡ script_words fault }
 {
     match fault {
-        ScriptFault::NotJson => Words("not_json", None, None, None),
-        ScriptFault::Shape => Words("shape", None, None, None),
+        ScriptFault::NotJson => words!("not_json"),
+        ScriptFault::Shape => words!("shape"),
         ScriptFault::Setup(fault) => words_of_setup(fault),
-        ScriptFault::Scripts => Words("scripts", None, None, None),
-        ScriptFault::Limits(bidder, product) => Words("limits", Some(bidder), Some(product), None),
-        ScriptFault::NoMemory => Words("memory", None, None, None),
+        ScriptFault::Scripts => words!("scripts"),
+        ScriptFault::Limits(bidder, product) => words!("limits", bidder, product),
+        ScriptFault::NoMemory => words!("memory"),
     }
 }
 
@@ -229,13 +232,13 @@ fn words_of_setup(fault: SetupFault) -> Words
     ensures { text_of_words result ≡ setup_words fault }
 {
     match fault {
-        SetupFault::NotJson => Words("setup_not_json", None, None, None),
-        SetupFault::Shape => Words("setup_shape", None, None, None),
-        SetupFault::Version => Words("setup_version", None, None, None),
+        SetupFault::NotJson => words!("setup_not_json"),
+        SetupFault::Shape => words!("setup_shape"),
+        SetupFault::Version => words!("setup_version"),
         SetupFault::Range(place) => words_of_range(place),
-        SetupFault::DuplicateName => Words("setup_duplicate_name", None, None, None),
-        SetupFault::DuplicateToken => Words("setup_duplicate_token", None, None, None),
-        SetupFault::NoMemory => Words("memory", None, None, None),
+        SetupFault::DuplicateName => words!("setup_duplicate_name"),
+        SetupFault::DuplicateToken => words!("setup_duplicate_token"),
+        SetupFault::NoMemory => words!("memory"),
     }
 }
 
@@ -244,19 +247,19 @@ fn words_of_range(place: Place) -> Words
     ensures { text_of_words result ≡ codes "setup_range " ++ place_words place }
 {
     match place {
-        Place::Requirement => Words("setup_range requirement", None, None, None),
-        Place::Limit => Words("setup_range limit", None, None, None),
-        Place::Operator => Words("setup_range operator", None, None, None),
-        Place::Products => Words("setup_range products", None, None, None),
-        Place::Name(i) => Words("setup_range name", Some(i), None, None),
-        Place::Units(i) => Words("setup_range units", Some(i), None, None),
-        Place::Supply(i) => Words("setup_range supply", Some(i), None, None),
-        Place::Cap(i) => Words("setup_range cap", Some(i), None, None),
-        Place::Opening(i) => Words("setup_range opening", Some(i), None, None),
-        Place::Granule(i) => Words("setup_range granule", Some(i), None, None),
-        Place::Bidders => Words("setup_range bidders", None, None, None),
-        Place::BidderName(i) => Words("setup_range bidder_name", Some(i), None, None),
-        Place::Token(i) => Words("setup_range token", Some(i), None, None),
-        Place::Eligibility(i) => Words("setup_range eligibility", Some(i), None, None),
+        Place::Requirement => words!("setup_range requirement"),
+        Place::Limit => words!("setup_range limit"),
+        Place::Operator => words!("setup_range operator"),
+        Place::Products => words!("setup_range products"),
+        Place::Name(i) => words!("setup_range name", i),
+        Place::Units(i) => words!("setup_range units", i),
+        Place::Supply(i) => words!("setup_range supply", i),
+        Place::Cap(i) => words!("setup_range cap", i),
+        Place::Opening(i) => words!("setup_range opening", i),
+        Place::Granule(i) => words!("setup_range granule", i),
+        Place::Bidders => words!("setup_range bidders"),
+        Place::BidderName(i) => words!("setup_range bidder_name", i),
+        Place::Token(i) => words!("setup_range token", i),
+        Place::Eligibility(i) => words!("setup_range eligibility", i),
     }
 }
