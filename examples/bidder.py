@@ -4,21 +4,23 @@
     TOKEN=.. examples/bidder.py URL LIMITS [--every SECONDS] [--receipts FILE]
 
 URL begins with http:// or https://. LIMITS is a file such as {"North": [2300, 1900], "South": [610]}: for each product,
-up to which price you want the first block, the second, and so on, never rising. The token is in the environment, and so
-neither in the shell's history nor in the list of processes. CA names a file of certificates if the system's do not
+up to which price you want the first block, the second, and so on, never rising. The token is in the environment, so
+neither the shell's history nor the list of processes has it. CA names a file of certificates if the system's do not
 cover the server.
 
 It prints each round's sheet, then the round's results for this bidder ("slip"), and at the end what it won.
 
 After each accepted sheet it waits up to two seconds for the receipt, checks it, adds it to FILE, by default
-receipts.jsonl, and says so or says what is missing. Its first line is the commitment. scripts/check_receipts holds the
-file against the published journal. Signatures are checked if openssl is there. It also checks the published seed of
+receipts.jsonl, and reports it or what is missing. The file's first line is the commitment. scripts/check_receipts
+compares the file with the published journal. It checks signatures if openssl is installed, and the published seed of
 each closed round. Without a commitment, as at the server's own port, it says once that there are no receipts.
 
 It reads the status every SECONDS, by default 1, and misses no round that is open longer than that. If no reply comes,
 or a page that is not the server's, it says so and repeats the request for an hour. After such a failure, and at every
-thirtieth status, it checks its sheet. If none is in force, because a server without a journal was restarted, it submits
-the sheet again. It does not replace a sheet that you submitted in another way. If no window is open, it waits for one.
+thirtieth status, it checks its sheet.
+
+If no sheet is in force, because a server without a journal was restarted, it submits the sheet again. It does not
+replace a sheet that you submitted in another way. If no window is open, it waits for one.
 
 Exit status: 1 if a sheet is refused, if it missed a round, or if the number of the round fell, which means that another
 server answers. Also 1, before any bid, if LIMITS is wrong or names a product that is not in the auction.
@@ -42,7 +44,7 @@ PATIENCE = 3600
 LOOK = 30
 RECEIPT_SECONDS = 2
 
-# What is read of each page: some keys of an object, and each entry of a list that has one for each product.
+# The parts of each page that the bidder reads: keys of an object, and a list's entries, one for each product.
 STATUS = {"ended": bool, "round": int}
 PRODUCTS = {"products": [{"name": str, "opening": int}]}
 PRICES = {"products": [{"next": int, "posted": int}]}
@@ -57,7 +59,7 @@ RECEIPT = {"auction": str, "bidder": str, "body": str, "round": int, "sheet": in
 
 
 def has_shape(page, shape, products):
-    """Whether a page has what is read of it. The number of products is None until it is known."""
+    """Whether a page has the parts that the bidder reads. `products` is None until their number is known."""
     if isinstance(shape, dict):
         return isinstance(page, dict) and all(
             key in page and has_shape(page[key], inner, products) for key, inner in shape.items()
@@ -72,13 +74,13 @@ def has_shape(page, shape, products):
 
 
 class EachReply(urllib.request.HTTPErrorProcessor):
-    """Passes on each reply as it came. It follows no redirection, because the token is for one address only."""
+    """Passes on each reply unchanged. Follows no redirection, because the token is for one address only."""
 
     http_response = https_response = lambda self, request, reply: reply
 
 
 def text_of(sheet):
-    """The body of a sheet, as it is sent."""
+    """The body of a sheet, as the bidder sends it."""
     return json.dumps(sheet)
 
 
@@ -95,10 +97,10 @@ class Auction:
         self.opener = urllib.request.build_opener(EachReply, proxies, urllib.request.HTTPSHandler(context=tls))
 
     def ask(self, path, shape, sheet=None, may_lack=False):
-        """Returns the page. Repeats the request if no reply came, another page, or a busy server. A refusal ends the
-        program.
+        """Returns the page. A refusal ends the program.
 
-        With `may_lack`, a page that does not exist is None.
+        Repeats the request if no reply came, or another page, or if the server is busy. With `may_lack`, it returns
+        None for a page that does not exist.
         """
         body = None if sheet is None else text_of(sheet).encode()
         headers = {"authorization": "Bearer " + self.token, "content-type": "application/json"}
@@ -135,7 +137,7 @@ class Auction:
         ]
 
     def wait(self, number, sheet):
-        """Returns when a round is closed. It sleeps first, because a proxy's status may be a second old."""
+        """Returns when a round is closed. Sleeps first, because a proxy's status may be a second old."""
         for times in itertools.count(1):
             time.sleep(self.every)
             if last_closed(self.ask("/v1/status", STATUS), number) == number:
@@ -172,7 +174,7 @@ class Receipts:
             os.fsync(file.fileno())
 
     def await_one(self, sheet):
-        """Waits for the receipt of a sheet that was accepted. Others of this bidder that come first are stored too."""
+        """Waits for the receipt of an accepted sheet. Stores other receipts of this bidder that come first."""
         text, end = text_of(sheet), time.monotonic() + RECEIPT_SECONDS
         while self.commitment:
             receipt = self.take(sheet["round"], text)
@@ -184,7 +186,7 @@ class Receipts:
                 time.sleep(0.2)
 
     def check_seed(self, number):
-        """Says so if the published seed of a closed round is not the committed one. It may not be published yet."""
+        """Reports a published seed that is not the committed one. The seed may not be published yet."""
         chain = self.commitment and self.commitment["chain"]
         page = chain and self.auction.ask(f"/public/rounds/{number}.json", SEED, may_lack=True)
         if not page:
@@ -196,7 +198,7 @@ class Receipts:
             print(f"the seed of round {number} is not the committed one: call the auditor", file=sys.stderr)
 
     def take(self, number, text=""):
-        """The next receipt of a round, which is stored, or None if it is not there."""
+        """Stores the next receipt of a round, and returns it, or None if there is none yet."""
         place = next(place for place in itertools.count(1) if (number, place) not in self.have)
         receipt = self.commitment and self.auction.ask(f"/receipts/{number}/{place}.json", RECEIPT, may_lack=True)
         if not receipt:
@@ -212,7 +214,7 @@ class Receipts:
 
 
 def bytes_in(digits):
-    """The bytes that a text has in hexadecimal, or none if it is no such text."""
+    """The bytes of a hexadecimal text, or none if it is not hexadecimal."""
     try:
         return bytes.fromhex(digits)
     except ValueError:
@@ -224,7 +226,7 @@ def digest_of(text):
 
 
 def is_signed(key, receipt):
-    """Whether the committed key signed a receipt. Without openssl nobody knows, and the answer is yes."""
+    """Whether the committed key signed a receipt. Returns True if openssl is missing."""
     fields = ("auction", "bidder", "round", "sheet", "body", "text")
     lines = ["clock_auction receipt 1", *(f"{name} {receipt[name]}" for name in fields)]
     files = {
@@ -243,7 +245,9 @@ def is_signed(key, receipt):
 
 
 def last_closed(page, number):
-    """The last closed round, by a page that has the current one. Ends the program if that fell, or a round was missed.
+    """The last closed round, by a page that has the current one.
+
+    Ends the program if the number of the round fell, or a round was missed.
     """
     closed = page["round"] if page["ended"] else page["round"] - 1
     if page["round"] < number:
@@ -254,10 +258,10 @@ def last_closed(page, number):
 
 
 def steps_of(limits, held, start, clock):
-    """Quantities and prices. A block leaves at its limit, but not below the start-of-round price, and there if it has
-    none.
+    """The quantities and prices of the bids for a product.
 
-    If no block leaves, the bid maintains demand.
+    A block leaves at its limit, but not below the start-of-round price, and there if it has no limit. If no block
+    leaves, the bid maintains demand.
     """
     limits = (limits + [0] * held)[:held]
     leaving = sorted({max(start, limit) for limit in limits if limit < clock})
@@ -267,11 +271,11 @@ def steps_of(limits, held, start, clock):
 
 
 def bids_of(wanted, products, prices, held, number):
-    """The bids of a sheet: for each product the steps from its processed demand to what the limits allow."""
+    """The bids of a round for the wanted blocks. `held` has the processed demands."""
     bids = []
     for place, (product, (start, clock)) in enumerate(zip(products, prices)):
         limits = wanted.get(product["name"], [])
-        # in round 1 it bids for the blocks with a limit at or above the opening price
+        # In round 1, the bidder asks for the blocks with a limit at or above the opening price.
         blocks = sum(limit >= clock for limit in limits) if number == 1 else held[place]
         bids += [
             {"price": price, "product": place, "quantity": quantity}
@@ -281,7 +285,7 @@ def bids_of(wanted, products, prices, held, number):
 
 
 def limits_of(path):
-    """The limits in a file. Ends the program if they are wrong."""
+    """Reads the limits in a file. Ends the program if they are wrong."""
     try:
         with open(path, encoding="utf-8-sig") as file:
             wanted = json.load(file)

@@ -24,7 +24,7 @@ my %routes      = map { $_->{operation_id} => [@$_{qw(method path)}] } $descript
 my %came;
 $client->ua->on(start => sub ($ua, $tx) { $tx->req->headers->authorization("Bearer $ENV{TOKEN}") });
 
-# The reply to an operation, once the server is not busy.
+# Sends an operation until the server is not busy. Returns the reply.
 sub ask ($operation, $parameters = {}) {
     while (1) {
         my $tx     = $client->call($operation => $parameters);
@@ -38,7 +38,7 @@ sub ask ($operation, $parameters = {}) {
     }
 }
 
-# Ends the program if the description has no such reply.
+# Ends the program if the description does not have the reply.
 sub check ($operation, $reply) {
     my ($method, $path) = @{$routes{$operation}};
     my $status = $reply->code;

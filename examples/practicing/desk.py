@@ -1,4 +1,4 @@
-"""What the browser asks: the pages for bidders and the public, a bidder's requests, and published files."""
+"""Serves the browser: the pages for bidders and the public, a bidder's requests, and published files."""
 import http.client
 import http.server
 import json
@@ -17,7 +17,7 @@ KINDS = {
 PAGES = re.compile(r"/(?!operator)[a-z_]+\.(html|css|js)")
 PUBLISHED = re.compile(r"/public/(timetable|announcements|winners|rounds/[1-9][0-9]*)\.json")
 REQUESTS = re.compile(r"/v1/(status|products|me|me/bids|(me/)?rounds/[1-9][0-9]*)")
-LONGEST = 1_048_576  # bytes of a body, as the server has it
+LONGEST = 1_048_576  # bytes of a body, as for the server
 
 
 class Desk(http.server.ThreadingHTTPServer):
@@ -42,7 +42,7 @@ class Visit(http.server.BaseHTTPRequestHandler):
         path = self.path.partition("?")[0]
         path = "/index.html" if path == "/" else path
         if self.headers.get("host", "").rpartition(":")[0] not in ("127.0.0.1", "localhost"):
-            self.refuse(400, "bad_head")  # a page from elsewhere that asks here, by a name of its own for this machine
+            self.refuse(400, "bad_head")  # A page from elsewhere asks here, by another name for this machine.
         elif REQUESTS.fullmatch(path):
             self.pass_on(path)
         elif self.command == "PUT":
@@ -63,7 +63,7 @@ class Visit(http.server.BaseHTTPRequestHandler):
             self.refuse(404, "no_page")
 
     def pass_on(self, path: str) -> None:
-        """Gives a request to the server, and its reply to the browser."""
+        """Sends a request to the server, and its reply to the browser."""
         length = self.headers.get("content-length", "0")
         if not length.isdecimal() or int(length) > LONGEST:
             return self.refuse(413, "long_body")
@@ -75,7 +75,7 @@ class Visit(http.server.BaseHTTPRequestHandler):
         self.answer(status, KINDS[".json"], page)
 
     def refuse(self, status: int, code: str) -> None:
-        self.close_connection = True  # the body of this request may not be read
+        self.close_connection = True  # The body of this request may still be unread.
         self.answer(status, KINDS[".json"], json.dumps({"code": code, "status": status}).encode())
 
     def answer(self, status: int, kind: str, page: bytes) -> None:

@@ -1,4 +1,4 @@
-"""What a practice auction is about: its set-up, and what each block is worth to each bidder."""
+"""The game of a practice: its set-up, and what each block is worth to each bidder."""
 import dataclasses
 import json
 import pathlib
@@ -39,7 +39,7 @@ PLACES = (
     "Zanesville",
 )
 REQUIREMENT, LIMIT = 90, 120  # percent
-CROWD = 2.2  # aggregate demand in round 1, over supply
+CROWD = 2.2  # aggregate demand in round 1, divided by supply
 # what a bidder's first block is worth above its opening price, as a part of that price; yours is never among the least
 PREMIUM, YOUR_PREMIUM = (0.4, 1.6), (0.8, 1.6)
 
@@ -80,7 +80,7 @@ class Game:
 
 
 def drawn_products(chance: random.Random, count: int, version: int) -> list[dict[str, Any]]:
-    """Products of a market of this many areas."""
+    """Draws the products of a market with this number of areas."""
     names = [*PLACES, *(f"Area-{number}" for number in range(len(PLACES) + 1, count + 1))][:count]
     products = []
     for name in names:
@@ -100,7 +100,10 @@ def drawn_products(chance: random.Random, count: int, version: int) -> list[dict
 def drawn_values(
     chance: random.Random, products: list[dict[str, Any]], bidders: int, premium: tuple[float, float]
 ) -> Values:
-    """What each block of each product is worth to one bidder: an opening price or more. It wants no others."""
+    """Draws what each block of each product is worth to one bidder.
+
+    A block is worth the opening price or more. The bidder wants no others.
+    """
     values = []
     for product in products:
         opening, average = product["opening"], CROWD * product["supply"] / bidders
@@ -112,12 +115,12 @@ def drawn_values(
 
 
 def activity_of(products: list[dict[str, Any]], values: Values) -> int:
-    """The activity of a bid for all blocks that have a value."""
+    """The activity of a bid for all blocks with a value."""
     return sum(product["units"] * len(row) for product, row in zip(products, values))
 
 
 def within(eligibility: int, products: list[dict[str, Any]], values: Values) -> Values:
-    """These values without the least valuable blocks, so that the rest is within an eligibility."""
+    """The values without those of the least valuable blocks, so that the rest is within an eligibility."""
     left, activity = [list(row) for row in values], activity_of(products, values)
     order = sorted(
         (row[block] / product["opening"], place)
@@ -133,7 +136,7 @@ def within(eligibility: int, products: list[dict[str, Any]], values: Values) -> 
 
 
 def drawn(chance: random.Random, public: Setup, bidders: int) -> Game:
-    """A game for a public set-up: you and drawn rivals, each eligible for the blocks that it wants."""
+    """Draws a game for a public set-up: you and rivals, each eligible for the blocks that it wants."""
     products = public["products"]
     names = [YOU, *RIVALS, *(f"Rival-{number}" for number in range(len(RIVALS) + 1, bidders))][:bidders]
     values = [drawn_values(chance, products, bidders, YOUR_PREMIUM if name == YOU else PREMIUM) for name in names]
@@ -142,7 +145,7 @@ def drawn(chance: random.Random, public: Setup, bidders: int) -> Game:
 
 
 def with_tokens(setup: Setup, values: list[Values], you: int) -> Game:
-    """The game whose set-up has the tokens of this practice, in place of any that it had."""
+    """The game of a set-up whose tokens are replaced by those of this practice."""
     bidders = [
         {**bidder, "token": TOKEN if number == you else secrets.token_hex(16)}
         for number, bidder in enumerate(setup["bidders"])
@@ -151,7 +154,7 @@ def with_tokens(setup: Setup, values: list[Values], you: int) -> Game:
 
 
 def new_game(chance: random.Random, products: int, bidders: int, version: int) -> Game:
-    """A game of drawn products."""
+    """Draws a game of drawn products."""
     public = {"version": version, "requirement": REQUIREMENT, "products": drawn_products(chance, products, version)}
     return drawn(chance, {**public, "limit": LIMIT} if version == 2 else public, bidders)
 

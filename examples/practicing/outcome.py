@@ -1,4 +1,4 @@
-"""The end of a practice: what the player won and gained, what its values would have won, and the recounts."""
+"""The end of a practice: the player's blocks and gain, the gain of a bidder with its values, and the recounts."""
 import json
 import pathlib
 import subprocess
@@ -28,7 +28,7 @@ def payment(demands: list[int], posted: list[int]) -> int:
 
 
 def your_words(game: Game, ending: Ending) -> str:
-    """What the player won, pays and gains."""
+    """The words for what the player won, pays, and gains."""
     demands = ending.bidders[game.you]["demands"]
     pays, gain = payment(demands, ending.posted), game.gain(game.you, demands, ending.posted)
     if not any(demands):
@@ -40,9 +40,10 @@ def your_words(game: Game, ending: Ending) -> str:
 
 
 def sincere_words(program: pathlib.Path, game: Game, ending: Ending) -> str:
-    """What a bidder that follows the player's values would have won, by a replay with the same tie-breaking numbers.
+    """The words for what a bidder that follows the player's values would have won.
 
-    Empty if it has no result, such as for values whose activity is above the eligibility.
+    A replay with the same tie-breaking numbers computes it. Empty if it has no result, such as for values whose
+    activity is above the eligibility.
     """
     more = {**ending.closings[-1], "ties": []}
     scripts = [{"kind": "sincere", "limits": rows} for rows in game.values]
@@ -61,7 +62,10 @@ def sincere_words(program: pathlib.Path, game: Game, ending: Ending) -> str:
 
 
 def recounts(program: pathlib.Path | None, folder: pathlib.Path) -> dict[str, str]:
-    """What the recounts of an auction from its set-up and its journal print, by the name of the program or script."""
+    """The recounts of an auction from its set-up and its journal.
+
+    They are by the name of the program or script that printed them.
+    """
     setup, journal = str(folder / "setup.json"), str(folder / "auction.journal")
     commands = {"scripts/recount.py": [sys.executable, str(RECOUNT), setup, journal]}
     if program:
@@ -71,7 +75,7 @@ def recounts(program: pathlib.Path | None, folder: pathlib.Path) -> dict[str, st
 
 
 def recount_words(program: pathlib.Path | None, ending: Ending, folder: pathlib.Path) -> str:
-    """The end of the recounts, and whether they agree with each other and with what the server showed."""
+    """The last lines of the recounts, and whether they agree with each other and with the server."""
     texts = recounts(program, folder)
     text, names = next(iter(texts.values())), " and ".join(f"`{name}`" for name in sorted(texts))
     (folder / "audit.txt").write_text(text)
@@ -91,6 +95,6 @@ def recount_words(program: pathlib.Path | None, ending: Ending, folder: pathlib.
 
 
 def finish(game: Game, ending: Ending, server: Server) -> tuple[str, str]:
-    """What the page says of the end, and what the terminal says beyond that."""
+    """The words for the page about the end, and the further words for the terminal."""
     sincere = sincere_words(server.program, game, ending) if server.program else ""
     return your_words(game, ending) + sincere, recount_words(server.program, ending, server.folder)

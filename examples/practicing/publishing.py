@@ -1,4 +1,4 @@
-"""What a practice publishes for the pages, in the files and formats of a real auction."""
+"""Publishes a practice for the pages, in the files and formats of a real auction."""
 import datetime
 import json
 import pathlib
@@ -28,7 +28,7 @@ class Board:
         (self.public / "rounds").mkdir(parents=True)
 
     def announce(self, text: str) -> None:
-        """Informs the player, on the page and in the terminal."""
+        """Shows words to the player, on the page and in the terminal."""
         number = len(self.announced) + 1
         self.announced.append({"key": f"practice-{number}", "number": number, "text": text, "time": utc(time.time())})
         put(self.public / "announcements.json", {"announcements": self.announced})
@@ -39,7 +39,7 @@ class Board:
         self.close_at(number, closes)
 
     def close_at(self, number: int, closes: float | None) -> None:
-        """Sets when the round closes. None: that is open."""
+        """Sets when the round closes. None means that it is open."""
         self.windows[-1]["closes"] = None if closes is None else utc(closes)
         self.timetable(number, False)
 

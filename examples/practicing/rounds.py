@@ -13,8 +13,8 @@ from practicing.server import Server
 INCREMENT = 10  # percent
 MOST_TIES = 16_384
 LAZY, QUICK = 8, 0.1  # seconds within which rivals bid
-GRACE = 5  # seconds that are left once everyone has bid
-NAMED = 6  # products that an announcement names
+GRACE = 5  # seconds until the closing once everyone has bid
+NAMED = 6  # The most products that an announcement names.
 
 Page = dict[str, Any]
 Prices = list[tuple[int, int]]  # for each product, its start-of-round price and its clock price
@@ -39,7 +39,7 @@ class Pace:
 
 @dataclasses.dataclass(frozen=True)
 class Ending:
-    """What an auction came to: the closings that were sent, the last posted prices, and each bidder's results."""
+    """The end of an auction: the closings that were sent, the last posted prices, and each bidder's results."""
 
     closings: list[Page]
     posted: list[int]
@@ -47,7 +47,7 @@ class Ending:
 
 
 def listed(names: list[str]) -> str:
-    """Names as a sentence has them."""
+    """Names joined for a sentence."""
     if len(names) > NAMED:
         names = [*names[:NAMED], f"{len(names) - NAMED} more"]
     return " and ".join([", ".join(names[:-1]), names[-1]]) if len(names) > 1 else names[0]
@@ -73,6 +73,7 @@ class Rounds:
         return self.game.setup["bidders"][bidder]["token"]
 
     def play(self) -> Ending:
+        """Plays all rounds. Returns the end of the auction."""
         number, prices = 1, [(product["opening"], product["opening"]) for product in self.game.products]
         while True:
             self.open(number, prices)
@@ -87,7 +88,7 @@ class Rounds:
         return Ending(self.closings, posted, results)
 
     def open(self, number: int, prices: Prices) -> None:
-        """A round until it is to be closed."""
+        """Opens a round, and returns once it must close."""
         begun = time.time()
         closes = None if number == 1 and self.pace.has_player else begun + self.pace.seconds
         self.board.open_round(number, closes, "It closes after you submit bids." if closes is None else None)
@@ -103,7 +104,7 @@ class Rounds:
             time.sleep(0.02 if moments or everyone else 0.1)
 
     def bid(self, bidder: int, number: int, prices: Prices) -> None:
-        """Sends the bids by which a scripted bidder follows its values."""
+        """Sends a scripted bidder's bids, which follow its values."""
         demands = self.server.page("/v1/me", self.token(bidder))["demands"]
         bids = bids_of(self.game.limits(bidder), self.game.products, prices, demands, number)
         self.server.page("/v1/me/bids", self.token(bidder), {"bids": bids, "round": number})
@@ -118,7 +119,10 @@ class Rounds:
         return self.server.page("/v1/me", token)["eligibility"] == 0
 
     def ties(self) -> list[list[int]]:
-        """Tie-breaking numbers for all pairs of bidder and product, or the most that a closing may list, at random."""
+        """Draws tie-breaking numbers for all pairs of bidder and product.
+
+        If these are more than a closing may list, it draws numbers only for some pairs.
+        """
         products = len(self.game.products)
         pairs = len(self.game.names) * products
         drawn = self.chance.sample(range(pairs), min(pairs, MOST_TIES))

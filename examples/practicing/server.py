@@ -1,4 +1,4 @@
-"""The auction's server: the built program, or the same source run by `rt try`; and requests to it."""
+"""The auction's server: the built program, or the source run by `rt try`. Also requests to it."""
 import http.client
 import json
 import os
@@ -15,11 +15,11 @@ CRATE = TOP / "crates" / "clock_auction"
 BUILT = CRATE / "out" / "clock_auction"
 CONNECTIONS = 1_000_000
 DAY = 86_400  # seconds
-PATIENCE = 600  # seconds until a server that is built first must answer
+PATIENCE = 600  # seconds in which a server that is built first must answer
 
 
 def program_of(given: pathlib.Path | None) -> pathlib.Path | None:
-    """The program: the given one, the built one, or the one on the path. None if there is only the kit."""
+    """The program: the given one, the built one, or the one on the PATH. None if there is only the kit."""
     found = shutil.which("clock_auction")
     for path in [given] if given else [BUILT, *([pathlib.Path(found)] if found else [])]:
         if os.access(path, os.X_OK):
@@ -27,7 +27,7 @@ def program_of(given: pathlib.Path | None) -> pathlib.Path | None:
     if given:
         sys.exit(f"{given} is not a program.")
     if not shutil.which("rt"):
-        sys.exit("There is no server to practice with: no built program, no `clock_auction` on the path, and no `rt`.")
+        sys.exit("There is no server to practice with: no built program, no `clock_auction` on the PATH, and no `rt`.")
     return None
 
 
@@ -40,7 +40,7 @@ class Server:
         words += ["--port", str(port), "--connections", str(CONNECTIONS)]
         command = [str(program), *words] if program else ["rt", "try", "--seconds", str(DAY), "--", *words]
         with open(self.log, "wb") as log:
-            # in a session of its own: Ctrl+C reaches only this script, and all that the kit starts is stopped together
+            # Ctrl+C must reach only this script, and everything that the kit starts must stop together.
             self.process = subprocess.Popen(
                 command, cwd=CRATE, stdin=subprocess.DEVNULL, stdout=log, stderr=log, start_new_session=True
             )
@@ -60,7 +60,7 @@ class Server:
         sys.exit(f"The server did not answer within {PATIENCE} seconds. Its output is in {self.log}.")
 
     def stop(self) -> None:
-        """Ends the server and all that it started. Its journal is whole at any moment."""
+        """Ends the server and everything that it started. Its journal is whole at any moment."""
         try:
             os.killpg(self.process.pid, signal.SIGTERM)
         except ProcessLookupError:
@@ -70,7 +70,7 @@ class Server:
     def send(
         self, method: str, path: str, authorization: str | None = None, body: bytes | None = None
     ) -> tuple[int, bytes]:
-        """Status and page of the reply to one request, on a connection of its own."""
+        """Sends one request on a connection of its own. Returns the reply's status and page."""
         link = http.client.HTTPConnection("127.0.0.1", self.port, timeout=300)
         try:
             link.request(method, path, body, {"authorization": authorization} if authorization else {})
@@ -80,7 +80,10 @@ class Server:
             link.close()
 
     def page(self, path: str, token: str | None = None, value: object = None, method: str = "PUT") -> dict[str, Any]:
-        """The page for a path, after this value was sent to it if there is one. A refusal ends the script."""
+        """Returns the page for a path, after sending a value if there is one.
+
+        A refusal ends the script.
+        """
         body = None if value is None else json.dumps(value, separators=(",", ":")).encode()
         status, page = self.send("GET" if body is None else method, path, f"Bearer {token}" if token else None, body)
         if status != 200:
