@@ -48,10 +48,11 @@ def of_block(file: str, begun: int, lines: list[str], lists: bool) -> Iterator[p
 
 
 def docstrings(text: str) -> Iterator[tuple[int, list[str]]]:
-    """The docstrings of a module, each with the line on which it begins."""
-    for node in ast.walk(ast.parse(text)):
-        if isinstance(node, ast.Module | ast.ClassDef | ast.FunctionDef) and (words := ast.get_docstring(node)):
-            yield node.body[0].lineno, words.splitlines()
+    """Yields the docstrings of a module, each with the line on which it begins."""
+    for node in ast.walk(module := ast.parse(text)):
+        if isinstance(node, ast.Module | ast.ClassDef | ast.FunctionDef):
+            if words := ast.get_docstring(node, clean=node is not module):
+                yield node.body[0].lineno, words.splitlines()
 
 
 def paragraphs(top: pathlib.Path, file: str) -> list[prose.Paragraph]:

@@ -18,8 +18,8 @@ const plain = (bids) => bids.map(({ price, product, quantity }) => ({ price, pro
 const tabs = new BroadcastChannel("sheets"); // lets the other tabs of this browser know that bids were submitted, and nothing about them
 // who asks; the account; the terms by which bids are judged; the results before last; the submitted bids, or null
 let asker, me, terms, earlier, submitted = null, worth = null;
-// the server's refusal of the form as it is; whether something could not be loaded; whether bids are being sent; how many
-// sheets were accepted; when the server last answered, and whether it is not answering; the last message about an error
+// The server's refusal of the form as it is; whether something could not be loaded; whether bids are being sent.
+// Then the number of accepted sheets, when the server last answered, whether it is silent, and the last error message.
 let refused = null, gone = false, sending = false, accepted = 0, answered = "", silent = false, complaint = "";
 
 const times = new Times({

@@ -14,7 +14,7 @@ from .findings import Check, Fault, ensure
 
 
 def commitment(auction: Auction) -> str:
-    """It is of this set-up and of the secrets in kept/, and everyone sees it."""
+    """Checks that it is of this set-up and of the secrets in `kept/`, and that everyone sees it."""
     file, setup = auction.folder / "public/commitment.json", Setup.read(auction.setup_file)
     ensure(file.exists(), "it is missing: deploy/commit SETUP kept public")
     found = Commitment.read(file)

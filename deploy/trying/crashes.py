@@ -115,7 +115,7 @@ def try_crashes(program: pathlib.Path) -> Iterator[str]:
 
 
 def try_power(program: pathlib.Path) -> Iterator[str]:
-    """The same with a loss of power."""
+    """Like `try_crashes`, but with a loss of power."""
     wanted, steps = played_once(program)
     for step in range(1, steps + 1):
         killed_at(program, step, wanted, with_the_machine=True)

@@ -25,7 +25,7 @@ def utc(seconds):
 
 
 class Published:
-    """The conductor's public files of a stand, and its report to the operator."""
+    """The conductor's public files of a trial, and its report to the operator."""
 
     def __init__(self, stand):
         self.folder, self.announced = stand.place.folder, []

@@ -24,7 +24,7 @@ def whole(window, page, widths=WIDTHS):
 
 
 def contrast(window, page):
-    """Each text stands out from what is around it, in light and in the dark; returns the least contrast."""
+    """Checks that each text differs from its background, in light and in the dark; returns the least contrast."""
     least = 99
     for dark in (False, True):
         window.dark(dark)
