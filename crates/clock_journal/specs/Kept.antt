@@ -1,25 +1,26 @@
--- What a journal keeps on the disk.
+-- What a journal has on the disk.
 --     file_of digest texts      the bytes of the journal of the texts
---     Keeps digest texts written synced chain      the disk tells that all of it is written and synced, and the chain
+--     Keeps digest texts written synced chain      all of it is written and synced, and the chain
 --         is at its end
---     JournalState, HasTexts digest texts journal      the same of a journal
+--     JournalState      what contracts see of a journal
+--     HasTexts digest texts journal      this journal is written and synced so
 use Rattle.std.specs.Prelude.{◌≡◌, ◌++◌, ℕ, Bool, List, Option, Some}
 use Rattle.clock_journal.specs.Disks.{Moment}
 use Rattle.clock_journal.specs.Format.{head, records, last_link, AllFit}
 
--- the bytes of the journal of the texts, the oldest first, for the set-up document of this digest
+-- the bytes of the journal of the texts, the oldest first, for the set-up document with this digest
 abbrev pub file_of : List ℕ → List (List ℕ) → List ℕ
 file_of digest texts = head digest ++ records digest texts
 
--- nothing but that stands in the file, all of it is on the disk, and the chain is at its end
+-- the file is the journal of the texts, all of it synced, and the chain is the last digest
 pub record Keeps (digest : List ℕ) (texts : List (List ℕ)) (written synced : Option (List ℕ)) (chain : List ℕ) : Type 0 where
   pub file : written ≡ Some (file_of digest texts)
   pub synced_is : synced ≡ written
   pub chain_is : chain ≡ last_link digest texts
   pub fit : AllFit texts
 
--- what contracts see of a journal: one number stays while its file is only added to, and the moments are those that its
--- disk has passed, the last one first
+-- in contracts, a journal: `uncut` changes only when the file is truncated; the moments are those
+-- that its disk has passed, the last one first
 pub record JournalState : Type 0 where
   pub written : Option (List ℕ)
   pub synced : Option (List ℕ)
@@ -28,6 +29,6 @@ pub record JournalState : Type 0 where
   pub uncut : ℕ
   pub moments : Option (List Moment)
 
--- it has these texts, and all of them are on its disk
+-- the journal has these texts, all of them on its disk
 abbrev pub HasTexts : List ℕ → List (List ℕ) → JournalState → Type 0
 HasTexts digest texts journal = Keeps digest texts journal.written journal.synced journal.chain

@@ -1,7 +1,7 @@
--- What holds of every journal, whatever a stop of the machine leaves of it.
---     EveryFront      a front of a journal reads as the first of its texts
---     WhateverFollows      a journal with anything behind it reads as its texts first
---     CutLeaves      a stop while what is torn is cut off leaves all that was there
+-- Laws of every journal, whatever a crash leaves of it.
+--     EveryFront      a prefix of a journal reads as a prefix of its texts
+--     WhateverFollows      a journal with anything after it reads as its texts first
+--     CutLeaves      a crash while a torn record is cut off leaves all texts
 --     ReadsBack      what reads as texts is the records of these texts
 use Rattle.std.specs.Prelude.{◌≡◌, ◌<◌, get_or, ◌≤◌, ◌++◌, ℕ, List, length, take, Some}
 use Rattle.clock_journal.specs.Format.{records, last_link, AllFit}
@@ -12,22 +12,25 @@ use Rattle.clock_journal.specs.Recovering.{IsPlaced}
 use Rattle.clock_journal.specs.declared.recovery.Recovered.{Recovered}
 use Rattle.clock_journal.specs.Crash.{LeavesTexts, BeginsWith}
 
--- a front of a journal that holds all bytes of its first so many texts leaves these, and further ones in order
+-- a prefix that has all bytes of the first `least` texts reads as these, and perhaps further ones
+-- in order
 abbrev pub EveryFront : Type 0
 EveryFront = (digest : List ℕ) (texts : List (List ℕ)) (least count : ℕ) → AllFit texts → least ≤ length texts
     → length (file_of digest (take least texts)) ≤ count → LeavesTexts digest (take count (file_of digest texts)) texts least
 
--- the records of some texts and then any bytes: what is read of them begins with the texts
+-- what is read of the records of some texts and any bytes after them begins with the texts
 abbrev pub WhateverFollows : Type 0
 WhateverFollows = (digest : List ℕ) (texts : List (List ℕ)) (more : List ℕ) (read : List (List ℕ)) (rest : List ℕ) → AllFit texts
     → Reads digest (records digest texts ++ more) read rest → Stops (last_link digest read) rest → BeginsWith texts read
 
--- bytes that read as some texts are the records of these texts, and what is left: there is no other way to write them
+-- bytes that read as some texts are the records of these texts, and what is left: there is no other
+-- encoding
 abbrev pub ReadsBack : Type 0
 ReadsBack = (chain bytes : List ℕ) (texts : List (List ℕ)) (rest : List ℕ) → ((place : ℕ) → get_or bytes place 0 < 256) → Reads chain bytes texts rest
     → (bytes ≡ records chain texts ++ rest) × AllFit texts
 
--- what a stop left is cut off where its last record ends, all of it on the disk: a stop in that leaves as many texts
+-- if what a crash left is synced and truncated after its last whole record, a crash during that
+-- leaves all of its texts
 abbrev pub CutLeaves : Type 0
 CutLeaves = (digest bytes : List ℕ) (texts read : List (List ℕ)) (least : ℕ) (recovered : Recovered) (left : List ℕ) → length digest ≡ 32
     → LeavesTexts digest bytes texts least → IsPlaced digest bytes read recovered → MayBeLeft (Some (take recovered.end bytes)) (Some bytes) left

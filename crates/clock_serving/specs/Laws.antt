@@ -1,12 +1,13 @@
 -- What an exchange says of bytes.
---     ToldBytes      where a connection tells its bytes, its request was their beginning, and its client has the reply
---         or a front of it
+--     ToldBytes      if contracts see a connection's bytes, its request was their beginning, and
+--         its client got the reply or a
+--         prefix of it
 use Rattle.std.specs.Prelude.{◌≡◌, ◌++◌, ℕ, List, [], take, Some}
 use Rattle.clock_http.specs.Replies.{Answer}
 use Rattle.clock_serving.specs.Exchanges.{Exchange}
 use Rattle.clock_serving.specs.Serving.{IsReplied}
 
--- of a connection whose sink had taken nothing
+-- for a connection whose sink had no bytes before
 abbrev pub ToldBytes : Type 0
 ToldBytes = (one : Exchange) (text : List ℕ) (answer : Answer) (offered left taken : List ℕ) → IsReplied one text answer
     → one.reading.before.left ≡ Some offered → one.reading.after.left ≡ Some left

@@ -1,17 +1,20 @@
--- How connections are served one after the other, one request each. Texts of a front stand newest first, those of a
--- journal oldest first.
---     WritesReply writing answer      the reply was written, or a front of it where a write failed
+-- How connections are served one after the other, one request each. Lists of a front's texts have
+-- the newest first, those of a journal the oldest first.
+--     WritesReply writing answer      the reply was written, or a prefix of it if a write failed
 --     IsReplied one text answer      the text was read, and the reply was written
 --     EndsAlone one      no text was read that could be answered
---     Walks step past exchanges end      connection by connection what there is becomes another by this step
+--     Walks step past exchanges end      the step leads from `past` to `end`, connection by
+--         connection
 --     RepliesTo setup past one next      the reply is the right one after the texts before it
---     KeptTexts      the texts that are kept, and the journal that has them
---     KeepsText digest setup before one after      it is the right one after the kept texts, and a text that changes the
---         auction is kept, on the disk, when the first byte of its reply is written
---     AreServed exchanges ..      so all of these connections were served
---     EndsUnkept served last ..      after these the text of the last could not be kept
---     is_accept_fault result      a connection could not be taken
---     EndsServing count exchanges .. result      how serving so many connections ends
+--     KeptTexts      the logged texts, and the journal that has them
+--     KeepsText digest setup before one after      the reply is the right one after the logged
+--         texts, and a text that changes
+--         the auction is on the disk when the first byte of its reply is written
+--     AreServed exchanges ..      all of these connections were served
+--     EndsUnkept served last ..      after these, the text of the last connection could not be
+--         logged
+--     is_accept_fault result      a connection could not be accepted
+--     EndsServing count exchanges .. result      how serving `count` connections ends
 use Rattle.std.specs.Prelude.{◌≡◌, ◌<◌, ◌≤◌, ◌⊎◌, ◌++◌, ℕ, Bool, true, false, List, [], ◌∷◌, length, Option, Some, Result, Ok, Err}
 use Rattle.clock_terms.specs.Limits.{SetupFields}
 use Rattle.clock_house.specs.House.{HouseFields}
@@ -32,73 +35,76 @@ use Rattle.clock_serving.specs.Closings.{TellsClosings}
 use Rattle.clock_serving.specs.declared.serving.ServeFault.{ServeFault}
 use Rattle.clock_serving.specs.declared.serving.ServeFault.TheVariants as fault
 
--- all of the reply was written; or a front of it, and a write failed
+-- all of the reply was written; or a prefix of it, and a write failed
 abbrev pub WritesReply : Writing → Answer → Type 0
 WritesReply writing answer = WritesWhole writing answer.bytes ⊎ WritesFront writing answer.bytes
 
--- the text was read on this connection, and the reply was written on it, whole or a front of it where a write failed
+-- the text was read on this connection, and the reply was written on it
 pub record IsReplied (one : Exchange) (text : List ℕ) (answer : Answer) : Type 0 where
   pub arrived : HasArrived one.reading text
   pub written : WritesReply one.writing answer
 
--- there was no memory for the bytes, and the reply says so; or no request could be read, and nothing was written
+-- memory ran out for the bytes, and the reply says so; or no request could be read, and nothing was
+-- written
 abbrev pub EndsAlone : Exchange → Type 0
 EndsAlone one =
     (HasNoRoom one.reading × WritesReply one.writing no_memory)
     ⊎ (IsNotRead one.reading × WritesNothing one.writing)
 
--- connection by connection, in order, what there is becomes another by this step
+-- the step leads from `past` to `end`, connection by connection, in order
 abbrev pub Walks : {A : Type 0} → (A → Exchange → A → Type 0) → A → List Exchange → A → Type 0
 Walks step past [] end = end ≡ past
 Walks {A = A} step past (one ∷ others) end = (next : A) × step past one next × Walks step next others end
 
--- the right reply, after which the text stands before the others; or the text found no memory, and is struck out
+-- the right reply, and the text joins the others; or the out-of-memory reply, and it does not
 abbrev pub IsNextReply : SetupFields → List (List ℕ) → List ℕ → Answer → List (List ℕ) → Type 0
 IsNextReply setup past text answer next =
     (IsRight setup past text answer × (next ≡ text ∷ past)) ⊎ (IsStruckOut text answer × (next ≡ past))
 
--- the request that was read got its reply; or there was none, and this connection ended alone
+-- the request that was read got its reply; or none could be read
 abbrev pub RepliesTo : SetupFields → List (List ℕ) → Exchange → List (List ℕ) → Type 0
 RepliesTo setup past one next =
     ((text : List ℕ) × (answer : Answer) × IsReplied one text answer × IsNextReply setup past text answer next)
     ⊎ (EndsAlone one × (next ≡ past))
 
--- the right reply after the kept texts, behind which the text is put if it changes the auction; or it found no memory
+-- the right reply after the logged texts, and the text is logged if it changes the auction; or out
+-- of memory
 abbrev pub IsKeptReply : SetupFields → List (List ℕ) → List ℕ → Answer → List (List ℕ) → Type 0
 IsKeptReply setup past text answer next =
     (IsRight setup (onto past []) text answer × (next ≡ kept_after setup past text))
     ⊎ (IsStruckOut text answer × (next ≡ past))
 
--- the texts that are kept, the oldest first, and the journal that has them
+-- the logged texts, the oldest first, and the journal that has them
 pub record KeptTexts : Type 0 where
   pub texts : List (List ℕ)
   pub journal : JournalState
 
--- the request that was read got this reply, whose first byte was written when this was kept; or there was none, this
--- connection ended alone, and nothing has changed
+-- the request that was read got this reply, whose first byte was written when this was the journal;
+-- or none could be read, and nothing changed
 abbrev pub RepliesOver : SetupFields → KeptTexts → Exchange → KeptTexts → Type 0
 RepliesOver setup before one after =
     ((text : List ℕ) × (answer : Answer) × IsReplied one text answer
     × IsKeptReply setup before.texts text answer after.texts × IsSeen one.kept after.journal)
     ⊎ (EndsAlone one × (after ≡ before))
 
--- so it was replied to, and then all that is kept is on the disk. A stop at any moment from the connection before until
--- then leaves the texts that were kept before, and at most the one that is kept now
+-- the reply is right, and then all logged texts are on the disk. A crash since the connection
+-- before leaves the texts logged before, and at most the one logged now
 pub record KeepsText (digest : List ℕ) (setup : SetupFields) (before : KeptTexts) (one : Exchange) (after : KeptTexts) : Type 0 where
   pub replies : RepliesOver setup before one after
   pub has : HasTexts digest after.texts after.journal
   pub moments : (left : List ℕ) → MayBeLeft before.journal.synced after.journal.written left
       → LeavesTexts digest left after.texts (length before.texts)
 
--- what these connections have made of the texts that the front stood for; and each round that was closed was told
+-- what the connections made of the texts that the front stands for; each round that was closed was
+-- reported
 pub record HasReplied (past : List (List ℕ)) (exchanges : List Exchange) (told_old told_new : Option (List ℕ)) (old new : HouseFields) : Type 0 where
   pub end : List (List ℕ)
   pub walks : Walks (RepliesTo old.setup) past exchanges end
   pub stands : StandsForTexts end new
   pub tells : TellsClosings old.setup past end told_old told_new
 
--- connection by connection, what they made of the kept texts was on the disk, and so it is in the end; a stop at any
--- moment since leaves the first, no fewer than there were
+-- what each connection made of the logged texts was on the disk, and still is; a crash at any
+-- moment since leaves a prefix of the last texts, with all of `past`
 pub record HasKept (digest : List ℕ) (past : List (List ℕ)) (exchanges : List Exchange)
     (journal_old journal_new : JournalState) (old new : HouseFields) : Type 0 where
   pub end : List (List ℕ)
@@ -107,14 +113,14 @@ pub record HasKept (digest : List ℕ) (past : List (List ℕ)) (exchanges : Lis
   pub in_step : IsInStep digest end journal_new new
   pub moments : (left : List ℕ) → MayBeLeft journal_old.synced journal_new.written left → LeavesTexts digest left end (length past)
 
--- these connections were served in order, whatever texts there were, and the file was only added to
+-- these connections were served in order, and the file was only appended to
 pub record AreServed (exchanges : List Exchange) (told_old told_new : Option (List ℕ)) (journal_old journal_new : JournalState) (old new : HouseFields) : Type 0 where
   pub added_to : journal_new.uncut ≡ journal_old.uncut
   pub replied : (past : List (List ℕ)) → StandsForTexts past old → HasReplied past exchanges told_old told_new old new
   pub kept : (digest : List ℕ) (past : List (List ℕ)) → IsInStep digest past journal_old old → HasKept digest past exchanges journal_old journal_new old new
 
--- all texts that were told are on the disk, and a stop leaves these, and at most the one that could not be kept, which
--- was accepted
+-- all texts with a reply are on the disk. A crash leaves these, and at most the one that could not
+-- be logged, which was accepted
 pub record HasKeptTold (digest : List ℕ) (past : List (List ℕ)) (served : List Exchange) (text : List ℕ)
     (journal_old journal : JournalState) (old : HouseFields) : Type 0 where
   pub end : List (List ℕ)
@@ -125,7 +131,8 @@ pub record HasKeptTold (digest : List ℕ) (past : List (List ℕ)) (served : Li
   pub on_disk : journal.synced ≡ Some (file_of digest end)
   pub left_ones : (left : List ℕ) → MayBeLeft (Some (file_of digest end)) journal.written left → LeavesTexts digest left (end ++ text ∷ []) (length end)
 
--- after these the disk failed to keep the last one's text: it got no reply, and no round it may have closed was told
+-- after these, the disk failed to log the last text: it got no reply, and no round that it closed
+-- was reported
 pub record EndsUnkept (served : List Exchange) (last : Exchange) (told_old told_new : Option (List ℕ)) (journal_old journal_new : JournalState) (old : HouseFields) : Type 0 where
   pub text : List ℕ
   pub arrived : HasArrived last.reading text
@@ -135,13 +142,14 @@ pub record EndsUnkept (served : List Exchange) (last : Exchange) (told_old told_
   pub replied : (past : List (List ℕ)) → StandsForTexts past old → (end : List (List ℕ)) × Walks (RepliesTo old.setup) past served end × TellsClosings old.setup past end told_old told_new
   pub kept : (digest : List ℕ) (past : List (List ℕ)) → IsInStep digest past journal_old old → HasKeptTold digest past served text journal_old journal_new old
 
--- a connection could not be taken
+-- a connection could not be accepted
 abbrev pub is_accept_fault : {U : Type 0} → Result U ServeFault → Bool
 is_accept_fault (Ok done) = false
 is_accept_fault (Err fault.Accept) = true
 is_accept_fault (Err fault.Journal) = false
 
--- each was served; or one could not be taken, and those before it were served; or the last one's text could not be kept
+-- all were served; or one could not be accepted, and those before it were served; or the last text
+-- could not be logged
 abbrev pub EndsServing : {U : Type 0} → ℕ → List Exchange → Option (List ℕ) → Option (List ℕ) → JournalState → JournalState
     → HouseFields → HouseFields → Result U ServeFault → Type 0
 EndsServing count exchanges told_old told_new journal_old journal_new old new (Ok done) =

@@ -1,13 +1,14 @@
 -- How one connection is served.
---     IsLeftAlone reading ..      no request could be read, and nothing has changed
---     AnswersAndKeeps reading response ..      the text that was read is answered, and kept if it changes the auction
---     IsAnswered reading response ..      so it is; or there was no memory for it, and the reply says so
---     IsServed one effect ..      one connection was served, and changed this
---     IsUnkept one ..      its text could not be kept
---     EndsTaken one .. result      how serving one that was taken ends
---     EndsOne coming_old coming_new .. result      how taking and serving one ends
---     IsToldAs old new served result      the keeper was told of the round that was closed, if one was
---     round_closed effect      the round that was closed, if one was
+--     IsLeftAlone reading ..      no request could be read, and nothing changed
+--     AnswersAndKeeps reading response ..      the text is answered, and logged if it changes the
+--         auction
+--     IsAnswered reading response ..      this, or the out-of-memory reply
+--     IsServed one effect ..      one connection was served, with this effect
+--     IsUnkept one ..      its text could not be logged
+--     EndsTaken one .. result      how serving an accepted connection ends
+--     EndsOne coming_old coming_new .. result      how accepting and serving one ends
+--     IsToldAs old new served result      the closed round, if any, was reported
+--     round_closed effect      the closed round, if any
 use Rattle.std.specs.Prelude.{◌≡◌, ◌⊎◌, ℕ, true, List, [], ◌∷◌, Option, Result, Ok, Err}
 use Rattle.clock_device.specs.Told.{Reading}
 use Rattle.clock_device.specs.Writings.{WritesNothing}
@@ -27,11 +28,11 @@ use Rattle.clock_serving.specs.Exchanges.{Came, Exchange, HasClosed, IsSeen, byt
 use Rattle.clock_serving.specs.declared.serving.ServeFault.{ServeFault}
 use Rattle.clock_serving.specs.declared.serving.ServeFault.TheVariants as fault
 
--- no request could be read; front and journal are as they were
+-- no request could be read; front and journal are unchanged
 abbrev pub IsLeftAlone : Reading → JournalState → JournalState → HouseFields → HouseFields → Type 0
 IsLeftAlone reading journal_old journal_new old new = IsLeftUnread reading old new × (journal_new ≡ journal_old)
 
--- the text that was read is answered, and kept if it changes the auction
+-- the text that was read is answered, and logged if it changes the auction
 pub record AnswersAndKeeps (reading : Reading) (response : Response) (journal_old journal_new : JournalState)
     (old new : HouseFields) : Type 0 where
   pub text : List ℕ
@@ -41,22 +42,22 @@ pub record AnswersAndKeeps (reading : Reading) (response : Response) (journal_ol
       → IsKept digest past text response.reply journal_new old new
   pub added_to : journal_new.uncut ≡ journal_old.uncut
 
--- or there was no memory for it, the reply says so, and nothing has changed
+-- this; or memory ran out for the text, the reply says so, and nothing changed
 abbrev pub IsAnswered : Reading → Response → JournalState → JournalState → HouseFields → HouseFields → Type 0
 IsAnswered reading response journal_old journal_new old new =
     AnswersAndKeeps reading response journal_old journal_new old new
     ⊎ (HasNoRoom reading × (response ≡ record { reply = no_memory; effect = Nothing }) × (new ≡ old)
     × (journal_new ≡ journal_old))
 
--- its reply was written while that was kept; or nothing was, where no request could be read
+-- its reply was written over this journal; or no request could be read, and nothing was written
 abbrev pub IsServed : Exchange → Effect → JournalState → JournalState → HouseFields → HouseFields → Type 0
 IsServed one effect journal_old journal_new old new =
     ((response : Response) × IsAnswered one.reading response journal_old journal_new old new
     × WritesReply one.writing response.reply × (effect ≡ response.effect) × IsSeen one.kept journal_new)
     ⊎ (IsLeftAlone one.reading journal_old journal_new old new × WritesNothing one.writing × (effect ≡ Nothing))
 
--- an accepted text that was read could not be kept: what was on the disk is, and a stop leaves the texts before it, and
--- at most this one more
+-- an accepted text could not be logged: the disk has what it had, and a crash leaves the texts
+-- before it, and at most this one more
 pub record FailsToKeep (reading : Reading) (journal_old journal_new : JournalState) (old : HouseFields) : Type 0 where
   pub text : List ℕ
   pub arrived : HasArrived reading text
@@ -65,23 +66,23 @@ pub record FailsToKeep (reading : Reading) (journal_old journal_new : JournalSta
   pub moments : LeavesOneMore text journal_old journal_new
   pub on_disk : journal_new.synced ≡ journal_old.synced
 
--- and nothing was written
+-- this, and nothing was written
 abbrev pub IsUnkept : Exchange → JournalState → JournalState → HouseFields → Type 0
 IsUnkept one journal_old journal_new old = FailsToKeep one.reading journal_old journal_new old × WritesNothing one.writing
 
--- a connection that was taken was served, or its text could not be kept
+-- an accepted connection was served, or its text could not be logged
 abbrev pub EndsTaken : {E : Type 0} → Exchange → JournalState → JournalState → HouseFields → HouseFields
     → Result Effect E → Type 0
 EndsTaken one journal_old journal_new old new (Ok effect) = IsServed one effect journal_old journal_new old new
 EndsTaken one journal_old journal_new old new (Err failed) = IsUnkept one journal_old journal_new old
 
--- the keeper was told of the round that was closed, if one was
+-- the closed round, if any, was reported
 abbrev pub IsTold : Option (List ℕ) → Option (List ℕ) → Effect → Type 0
 IsTold told_old told_new Nothing = told_new ≡ told_old
 IsTold told_old told_new Sheet = told_new ≡ told_old
 IsTold told_old told_new (Closing round) = GrowsBy told_old told_new (round ∷ [])
 
--- or the text could not be kept, and the fault says so
+-- this; or the text could not be logged, and the fault says so
 abbrev pub IsToldAs : {U E : Type 0} → Option (List ℕ) → Option (List ℕ) → Result Effect E → Result U ServeFault → Type 0
 IsToldAs told_old told_new (Ok effect) (Ok done) = IsTold told_old told_new effect
 IsToldAs told_old told_new (Err failed) (Err fault.Journal) = told_new ≡ told_old
@@ -89,14 +90,14 @@ IsToldAs told_old told_new (Ok effect) (Err fault) = ⊥
 IsToldAs told_old told_new (Err failed) (Ok done) = ⊥
 IsToldAs told_old told_new (Err failed) (Err fault.Accept) = ⊥
 
--- the round that was closed, if one was
+-- the closed round, if any
 abbrev pub round_closed : Effect → List ℕ
 round_closed Nothing = []
 round_closed Sheet = []
 round_closed (Closing round) = round ∷ []
 
--- how serving one connection ends: it was served, and told if it closed a round; or it could not be taken, and nothing
--- has changed; or its text could not be kept
+-- how serving one connection ends: it was served, and its closing reported; or it could not be
+-- accepted, and nothing changed; or its text could not be logged
 abbrev pub EndsOne : {U : Type 0} → Option (List (List ℕ)) → Option (List (List ℕ)) → Option (List Exchange) → Option (List Exchange)
     → Option (List ℕ) → Option (List ℕ) → JournalState → JournalState → HouseFields → HouseFields → Result U ServeFault → Type 0
 EndsOne coming_old coming_new closed_old closed_new told_old told_new journal_old journal_new old new (Ok done) =
