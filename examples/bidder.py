@@ -168,6 +168,7 @@ class Receipts:
             self.add(self.commitment)
 
     def add(self, line):
+        """Appends a line to the file, and syncs it."""
         with open(self.path, "a", encoding="utf-8") as file:
             file.write(json.dumps(line) + "\n")
             file.flush()

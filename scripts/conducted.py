@@ -30,6 +30,7 @@ def texts(program: pathlib.Path) -> set[tuple[str, str, str]]:
     stage, found = Stage(program, [(30, 60), (120, 150), (210, 240)]), set()
 
     def note() -> None:
+        """Notes the content of each file that exists now."""
         found.update(
             (home, name, (stage.folder / file).read_text())
             for file, home, name in FILES

@@ -43,6 +43,7 @@ class Description:
         self.document = json.loads((TOP / "schemas/openapi.json").read_text())
 
     def operations(self) -> Iterator[tuple[str, str, dict[str, Any]]]:
+        """Yields each operation with its method and path."""
         for path, item in self.document["paths"].items():
             for method in item.keys() - {"parameters"}:
                 yield method.upper(), path, item[method]
@@ -55,6 +56,7 @@ class Description:
         return None if response is None else response.get("x-codes", [""])
 
     def all_codes(self) -> Came:
+        """All described codes, each with its method, path, and status."""
         return {(method, path, int(status), code) for method, path, operation in self.operations()
                 for status in operation["responses"] for code in self.codes(operation, int(status)) or []}
 
@@ -194,6 +196,7 @@ class Bidders:
         self.bidders = [self.begin(bidder, script) for bidder, script in roles]
 
     def begin(self, bidder: dict[str, Any], script: dict[str, Any]) -> "subprocess.Popen[str]":
+        """Starts the client of a bidder with its script."""
         file = self.place.folder / f"{bidder['name']}.script"
         file.write_text(json.dumps(script))
         environment = {**os.environ, "TOKEN": bidder["token"], "MOJO_CA_FILE": str(self.place.folder / "cert.pem")}

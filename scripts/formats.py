@@ -16,6 +16,7 @@ class Refused(Exception):
 
 
 def require(condition: bool, code: str) -> None:
+    """Refuses with this code unless the condition holds."""
     if not condition:
         raise Refused(code)
 
@@ -47,6 +48,7 @@ def number_in(digits: str) -> int | float:
 
 
 def nesting(value: Any) -> int:
+    """The number of levels of objects and lists."""
     inner = value.values() if isinstance(value, dict) else value
     return 1 + max(map(nesting, inner), default=0) if isinstance(value, (dict, list)) else 0
 

@@ -23,6 +23,7 @@ ROUTES = {
 
 
 def path_of(route, number=1):
+    """The path of a route, with its parameters replaced."""
     return route.replace("{n}", str(number)).replace("{other}", "v1/none")
 
 
@@ -33,6 +34,7 @@ def sheet(*bids, number=1):
 
 
 def closing(ties=(), increment=10, number=1):
+    """The body of a closing of version 1."""
     return compact({"increment": increment, "round": number, "ties": list(ties)})
 
 
@@ -121,16 +123,19 @@ def one_product():
 
 
 def little_eligibility():
+    """Yields a sheet for a bidder with little eligibility."""
     yield put("X", sheet((0, 2, 100)))
 
 
 def highest_price():
+    """Yields a round at the highest price."""
     yield put("X", sheet((0, 2, 10**12)))
     yield put("Y", sheet((0, 1, 10**12)))
     yield close(closing())
 
 
 def version_2():
+    """Yields requests of an auction of version 2."""
     yield get("/v1/products")
     yield "POST", "/v1/close", request("POST /v1/close", "O", b'{"increments":[10,20],"round":1,"ties":[[0,1,7]]}')
 

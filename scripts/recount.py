@@ -62,6 +62,7 @@ def chains_of(bids: list[Bid]) -> Chains:
 
 
 def activity(products: list[Product], demands: list[int]) -> int:
+    """The blocks times bidding units, added up."""
     return sum(product.units * demand for product, demand in zip(products, demands))
 
 
@@ -253,6 +254,7 @@ class Auction:
         return bool(self.rounds) and self.rounds[-1].ended
 
     def check_round(self, number: int) -> None:
+        """Refuses a request for another round than the current one."""
         require(not self.ended, "ended")
         require(number == len(self.rounds) + 1, "wrong_round")
 
@@ -365,6 +367,7 @@ def report(counted: Recount) -> Iterator[str]:
 
 
 def bytes_of(path: str, fault: str) -> bytes:
+    """The content of a file. Refuses with a fault if it cannot be read."""
     try:
         with open(path, "rb") as file:
             return file.read()

@@ -63,6 +63,7 @@ def kind_of(bid: Bid, demand: int) -> str:
 
 
 def sheet_rows(auction: Auction) -> Iterator[Row]:
+    """The rows of sheets.csv: one for each accepted sheet."""
     for sheet in auction.sheets:
         name = auction.setup.bidders[sheet.bidder].name
         yield sheet.number, sheet.round, name, len(sheet.bids), yes(sheet.in_force), sheet.sha256
@@ -82,6 +83,7 @@ def bid_rows(auction: Auction) -> Iterator[Row]:
 
 
 def product_rows(auction: Auction) -> Iterator[Row]:
+    """The rows of product_results.csv: one for each product in each round."""
     for number, closed in enumerate(auction.rounds, 1):
         for product, line, increment in zip(auction.setup.products, closed.lines, closed.increments):
             excess = max(0, line.demand - product.supply)
@@ -90,6 +92,7 @@ def product_rows(auction: Auction) -> Iterator[Row]:
 
 
 def demand_rows(auction: Auction) -> Iterator[Row]:
+    """The rows of processed_demands.csv: one for each processed demand above 0 after each round."""
     for number, closed in enumerate(auction.rounds, 1):
         for bidder, slip in zip(auction.setup.bidders, closed.slips):
             for product, blocks in zip(auction.setup.products, slip.demands):
@@ -98,6 +101,7 @@ def demand_rows(auction: Auction) -> Iterator[Row]:
 
 
 def activity_rows(auction: Auction) -> Iterator[Row]:
+    """The rows of activity.csv: one for each bidder in each round."""
     eligibilities = [bidder.eligibility for bidder in auction.setup.bidders]
     for number, closed in enumerate(auction.rounds, 1):
         for place, (bidder, slip) in enumerate(zip(auction.setup.bidders, closed.slips)):
@@ -107,13 +111,14 @@ def activity_rows(auction: Auction) -> Iterator[Row]:
 
 
 def tie_rows(auction: Auction) -> Iterator[Row]:
+    """The rows of ties.csv: one for each tie-breaking number of each closing."""
     for number, ties in enumerate(auction.ties, 1):
         for bidder, product, tie in ties:
             yield number, auction.setup.bidders[bidder].name, auction.setup.products[product].name, tie
 
 
 def winner_rows(auction: Auction) -> Iterator[Row]:
-    """What each bidder has won. Yields nothing if the auction has not ended."""
+    """The rows of winners.csv: one for each product that a bidder has won. None if the auction has not ended."""
     last = auction.rounds[-1] if auction.rounds else None
     if last is None or not last.ended:
         return

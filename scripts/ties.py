@@ -86,6 +86,7 @@ class Commitment:
 
 
 def has_keys(value: Any, *keys: str) -> None:
+    """Raises ValueError unless a value is an object with exactly these keys."""
     if not isinstance(value, dict) or value.keys() != set(keys):
         raise ValueError(f"its keys must be {', '.join(keys)}")
 

@@ -76,10 +76,12 @@ def in_parallel(work: Callable[[int, Item], None], items: Iterable[Item]) -> Non
     has_failed = threading.Event()
 
     def next_item() -> Item | None:
+        """The next item, or None if there is none or a worker has failed."""
         with lock:
             return None if has_failed.is_set() else next(rest, None)
 
     def work_off(worker: int) -> None:
+        """Works on items until there is none."""
         try:
             while (item := next_item()) is not None:
                 work(worker, item)

@@ -57,6 +57,7 @@ class Visit(http.server.BaseHTTPRequestHandler):
     do_HEAD = do_PUT = do_GET
 
     def show(self, file: pathlib.Path) -> None:
+        """Answers with a file, or with 404 if it does not exist."""
         try:
             self.answer(200, KINDS[file.suffix], file.read_bytes())
         except FileNotFoundError:
@@ -75,6 +76,7 @@ class Visit(http.server.BaseHTTPRequestHandler):
         self.answer(status, KINDS[".json"], page)
 
     def refuse(self, status: int, code: str) -> None:
+        """Answers with a refusal, and closes the connection."""
         self.close_connection = True  # The body of this request may still be unread.
         self.answer(status, KINDS[".json"], json.dumps({"code": code, "status": status}).encode())
 

@@ -24,6 +24,7 @@ def dollars(amount: int) -> str:
 
 
 def payment(demands: list[int], posted: list[int]) -> int:
+    """What a bidder pays for its processed demands at the posted prices."""
     return sum(blocks * price for blocks, price in zip(demands, posted))
 
 

@@ -7,6 +7,7 @@ from typing import Any
 
 
 def utc(seconds: float) -> str:
+    """A time in the format of published files."""
     return datetime.datetime.fromtimestamp(seconds, datetime.timezone.utc).strftime("%Y-%m-%dT%H:%M:%SZ")
 
 
@@ -35,6 +36,7 @@ class Board:
         print(f"\n{time.strftime('%H:%M:%S')}  {text}", flush=True)
 
     def open_round(self, number: int, closes: float | None, note: str | None = None) -> None:
+        """Adds the window of a round to the timetable."""
         self.windows.append({"round": number, "opens": utc(time.time()), "closes": None, "note": note})
         self.close_at(number, closes)
 
@@ -44,6 +46,7 @@ class Board:
         self.timetable(number, False)
 
     def timetable(self, number: int, ended: bool) -> None:
+        """Publishes the timetable, with the page's notice and values."""
         put(
             self.public / "timetable.json",
             {
@@ -61,6 +64,7 @@ class Board:
         put(self.public / "rounds" / f"{page['round']}.json", {**page, "digest": digest, "published": utc(time.time())})
 
     def winners(self, number: int, results: list[dict[str, Any]], posted: list[int]) -> None:
+        """Publishes what each bidder won and pays."""
         bidders = [
             {
                 "name": bidder["name"],

@@ -30,10 +30,12 @@ class Pace:
 
     @property
     def lazy(self) -> float:
+        """The seconds within which rivals bid."""
         return QUICK if self.quick or not self.has_player else min(LAZY, self.seconds / 3)
 
     @property
     def grace(self) -> float:
+        """The seconds until the closing once everyone has bid."""
         return 0 if self.quick or not self.has_player else GRACE
 
 

@@ -13,10 +13,12 @@ def place_of(calls: Calls, *names: str) -> int:
 
 
 def without(calls: Calls, place: int) -> Calls:
+    """The calls without the one at an index."""
     return calls[:place] + calls[place + 1 :]
 
 
 def moved(calls: Calls, place: int, to: int) -> Calls:
+    """The calls with the one at an index moved to another."""
     rest = without(calls, place)
     return rest[:to] + [calls[place]] + rest[to:]
 
@@ -57,6 +59,7 @@ def altered(generations: list[Recorded]) -> Iterator[tuple[str, list[Recorded]]]
         accepts = [place for place, call in enumerate(calls) if call.name == "accept"] + [len(calls)]
 
         def with_calls(begin: int, end: int, wrong: Calls) -> list[Recorded]:
+            """The generations with some calls of this one replaced."""
             changed = Recorded(generation.requests, calls[:begin] + wrong + calls[end:])
             return generations[:number] + [changed] + generations[number + 1 :]
 

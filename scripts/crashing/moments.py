@@ -55,15 +55,18 @@ class Disk:
     moments: list[Moment] = field(default_factory=list)
 
     def write(self, content: bytes) -> None:
+        """Appends bytes that are not synced yet."""
         self.written += content
         self.sizes.append(len(self.written))
 
     def sync(self) -> None:
+        """Syncs all bytes. Adds a moment if there were new ones."""
         if self.sizes:
             self.add_moment(None)
         self.synced, self.sizes = self.written, []
 
     def cut(self, place: int) -> None:
+        """Truncates the file. Adds a moment if it was longer."""
         if place < len(self.written):
             self.add_moment(place)
         self.synced, self.written, self.sizes = self.synced[:place], self.written[:place], []
@@ -73,11 +76,13 @@ class Disk:
         self.sync()
 
     def add_moment(self, cut: int | None) -> None:
+        """Adds the moment from the last sync until now."""
         least = max(self.replied, self.texts.whole_in(self.synced))
         most = self.texts.whole_in(self.written)
         self.moments.append(Moment(self.synced, self.written, tuple(self.sizes), self.replied, least, most, cut))
 
     def reply(self, request: Request) -> None:
+        """Counts the requests up to one whose reply begins."""
         if request.outcome is Outcome.LOGGED:
             self.replied = self.texts.whole_in(self.written)
 

@@ -95,6 +95,7 @@ class Plan:
         self.generations: list[Generation] = []
 
     def logs(self, text: bytes) -> None:
+        """Plans a request that is logged."""
         self.requests.append(Request(text, Outcome.LOGGED))
         self.size += FRONT + len(text)
 
@@ -103,9 +104,11 @@ class Plan:
         self.logs(padded(token, number, price, size - self.size - FRONT))
 
     def shows(self, *texts: bytes) -> None:
+        """Plans requests for pages."""
         self.requests += [Request(text, Outcome.PAGE) for text in texts]
 
     def refuses(self, *texts: bytes) -> None:
+        """Plans requests that are refused."""
         self.requests += [Request(text, Outcome.REFUSED) for text in texts]
 
     def ends_by_write(self, text: bytes) -> None:
@@ -118,6 +121,7 @@ class Plan:
         self.ends(Request(text, Outcome.NO_REPLY), ("fdatasync", self.size))
 
     def ends(self, last: Request | None = None, refused: tuple[str, int] | None = None) -> None:
+        """Ends a generation, with the call that is refused, if any."""
         self.generations.append(Generation(self.requests + ([last] if last else []), refused))
         self.requests = []
 

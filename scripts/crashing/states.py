@@ -67,11 +67,13 @@ def sizes_of(moment: Moment) -> list[int]:
 
 
 def prefixes(moment: Moment) -> Iterator[bytes]:
+    """Yields the file at each length from the synced bytes on."""
     for length in range(len(moment.synced), len(moment.written) + 1):
         yield moment.written[:length]
 
 
 def lengths_without_data(moment: Moment) -> Iterator[bytes]:
+    """Yields files with their new length, in which the last written bytes are zeros."""
     synced = len(moment.synced)
     for size in sizes_of(moment):
         for place in units(synced, size, SECTOR):
@@ -80,7 +82,7 @@ def lengths_without_data(moment: Moment) -> Iterator[bytes]:
 
 
 def pages(moment: Moment, filler: bytes = b"") -> Iterator[bytes]:
-    """What a crash may leave of a file, if each page of what is not synced is there or not."""
+    """Yields files in which each unsynced page is present or absent. An absent page has a filler's bytes or zeros."""
     synced = len(moment.synced)
     for size in sizes_of(moment):
         places = units(synced, size, PAGE)
@@ -94,6 +96,7 @@ def pages(moment: Moment, filler: bytes = b"") -> Iterator[bytes]:
 
 
 def torn_sectors(moment: Moment) -> Iterator[bytes]:
+    """Yields files in which one part of an unsynced sector is written, and the other is not."""
     synced = len(moment.synced)
     for size in sizes_of(moment):
         for place, split, rest in product(units(synced, size, SECTOR), SPLITS, (True, False)):
@@ -120,6 +123,7 @@ def unkept_syncs(moment: Moment, earlier: list[Moment]) -> Iterator[tuple[int, b
 
 
 def cut_lengths(moment: Moment, cut: int) -> Iterator[bytes]:
+    """Yields the file at each length from the cut to its old length."""
     for length in range(cut, len(moment.written) + 1):
         yield moment.written[:length]
 

@@ -23,6 +23,7 @@ BID_RANGES = [
 
 
 def kind_of(value):
+    """Words for the kind of a value."""
     if not isinstance(value, Odd):
         return KINDS[type(value)]
     if value.text.lstrip("-").isdigit():
@@ -37,9 +38,11 @@ class Checks:
         self.faults = []
 
     def note(self, rank, code, path, words, key=None):
+        """Notes a fault."""
         self.faults.append((rank, code, path, key, words))
 
     def is_kind(self, value, kind, rank, code, path):
+        """Notes a value of another kind. Returns whether it is of this kind."""
         wanted = {int: "a whole number"}.get(kind, KINDS[kind])
         if type(value) is not kind:
             self.note(rank, code, path, f"expected {wanted}, found {kind_of(value)}")
@@ -64,10 +67,12 @@ class Checks:
         return value[key]
 
     def range(self, value, least, most, rank, code, path, words=""):
+        """Notes a number outside a range."""
         if value is not None and not least <= value <= most:
             self.note(rank, code, path, f"{value} is outside {least:,} to {most:,}{words}")
 
     def form(self, value, form, words, rank, code, path):
+        """Notes a text that does not have the form."""
         if type(value) is str and not form.fullmatch(value):
             self.note(rank, code, path, f"{value[:70]!r} is not {words}")
 
@@ -124,6 +129,7 @@ def of(value, key, kind):
 def setup_ranges(checks, value, second, path, rank):
     """Notes which numbers of a set-up are out of their range."""
     def ranged(item, key, least, most, code, where, words=""):
+        """Notes a number under a key that is outside its range."""
         checks.range(of(item, key, int), least, most, rank, f"setup_range {code}", (*where, key), words)
 
     ranged(value, "requirement", 50, 100, "requirement", path, " percent")
@@ -142,6 +148,7 @@ def setup_ranges(checks, value, second, path, rank):
 
 
 def product_ranges(checks, item, number, second, here, rank, ranged):
+    """Checks the ranges of a product."""
     checks.form(item.get("name"), NAME, NAME_WORDS, rank, f"setup_range name {number}", (*here, "name"))
     ranged(item, "units", 1, 1_000_000, f"units {number}", here)
     ranged(item, "supply", 1, 1_000, f"supply {number}", here)
@@ -154,6 +161,7 @@ def product_ranges(checks, item, number, second, here, rank, ranged):
 
 
 def bidder_ranges(checks, item, number, _, here, rank, ranged):
+    """Checks the ranges of a bidder."""
     checks.form(item.get("name"), NAME, NAME_WORDS, rank, f"setup_range bidder_name {number}", (*here, "name"))
     checks.form(item.get("token"), TOKEN, TOKEN_WORDS, rank, f"setup_range token {number}", (*here, "token"))
     ranged(item, "eligibility", 0, PRICE, f"eligibility {number}", here)
@@ -189,12 +197,14 @@ def numbers(checks, values, rank, code, path):
 
 
 def counted(checks, values, wanted, what, code, rank, path):
+    """Checks that a list has an entry for each of the wanted ones, if these are known."""
     if wanted is not None and len(values) != len(wanted):
         words = f"expected {len(wanted)} entries, one for each of the {what}, found {len(values)}"
         checks.note(rank, code, path, words)
 
 
 def bids(checks, values, code, path):
+    """Checks the shape of a list of bids."""
     if not checks.is_kind(values, list, 1, code, path):
         return
     for number, bid in enumerate(values):
@@ -207,6 +217,7 @@ def bids(checks, values, code, path):
 
 
 def ties(checks, values, code, path):
+    """Checks the shape of a list of tie-breaking numbers."""
     if not checks.is_kind(values, list, 1, code, path):
         return
     for number, tie in enumerate(values):
@@ -323,6 +334,7 @@ def script(checks, value, products, number):
 
 
 def limits(checks, prices, product, number, place):
+    """Checks the limits for a product: within its cap, and never rising."""
     path, cap = ("scripts", number, "limits", place), of(product, "cap", int)
     if cap is not None and len(prices) > cap:
         checks.note(23, f"limits {number} {place}", path, f"{len(prices)} limits exceed the cap of {cap}")
@@ -333,6 +345,7 @@ def limits(checks, prices, product, number, place):
 
 
 def body_round(checks, value):
+    """Checks the round of a body."""
     checks.range(checks.number(value, "round", 1, "422 shape", ()), 1, 2**64 - 1, 30, "409 wrong_round", ("round",))
 
 

@@ -37,6 +37,7 @@ class Odd:
 
 
 def whole(text):
+    """A whole number, or an Odd one."""
     if len(text) < 20 and text[0] != "-":
         return int(text)
     value = int(text) if len(text) < 25 else None
@@ -44,6 +45,7 @@ def whole(text):
 
 
 def never(text):
+    """Raises NotJson for NaN and infinity."""
     raise NotJson(None, text)
 
 
@@ -84,6 +86,7 @@ class Reader:
         return value
 
     def words_of(self, error):
+        """Words for an error of Python's reader."""
         here = self.text[error.pos : error.pos + 1]
         words = WORDS.get(error.msg, "not allowed here")
         if not here:
@@ -94,6 +97,7 @@ class Reader:
         return "JSON has no comments" if here in "/#" else words
 
     def object_of(self, pairs):
+        """The object of these pairs. Notes whether a key occurs twice."""
         found = dict(pairs)
         self.repeats = self.repeats or len(found) != len(pairs)
         return found
@@ -137,6 +141,7 @@ class Reader:
             raise NotJson(half, "an escape of half a letter (\\ud800 to \\udfff by itself)")
 
     def skip(self, at):
+        """The index of the first character after white space."""
         return SPACE.match(self.text, at).end()
 
     def table(self, at):

@@ -28,6 +28,7 @@ LAST = len(ROUNDS)
 
 
 def ran(*words: str | pathlib.Path) -> subprocess.CompletedProcess:
+    """Runs a tool, and counts it."""
     COUNTS["runs of tools"] += 1
     return subprocess.run([str(word) for word in words], capture_output=True, text=True, timeout=20)
 
@@ -59,6 +60,7 @@ class Auction:
         return Auction(self.program, folder, self.number)
 
     def started(self) -> Server:
+        """Starts the server. Returns it when it is ready."""
         COUNTS["servers"] += 1
         SERVERS.append(Server(self.program, self.setup, self.journal))
         return SERVERS[-1].ready()
@@ -122,12 +124,14 @@ class Auction:
         return self
 
     def stop(self) -> "Auction":
+        """Stops the server."""
         self.server.kill()
         return self
 
     # ---- Verification
 
     def texts(self) -> list[bytes]:
+        """The requests in the journal."""
         return [text for text, _ in texts_of(self.setup.read_bytes(), self.journal.read_bytes())]
 
     def words(self, journal: bytes | None, published: str, receipts: str) -> list[pathlib.Path]:

@@ -124,6 +124,7 @@ def last_requests():
 
 
 def has_changed(answer):
+    """Whether a request with this answer changed the auction."""
     return answer in ("200 accepted", "200 closed")
 
 

@@ -118,11 +118,13 @@ def request(chance: Random, line: str, token: str, value: dict[str, Any]) -> byt
 
 
 def sheet_text(chance: Random, auction: Auction, bidder: int, number: int, bids: list[Bid]) -> bytes:
+    """A request with a sheet."""
     value = {"bids": [bid._asdict() for bid in bids], "round": number}
     return request(chance, "PUT /v1/me/bids", auction.setup.bidders[bidder].token, value)
 
 
 def closing_text(chance: Random, auction: Auction, number: int) -> bytes:
+    """A request with a closing, which the rules mostly accept."""
     def increment() -> int:
         return chance.choice([1, 2, 5, 10, 20, 50, 50 if chance.random() < 0.9 else 51])
 

@@ -11,10 +11,12 @@ CHANGED = "a request up to this closing was changed, left out, or added after th
 
 
 def short(digest: Any) -> str:
+    """The first digits of a digest, for messages."""
     return f"{str(digest)[:12]}.."
 
 
 def check_setup(case: Case) -> str:
+    """Checks that the set-up document is valid."""
     setup = case.setup
     return (
         f"a valid document of {len(setup.products)} products and {len(setup.bidders)} bidders; "

@@ -37,6 +37,7 @@ class Case:
 
     @functools.cached_property
     def setup(self) -> Setup:
+        """The set-up of the document. Raises Refused if it is not valid."""
         return setup_in(self.document)
 
     @property
@@ -55,6 +56,7 @@ class Case:
 
     @functools.cached_property
     def counted(self) -> recount.Recount:
+        """The recount of the journal."""
         return recount.recounted(self.document, self.journal)
 
     def json(self, name: str) -> Any:
