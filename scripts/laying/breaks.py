@@ -15,13 +15,14 @@ NEVER_BEFORE = ("=", ":", "←", "↦", "in", "}", "[", "]", "{", "|", "as", "};
 BEFORE = {"→": 2, "×": 3, "⊎": 3, "↔": 3, "else": 4, "then": 6, "≡": 6, "at": 9, "λ": 9, "record": 9}
 AFTER = {"in": 0, "=": 1, "↦": 2, "else": 6, ":": 15}
 
-DEEPER = 5
-LINE = 10
+DEEPER = 6
+LINE = 25
 OPERATOR = 7
-ARGUMENT = 12
+ARGUMENT = 15
 IN_BRACKETS = 9
 HEAD = 5
 SHORT = 20
+BINDER = 10
 TOO_DEAR = 40
 
 
@@ -100,7 +101,7 @@ def gaps(line: str, lists_break: bool) -> list[Gap]:
         is_within_list = not lists_break and any(pair.is_list for pair in around)
         if price is None or is_within_list or (one[0] in ("=", ":") and around) or (binding and len(around) < 2):
             continue
-        price += DEEPER * len(around) + sum(LINE for pair in around if pair.is_binder and pair.end < len(line))
+        price += DEEPER * len(around) + sum(BINDER for pair in around if pair.is_binder and pair.end < len(line))
         found.append(Gap(one.end(), price))
     return found
 
@@ -118,7 +119,7 @@ def broken(line: str, most: int, indent: int, lists_break: bool) -> list[str] | 
             if width > most:
                 break
             price = best[earlier][0] + places[earlier].cost + LINE
-            price += LINE if gap.place == last and begun and width < indent + SHORT else 0
+            price += BINDER if gap.place == last and begun and width < indent + SHORT else 0
             if places[earlier].cost <= TOO_DEAR and price < found[0]:
                 found = (price, earlier)
         best.append(found)
