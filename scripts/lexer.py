@@ -1,6 +1,6 @@
 """Splits Rattle's sources (.rt), definitions and proofs (.antt), and must-fail edits (.edit) into comments and words.
 
-Code is what is left of a file without comments and layout: its words, with the names that it imports in order.
+The code of a file is its words without comments and layout, with the imported names in order.
 """
 import pathlib
 import re
@@ -24,7 +24,7 @@ CLOSERS = (")", "]", "}", ">", "|")
 
 
 class Word(NamedTuple):
-    """A word or a comment of a file, and where it begins."""
+    """A word or a comment of a file, and its index."""
 
     text: str
     start: int
@@ -38,7 +38,7 @@ def rust_words(text: str) -> Iterator[Word]:
 
 
 def antt_words(text: str) -> Iterator[Word]:
-    """What spaces part in definitions and proofs, and the comments. A quoted text is in one word."""
+    """The words between spaces in definitions and proofs, and the comments. A quoted text is in one word."""
     end = start = 0
     for found in ANTT.finditer(text):
         is_comment = found["comment"] is not None
@@ -56,7 +56,7 @@ def antt_words(text: str) -> Iterator[Word]:
 
 
 class Opened(NamedTuple):
-    """A bracket that is open: what it begins, and how many commas are in it."""
+    """An open bracket: the construct that it begins, and the number of commas in it."""
 
     is_tuple: bool
     is_record: bool
@@ -64,9 +64,9 @@ class Opened(NamedTuple):
 
 
 def without_last_signs(words: list[str]) -> list[str]:
-    """The words without each comma before a closing bracket, which layout adds and takes. A tuple of one keeps it.
+    """The words without each comma before a closing bracket, which layout adds and removes.
 
-    The same of the semicolon at the end of a record of a clause.
+    A tuple of one value keeps its comma. Also removes the semicolon at the end of a record of a clause.
     """
     left: list[str] = []
     opened: list[Opened] = []
@@ -99,7 +99,7 @@ def parts(names: str) -> list[str]:
 
 
 def imported(statement: str) -> list[str]:
-    """An import as one line for each name that it brings in."""
+    """An import as one line for each imported name."""
     head, brace, names = statement.partition("{")
     if not brace:
         return [" ".join(statement.split())]
@@ -107,7 +107,7 @@ def imported(statement: str) -> list[str]:
 
 
 def in_order(statements: list[str]) -> list[str]:
-    """Statements, with each run of imports in order, by name."""
+    """The statements, with each run of imports sorted by name."""
     ordered: list[str] = []
     run: list[str] = []
     for statement in [*statements, ""]:
@@ -120,7 +120,7 @@ def in_order(statements: list[str]) -> list[str]:
 
 
 def rust_code(text: str) -> list[str]:
-    """The code of a source: its words, with its imports in order."""
+    """The code of a source: its words, with its imports sorted."""
     words = without_last_signs([word.text for word in rust_words(text) if not word.is_comment])
     statements: list[str] = []
     place = 0
@@ -137,15 +137,15 @@ def rust_code(text: str) -> list[str]:
 
 
 def without_list_signs(words: str) -> str:
-    """Words without each sign of a list that is next to a bracket, which layout adds and takes."""
+    """The words without each sign of a list next to a bracket, which layout adds and removes."""
     spaced = SEPARATOR.sub(lambda found: found[0] if found[0][0] == '"' else f" {found[0]} ", words)
     return NEXT_TO_BRACKET.sub(" ", " ".join(spaced.split()))
 
 
 def antt_code(text: str) -> list[str]:
-    """The code of definitions or proofs: what begins at the left edge, in its words, with the imports in order.
+    """The code of definitions or proofs: the words of each statement at the left edge, with the imports sorted.
 
-    A closing bracket at the left edge begins nothing.
+    A closing bracket at the left edge begins no statement.
     """
     statements: list[str] = []
     for word in antt_words(text):
@@ -160,7 +160,7 @@ def antt_code(text: str) -> list[str]:
 
 
 def edit_code(text: str) -> list[str]:
-    """The code of a must-fail edit: its lines, each without comments."""
+    """The code of a must-fail edit: its lines without comments."""
     code = []
     for line in text.splitlines():
         kind, _colon, rest = line.partition(":")
@@ -180,6 +180,6 @@ def words(path: str, text: str) -> Iterator[Word]:
 
 
 def code(path: str, text: str) -> list[str] | None:
-    """The code of a file, by the ending of its path. None if the ending is of no language that is read here."""
+    """The code of a file, by the ending of its path. None for an ending of another language."""
     kind = KINDS.get(pathlib.PurePath(path).suffix)
     return kind(text) if kind else None

@@ -1,7 +1,7 @@
-"""Renames: which words of which files become others.
+"""Renames of words in files.
 
-A file of names has lines `OLD NEW`, or `OLD NEW PATH..` for files whose paths begin so. A word that has a slash is a
-path. `=OLD` is a word of code that is also one of prose, and is kept there.
+A file of names has lines `OLD NEW`, or `OLD NEW PATH..` for files whose paths begin with one of these. A word with a
+slash is a path. `=OLD` is a word of code that prose uses too, and is renamed only in code.
 """
 import pathlib
 import re
@@ -15,7 +15,7 @@ AS_ITSELF = re.compile(r"^((?:pub |ghost )*use .*)\b(\w+) as \2\b", re.M)
 
 
 class Rename(NamedTuple):
-    """A name, what it becomes, the beginnings of the paths in which it does, and whether only in code."""
+    """A name, its new name, the beginnings of the paths to which the rename applies, and whether only in code."""
 
     old: re.Pattern[str]
     new: str
@@ -36,7 +36,7 @@ def renames(file: str) -> list[Rename]:
 
 
 def in_code(path: str, text: str, name: Rename) -> str:
-    """A text with a name replaced in code, and in prose only in marked code."""
+    """A text with a name replaced in code, and in prose only in code spans."""
     def replaced(part: str) -> str:
         return name.old.sub(name.new, part)
 
@@ -52,7 +52,7 @@ def in_code(path: str, text: str, name: Rename) -> str:
 
 
 def renamed(path: str, text: str, names: list[Rename]) -> str:
-    """A text of a path with its names replaced. A name that is brought in as itself is brought in."""
+    """The text of a path with its names replaced. An import of a name as itself becomes a plain import."""
     for name in names:
         if path.startswith(name.paths or "") and name.old.search(text):
             text = in_code(path, text, name) if name.in_code else name.old.sub(name.new, text)
@@ -61,7 +61,7 @@ def renamed(path: str, text: str, names: list[Rename]) -> str:
 
 
 def moved(path: str, names: list[Rename]) -> str:
-    """Where a file of a path is after the renames."""
+    """A file's path after the renames."""
     for name in names:
         if path.startswith(name.paths or ""):
             path = name.old.sub(name.new, path)
