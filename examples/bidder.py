@@ -146,7 +146,7 @@ class Auction:
             if looks and self.ask("/v1/me/bids", IN_FORCE)["bids"] is None:
                 if (
                     last_closed(self.ask("/v1/me", ACCOUNT), number) < number
-                ):  # else none is in force because the round is closed
+                ):  # otherwise the round is closed, so no sheet is in force
                     print(f"the sheet of round {number} is no longer in force: submitting it again", file=sys.stderr)
                     self.ask("/v1/me/bids", ACCEPTED, sheet)
 
@@ -302,7 +302,7 @@ def limits_of(path):
 
 
 def play(auction, wanted, path):
-    """Bids in each round until the auction has ended, and prints what it sent and what came of it."""
+    """Bids in each round until the auction has ended, and prints each sheet and its results."""
     products = auction.ask("/v1/products", PRODUCTS)["products"]
     auction.products = len(products)
     account = auction.ask("/v1/me", ACCOUNT)

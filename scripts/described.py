@@ -147,7 +147,7 @@ class Port:
         self.ask("PUT", "/v1/me/bids", token=token, body=sheet)
         for (method, path), operation in self.operations.items():
             self.ask(method, path, token=token)
-            if operation["security"]:          # nginx takes it for the right one, and the server refuses it
+            if operation["security"]:          # nginx accepts it as the right one, and the server refuses it
                 status = self.ask(method, path, number=2, token=token.lower(), body=sheet if method == "PUT" else b"")
                 if status != (404 if path in BY_NGINX else 401):
                     raise Failed(f"{method} {path} with a token in lower case: {status}")

@@ -38,7 +38,7 @@ class Visit(http.server.BaseHTTPRequestHandler):
     server: Desk
 
     def do_GET(self) -> None:
-        """Gives a file of the pages, or what is published, or the server's reply."""
+        """Serves a file of the pages, a published file, or the server's reply."""
         path = self.path.partition("?")[0]
         path = "/index.html" if path == "/" else path
         if self.headers.get("host", "").rpartition(":")[0] not in ("127.0.0.1", "localhost"):

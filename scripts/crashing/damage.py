@@ -87,7 +87,7 @@ def play_tails(trial: Trial, ten: Ten) -> None:
     file, end = trial.folder / "tail.journal", ten.ends[10]
     for name, tail, fault in (
         ("seven bytes", b"1234567", None),
-        ("the front of a record", ten.content[HEAD : HEAD + 60], None),
+        ("a prefix of a record", ten.content[HEAD : HEAD + 60], None),
         ("zeros", bytes(4096), f"fault: journal_damaged {end}\n"),
         ("noise", DRAW.randbytes(512), f"fault: journal_damaged {end}\n"),
     ):
