@@ -1,4 +1,4 @@
--- What a stop leaves while a torn record is cut off.
+-- What a crash leaves while a torn record is cut off: a prefix of the file that still has all whole records.
 use Rattle.std.proofs.Common.{◌≡◌, ◌≤◌, ◌+◌, ◌-◌, ◌<◌, ◌⊎◌, inl, inr, ℕ, Bool, true, false, List, ◌++◌, length, take, drop, nat_lt, nat_le, ◌&&◌, ◌==◌, bytes_eq, refl, sym, ap, ◌∙◌, subst, arith}
 use Rattle.std.specs.Prelude.{if◌then◌else◌}
 use Rattle.std.specs.Int.{w32, from_be_bytes}
@@ -44,7 +44,7 @@ at_most : (a b : ℕ) → (nat_lt a b ≡ true) ⊎ ((a == b) ≡ true) → a �
 at_most a b (inl e) = let l = less_where a b e in omega (arith, l)
 at_most a b (inr e) = let same = eq_where a b e in omega (arith, same)
 
--- what is torn behind its lengths is no longer than they tell
+-- a torn record with a whole mark is no longer than its mark says
 torn_short : (chain bytes : List ℕ) → next chain bytes ≡ torn → mark_length ≤ length bytes → (is_marked bytes ≡ true) × (length bytes ≤ before_text + marked_length bytes)
 unfolding next
 torn_short chain bytes is long =
@@ -87,7 +87,7 @@ front_behind_lengths chain rest n is less many =
     next_cut chain (take n rest) (omega (arith, size, many)) (marked_same (take n rest) rest first second count ∙ parts.0)
     (let most = parts.1 in omega (arith, size, less, count, most))
 
--- a front of what is torn is torn, or nothing
+-- a prefix of a torn record is torn or empty
 front_of_torn : (chain rest : List ℕ) (n : ℕ) → next chain rest ≡ torn → n < length rest → Ends chain (take n rest)
 front_of_torn chain rest n is less =
     let size = length-take-le n rest (omega (arith, less)) in
@@ -110,7 +110,7 @@ front_of_ends chain rest n ends =
       | inr all ↦ subst (λ (bytes : List ℕ). Ends chain bytes) (sym (take_all n rest all)) ends
     ]
 
--- ---- the file up to its last record, and then what is torn
+-- ---- the file up to its last whole record, and then a torn one
 
 leaves_front : (digest bytes : List ℕ) (texts read : List (List ℕ)) (least : ℕ) (recovered : Recovered) (left : List ℕ) (count : ℕ)
     → LeavesTexts digest bytes texts least → IsHeaded digest bytes read recovered → recovered.end ≤ count → left ≡ take count bytes → LeavesTexts digest left texts least

@@ -1,4 +1,4 @@
--- Going on with a file that was taken over.
+-- Resuming with the file of a journal that was replayed.
 use Rattle.std.proofs.Common.{◌≡◌, ◌≢◌, inl, inr, ℕ, List, [], length, take, Option, Some, ap, ◌∙◌, subst, arith, length-append}
 use Rattle.clock_journal.specs.Disks.{IsCut}
 use Rattle.clock_journal.specs.Format.{head, records}
@@ -7,7 +7,7 @@ use Rattle.clock_journal.specs.Recovering.{IsPlaced}
 use Rattle.clock_journal.specs.declared.recovery.Recovered.{Recovered}
 use Rattle.clock_journal.proofs.Moments.{length-head}
 
--- a file that is cut off at its beginning has no texts
+-- a file that is truncated to nothing has no texts
 pub placed_empty : (digest bytes : List ℕ) (texts : List (List ℕ)) (recovered : Recovered) → length digest ≡ 32 → recovered.end ≡ 0
     → IsPlaced digest bytes texts recovered → texts ≡ []
 placed_empty digest bytes texts recovered long nowhere (inl headed) =
@@ -21,7 +21,7 @@ placed_empty digest bytes texts recovered long nowhere (inr begun) = begun.none
 pub cut_is : (old mid new : Option (List ℕ)) (bytes : List ℕ) (place : ℕ) → mid ≡ old → old ≡ Some bytes → IsCut mid new place → new ≡ Some (take place bytes)
 cut_is old mid new bytes place same is cut = subst (λ (known : Option (List ℕ)). IsCut known new place) (same ∙ is) cut
 
--- cut off behind its texts, and with that on the disk, it has these texts
+-- after it is truncated to its whole records and synced, the file has these texts
 pub kept_when_cut : (digest bytes : List ℕ) (texts : List (List ℕ)) (recovered : Recovered) (written synced : Option (List ℕ)) → recovered.end ≢ 0
     → IsPlaced digest bytes texts recovered → written ≡ Some (take recovered.end bytes) → synced ≡ written
     → Keeps digest texts written synced recovered.chain

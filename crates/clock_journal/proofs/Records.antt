@@ -1,4 +1,4 @@
--- What a record reads as, whole or cut.
+-- What a record reads as, whole or torn, by the four cases of `next`.
 use Rattle.std.proofs.Common.{◌≡◌, ◌+◌, ◌-◌, ◌^◌, ◌<◌, ◌≤◌, inl, inr, ℕ, Bool, true, List, ◌++◌, length, take, drop, refl, ap, sym, ◌∙◌, subst, arith, length-append, bytes_eq, nat_le, ◌&&◌}
 use Rattle.std.proofs.lemmas.List.{take_at, drop_at, length-take-le, drop-drop, append_assoc}
 use Rattle.std.proofs.Math.Seq.{take-append-add}
@@ -21,12 +21,12 @@ pub length-record : (chain text : List ℕ) → length (record_of chain text) �
 length-record chain text =
     omega (arith, length-append (mark (length text)) (link chain text ++ text), length-append (link chain text) text, length-mark (length text), length-link chain text)
 
--- the length stands in the first eight bytes
+-- a mark gives its length, whatever follows
 pub marked_length-mark : (count : ℕ) (more : List ℕ) → count < 2 ^ 32 → marked_length (mark count ++ more) ≡ count
 unfolding marked_length mark
 marked_length-mark count more small = from_be_bytes-to_be_bytes_4 count small
 
--- it is marked_length twice
+-- both copies of the length are equal
 twice : (count : ℕ) (more : List ℕ) → take 4 (mark count ++ more) ≡ take 4 (drop 4 (mark count ++ more))
 unfolding mark
 twice count more = refl
@@ -42,7 +42,7 @@ is_marked_mark count more least most =
     let is_most : nat_le (marked_length (mark count ++ more)) most_text ≡ true = rw length_is (le_true count most_text most) in
     all_three _ _ _ (bytes_eq_same _ _ (twice count more)) is_least is_most
 
--- ---- the four ways that next goes
+-- ---- the four cases of `next`
 
 pub next_none : (chain bytes : List ℕ) → length bytes ≡ 0 → next chain bytes ≡ ended
 unfolding next
@@ -108,13 +108,13 @@ next_record chain text more fits =
     next_judged chain (record_of chain text ++ more) (omega arith) (marked_record chain text more fits) (omega arith)
     ∙ (ap (checked_text chain (record_of chain text ++ more)) length_is ∙ judged_is)
 
--- ---- a record that is cut
+-- ---- a torn record
 
 front_of_mark : (count n : ℕ) (inner : List ℕ) → take (mark_length + n) (mark count ++ inner) ≡ mark count ++ take n inner
 front_of_mark count n inner =
     ap (λ (k : ℕ). take (k + n) (mark count ++ inner)) (sym (length-mark count)) ∙ take-append-add (mark count) inner n
 
--- behind the lengths it is known how much is missing
+-- with a whole mark, the missing length is known
 cut_behind_mark : (chain text : List ℕ) (n : ℕ) → Fits text → mark_length + n < before_text + length text → next chain (take (mark_length + n) (record_of chain text)) ≡ torn
 cut_behind_mark chain text n fits short =
     let inner = link chain text ++ text in
@@ -126,7 +126,7 @@ cut_behind_mark chain text n fits short =
     ap is_marked front ∙ is_marked_mark (length text) (take n inner) fits.least fits.most in
     next_cut chain (take (mark_length + n) (record_of chain text)) (omega arith) marked (omega arith)
 
--- a front of a record is torn, or nothing
+-- a proper prefix of a record is torn or empty
 pub next_front : (chain text : List ℕ) (n : ℕ) → Fits text → n < before_text + length text → Ends chain (take n (record_of chain text))
 next_front chain text n fits short =
     let size = length-take-le n (record_of chain text) (omega (arith, length-record chain text)) in

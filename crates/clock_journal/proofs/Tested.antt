@@ -1,4 +1,4 @@
--- What the answer of a test says, and what it answers.
+-- What a test of the code returns, and what its result says.
 use Rattle.std.proofs.Common.{◌≡◌, ◌<◌, ◌≤◌, ℕ, true, false, List, bytes_eq, nat_lt, nat_le, ◌==◌, arith}
 use Rattle.std.proofs.lemmas.Slice.Eq.{bytes_eq-Decides}
 

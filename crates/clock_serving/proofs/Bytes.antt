@@ -1,4 +1,4 @@
--- What is told of bytes.
+-- What contracts say of the bytes of one connection.
 use Rattle.std.proofs.Common.{◌≡◌, ◌++◌, ℕ, List, [], Option, Some, length, take, inl, inr, sym, ◌∙◌, subst}
 use Rattle.std.proofs.Math.Seq.{take-length}
 use Rattle.clock_device.specs.Streams.{HasRead, HasWritten}

@@ -1,4 +1,4 @@
--- How a run ends by one connection.
+-- How a run ends with one more connection: it was served, it could not be accepted, or its text could not be logged.
 use Rattle.std.proofs.Common.{◌≡◌, ◌<◌, ◌+◌, ℕ, List, [], ◌∷◌, ◌++◌, Option, Result, Ok, Err, length, refl, sym, ◌∙◌, subst, arith, length-append}
 use Rattle.clock_terms.specs.Limits.{IsSetup, SetupFields}
 use Rattle.clock_house.specs.House.{HouseFields}
@@ -16,7 +16,7 @@ use Rattle.clock_serving.specs.inside.Served.{EndsOne, IsUnkept}
 use Rattle.clock_serving.proofs.Walking.{came_more, grown_more}
 use Rattle.clock_serving.proofs.Served.{served_more}
 
--- so many connections were served
+-- `count` connections were served
 pub record HasServed (count : ℕ) (coming_old coming_new : Option (List (List ℕ))) (closed_old closed_new : Option (List Exchange)) (told_old told_new : Option (List ℕ))
     (journal_old journal_new : JournalState) (old new : HouseFields) : Type 0 where
   pub exchanges : List Exchange
@@ -28,7 +28,7 @@ pub record HasServed (count : ℕ) (coming_old coming_new : Option (List (List �
 module _ (count : ℕ) (coming_old coming_mid coming_new : Option (List (List ℕ))) (first mid last : Option (List Exchange)) (told_old told_mid told_new : Option (List ℕ))
     (journal_old journal_mid journal_new : JournalState) (old now new : HouseFields) (limits : IsSetup old.setup) (same : now.setup ≡ old.setup)
     (before : HasServed count coming_old coming_mid first mid told_old told_mid journal_old journal_mid old now) where
-  -- one more was
+  -- one more was served
   pub one_more : {U : Type 0} (done : U) → EndsOne coming_mid coming_new mid last told_mid told_new journal_mid journal_new now new (Ok done)
       → HasServed (count + 1) coming_old coming_new first last told_old told_new journal_old journal_new old new
   one_more done ends = record {
@@ -59,7 +59,7 @@ module _ (count : ℕ) (coming_old coming_mid coming_new : Option (List (List �
             (sym (so_far.in_step.has.synced_is ∙ so_far.in_step.has.file)) may);
       }
 
-  -- the text of one more could not be kept
+  -- the text of one more could not be logged
   ends_unkept : (one : Exchange) → IsUnkept one journal_mid journal_new now → told_new ≡ told_mid
       → EndsUnkept before.exchanges one told_old told_new journal_old journal_new old
   ends_unkept one unkept untold = record {
@@ -75,7 +75,7 @@ module _ (count : ℕ) (coming_old coming_mid coming_new : Option (List (List �
         told_are_kept unkept.0.text digest past in_step unkept.0.moments unkept.0.on_disk unkept.0.accepted;
   }
 
-  -- it ends the run
+  -- this ends the run
   pub ends_by : {U : Type 0} (result : Result U ServeFault) (most : ℕ) (fault : ServeFault) → count < most → EndsOne {U = U} coming_mid coming_new mid last told_mid told_new journal_mid journal_new now new (Err fault)
       → (exchanges : List Exchange) × HasClosed first last exchanges × Came coming_old coming_new (bytes_given exchanges)
       × EndsServing {U = U} most exchanges told_old told_new journal_old journal_new old new (Err fault)

@@ -1,4 +1,4 @@
--- GenerationsContinue of a server that follow one another.
+-- GenerationsContinue, by induction on the generations: each leaves an auction's own file to the next.
 use Rattle.std.proofs.Common.{◌≡◌, ◌≤◌, ◌+◌, inl, inr, ℕ, List, [], ◌∷◌, ◌++◌, length, take, Option, Some, None, Err}
 use Rattle.std.proofs.Common.{refl, sym, ap, ◌∙◌, subst, arith, length-append, append-nil}
 use Rattle.std.proofs.lemmas.List.{take_at}

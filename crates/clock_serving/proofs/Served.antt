@@ -1,4 +1,4 @@
--- A run goes on by one connection that is served.
+-- A run continues with one connection that was served.
 use Rattle.std.proofs.Common.{◌≡◌, ◌≤◌, inl, inr, ℕ, List, [], ◌∷◌, ◌++◌, Option, Some, length, refl, sym, ap, ◌∙◌, subst, arith, length-append, append-nil}
 use Rattle.std.specs.Prelude.{◌||◌, Result, Ok, Err, false, is_err}
 use Rattle.std.proofs.Math.Seq.{take-append_seam}
@@ -33,7 +33,7 @@ use Rattle.clock_front.proofs.RunLaws.{right}
 use Rattle.clock_serving.proofs.Walking.{all_behind, kept_behind, walks_on}
 use Rattle.clock_serving.proofs.Telling.{CountsOn, counts_text, tells_none, tells_on}
 
--- a reply was written, or a front of it
+-- a reply was written, or a prefix of it
 pub reply_written : {U E : Type 0} (writing : Writing) (answer : Answer) (result : Result U E)
     → WritesText writing.before.taken writing.after.taken answer.bytes result → writing.before.has_failed ≡ false
     → writing.after.has_failed ≡ (writing.before.has_failed || is_err result) → WritesReply writing answer
@@ -44,7 +44,7 @@ reply_written writing answer (Err fault) bytes fresh failed = inr (record { byte
 pub nothing_written : (told : SinkTold) → IsUnused told → WritesNothing (record { before = told; after = told })
 nothing_written told unused = record { unused = unused; bytes = same_bytes told.taken }
 
--- what is known of an answer, said of an equal one
+-- what holds of a response holds of an equal one
 pub answered_as : (reading : Reading) (told response : Response) (journal_old journal_new journal_mid : JournalState)
     (old new mid : HouseFields) → response ≡ told → journal_mid ≡ journal_new → mid ≡ new
     → IsAnswered reading told journal_old journal_new old new → IsAnswered reading response journal_old journal_mid old mid
@@ -53,7 +53,7 @@ answered_as reading told response journal_old journal_new journal_mid old new mi
     (subst (λ (journal : JournalState). IsAnswered reading told journal_old journal old mid) (sym kept)
     (subst (λ (house : HouseFields). IsAnswered reading told journal_old journal_new old house) (sym same) answered))
 
--- of a journal to which texts were added a stop has left those that were there, and of the others the first
+-- of a journal to which texts were appended, a crash leaves the texts before, and a prefix of the others
 pub left_since : (digest : List ℕ) (past more : List (List ℕ)) (journal_old journal_new : JournalState) (left : List ℕ)
     → HasTexts digest past journal_old → HasTexts digest (past ++ more) journal_new → MayBeLeft journal_old.synced journal_new.written left
     → LeavesTexts digest left (past ++ more) (length past)
@@ -65,14 +65,14 @@ left_since digest past more journal_old journal_new left has_old has_new may =
     (every_front digest (past ++ more) (length past) known.0 has_new.fit (omega (arith, length-append past more))
     (subst (λ (all : List (List ℕ)). length (file_of digest all) ≤ known.0) (sym (take-append_seam past more)) known.1))
 
--- what one connection made of the texts that a front stood for
+-- what one connection made of the texts that a front stands for
 pub record HasNext (setup : SetupFields) (past : List (List ℕ)) (one : Exchange) (changed : Effect) (new : HouseFields) : Type 0 where
   pub next : List (List ℕ)
   pub replies : RepliesTo setup past one next
   pub stands : StandsForTexts next new
   pub counts : CountsOn changed (closed_by setup past) (closed_by setup next)
 
--- and of the texts that were kept
+-- and of the logged texts
 pub record HasNextKept (digest : List ℕ) (setup : SetupFields) (past : List (List ℕ)) (one : Exchange)
     (journal_old journal_new : JournalState) (new : HouseFields) : Type 0 where
   pub next : List (List ℕ)
@@ -94,7 +94,7 @@ module _ (one : Exchange) (effect_is : Effect) (journal_old journal_new : Journa
   counts_nothing texts changed is nothing =
       subst (λ (e : Effect). CountsOn e (closed_by setup texts) (closed_by setup texts)) (sym (is ∙ nothing)) refl
 
-  -- one that was answered rightly, as many as its text
+  -- a right reply closes the rounds that its text closes
   counts_here : (past : List (List ℕ)) (text : List ℕ) (changed : Effect) → effect_is ≡ changed
       → changed ≡ effect old.setup past text → CountsOn effect_is (closed_by setup past) (closed_by setup (text ∷ past))
   counts_here past text changed is right =
@@ -148,7 +148,7 @@ module _ (one : Exchange) (effect_is : Effect) (journal_old journal_new : Journa
       subst (λ (house : HouseFields). IsInStep digest past journal_new house) (sym still)
       (subst (λ (journal : JournalState). IsInStep digest past journal old) (sym kept) in_step)
 
-  -- what is on the disk then, and what a stop leaves until then
+  -- what is on the disk then, and what a crash until then leaves
   has_next : (digest : List ℕ) (past : List (List ℕ)) → IsInStep digest past journal_old old → (next : List (List ℕ))
       → IsInStep digest next journal_new new
       → RepliesOver setup (record { texts = past; journal = journal_old }) one (record { texts = next; journal = journal_new })
@@ -204,13 +204,13 @@ module _ (one : Exchange) (effect_is : Effect) (journal_old journal_new : Journa
         ap (λ (journal : JournalState). record { texts = past; journal = journal }) kept,
       )) [] (sym (append-nil past))
 
-  -- the file was only added to
+  -- the file was only appended to
   added_one : IsServed one effect_is journal_old journal_new old new → journal_new.uncut ≡ journal_old.uncut
   added_one (inl (response, inl told, written, is, seen)) = told.added_to
   added_one (inl (response, inr (room, none, still, kept), written, is, seen)) = ap (λ (journal : JournalState). journal.uncut) kept
   added_one (inr ((unanswered, kept), silent, is)) = ap (λ (journal : JournalState). journal.uncut) kept
 
--- none was served yet
+-- no connection was served yet
 pub served_none : (told : Option (List ℕ)) (journal : JournalState) (house : HouseFields) → AreServed [] told told journal journal house house
 served_none told journal house = record {
   added_to = refl;

@@ -1,4 +1,4 @@
--- Each round that is closed is told once, in order.
+-- Each closed round is reported once, in order: each text closes the next round or none.
 use Rattle.std.proofs.Common.{◌≡◌, ◌==◌, ◌≤◌, ◌+◌, ◌-◌, ℕ, true, zero, suc, List, [], ◌∷◌, ◌++◌, Option, Some, None, Result, Ok, Err}
 use Rattle.std.proofs.Common.{length, refl, sym, ap, ◌∙◌, subst, arith, append-nil}
 use Rattle.std.specs.List.{range_with_len}
@@ -62,7 +62,7 @@ pub counts_text : (setup : SetupFields) (texts : List (List ℕ)) (text : List �
     → CountsOn (effect setup texts text) (closed_by setup texts) (closed_by setup (text ∷ texts))
 counts_text setup texts text = counts_command setup (commands_of setup texts) (text_command setup text)
 
--- no round that was closed is open again
+-- no closed round is open again
 pub counts_more : (one : Effect) (before after : ℕ) → CountsOn one before after → before ≤ after
 counts_more Nothing before after counts = omega (arith, counts)
 counts_more Sheet before after counts = omega (arith, counts)
@@ -93,7 +93,7 @@ rounds_on (Closing number) first before after more counts =
     ap (λ (round : ℕ). rounds_between first before ++ round ∷ []) last ∙ sym (range_suc (first + 1) (before - first))
     ∙ ap (λ (count : ℕ). range_with_len (first + 1) count) many
 
--- ---- what is told
+-- ---- the reported rounds
 
 -- none was closed yet
 pub tells_none : (setup : SetupFields) (past : List (List ℕ)) (told : Option (List ℕ)) → TellsClosings setup past past told told

@@ -1,4 +1,4 @@
--- Connections that follow one another.
+-- Lists that grow by one connection at a time.
 use Rattle.std.proofs.Common.{◌≡◌, inl, inr, ℕ, Bool, true, false, List, [], ◌∷◌, ◌++◌, map, Option, Some, None}
 use Rattle.std.proofs.Common.{refl, sym, ap, ◌∙◌, subst, append_assoc, append-nil}
 use Rattle.clock_terms.specs.Limits.{SetupFields}
@@ -10,12 +10,12 @@ use Rattle.clock_keeping.specs.Keeping.{GrowsBy, is_change, kept_if}
 use Rattle.clock_serving.specs.Exchanges.{Came, Closes, Exchange, HasClosed, Offer, bytes_given}
 use Rattle.clock_serving.specs.Serving.{KeepsText, KeptTexts, RepliesOver, Walks}
 
--- none was added
+-- nothing was appended
 pub grown_none : {A : Type 0} (list : Option (List A)) → GrowsBy list list []
 grown_none None = tt
 grown_none (Some old) = ap Some (sym (append-nil old))
 
--- these were added, and then those
+-- these were appended, and then those
 pub grown_more : {A : Type 0} (first mid last : Option (List A)) (some others : List A) → GrowsBy first mid some → GrowsBy mid last others
     → GrowsBy first last (some ++ others)
 grown_more None mid last some others before after = tt
@@ -44,14 +44,14 @@ came_more first mid last exchanges one before after =
     subst (λ (given : List (Option (List ℕ))). Came first last given) (sym (map-append (λ one. one.reading.before.left) exchanges (one ∷ [])))
     (came_then first mid last (bytes_given exchanges) (bytes_given (one ∷ [])) before after)
 
--- the one that was taken came
+-- the accepted connection came
 pub came_one : (first mid last : Option (List (List ℕ))) (offer : Offer) (one : Exchange) → Came first mid (offer.source.left ∷ [])
     → last ≡ mid → offer.source ≡ one.reading.before → Came first last (bytes_given (one ∷ []))
 came_one first mid last offer one came still from =
     subst (λ (left : Option (List (List ℕ))). Came first left (one.reading.before.left ∷ [])) (sym still)
     (subst (λ (told : SourceTold). Came first mid (told.left ∷ [])) from came)
 
--- one connection more
+-- one more connection
 pub walks_on : {A : Type 0} (step : A → Exchange → A → Type 0) (past : A) (exchanges : List Exchange) (end : A)
     (one : Exchange) (next : A) → Walks step past exchanges end → step end one next
     → Walks step past (exchanges ++ one ∷ []) next
@@ -59,7 +59,7 @@ walks_on {A = A} step past [] end one next walks steps = (next, subst (λ (now :
 walks_on step past (first ∷ others) end one next walks steps =
     (walks.0, walks.1, walks_on step walks.0 others end one next walks.2 steps)
 
--- what is kept stays, and more comes behind it
+-- the logged texts are unchanged, and more come after them
 kept_if_behind : (changes : Bool) (past : List (List ℕ)) (text : List ℕ)
     → (more : List (List ℕ)) × (kept_if changes past text ≡ past ++ more)
 kept_if_behind true past text = (text ∷ [], refl)
@@ -86,7 +86,7 @@ all_behind digest setup past (one ∷ others) end walks =
       later.1 ∙ ap (λ (texts : List (List ℕ)). texts ++ later.0) here.1 ∙ append_assoc past.texts here.0 later.0,
     )
 
--- the one that was open was closed
+-- the open connection was closed
 pub closed_one : (first mid last : Option (List Exchange)) (offer : Offer) (one : Exchange) → mid ≡ first
     → offer.source ≡ one.reading.before → offer.sink ≡ one.writing.before
     → Closes mid last (record one.reading { before = offer.source }) (record one.writing { before = offer.sink }) one.kept

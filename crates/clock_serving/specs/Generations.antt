@@ -1,26 +1,26 @@
--- The second headline: what is proved of a server over all of its crashes and restarts.
--- In plain words: a generation is what one server does with a journal's file, from its start until
--- it ends. Take any list of generations. The first one starts on an empty file, and each later one
--- on what a crash may have left of the one before.
+-- The second headline: what is proved of a server over all of its crashes and restarts. In plain
+-- words: a generation is what one server does with a journal's file, from its start until it ends.
+-- Take any list of generations. The first one starts on an empty file, and each later one on what a
+-- crash may have left of the one before.
 -- - No start is refused. It fails only if memory runs out or a call of the disk fails.
 -- - Each start resumes with every text that was logged when the generation before ended, and with
 --   at most one more, which was accepted. A connection whose text could not be logged got no reply.
 -- - Each reply of each generation is the right one after the texts that are logged, and private, as
 --   in the headline. An accepted text is on the disk before the first byte of its reply is written.
--- A crash may come at any moment: a generation that crashes is one that ends there, since the disk
--- and the network may fail at each call, and a failed write may have written any part of its bytes.
--- A failed start is a generation too. The premise is that a crash leaves all synced bytes of a
--- file, and some prefix of the rest (`MayBeLeft`).
+--
+-- A crash may come at any moment: a generation that crashes is one that ends there. The disk and
+-- the network may fail at each call, and a failed write may have written any part of its bytes. A
+-- failed start is a generation too. The premise is that a crash leaves all synced bytes of a file,
+-- and some prefix of the rest (`MayBeLeft`).
 --     Generation      a start that failed, or a start and the connections that were served
---     ServesFrom setup digest texts least exchanges end      it resumes with the first of these
+--     ServesFrom setup digest texts least exchanges end      it resumes with a prefix of these
 --         texts, and serves
 --     IsGeneration setup digest one      what one generation does with an auction's own file
 --     LeftSince old new left      a crash at a moment between two states of a disk may leave this
 --     MayLeave one left      a crash of this generation may leave this
 --     AreRestarts setup digest Leaves generations      each starts on what a crash may have left of
 --         the one before
---     ContinueFrom setup digest texts least generations      each continues with what the one
---         before has logged
+--     ContinueFrom setup digest texts least generations      each continues after the one before
 --     GenerationsContinue      generations on one file continue one auction
 --     EndsGeneration setup count exchanges bytes found end result      how one generation ends
 use Rattle.std.specs.Prelude.{◌≡◌, ◌<◌, ◌≤◌, ◌⊎◌, ◌++◌, ℕ, List, [], ◌∷◌, length, take}

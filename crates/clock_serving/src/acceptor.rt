@@ -6,18 +6,19 @@ use crate::outlet::Outlet;
 use clock_device::{Failed, FromReader, Source, ToWriter};
 use std::net::{TcpListener, TcpStream};
 
-/// A connection that was taken: where its request comes from, and where its reply goes.
+/// An accepted connection: where its request comes from, and where its reply goes.
 #[derive(Drop)]
 pub struct Connection<R, W> {
     pub source: R,
     pub sink: W,
 }
 
-/// What connections are taken from, one after the other, each closed before the next.
+/// A source of connections, one after the other, each closed before the next.
 ///
-/// Contracts see the bytes of those that are still to come, in order, whether one is open, what it had where it was
-/// taken, and what was read and written on each that was closed, where it tells them: a source and a sink belong to one
-/// connection, since no two are open at once.
+/// In contracts, an acceptor shows the bytes of the connections still to come, whether one is open,
+/// what that one had when it was accepted, and what was read and written on each closed one. `None`
+/// means that it does not show this. No two connections are open at once, so each source and sink
+/// belongs to one.
 pub trait Acceptor {
     type Reader: Source;
 
@@ -31,10 +32,12 @@ pub trait Acceptor {
 
     ghost closed: { Self → Option (List Exchange) };
 
-    /// Whether taking one has failed.
+    /// Whether accepting a connection has failed.
     ghost has_failed: { Self → Bool };
 
-    /// Takes the next connection, the first of those that are to come. It waits for one as long as that takes.
+    /// Accepts the next connection, and waits for it without a limit.
+    ///
+    /// Requires that no connection is open.
     fn accept(&mut self) -> Result<Connection<Self::Reader, Self::Writer>, Failed>
         requires { is_open self.old ≡ false }
         ensures open { is_open self.new ≡ not (is_err result) }
@@ -47,7 +50,7 @@ pub trait Acceptor {
         ensures closed { closed self.new ≡ closed self.old }
         ensures failed { has_failed self.new ≡ (has_failed self.old || is_err result) };
 
-    /// Closes the connection that is open.
+    /// Closes the open connection.
     fn close(&mut self, connection: Connection<Self::Reader, Self::Writer>)
         requires { is_open self.old ≡ true }
         ensures open { is_open self.new ≡ false }
@@ -59,7 +62,7 @@ pub trait Acceptor {
             (Self.Writer.kept connection.sink) };
 }
 
-/// The connections of a port of this machine that is listened on. It tells no bytes, as sockets tell none.
+/// The connections of a TCP port. In contracts, it shows no bytes, since sockets show none.
 #[derive(Drop)]
 pub struct Listening<'a> {
     listener: &'a TcpListener,
@@ -68,7 +71,7 @@ pub struct Listening<'a> {
 }
 
 impl<'a> Listening<'a> {
-    /// No connection was taken yet.
+    /// Returns the port's connections, before the first is accepted.
     pub fn new(listener: &'a TcpListener) -> Listening<'a>
         ensures open { ⟦<Listening<'a> as Acceptor>⟧.is_open result ≡ false }
         ensures closed { ⟦<Listening<'a> as Acceptor>⟧.closed result ≡ None }

@@ -1,8 +1,9 @@
-//! The loop of a server: connections that are taken one after the other, with one request each.
+//! The server's loop: it accepts connections one after the other, and serves one request on each.
 //!
-//! [`serve_all`] serves them by a front. What they are taken from is an [`Acceptor`], as a [`Listening`] on a port of the
-//! machine (clock_front_tests has one in memory), and a reply goes to an [`Outlet`]. Where accepted texts are kept is a
-//! `Keeper`: a journal, or `Unkept`. [`serve_on`] is that loop over a port, where nothing is kept.
+//! [`serve_all`] serves the connections of an [`Acceptor`] with a front, and writes each reply to
+//! an [`Outlet`]. [`Listening`] is the acceptor of a port; clock_front_tests has one in memory. A
+//! `Keeper` logs the accepted texts: a journal, or `Unkept`, which logs nothing. [`serve_on`] is
+//! this loop over a port without a journal.
 #![tactic(auto)]
 
 mod acceptor;

@@ -6,15 +6,19 @@ ghost use Rattle.clock_serving.specs.Exchanges.{IsSeen};
 use clock_device::{Failed, Sink, write_all};
 use clock_keeping::Keeper;
 
-/// Where the reply on one connection goes. No byte is written but by this call, once.
+/// The receiver of the reply on one connection, written in a single call.
 ///
-/// Contracts see what was written, and what was kept when the first byte of the reply was written, where it tells that.
+/// In contracts, an outlet shows what was written, and the journal when the first byte was written,
+/// if it shows that.
 pub trait Outlet {
     ghost told: { Self → SinkTold };
 
     ghost kept: { Self → Option JournalState };
 
-    /// Writes all of a reply, or a front of it where a write fails, while this is kept.
+    /// Writes all of a reply, or a prefix of it if a write fails. `keeper` has what is logged at
+    /// that time.
+    ///
+    /// Requires that nothing was written yet.
     fn reply<K: Keeper>(&mut self, keeper: &K, bytes: &[u8]) -> Result<(), Failed>
         requires unused { IsUnused (told self.old) }
         ensures bytes { WritesText (told self.old).taken (told self.new).taken bytes.now result }
@@ -22,7 +26,7 @@ pub trait Outlet {
         ensures kept { IsSeen (kept self.new) (K.journal keeper.now) };
 }
 
-/// Any sink. It does not tell what was kept.
+/// Any sink is an outlet, and does not show the journal.
 impl<W: Sink> Outlet for W {
     ghost told = { λ sink. W.told sink };
 

@@ -15,12 +15,11 @@ use std::alloc::Global;
 use std::net::TcpListener;
 use thiserror::Error;
 
-/// Why not all connections were served. Those before were.
+/// Why not all connections were served. Those before the fault were.
 ///
-/// `Accept`: a connection could not be taken.
-///
-/// `Journal`: the text of the last connection that was taken could not be kept. Nothing was replied there, and neither
-/// the front nor what keeps its texts is to be used any more.
+/// - `Accept`: a connection could not be accepted.
+/// - `Journal`: the text of the last connection could not be logged. That connection got no reply.
+///   Do not use the front and the keeper afterward.
 #[derive(Clone, Copy, Debug, PartialEq, Eq, Error)]
 pub enum ServeFault {
     #[error("a connection could not be taken")]
@@ -29,7 +28,8 @@ pub enum ServeFault {
     Journal,
 }
 
-/// Reads one request, answers it, keeps it if it changed the auction, and then writes its reply. Returns what it changed.
+/// Reads one request, answers it, logs it if it changed the auction, and then writes its reply.
+/// Returns what it changed.
 fn serve_one<P: Processor, K: Keeper, R: Source, W: Outlet>(
     alloc: Global,
     front: &mut Front<P>,
@@ -57,12 +57,12 @@ fn serve_one<P: Processor, K: Keeper, R: Source, W: Outlet>(
         },
         Err(Unread::Read) => return Ok(Effect::Nothing),
     };
-    // a fault ends this connection alone: what its request has done is told by the front
+    // a failed write ends only this connection: the front still has what its request changed
     let _fault = sink.reply(keeper, response.reply.bytes());
     Ok(response.effect)
 }
 
-/// Takes the next connection, serves it and closes it.
+/// Accepts the next connection, serves it, and closes it.
 fn serve_next<P: Processor, K: Keeper, C: Acceptor>(
     alloc: Global,
     front: &mut Front<P>,
@@ -88,7 +88,7 @@ fn serve_next<P: Processor, K: Keeper, C: Acceptor>(
     tell_closing(keeper, served)
 }
 
-/// Tells the keeper of the round that a request has closed, if it has.
+/// Reports the round that a request closed, if any, to the keeper.
 fn tell_closing<K: Keeper>(keeper: &mut K, served: Result<Effect, Failed>) -> Result<(), ServeFault>
     ensures kept { K.journal keeper.new ≡ K.journal keeper.old }
     ensures told { IsToldAs (K.told keeper.old) (K.told keeper.new) served result }
@@ -103,10 +103,14 @@ fn tell_closing<K: Keeper>(keeper: &mut K, served: Result<Effect, Failed>) -> Re
     }
 }
 
-/// Serves so many connections, one after the other, with one request each. A fault of a stream ends its connection
-/// alone.
+/// Serves `count` connections, one after the other, with one request each. If reading or writing
+/// fails, only that connection ends.
 ///
-/// It waits for each connection, and for each peer, as long as these take.
+/// Requires a keeper whose journal has not failed, and connections of which none is open and none
+/// has failed.
+///
+/// Errors: [`ServeFault::Accept`] or [`ServeFault::Journal`], at the first connection with this
+/// fault. Waits for each connection, and for each client, without a limit.
 pub fn serve_all<P: Processor, K: Keeper, C: Acceptor>(
     alloc: Global,
     front: &mut Front<P>,
@@ -133,7 +137,7 @@ pub fn serve_all<P: Processor, K: Keeper, C: Acceptor>(
     Ok(())
 }
 
-/// The same over the connections of a port, where nothing is kept.
+/// Like [`serve_all`], for the connections of a port, and logs nothing.
 pub fn serve_on<P: Processor>(
     alloc: Global,
     front: &mut Front<P>,
@@ -148,8 +152,8 @@ pub fn serve_on<P: Processor>(
     serve_all(alloc, front, &mut Unkept, &mut port, connections)
 }
 
-/// A law, which does nothing when it runs: where a connection tells its bytes, its request was their beginning, and its
-/// client has the reply or a front of it.
+/// A law, which does nothing when it runs: if contracts see a connection's bytes, its request was
+/// their beginning, and its client got the reply or a prefix of it.
 pub fn law_told_bytes()
     ensures { ToldBytes }
 {}

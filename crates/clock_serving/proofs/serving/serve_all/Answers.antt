@@ -7,7 +7,7 @@ use Rattle.clock_serving.proofs.Served.{served_none}
 use Rattle.clock_serving.proofs.Ends.{ends_by, one_more}
 use Rattle.clock_serving.proofs.serving.serve_all.Goals as goal
 
--- the limits that hold of every set-up, of the house that is asked
+-- the limits of a set-up, for the house that the code asks
 limits_of : (house front : HouseFields) → house ≡ front → IsSetup house.setup → IsSetup front.setup
 limits_of house front same limits = subst (λ (fields : HouseFields). IsSetup fields.setup) same limits
 

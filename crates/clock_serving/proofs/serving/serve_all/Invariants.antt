@@ -2,7 +2,7 @@ use Rattle.std.proofs.Common.{◌≡◌, false}
 use Rattle.clock_serving.proofs.Ends.{HasServed}
 use Rattle.clock_serving.proofs.serving.serve_all.Given as goal
 
--- so many connections were served, none is open, each could be taken, and no call of the disk has failed
+-- this number of connections was served, none is open, each could be accepted, and no call of the disk has failed
 abbrev pub invariant-loop-connection : goal.invariant-loop-connection
 invariant-loop-connection g l = record {
   served : HasServed l._connection (g.C.Acceptor.coming l.initial.connections) (g.C.Acceptor.coming l.connections) (g.C.Acceptor.closed l.initial.connections) (g.C.Acceptor.closed l.connections)

@@ -11,11 +11,11 @@ use Rattle.clock_serving.proofs.Served.{answered_as, nothing_written, reply_writ
 use Rattle.clock_serving.proofs.serving.serve_one.Goals as goal
 use Rattle.clock_serving.proofs.serving.serve_one.Goals.{in-Ok+in_ok-response-in-Ok, in-Err-Memory}
 
--- the bytes that are looked at are those of the request
+-- an equal text has arrived too
 arrived : (reading : Reading) (request text : List ℕ) → text ≡ request → HasArrived reading request → HasArrived reading text
 arrived reading request text same has = subst (λ (bytes : List ℕ). HasArrived reading bytes) (sym same) has
 
--- no text that has arrived is longer than one that a journal takes
+-- no text that has arrived is too long for a journal, so the disk has failed
 disk_failed : (reading : Reading) (text : List ℕ) (has_failed : Bool) → HasArrived reading text → (has_failed ≡ true) ⊎ (most_text < length text)
     → has_failed ≡ true
 disk_failed reading text has_failed has (inl failed) = failed

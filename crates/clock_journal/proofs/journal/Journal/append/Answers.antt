@@ -18,7 +18,7 @@ record_is chain text front digest front_is linked =
     ap (λ (bytes : List ℕ). bytes ++ text) (front_is ∙ ap (λ (bytes : List ℕ). mark (length text) ++ bytes) linked)
     ∙ append_assoc (mark (length text)) (link chain text) text
 
--- all of the record stands behind what stood before
+-- the two writes append all of the record
 written : (old mid new : Option (List ℕ)) (chain text front digest : List ℕ) → front ≡ mark (length text) ++ digest → digest ≡ link chain text
     → HasWritten old mid front → HasWritten mid new text → HasWritten old new (record_of chain text)
 written old mid new chain text front digest front_is linked one other =
@@ -87,7 +87,7 @@ passes before after digest texts text chain old synced new fits front keeps pass
     leave_one before after synced new (λ left. LeavesTexts digest left (texts ++ text ∷ []) (length texts)) passed
     (left_reads digest texts text chain old synced new fits front keeps)
 
--- a front of the first part is a front of all
+-- a prefix of the first write is a prefix of the record
 early : (old new : Option (List ℕ)) (chain text front digest : List ℕ) → front ≡ mark (length text) ++ digest → digest ≡ link chain text
     → HasWrittenFront old new front → HasWrittenFront old new (record_of chain text)
 early old new chain text front digest front_is linked some =

@@ -9,7 +9,7 @@ use Rattle.clock_journal.proofs.Placed.{placed_empty, cut_is, kept_when_cut}
 use Rattle.clock_journal.proofs.Starting.{anew_leaves, crash_cut, none_first, now_left, tail_cut, through_cut}
 use Rattle.clock_journal.proofs.journal.Journal.resume.Goals as goal
 
--- what is to hold of a journal as it was, and of the moments of its disk
+-- what holds of a journal before the call, and of the moments of its disk
 abbrev Kept : JournalState → Recovered → (List ℕ → List (List ℕ) → Type 0) → Type 0
 Kept at recovered Has = (bytes : List ℕ) (texts : List (List ℕ)) → at.written ≡ Some bytes
     → IsPlaced at.chain bytes texts recovered → Has at.chain texts
