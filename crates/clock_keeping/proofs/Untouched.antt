@@ -1,4 +1,4 @@
--- What a stop leaves of a journal to which nothing was added.
+-- What a crash leaves of a journal to which nothing was appended.
 use Rattle.std.proofs.Common.{◌≡◌, ◌≤◌, ◌++◌, ℕ, List, [], ◌∷◌, Option, Some, length, take, refl, sym, ap, ◌∙◌, subst, arith, length-append}
 use Rattle.std.proofs.lemmas.List.{take-append-le}
 use Rattle.clock_journal.specs.Format.{last_link}
@@ -13,11 +13,11 @@ take_all : {A : Type 0} (xs : List A) → take (length xs) xs ≡ xs
 take_all [] = refl
 take_all (x ∷ xs) = ap (λ ys. x ∷ ys) (take_all xs)
 
--- the first of some texts are the first of these and of more
+-- a prefix of some texts is a prefix of these and more
 take_more : {A : Type 0} (count : ℕ) (xs more : List A) → count ≤ length xs → take count (xs ++ more) ≡ take count xs
 take_more count xs more few = take-append-le count xs more few
 
--- with one text more in view
+-- with one more text in the list
 wider : (chain bytes : List ℕ) (texts more : List (List ℕ)) (least : ℕ) → ReadsSome chain bytes texts least → ReadsSome chain bytes (texts ++ more) least
 wider chain bytes texts more least some =
     let same = sym (take_more some.count texts more some.most) in
@@ -45,7 +45,7 @@ left_all digest texts journal left has may =
     (subst (λ (bytes : Option (List ℕ)). MayBeLeft bytes (Some (file_of digest texts)) left) (has.synced_is ∙ has.file)
     (subst (λ (bytes : Option (List ℕ)). MayBeLeft journal.synced bytes left) has.file may))
 
--- which is no more than these and one text further
+-- which is no more than these and one further text
 pub untouched : (text : List ℕ) (journal : JournalState) → LeavesOneMore text journal journal
 untouched text journal = record {
   added_to = refl;

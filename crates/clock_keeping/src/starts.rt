@@ -2,8 +2,8 @@
 ghost use Rattle.clock_keeping.specs.Accepted.{OwnStarts};
 
 /// A law, which does nothing when it runs: if each text of a journal was accepted when it was
-/// logged, no start on what a crash left of it is refused. It fails only if memory runs out or a
-/// call of the disk fails. Its last two premises are the clauses `resumed` and `err` of
+/// logged, no start on what a crash left of it is refused. A start fails only if memory runs out or
+/// a call of the disk fails. The last two premises are the clauses `resumed` and `err` of
 /// [`go_on`](crate::go_on).
 pub fn law_of_starts()
     ensures { OwnStarts }

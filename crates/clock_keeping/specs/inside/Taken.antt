@@ -1,6 +1,6 @@
--- How a text of a journal is taken.
---     untaken_as code      why one that changed nothing was not
---     taken_as effect code      by what the text changed, and the code of its reply
+-- How a logged text is replayed.
+--     untaken_as code      why a text that changed nothing was not accepted
+--     taken_as effect code      the result, by what the text changed and the code of its reply
 use Rattle.std.specs.Prelude.{Result, Ok, Err}
 use Rattle.clock_http.specs.declared.code.Code.{Code}
 use Rattle.clock_http.specs.declared.code.Code.TheVariants.{Memory}
@@ -9,7 +9,7 @@ use Rattle.clock_front.specs.declared.front.response.Effect.TheVariants.{Nothing
 use Rattle.clock_journal.specs.declared.recovery.Untaken.{Untaken}
 use Rattle.clock_journal.specs.declared.recovery.Untaken.TheVariants.{Refused, NoMemory}
 
--- no memory was there for it, or it is refused
+-- memory ran out for it, or it is refused
 abbrev pub untaken_as : Code → Untaken
 untaken_as Memory = NoMemory
 untaken_as code = Refused
