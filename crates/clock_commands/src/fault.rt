@@ -122,7 +122,9 @@ struct Words(&'static str, Option<u64>, Option<u64>, Option<Code>);
 macro_rules! words {
     ($word:literal) => { Words($word, None, None, None) };
     ($word:literal, $number:expr) => { Words($word, Some($number), None, None) };
-    ($word:literal, $first:expr, $second:expr) => { Words($word, Some($first), Some($second), None) };
+    ($word:literal, $first:expr, $second:expr) => {
+        Words($word, Some($first), Some($second), None)
+    };
 }
 
 /// Writes the line of a fault: `fault: WORDS` and a line feed, or a prefix of it if a write fails.
