@@ -1,7 +1,6 @@
 -- What an exchange says of bytes.
 --     ToldBytes      if contracts see a connection's bytes, its request was their beginning, and
---         its client got the reply or a
---         prefix of it
+--         its client got the reply or a prefix of it
 use Rattle.std.specs.Prelude.{◌≡◌, ◌++◌, ℕ, List, [], take, Some}
 use Rattle.clock_http.specs.Replies.{Answer}
 use Rattle.clock_serving.specs.Exchanges.{Exchange}

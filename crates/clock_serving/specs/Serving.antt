@@ -8,8 +8,8 @@
 --     RepliesTo setup past one next      the reply is the right one after the texts before it
 --     KeptTexts      the logged texts, and the journal that has them
 --     KeepsText digest setup before one after      the reply is the right one after the logged
---         texts, and a text that changes
---         the auction is on the disk when the first byte of its reply is written
+--         texts, and a text that changes the auction is on the disk when the first byte of its
+--         reply is written
 --     AreServed exchanges ..      all of these connections were served
 --     EndsUnkept served last ..      after these, the text of the last connection could not be
 --         logged
