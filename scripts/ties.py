@@ -173,7 +173,7 @@ def check_ties(
     """
     if chain is None:
         if ties:
-            raise TiesFault(f"round {number} has tie-breaking numbers, and the commitment says that no round has any")
+            raise TiesFault(f"round {number} has tie-breaking numbers, but the commitment says that no round has any")
         return
     if seed is None:
         raise TiesFault(f"the seed of round {number} is not published")

@@ -30,7 +30,7 @@ class Failed(SystemExit):
 def shown(value: object) -> str:
     """A value for a message, truncated to a readable length."""
     text = value if isinstance(value, str) else repr(value)
-    return text if len(text) <= MOST_SHOWN else f"{text[:MOST_SHOWN]} and {len(text) - MOST_SHOWN} characters more"
+    return text if len(text) <= MOST_SHOWN else f"{text[:MOST_SHOWN]} and {len(text) - MOST_SHOWN} more characters"
 
 
 def ensure(what: str, holds: object, found: object = None) -> None:

@@ -90,7 +90,7 @@ def play_straight(rehearsal: Rehearsal, folder: pathlib.Path) -> None:
 def play_behind_nginx(rehearsal: Rehearsal, folder: pathlib.Path) -> None:
     """Plays it over TLS behind nginx. No window is open at first, so the bidders wait for one."""
     if absent := packages.missing("nginx", "openssl"):
-        print(f"no {absent[0]} here: examples/bidder.py is not played over TLS")
+        print(f"{absent[0]} is missing, so examples/bidder.py is not played over TLS")
         return
     place = Place(str(built.program()), json.dumps(rehearsal.setup))
     with Played() as played:

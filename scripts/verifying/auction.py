@@ -57,12 +57,12 @@ def check_digests(case: Case) -> str:
     faults = []
     for number in sorted({*case.rounds, *range(1, len(case.closings) + 1)}):
         if number not in case.rounds:
-            faults.append(f"round {number} is closed in the journal, and {case.published} has no such round")
+            faults.append(f"round {number} is closed in the journal, but {case.published} has no such round")
         elif number > len(case.closings):
-            faults.append(f"round {number} was published, and the journal has no closing of it: {CUT}")
+            faults.append(f"round {number} was published, but the journal has no closing of it: {CUT}")
         elif case.rounds[number]["digest"] != case.closings[number - 1]:
             published, found = short(case.rounds[number]["digest"]), short(case.closings[number - 1])
-            faults.append(f"round {number} was published with {published}, and the journal has {found}: {CHANGED}")
+            faults.append(f"round {number} was published with {published}, but the journal has {found}: {CHANGED}")
     if faults:
         raise Failed(*faults)
     return f"the {len(case.rounds)} published digests are those of the journal, so no request up to them was changed"
@@ -119,7 +119,7 @@ def check_winners(case: Case) -> str:
     """Compares the published winners with those of the recount."""
     winners, auction = case.json("winners.json"), case.counted.auction
     if not auction.ended:
-        raise Failed("winners are published, and by the journal the auction has not ended")
+        raise Failed("winners are published, but by the journal the auction has not ended")
     last = auction.rounds[-1]
     bidders = [
         {

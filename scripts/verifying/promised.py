@@ -19,7 +19,7 @@ def check_commitment(case: Case) -> str:
     """Checks that what was fixed before round 1 is about this set-up."""
     commitment = commitment_of(case)
     if commitment.auction != case.setup_digest:
-        raise Failed(f"{COMMITMENT} is about the set-up {commitment.auction}, and this one is {case.setup_digest}")
+        raise Failed(f"{COMMITMENT} is about the set-up {commitment.auction}, but this one is {case.setup_digest}")
     chain = "a chain of seeds" if commitment.chain else "closings without tie-breaking numbers"
     return f"it is about this set-up, and fixed {chain} and the key of receipts"
 
