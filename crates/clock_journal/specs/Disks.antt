@@ -10,8 +10,8 @@
 --     CutsTo old new place result      how truncating ends
 use Rattle.std.specs.Prelude.{◌≡◌, ◌≤◌, ◌⊎◌, ◌++◌, ℕ, List, [], ◌∷◌, length, take, Option, Some, None, Result, Ok, Err}
 
--- all synced bytes, and a prefix of the rest; nothing is left of a file whose synced bytes
--- contracts do not see
+-- all synced bytes, and a prefix of the rest; this says nothing of a file whose bytes contracts do
+-- not see
 abbrev pub MayBeLeft : Option (List ℕ) → Option (List ℕ) → List ℕ → Type 0
 MayBeLeft (Some synced) (Some written) left = (count : ℕ) × (length synced ≤ count) × (left ≡ take count written)
 MayBeLeft (Some synced) None left = ⊥

@@ -103,8 +103,8 @@ pub record HasReplied (past : List (List ℕ)) (exchanges : List Exchange) (told
   pub stands : StandsForTexts end new
   pub tells : TellsClosings old.setup past end told_old told_new
 
--- what each connection made of the logged texts was on the disk, and still is; a crash at any
--- moment since leaves a prefix of the last texts, with all of `past`
+-- what each connection made of the logged texts was on the disk, and still is; a crash at any moment
+-- since leaves a prefix of `end`, with all of `past`
 pub record HasKept (digest : List ℕ) (past : List (List ℕ)) (exchanges : List Exchange)
     (journal_old journal_new : JournalState) (old new : HouseFields) : Type 0 where
   pub end : List (List ℕ)

@@ -17,12 +17,15 @@ pub enum GenerationFault {
     Serve(ServeFault),
 }
 
-/// Runs one generation of a server: resumes the journal of a file, as [`go_on`], and serves `count`
-/// connections, as [`serve_all`]. The program makes the same two calls.
+/// Runs one generation of a server: resumes the journal of a file with [`go_on`], and serves `count`
+/// connections with [`serve_all`]. The program makes these two calls itself.
 ///
 /// If the file is what a crash left of this auction's journal, the start is not refused, and each
 /// reply is the right one after the logged texts. What a crash leaves after that is this auction's
 /// journal again. [`law_of_generations`] says what follows for any number of crashes.
+///
+/// Requires an auction without texts, a journal that has not failed, and connections of which none
+/// is open and none has failed. Errors, in this order: `Start`, `Serve`.
 pub fn serve_from<P: Processor, D: Durable, C: Acceptor, F: FnOnce(Recovered)>(
     alloc: Global,
     auction: &mut Auction<P>,
