@@ -25,16 +25,16 @@ passed P false x has = tt
 pub given : {A : Type 0} (P : A → Type 0) (is : Bool) (x : A) (result : Option A) → result ≡ then_some is x → (is ≡ true → P x) → IfSome result P
 given P is x result same has = subst (λ r. IfSome r P) (sym same) (passed P is x has)
 
--- eight known bytes, and those behind them
+-- eight known bytes, and those after them
 eight_then : (bytes word : List ℕ) (at : ℕ) → take 8 (drop at bytes) ≡ word → drop at bytes ≡ word ++ drop (at + 8) bytes
 eight_then bytes word at is = sym (take-append-drop 8 (drop at bytes)) ∙ ap₂ (λ front rest. front ++ rest) is (drop-drop 8 at bytes)
 
--- one known byte, and those behind it
+-- one known byte, and those after it
 pub one_then : (bytes : List ℕ) (at next x : ℕ) → at < length bytes → get_or bytes at 0 ≡ x → next ≡ at + 1 → drop at bytes ≡ x ∷ drop next bytes
 one_then bytes at next x lt is there = at_byte bytes at x lt is ∙ ap (λ n. x ∷ drop n bytes) (sym there)
 
 module _ (bytes : List ℕ) (at : ℕ) where
-  -- a first part of eight known bytes, and eight that begin behind it
+  -- a first part of eight known bytes, and the eight that begin after it
   pub eights_then : (part : ℕ) (first second : List ℕ) → take 8 (drop at bytes) ≡ first → take 8 (drop (at + part) bytes) ≡ second
       → drop at bytes ≡ take part (first ++ drop (at + 8) bytes) ++ (second ++ drop (at + part + 8) bytes)
   eights_then part first second is more =
@@ -136,7 +136,7 @@ bid_reads bid old new small is =
     (number_reads bid.quantity third last small.2 refl) in
     members_end 0 old start last new found_3 is has_3 refl
 
--- a number and the comma behind it
+-- a number and the comma after it
 pub number_and_comma : (p : Place) (ls rest : List Lexeme) (s : List ℕ) → may_begin p ≡ true → ls ≡ token (number s) ∷ comma ∷ rest
     → punctuate p ls ≡ number s ∷ punctuate lexer.after_comma rest
 unfolding punctuate
@@ -152,7 +152,7 @@ pub comma_stands : (bytes rest : List ℕ) → bytes ≡ 44 ∷ rest → (ends_w
 unfolding lex
 comma_stands bytes rest is = (ap ends_word is, ap (lex between) is)
 
--- a number and its comma, behind a comma, are read
+-- a number and its comma, after a comma, are read
 pub separated_reads : (ls rest : List Lexeme) (n : ℕ) → n < 2 ^ 64 → ls ≡ token (number (decimal n)) ∷ comma ∷ rest
     → Reads 0 (punctuate lexer.after_comma ls) (whole n) (punctuate lexer.after_comma rest)
 separated_reads ls rest n small is = number_reads n _ _ small (number_and_comma lexer.after_comma ls rest (decimal n) refl is)
@@ -167,7 +167,7 @@ empty_at bytes at room opens closes mark =
     ∙ ap (λ rest. 91 ∷ rest) (one_then bytes (at + 1) (at + 2) 93 (omega (arith, room)) closes (omega arith)
     ∙ ap (λ rest. 93 ∷ rest) (one_then bytes (at + 2) (at + 3) 44 (omega (arith, room)) mark (omega arith))))
 
--- an empty list and its comma, behind a comma, are read
+-- an empty list and its comma, after a comma, are read
 pub empty_reads : (ls rest : List Lexeme) → ls ≡ token begin_array ∷ token end_array ∷ comma ∷ rest
     → Reads 1 (punctuate lexer.after_comma ls) (numbers []) (punctuate lexer.after_comma rest)
 unfolding punctuate

@@ -30,7 +30,7 @@ below_eight P a b c d e f g h (suc (suc (suc (suc (suc (suc (suc (suc n)))))))) 
 weight_is : (place : ℕ) → place < 8 → weight place ≡ 10 ^ (7 - place)
 weight_is = below_eight (λ place. weight place ≡ 10 ^ (7 - place)) refl refl refl refl refl refl refl refl
 
--- behind them nothing counts
+-- nothing after them counts
 no_weight : (n : ℕ) → n < 8 → weight (8 + n) ≡ 0
 no_weight = below_eight (λ n. weight (8 + n) ≡ 0) refl refl refl refl refl refl refl refl
 
@@ -46,11 +46,11 @@ weight_most place within =
     omega (arith, no_weight (place - 8) (omega (arith, within)), ap weight at))
     (cases_lt place 8)
 
--- one digit more, of so many that count each ten times as much as the next
+-- one digit more: each counts ten times as much as the next
 more_is : (value digit high low : ℕ) → high ≡ low * 10 → value * high + digit * low ≡ (value * 10 + digit) * low
 more_is value digit high low is = rw is (grind arith)
 
--- a number of so many digits, and zeros behind it
+-- a number of `count` digits, and zeros after it
 below : (value i count : ℕ) → i ≤ count → count ≤ 8 → value < 10 ^ i → value * 10 ^ (count - i) < 100000000
 below value i count order few small =
     let low = 10 ^ (count - i) in
@@ -94,7 +94,7 @@ module _ (bytes : List ℕ) (at count i : ℕ) (few : count ≤ 8) (within : i <
         record { done = i + 1; few = omega (arith, lt); upto = omega arith; all = λ less. absurd (omega (arith, less)); digits = new_digits; is = is },
       )
 
-  -- what is behind the digits does not
+  -- what is after the digits does not
   counts_nothing : (value b : ℕ) → count ≤ i → HasCounted bytes at count i value
       → let new = value + b * weight (8 - count + i) in (new ≡ value) × HasCounted bytes at count (i + 1) new
   counts_nothing value b ge so_far =
@@ -140,7 +140,7 @@ none_counted bytes at count = record {
   is = omega arith;
 }
 
--- behind the last, all are
+-- after the last one, all are
 pub all_counted : (bytes : List ℕ) (at count i value : ℕ) → count ≤ 8 → 8 ≤ i → HasCounted bytes at count i value
     → AllDigits 10 (take count (drop at bytes)) × (value ≡ digits_value 10 (take count (drop at bytes)))
 all_counted bytes at count i value few past end =
@@ -189,7 +189,7 @@ module _ (bytes : List ℕ) (at : ℕ) (room : at + 16 ≤ length bytes) (small 
   pub all_digits : compared here ≡ 0 → AreDigits bytes at 16
   all_digits empty = of_others 16 (none_from_empty_mask is_other bytes at 16 0 room (sym (others_mask here long) ∙ empty))
 
-  -- its first bit tells how many are
+  -- its first bit shows how many are
   pub first_other : (compared here ≡ 0 → ⊥) → (count_trailing_zeros 64 (compared here) ≤ 16) × AreDigits bytes at (count_trailing_zeros 64 (compared here))
   first_other some =
       let mask = mask_l (map is_other here) in

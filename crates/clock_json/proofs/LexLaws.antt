@@ -137,7 +137,7 @@ module _ (mark : ℕ) (P : Token → Type 0) where
   pub closed_mark : ((t : Token) → IsMark may_close mark t lexer.after_value → P t) → IfSome (closing mark) P
   closed_mark = closed_by (eqb mark 93) (eqb mark 125) refl refl
 
--- a mark behind white space
+-- a mark after white space
 pub mark_at : (may : Place → Bool) (mark : ℕ) (t : Token) (p next : Place) (bytes : List ℕ) (start at : ℕ) → IsMark may mark t next → may p ≡ true
     → lex between (drop at bytes) ≡ lex between (drop start bytes) → at < length bytes → get_or bytes at 0 ≡ mark
     → punctuate p (lex between (drop start bytes)) ≡ t ∷ punctuate next (lex between (drop (at + 1) bytes))

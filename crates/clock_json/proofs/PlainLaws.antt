@@ -82,7 +82,7 @@ module _ (bytes : List ℕ) (at : ℕ) (room : at + 16 ≤ length bytes) where
       ap (prefix_len is_plain) (chunk-drop at 16 bytes) ∙ prefix_len-append is_plain here (drop (at + 16) bytes)
       ∙ ap₂ (λ b k. cond b (k + prefix_len is_plain (drop (at + 16) bytes)) (prefix_len is_plain here)) is (length-chunk at 16 bytes room)
 
-  -- where none stops it, the text goes on behind them
+  -- if none stops it, the text continues after them
   pub goes_through : mask_l (map is_stop (chunk at 16 bytes)) ≡ 0
       → prefix_len is_plain (drop at bytes) ≡ 16 + prefix_len is_plain (drop (at + 16) bytes)
   goes_through none = front true (eq-eqb _ _ (leading_from_mask_l is_stop (chunk at 16 bytes) none))

@@ -119,7 +119,7 @@ items_end levels first start old new values opened has closed = λ depth enough.
     subst (λ n. converted of_json (json.value n first) ≡ Some (array (items_of values), new)) less
     (array_read (depth - 1) first start new (items_of values) opened inside)
 
--- ---- values one behind the other
+-- ---- values one after the other
 
 -- one value more
 pub all_next : (levels : ℕ) (old here new : List Token) (values : List Data) (d : Data) → ReadsAll levels old values here → Reads levels here d new
@@ -141,7 +141,7 @@ all_shorter levels old [] new all = omega (arith, ap length all)
 all_shorter levels old (d ∷ values) new all =
     omega (arith, reads_shorter levels old d all.0 all.1, all_shorter levels all.0 values new all.2)
 
--- all of them are items of the list that they stand in
+-- all of them are items of their list
 pub items_all : (levels : ℕ) (start old new : List Token) (values more : List Data) → HasItems levels start values old → ReadsAll levels old more new
     → HasItems levels start (values ++ more) new
 unfolding ReadsAll
@@ -213,7 +213,7 @@ adds_member levels start old value new key before after has named reads =
 
 -- ---- the whole text
 
--- one value, and nothing behind it
+-- one value, and nothing after it
 pub text_is : (levels : ℕ) (text : List ℕ) (ts new : List Token) (d : Data) → levels ≤ 127 → ts ≡ tokens text → Reads levels ts d new → new ≡ []
     → read text ≡ Some d
 text_is levels text ts new d enough is reads ended =

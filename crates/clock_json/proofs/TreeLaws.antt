@@ -8,7 +8,7 @@ use Rattle.serde_json.specs.View.{view, items_view, members_view}
 use Rattle.serde_json.specs.declared.value.Value.{Value}
 use Rattle.clock_json.specs.Tree.{is_count, each, ◌>>=◌}
 
--- an object has as many members as its map has entries
+-- the members of an object and the entries of its map are equal in number
 members_len-view : (entries : List (String Global × Value)) → members_len (members_view entries) ≡ length entries
 members_len-view [] = refl
 members_len-view (entry ∷ entries) = ap (λ n. suc n) (members_len-view entries)

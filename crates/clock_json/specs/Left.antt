@@ -6,12 +6,12 @@ use Rattle.json.specs.Lex.{lex, between, punctuate}
 use Rattle.clock_json.specs.declared.scan.Expected.{Expected}
 use Rattle.clock_json.specs.declared.scan.Expected.TheVariants.{Fresh, AfterValue, AfterComma}
 
--- where the lexer stands
+-- the state of the lexer
 abbrev pub place_of : Expected → lexer.Place
 place_of Fresh = lexer.fresh
 place_of AfterValue = lexer.after_value
 place_of AfterComma = lexer.after_comma
 
--- the tokens of the bytes that are left, where this may stand next
+-- the tokens of the bytes that are left, if this one may come next
 abbrev pub left : Expected → List ℕ → List Token
 left expected text = punctuate (place_of expected) (lex between text)

@@ -3,7 +3,7 @@
 --     numbers, rows      lists of numbers, and lists of such lists, as values
 --     items_of, members_of      the items of a list, and the members of an object some of whose keys were not found
 --     Reads levels old value new      the tokens begin with the value, and new ones follow
---     ReadsAll levels old values new      they begin with these values, one behind the other
+--     ReadsAll levels old values new      they begin with these values, one after the other
 use Rattle.std.specs.Prelude.{◌≡◌, ℕ, ◌≤◌, List, [], ◌∷◌, map, Option, Some, None}
 pub use Rattle.json.specs.Token.{Token}
 use Rattle.json.specs.Json as json
@@ -45,11 +45,11 @@ abbrev pub members_of : Fields → Members
 members_of [] = no_members
 members_of (field ∷ fields) = field_before field.0 field.1 (members_of fields)
 
--- wherever so many levels of nesting are allowed, the old tokens begin with this value, and the new ones follow
+-- if `levels` levels of nesting are allowed, the old tokens begin with this value, and the new ones follow
 abbrev pub Reads : ℕ → List Token → Data → List Token → Type 0
 Reads levels old value new = (depth : ℕ) → levels ≤ depth → converted of_json (json.value depth old) ≡ Some (value, new)
 
--- the old tokens begin with these values, one behind the other, and the new ones follow
+-- the old tokens begin with these values, one after the other, and the new ones follow
 unfoldable pub ReadsAll : ℕ → List Token → List Data → List Token → Type 0
 ReadsAll levels old [] new = new ≡ old
 ReadsAll levels old (value ∷ values) new = (behind : List Token) × Reads levels old value behind × ReadsAll levels behind values new

@@ -11,7 +11,7 @@ use Rattle.clock_views.specs.inside.Values.{Adds}
 use Rattle.clock_scripts.specs.inside.Arrays.{with_comma, with_commas, array_ended}
 
 module _ {A : Type 0} (value : A → Data) where
-  -- the items behind another one, and the closing bracket
+  -- the items after another one, and the closing bracket
   closed : (items : List A) → with_commas value items ++ codes "]" ≡ items_text true (items_of value items)
   closed [] = refl
   closed (x ∷ xs) =
@@ -36,12 +36,12 @@ module _ {A : Type 0} (value : A → Data) where
       ∙ ap (λ (more : List ℕ). before ++ (91 ∷ more))
       (append_assoc (compact_text (value x)) (with_commas value xs) (codes "]") ∙ ap (λ (more : List ℕ). compact_text (value x) ++ more) (closed xs))
 
-  -- behind all items it is the array
+  -- after all items it is the array
   pub array_from : (items : List A) (begun text new : List ℕ) (start : ℕ) → start ≡ length begun
       → text ≡ begun ++ with_commas value items → new ≡ array_ended start text → Adds (compact_text (list_of value items)) begun new
   array_from items begun text new start from all end = record { is = end ∙ ap (λ (n : ℕ). array_ended n text) from ∙ ended items begun text all }
 
-  -- the item at a place is added with its comma, before those behind it
+  -- the item at an index is added with its comma, before those after it
   pub comma_more : (items : List A) (i : ℕ) (other : A) (text next : List ℕ) → i < length items → Adds (with_comma value (get_or items i other)) text next
       → next ++ with_commas value (drop (i + 1) items) ≡ text ++ with_commas value (drop i items)
   comma_more items i other text next within added =

@@ -222,7 +222,7 @@ first_never_rise limits n falls i j d before within =
     let falling = falls i j d before (omega arith) in
     omega arith
 
--- the bids of the blocks that are held and have a limit, where some blocks are held
+-- the bids of the processed demand's blocks that have a limit, if there is a processed demand
 of_blocks : (product held : ℕ) (pair : PricePair) (limits : List ℕ) (blocks : ℕ) → 0 < held → blocks ≡ min held (length limits)
     → later_bids product pair held limits ≡ keeping_or_leaving product pair held (leaving_prices pair (take blocks limits))
 of_blocks product held pair limits blocks some least =

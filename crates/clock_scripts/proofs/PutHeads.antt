@@ -116,13 +116,13 @@ not_skipped (b ∷ bytes) all = ap (λ t. cond t (skip_ows bytes) (b ∷ bytes))
 reversed_seen : (bytes : List ℕ) → list_all is_seen bytes ≡ true → list_all is_seen (reverse bytes) ≡ true
 reversed_seen bytes all = list_all-from_AllPass is_seen (reverse bytes) (AllPass-reverse is_seen bytes (AllPass-from_list_all is_seen bytes all))
 
--- what is seen comes back from behind a space as it is
+-- what is seen is read after a space as it is
 trimmed : (bytes : List ℕ) → list_all is_seen bytes ≡ true → trim_ows (32 ∷ bytes) ≡ bytes
 trimmed bytes all = trim_ows_space bytes (not_skipped bytes all) (not_skipped (reverse bytes) (reversed_seen bytes all))
 
 -- ---- what is left of a head
 
--- the rest of a head: it ends at its last byte, so many of its lines end, and no LF is bare
+-- the rest of a head: it ends at its last byte, `count` of its lines end, and no LF is bare
 record IsRest (rest : List ℕ) (lines : ℕ) : Type 0 where
   ends : head_length rest ≡ Some (length rest)
   count : line_ends rest ≡ lines

@@ -16,7 +16,7 @@ use Rattle.clock_scripts.specs.Sincere.{bid_for, bid_if_any, sincere_sheet, open
 use Rattle.clock_scripts.specs.inside.Bodies.{bid_text, bids_text}
 use Rattle.clock_scripts.specs.inside.SincereSheets.{first_bids, bids_held, first_sheet, later_sheet}
 
--- behind the bids for a product come those for the products after it
+-- the bids for a product precede those for the products after it
 pub one_more : (f : ℕ → List ℕ) (text next all : List ℕ) (p n : ℕ) → p < n → Adds (f p) text next
     → text ++ flat_map f (range_with_len p (n - p)) ≡ all → next ++ flat_map f (range_with_len (p + 1) (n - (p + 1))) ≡ all
 one_more f text next all p n below added rest =
@@ -48,7 +48,7 @@ passed f p q n order within none =
 
 -- ---- the bids for a product
 
--- the prices that stand at its place
+-- the prices at its index
 pub priced_at : (prices : List PricePair) (product : ℕ) (other : PricePair) → product < length prices → get_or prices product other ≡ prices_at prices product
 priced_at prices product other within = get_or_default prices product other (record { start = 0; clock = 0 }) within
 
@@ -65,7 +65,7 @@ first_text prices lists product = bids_text (first_bids prices lists product)
 abbrev pub later_text : List PricePair → List ℕ → List (List ℕ) → ℕ → List ℕ
 later_text prices demands lists product = bids_text (bids_held prices demands lists product)
 
--- so many blocks are wanted in the first round, or none
+-- `count` blocks are wanted in the first round, or none
 pub none_wanted : (product : ℕ) (pair : PricePair) (list : List ℕ) (count : ℕ) → count ≡ wanted list pair.start → count ≡ 0 → opening_bids product pair list ≡ []
 none_wanted product pair list count is none = ap (bid_if_any product pair.start) (sym is ∙ none)
 
@@ -82,7 +82,7 @@ pub opening_for : (prices : List PricePair) (lists : List (List ℕ)) (product :
 opening_for prices lists product pair list text next priced listed added =
     together (ap bids_text (sym (ap₂ (opening_bids product) priced listed))) added
 
--- what is held in a later one
+-- the processed demand in a later one
 pub later_for : (prices : List PricePair) (demands : List ℕ) (lists : List (List ℕ)) (product held : ℕ) (pair : PricePair) (list text next : List ℕ)
     → pair ≡ prices_at prices product → held ≡ slice_index demands product → list ≡ row_of lists product
     → Adds (bids_text (later_bids product pair held list)) text next → Adds (later_text prices demands lists product) text next
@@ -91,7 +91,7 @@ later_for prices demands lists product held pair list text next priced held_is l
     ∙ ap₂ (later_bids product (prices_at prices product)) held_is listed)))
     added
 
--- a product that is not held has no bids in a later round
+-- a product without processed demand has no bids in a later round
 none_held : (product held : ℕ) (pair : PricePair) (list : List ℕ) → held ≡ 0 → later_bids product pair held list ≡ []
 none_held product held pair list none = rw none refl
 

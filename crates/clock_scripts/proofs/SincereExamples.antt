@@ -26,6 +26,6 @@ leaves_at_start = refl
 leaves_at_once : sheet_at 3 130 140 2 ≡ bid_for 0 0 130 ∷ []
 leaves_at_once = refl
 
--- nothing is held
+-- there is no processed demand
 puts_nothing : sheet_at 3 110 121 0 ≡ []
 puts_nothing = refl

@@ -15,7 +15,7 @@ use Rattle.clock_scripts.specs.RequestTexts.{tie_value, close_value}
 use Rattle.clock_scripts.specs.inside.Bodies.{bid_text}
 use Rattle.clock_scripts.specs.inside.RequestTexts.{increments_text}
 
--- a piece, and what the last call adds behind it
+-- a piece, and what the last call adds after it
 pub before_ok : {T E : Type 0} {piece text next : List ℕ} (rest whole : List ℕ) (result : Result T E) → Adds piece text next → OnOk result (Adds rest next whole)
     → OnOk result (Adds (piece ++ rest) text whole)
 before_ok rest whole (Ok done) first others = before first others

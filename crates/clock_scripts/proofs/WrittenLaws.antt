@@ -1,4 +1,4 @@
--- Requests that are written one behind the other.
+-- Requests that are written one after the other.
 use Rattle.std.proofs.Common.{◌≡◌, ℕ, ◌+◌, ◌-◌, List, [], ◌++◌, length, take, drop, codes, refl, sym, ◌∙◌, ap, ap₂, subst, arith, append-nil, append_assoc}
 use Rattle.std.proofs.Math.Seq.{drop-append_seam, take-append_seam}
 use Rattle.std.proofs.lemmas.List.{length-append}
@@ -17,7 +17,7 @@ use Rattle.clock_scripts.specs.ScriptedRequests.{scripted_sheet, scripted_put, s
 use Rattle.clock_scripts.specs.Pieces.{Writes, WritesIf, body_in, head_in}
 use Rattle.clock_scripts.specs.inside.Heads.{IsHeaded}
 
--- what stands between two parts of a text
+-- what is between two parts of a text
 between : (first middle last whole : List ℕ) (from to : ℕ) → whole ≡ first ++ (middle ++ last) → from ≡ length first → to ≡ length first + length middle
     → take (to - from) (drop from whole) ≡ middle
 between first middle last whole from to is start end =
@@ -26,7 +26,7 @@ between first middle last whole from to is start end =
     ∙ ap (λ (rest : List ℕ). take (to - from) rest) (drop-append_seam first (middle ++ last))
     ∙ ap (λ (n : ℕ). take n (middle ++ last)) count ∙ take-append_seam middle last
 
--- a request behind what stands in a text: its body was pushed, and behind it its head
+-- a request after what is in a text: its body was pushed, and then its head
 module _ (old pushed new line token body : List ℕ) (from : ℕ) (written : Written) (added : Adds body old pushed) (start : from ≡ length old)
     (headed : IsHeaded line token from pushed new written) where
   long : length pushed ≡ length old + length body

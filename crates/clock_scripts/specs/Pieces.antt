@@ -1,9 +1,9 @@
--- Requests that were written one behind the other into one text: of each the body, and behind it the head.
+-- Requests that were written one after the other into one text: of each the body, and then the head.
 --     head_in text written, body_in text written, text_at text written      the two pieces of a request, and the request
---     IsWrittenIn text written      its pieces stand in the text
---     Grows old text      what stood in the text stands there still
+--     IsWrittenIn text written      its pieces are in the text
+--     Grows old text      what was in the text is still there
 --     Writes old text request written, WritesIf old text request written      a request was written, if there is one
---     is_awaited count, AwaitsBody text written      a body of so many bytes needs to come; its head needs it just where
+--     is_awaited count, AwaitsBody text written      a body of `count` bytes must follow; its head needs it just if
 --         it does
 use Rattle.std.specs.Prelude.{◌≡◌, ◌≤◌, ◌-◌, ◌&&◌, ℕ, Bool, List, ◌++◌, nat_le, length, take, drop, Option, Some, None}
 use Rattle.clock_http.specs.HeaderLines.{body_limit}
@@ -22,18 +22,18 @@ body_in text written = take (written.head - written.body) (drop written.body tex
 abbrev pub text_at : List ℕ → Written → List ℕ
 text_at text written = head_in text written ++ body_in text written
 
--- its pieces stand in the text
+-- its pieces are in the text
 pub record IsWrittenIn (text : List ℕ) (written : Written) : Type 0 where
   pub body : written.body ≤ written.head
   pub head : written.head ≤ written.end
   pub end : written.end ≤ length text
 
--- what stood in the text stands there still, before what is new
+-- what was in the text is still there, before what is new
 pub record Grows (old text : List ℕ) : Type 0 where
   pub more : List ℕ
   pub is : text ≡ old ++ more
 
--- a request was written, and stands in the text
+-- a request was written, and is in the text
 pub record Writes (old text request : List ℕ) (written : Written) : Type 0 where
   pub grows : Grows old text
   pub reads : text_at text written ≡ request
@@ -44,7 +44,7 @@ abbrev pub WritesIf : List ℕ → List ℕ → Option (List ℕ) → Option Wri
 WritesIf old text request None = (request ≡ None) × (text ≡ old)
 WritesIf old text request (Some written) = (request ≡ Some (text_at text written)) × Writes old text (text_at text written) written
 
--- behind its head a body of so many bytes needs to come: there is one, and it is not too long
+-- a body of `count` bytes must follow its head: there is one, and it is not too long
 abbrev pub is_awaited : ℕ → Bool
 is_awaited count = nat_le 1 count && nat_le count body_limit
 

@@ -20,7 +20,7 @@ abbrev pub request_head : List ℕ → List ℕ → ℕ → List ℕ
 request_head line token count =
     line ++ (codes " HTTP/1.1\r\nauthorization: Bearer " ++ (token ++ ((codes "\r\ncontent-length: " ++ decimal count) ++ codes "\r\n\r\n")))
 
--- the head, and the body behind it
+-- the head, and the body after it
 abbrev pub request_text : List ℕ → List ℕ → List ℕ → List ℕ
 request_text line token body = request_head line token (length body) ++ body
 
@@ -31,7 +31,7 @@ written_put round bids = compact_text (bids_value round (Some bids))
 abbrev pub put_text : List ℕ → ℕ → List Bid → List ℕ
 put_text token round bids = request_text (codes "PUT /v1/me/bids") token (written_put round bids)
 
--- a tie number behind its bidder and product
+-- a tie-breaking number after its bidder and product
 abbrev pub tie_value : Tie → Data
 tie_value tie = list_of whole (tie.bidder ∷ tie.product ∷ tie.number ∷ [])
 

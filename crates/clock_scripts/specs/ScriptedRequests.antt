@@ -1,4 +1,4 @@
--- The requests of scripted bidders and of the operator, as an auction stands.
+-- The requests of scripted bidders and of the operator in a state of an auction.
 --     scripted_sheet script now held      the sheet that a script gives in a round
 --     scripted_put setup closed bidder script      the request by which the bidder puts it
 --     scripted_close setup closed closing      the request by which the operator closes the round

@@ -2,7 +2,7 @@
 -- wants block k, so that limits never rise. (Own rule.)
 --     leaving_price pair limit, leaving_prices pair limits      the price at which a block leaves, and all such prices,
 --         rising
---     staying held leaving price      how many of the held blocks do not leave at or below a price
+--     staying held leaving price      how many blocks of the processed demand do not leave at or below a price
 --     wanted limits price      how many blocks are wanted at a price
 --     opening_bids product pair limits      the bid for a product in the first round
 --     later_bids product pair held limits      the bids for a product in a later round
@@ -23,7 +23,7 @@ leaving_price pair limit = if nat_lt limit pair.clock then Some (max pair.start 
 abbrev pub leaving_prices : PricePair → List ℕ → List ℕ
 leaving_prices pair limits = filter_map (leaving_price pair) (reverse limits)
 
--- how many of the held blocks do not leave at or below a price
+-- how many blocks of the processed demand do not leave at or below a price
 abbrev pub staying : ℕ → List ℕ → ℕ → ℕ
 staying held leaving price = held - count_by (λ left. nat_le left price) leaving
 
@@ -34,17 +34,17 @@ bid_for product quantity price = record { product = product; quantity = quantity
 abbrev pub leaving_bids : ℕ → ℕ → List ℕ → List Bid
 leaving_bids product held leaving = map (λ price. bid_for product (staying held leaving price) price) (dedup nat_eq leaving)
 
--- where no block leaves, the bid that keeps what is held
+-- if no block leaves, the bid to maintain demand
 abbrev pub keeping_or_leaving : ℕ → PricePair → ℕ → List ℕ → List Bid
 keeping_or_leaving product pair held [] = bid_for product held pair.clock ∷ []
 keeping_or_leaving product pair held leaving = leaving_bids product held leaving
 
--- in a later round a product of which nothing is held has no bid
+-- in a later round a product without processed demand has no bid
 abbrev pub later_bids : ℕ → PricePair → ℕ → List ℕ → List Bid
 later_bids product pair held limits =
     if held == 0 then [] else keeping_or_leaving product pair held (leaving_prices pair (take held limits))
 
--- a bid for so many blocks at a price, where there are any
+-- a bid for `count` blocks at a price, if there are any
 abbrev pub bid_if_any : ℕ → ℕ → ℕ → List Bid
 bid_if_any product price quantity = if quantity == 0 then [] else bid_for product quantity price ∷ []
 
@@ -56,12 +56,12 @@ wanted limits price = count_by (λ limit. nat_le price limit) limits
 abbrev pub opening_bids : ℕ → PricePair → List ℕ → List Bid
 opening_bids product pair limits = bid_if_any product pair.start (wanted limits pair.start)
 
--- the bids for a product of which so many blocks are held
+-- the bids for a product of which the processed demand is `held` blocks
 abbrev pub product_bids : ℕ → ℕ → PricePair → ℕ → List ℕ → List Bid
 product_bids round product pair held limits =
     if round == 1 then opening_bids product pair limits else later_bids product pair held limits
 
--- the bids for a product at its prices, by the demand held and the limits for it
+-- the bids for a product at its prices, by the processed demand and the limits for it
 abbrev pub bids_for : ℕ → List PricePair → List ℕ → List (List ℕ) → ℕ → List Bid
 bids_for round prices demands limits product =
     product_bids round product (prices_at prices product) (slice_index demands product) (row_of limits product)

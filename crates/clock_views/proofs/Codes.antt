@@ -47,7 +47,7 @@ plain LongHead = refl
 plain Coding = refl
 plain Memory = refl
 
--- what stands behind the code
+-- what follows the code
 abbrev behind : Code → Option ℕ → Option ℕ → List ℕ
 behind code place round =
     number_if (codes ",\"place\":") place ++ (number_if (codes ",\"round\":") round ++ ((codes ",\"status\":" ++ decimal (status_of code)) ++ codes "}"))

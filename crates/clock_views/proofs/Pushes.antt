@@ -1,4 +1,4 @@
--- Pieces that are added one behind the other.
+-- Pieces that are added one after the other.
 use Rattle.std.proofs.Common.{◌≡◌, ℕ, List, ◌++◌, Result, Ok, Err, append_assoc, ap, sym, ◌∙◌}
 use Rattle.std.specs.Result.{IsErrAnd}
 use Rattle.serde_json.specs.Data.{Data}
@@ -9,7 +9,7 @@ use Rattle.clock_views.specs.inside.Values.{Adds}
 pub added : {piece old new : List ℕ} → new ≡ old ++ piece → Adds piece old new
 added is = record { is = is }
 
--- a piece, and what is added behind it
+-- a piece, and what is added after it
 pub before : {piece rest text next whole : List ℕ} → Adds piece text next → Adds rest next whole → Adds (piece ++ rest) text whole
 before {piece = piece} {rest = rest} {text = text} first others =
     record { is = others.is ∙ ap (λ s. s ++ rest) first.is ∙ append_assoc text piece rest }

@@ -1,6 +1,6 @@
--- How many bytes the text of a page is given, by its shape alone, and what stands there.
+-- How many bytes are allocated for the text of a page, by its shape only, and what is written there.
 --     most_text value      each number and each null counts as 20 bytes, and each name as 34
---     IsHeaded head value result      the page behind a head, or that just so much room was refused
+--     IsHeaded head value result      the page after a head, or an allocation of just this size was refused
 use Rattle.std.specs.Prelude.{◌≡◌, ℕ, ◌+◌, ◌++◌, List, Result, Ok, Err, length}
 use Rattle.serde_json.specs.Written.{compact_text}
 use Rattle.serde_json.specs.Data.{Data, null, boolean, number, string, array, object, Items, no_items, item, Members, no_members, member}
@@ -15,12 +15,12 @@ abbrev mutual
   most_text (array items) = 2 + most_items items
   most_text (object members) = 2 + most_members members
 
-  -- the items of a list, each behind a bracket or a comma
+  -- the items of a list, each after a bracket or a comma
   pub most_items : Items → ℕ
   most_items no_items = 0
   most_items (item value items) = 1 + most_text value + most_items items
 
-  -- the members of an object, each behind a bracket or a comma, its key in quotes and a colon
+  -- the members of an object, each after a bracket or a comma, its key in quotes and a colon
   pub most_members : Members → ℕ
   most_members no_members = 0
   most_members (member key value members) = 4 + length key + most_text value + most_members members

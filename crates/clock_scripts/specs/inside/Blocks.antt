@@ -7,7 +7,7 @@ use Rattle.clock_terms.specs.declared.prices.PricePair.{PricePair}
 use Rattle.clock_bids.specs.declared.sheet.Bid.{Bid}
 use Rattle.clock_scripts.specs.Sincere.{leaving_price, bid_for}
 
--- the price at which the block that stands first leaves
+-- the price at which the first block leaves
 abbrev pub last_leaving : PricePair → List ℕ → Option ℕ
 last_leaving pair [] = None
 last_leaving pair (limit ∷ limits) = leaving_price pair limit
@@ -22,7 +22,7 @@ abbrev pub block_bid : ℕ → ℕ → Option ℕ → Option ℕ → List Bid
 block_bid product before None next = []
 block_bid product before (Some price) next = if is_last price next then bid_for product before price ∷ [] else []
 
--- the bids of all blocks, the last one first; so many held blocks are past the limits
+-- the bids of all blocks, the last one first; `past` blocks of the demand are past the limits
 abbrev pub block_bids : ℕ → ℕ → PricePair → List ℕ → List Bid
 block_bids product past pair [] = []
 block_bids product past pair (limit ∷ limits) =

@@ -1,5 +1,5 @@
--- The head of a request, which is written behind its body.
---     IsHeaded line token body old text written      the body is all that stands from a place on, and the head was added
+-- The head of a request, which is written after its body.
+--     IsHeaded line token body old text written      the body is all from an index on, and the head was added
 use Rattle.std.specs.Prelude.{◌≡◌, ◌-◌, ℕ, List, length}
 use Rattle.clock_views.specs.inside.Values.{Adds}
 use Rattle.clock_scripts.specs.declared.requests.Written.{Written}

@@ -1,5 +1,5 @@
 -- The sheet of a sincere bidder in the first round, and in each other.
---     first_sheet prices limits      the bids of the first round, in which nothing is held
+--     first_sheet prices limits      the bids of the first round, in which there is no processed demand
 --     later_sheet prices demands limits      those of a later one
 use Rattle.std.specs.Prelude.{ℕ, List, flat_map, length, slice_index}
 use Rattle.std.specs.List.{range_with_len}

@@ -7,11 +7,11 @@ use Rattle.serde_json.specs.Data.{Data}
 use Rattle.serde_json.specs.Written.{compact_text, comma_if, items_text}
 use Rattle.clock_views.specs.Values.{items_of}
 
--- an item of an array, behind a comma where it is a later one than the first
+-- an item of an array, after a comma if it is not the first
 abbrev pub item_text : Bool → Data → List ℕ
 item_text later value = comma_if later ++ compact_text value
 
--- what the rest of an array adds, behind a comma where something stands before it
+-- what the rest of an array adds, after a comma if something precedes it
 abbrev pub rest_text : {A : Type 0} → (A → Data) → Bool → List A → List ℕ
 rest_text value later xs = items_text later (items_of value xs)
 

@@ -13,7 +13,7 @@ use Rattle.clock_scripts.proofs.WrittenLaws.{AddsSheet, put_behind}
 use Rattle.clock_scripts.proofs.requests.write_put.Goals.{in-Sincere+in_ok-push_sincere-in-Sincere, in-Literal+in-Some-Some+in_ok-push_sheet-in-Some-Some}
 use Rattle.clock_scripts.proofs.requests.write_put.Goals as goal
 
--- the token of a bidder, as it stands in the list of all
+-- the token of a bidder, as it is in the list of all
 own_token : (setup : SetupFields) (bidders : List Bidder) (bidder : ℕ) (one : Bidder) → bidders ≡ setup.bidders → bidder < length bidders
     → one ≡ get_or bidders bidder one → one.token ≡ (bidder_at setup bidder).token
 own_token setup bidders bidder one same within is =

@@ -5,7 +5,7 @@ use Rattle.clock_terms.specs.declared.prices.PricePair.{PricePair}
 use Rattle.clock_scripts.proofs.SheetWalks.{one_more, passed, none_for, later_for, priced_at, later_text, whole_later}
 use Rattle.clock_scripts.proofs.sincere.push_later.Goals as goal
 
--- the bids from where a walk goes on are those from a later product on, where none between is held
+-- the bids from where a walk continues are those from a later product on, if none between has a demand
 walked : (prices : List PricePair) (demands : List ℕ) (lists : List (List ℕ)) (row : List ℕ) (from to n : ℕ) → row ≡ demands
     → min from n ≤ to → to ≤ n → AllWithin (λ demand. demand ≡ 0) row from to
     → flat_map (later_text prices demands lists) (range_with_len (min from n) (n - min from n))

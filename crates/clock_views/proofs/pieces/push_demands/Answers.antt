@@ -8,7 +8,7 @@ use Rattle.clock_views.proofs.Lists.{item_more}
 use Rattle.clock_views.proofs.Pushes.{added, before}
 use Rattle.clock_views.proofs.pieces.push_demands.Goals as goal
 
--- no demand is held from one place to a third, where none is up to a second and none from there on
+-- no demand is positive from one index to a third, if none is up to a second and none from there on
 joined : (row : List ℕ) (from between to : ℕ) → AllWithin (λ demand. demand ≡ 0) row from between → AllWithin (λ demand. demand ≡ 0) row between to
     → AllWithin (λ demand. demand ≡ 0) row from to
 joined row from between to before behind k d low high =
