@@ -50,7 +50,7 @@ weight_most place within =
 more_is : (value digit high low : ℕ) → high ≡ low * 10 → value * high + digit * low ≡ (value * 10 + digit) * low
 more_is value digit high low is = rw is (grind arith)
 
--- a number of `count` digits, and zeros after it
+-- a number of `i` digits, and zeros after it
 below : (value i count : ℕ) → i ≤ count → count ≤ 8 → value < 10 ^ i → value * 10 ^ (count - i) < 100000000
 below value i count order few small =
     let low = 10 ^ (count - i) in

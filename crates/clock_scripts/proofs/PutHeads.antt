@@ -122,7 +122,7 @@ trimmed bytes all = trim_ows_space bytes (not_skipped bytes all) (not_skipped (r
 
 -- ---- what is left of a head
 
--- the rest of a head: it ends at its last byte, `count` of its lines end, and no LF is bare
+-- the rest of a head: it ends at its last byte, `lines` lines end in it, and no LF is bare
 record IsRest (rest : List ℕ) (lines : ℕ) : Type 0 where
   ends : head_length rest ≡ Some (length rest)
   count : line_ends rest ≡ lines

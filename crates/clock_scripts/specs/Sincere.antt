@@ -44,7 +44,7 @@ abbrev pub later_bids : ℕ → PricePair → ℕ → List ℕ → List Bid
 later_bids product pair held limits =
     if held == 0 then [] else keeping_or_leaving product pair held (leaving_prices pair (take held limits))
 
--- a bid for `count` blocks at a price, if there are any
+-- a bid for `quantity` blocks at a price, if there are any
 abbrev pub bid_if_any : ℕ → ℕ → ℕ → List Bid
 bid_if_any product price quantity = if quantity == 0 then [] else bid_for product quantity price ∷ []
 
