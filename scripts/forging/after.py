@@ -62,7 +62,7 @@ def cut_off(honest: Auction, texts: list[bytes]) -> list[bytes]:
 
 
 def rewrite(honest: Auction, forged: bytes) -> None:
-    """The operator publishes everything again, by the forged journal: digests and results."""
+    """Publishes everything again, by the forged journal: digests and results."""
     folder = honest.folder / "rewritten"
     shutil.copytree(honest.folder / "public", folder)
     counted = recount.recounted(honest.setup.read_bytes(), forged)

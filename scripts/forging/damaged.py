@@ -24,7 +24,7 @@ def with_fault(chance: random.Random, journal: bytes) -> bytes:
 
 
 def try_all(honest: Auction) -> None:
-    """Verifies journals with a fault, and such as end too early or too late."""
+    """Verifies journals with a fault, and journals that end too early or too late."""
     document, journal, texts = honest.setup.read_bytes(), honest.journal.read_bytes(), honest.texts()
     chance = random.Random(1)
     for _ in range(FAULTS):
