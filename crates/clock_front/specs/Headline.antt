@@ -4,19 +4,25 @@
 -- one reply is right.
 --
 -- Private: the reply to a bidder's own request is computed by `answer` from the public set-up, the
--- bidder's row, its view, and the request. No rival occurs among these. So every other run, with
--- another set-up and other rivals, gives the same bytes if a bidder with an equal row sees the same
--- there. The view has the bidder's own requests, and of each accepted closing the round results and
--- its bidder results. Read its definition with care (`text_view`).
+-- bidder's row, its view, and the request. No rival occurs among these. So the right reply has the
+-- same bytes after any other list of requests, under another set-up and with other rivals, if a
+-- bidder with an equal row sees the same there.
 --
--- Public: any other run gives the same bytes to a request with no valid token, if the public set-up
--- and the round results are the same, whatever bids led to them.
+-- The view has the bidder's own requests, and of each accepted closing the round results and its
+-- bidder results. Read its definition with care (`text_view`).
+--
+-- Public: the right reply to a request with no valid token has the same bytes wherever the public
+-- set-up and the round results are the same, whatever bids led to them.
 --
 -- Sound: at the end the auction has the properties of `IsSound`.
 --
--- Outside the headline: time, tokens on the wire, what rivals say to each other, and requests that
--- were answered out of memory. The operator may see everything, so replies to its requests are only
--- proved to be right.
+-- Outside the headline: time, tokens on the wire, what rivals say to each other, connections
+-- refused while 256 are open, and running out of memory. A request may be answered out of memory at
+-- any time, and `run` or `run_events` may return `NoMemory`: the headline is about those that
+-- return `Ok`.
+--
+-- Replies to the operator are proved to be right, not private: they may show everything. In what a
+-- bidder sees there is no operator's token, no refused closing, and no tie-breaking number.
 --
 --     SeesTheSame one two ..      a bidder sees the same in two runs
 --     IsPrivate setup bidder past text one      the reply follows from what the bidder sees
@@ -45,27 +51,28 @@ pub record SeesTheSame (one two : SetupFields) (bidder other_number : ℕ) (past
   pub view : text_view one bidder past ≡ text_view two other_number other_past
 
 -- The reply to a bidder's own request is computed from what the bidder sees, without any rival. It
--- is also the reply in every other run, with distinct tokens, in which a bidder sees the same.
+-- is also the right reply after every other list of requests, under any set-up with distinct
+-- tokens, if some bidder there sees the same.
 pub record IsPrivate (setup : SetupFields) (bidder : ℕ) (past : List (List ℕ)) (text : List ℕ) (one : Answer) : Type 0 where
   pub from_view : one ≡ answer (public_setup setup) (bidder_at setup bidder) (text_view setup bidder past) text
   pub elsewhere : (other : SetupFields) (other_number : ℕ) (other_past : List (List ℕ)) → HasOwnTokens other → other_number < length other.bidders
       → SeesTheSame setup other bidder other_number past other_past → one ≡ reply other other_past text
 
--- The reply is also the reply in every other run in which everyone sees the same, if the request
--- has no valid token there either.
+-- The reply is also the right reply after every other list of requests after which everyone sees
+-- the same, if the request has no valid token there either.
 abbrev pub IsPublic : SetupFields → List (List ℕ) → List ℕ → Answer → Type 0
 IsPublic setup past text one = (other : SetupFields) (other_past : List (List ℕ)) → IsOfNobody other text
     → public_setup setup ≡ public_setup other → public_view setup past ≡ public_view other other_past → one ≡ reply other other_past text
 
--- The reply is the right one after the requests of the past. If the request is a bidder's own, it
--- is private to that bidder. If the request has no valid token, it is public.
+-- The reply is the right one after the requests of the past. If the request is a bidder's own, the
+-- reply depends only on what that bidder sees. If the request has no valid token, it is public.
 pub record IsRight (setup : SetupFields) (past : List (List ℕ)) (text : List ℕ) (one : Answer) : Type 0 where
   pub is : one ≡ reply setup past text
   pub private : (bidder : ℕ) → bidder < length setup.bidders → is_own (bidder_at setup bidder) text ≡ true → IsPrivate setup bidder past text one
   pub public : IsOfNobody setup text → IsPublic setup past text one
 
--- Each request has the right reply, or was answered out of memory and is left out of the run. `end`
--- lists the requests that were not left out, newest first.
+-- Each request has the right reply, or was answered out of memory: then it is left out of the past
+-- of the requests after it. `end` lists the requests that were not left out, newest first.
 abbrev pub Runs : SetupFields → List (List ℕ) → List (List ℕ) → List Answer → List (List ℕ) → Type 0
 Runs setup past [] [] end = end ≡ past
 Runs setup past [] (one ∷ answers) end = ⊥

@@ -30,7 +30,8 @@ use Rattle.clock_front.specs.Requests as asked
 use Rattle.clock_front.specs.Outcomes.{Outcome, done, refused, not_allowed, answer_of, body_code, page_or_no_round, put_outcome}
 use Rattle.clock_front.specs.Fronts.{text_command, commands_of}
 
--- The request has the bidder's token, on whatever path, and even if it is refused.
+-- The head of the request has the bidder's token, on whatever path, even if the request is refused
+-- or cut short after its head. A head that is malformed, too long, or cut short has no token.
 abbrev pub is_own : Bidder → List ℕ → Bool
 is_own row text = option_map_or (same_bytes row.token) (request_of text).token false
 
@@ -102,7 +103,8 @@ answer setup row view text = answer_of (bidder_outcome setup row (typed_view vie
 
 -- ---- what everyone sees
 
--- The request has no valid token: no token at all, or none of the set-up.
+-- The request has no valid token: its head has none of the set-up, or is no whole, well-formed
+-- head.
 abbrev pub IsOfNobody : SetupFields → List ℕ → Type 0
 IsOfNobody setup text = asker setup (request_of text).token ≡ Nobody
 

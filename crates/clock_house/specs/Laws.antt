@@ -1,6 +1,6 @@
 -- What holds after every list of commands.
 --     AreNumbered bidders products closed      the closed rounds are numbered from 1
---     StaysSupplied products later earlier      aggregate demand, once at supply, stays there
+--     StaysSupplied products later earlier      aggregate demand, once at supply, never falls below it
 --     IsSound setup auction      both, bidders within their limits, sound prices, bounded rounds
 use Rattle.std.specs.Prelude.{◌≡◌, ℕ, suc, ◌+◌, ◌*◌, ◌<◌, ◌≤◌, List, [], ◌∷◌, false, length}
 use Rattle.std.specs.List.{AllPairs}
@@ -28,8 +28,9 @@ StaysSupplied products later earlier =
     (product : ℕ) → supply_of products product ≤ total_of (demands_of earlier.slips) product
     → supply_of products product ≤ total_of (demands_of later.slips) product
 
--- Rounds are numbered and bounded, and each bidder is within its caps and its eligibility. Prices
--- are in order until the end, and aggregate demand that has reached supply stays there.
+-- Rounds are numbered and bounded, and each bidder is within its caps and its eligibility. Unless
+-- the auction has ended, the current prices are in order. Aggregate demand that was at least supply
+-- after a round never falls below supply after a later one.
 pub record IsSound (setup : SetupFields) (auction : Auction) : Type 0 where
   pub numbered : AreNumbered (length setup.bidders) (length setup.products) auction.closed
   pub within : (bidder : ℕ) → bidder < length setup.bidders → IsWithinLimits setup.products (holding setup auction.closed bidder)
