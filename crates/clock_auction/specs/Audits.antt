@@ -36,7 +36,7 @@ chain_of first (text ∷ past) = link (chain_of first past) text
 abbrev pub closed_after : SetupFields → List (List ℕ) → List ClosedRound
 closed_after setup texts = (history setup (commands_of setup texts)).closed
 
--- one digest more if a round was closed
+-- one more digest if a round was closed
 abbrev pub with_digest : Effect → List (List ℕ) → List ℕ → List (List ℕ)
 with_digest Nothing digests chain = digests
 with_digest Sheet digests chain = digests
@@ -54,14 +54,15 @@ pub record IsRecounted (first : List ℕ) (texts : List (List ℕ)) (house : Hou
   pub count_is : count ≡ counted texts
   pub digests_are : digests ≡ closing_digests first house.setup texts
 
--- the fault is one of such a file, and a text that is told as refused is refused behind those before it
+-- the file has this fault, and a text that is reported as refused is refused after those before it
 pub record IsUnrecounted (setup : SetupFields) (first bytes : List ℕ) (told : Fault) : Type 0 where
   pub fault : JournalFault
   pub told_is : told ≡ of_journal fault
   pub is : IsRefusal first bytes fault
   pub rightly : IsRefusedRightly (IsRefused setup) (λ past. past ≡ []) first (drop head_length bytes) (length bytes) fault
 
--- the lines of the closed rounds, each with its closing's digest, and if the auction has ended what each bidder won
+-- the lines of the closed rounds, each with its closing's digest, and what each bidder won if the
+-- auction has ended
 abbrev pub text_of_rounds : SetupFields → List ClosedRound → List (List ℕ) → List ℕ
 text_of_rounds setup [] digests = []
 text_of_rounds setup (round ∷ closed) digests = audit_text (report_of setup (round ∷ closed)) digests

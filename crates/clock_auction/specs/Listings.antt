@@ -61,7 +61,7 @@ pub record IsListingOf (first bytes shown chain : List ℕ) (count place : ℕ) 
   pub placed : IsPlaced first bytes texts recovered
   pub listed : IsListed first (onto texts []) shown chain count place
 
--- the fault is one of such a file, or want of memory; no text is refused
+-- the file has this fault or memory ran out; no text is refused
 pub record IsUnlisted (first bytes : List ℕ) (told : Fault) : Type 0 where
   pub fault : JournalFault
   pub told_is : told ≡ of_journal fault

@@ -17,7 +17,7 @@ use std::rt::Files;
 /// The number of standard output among the files of the process.
 const STANDARD_OUTPUT: i32 = 1;
 
-/// All bytes of a file.
+/// Reads all bytes of a file.
 pub fn file_bytes<R: Files + Alloc<A = Global>>(rt: &R, path: &str) -> Result<Text, Fault> {
     match File::open(rt, path) {
         Ok(file) => read_all(rt.alloc(), &mut FromReader::new(file)),

@@ -62,7 +62,7 @@ fn run(rt: &HostRuntime, words: &[&str]) -> u8 {
     }
 }
 
-/// The words after the program's name.
+/// Returns the words after the program's name.
 fn given_words(rt: &(impl Env + Alloc<A = Global>)) -> io::Result<Vec<String>> {
     let mut words = Vec::new(rt.alloc());
     for word in env::args(rt)?.skip(1) {

@@ -53,7 +53,7 @@ where
     served
 }
 
-/// The front of a set-up document, before its first text.
+/// Makes a front from a set-up document, before its first text.
 pub fn front_in(alloc: Global, document: Text) -> Result<Front<Woken>, Fault>
     ensures stands { IfOk result (StandsForTexts []) }
     ensures setup { IfOk result (λ front. document_setup document ≡ Ok front.setup) }

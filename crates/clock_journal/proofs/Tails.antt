@@ -48,7 +48,7 @@ long_front digest bytes texts size begins =
       length-head digest size,
     )
 
--- what is read of it begins with the texts, and what is left stands behind them
+-- what is read of it begins with the texts, and what is left comes after them
 pub texts_first : (digest bytes : List ℕ) (texts read : List (List ℕ)) (rest : List ℕ)
     → ((place : ℕ) → get_or bytes place 0 < 256) → length digest ≡ 32 → BeginsWithTexts digest bytes texts
     → Reads digest (drop head_length bytes) read rest → Stops (last_link digest read) rest
@@ -73,7 +73,7 @@ texts_first digest bytes texts read rest small size begins reads stops =
     let rest_is = length-drop head_length bytes in
     (first, omega (arith, whole, part, inner, file, before, rest_is))
 
--- so no other answer is given of how it begins
+-- so its heading is found
 pub told_of_front : (digest bytes : List ℕ) (texts : List (List ℕ)) (told : Heading) → length digest ≡ 32
     → BeginsWithTexts digest bytes texts → told ≡ heading digest bytes → told ≡ headed (drop head_length bytes)
 told_of_front digest bytes texts told size begins is =
@@ -95,7 +95,7 @@ has_taken_first old new digest bytes texts recovered small size begins done =
       behind = omega (arith, first.1, done.end_is);
     }
 
--- and nothing before their end is damaged
+-- nothing before their end is damaged
 pub damaged_behind : (digest bytes : List ℕ) (texts : List (List ℕ)) (place : ℕ)
     → ((at : ℕ) → get_or bytes at 0 < 256) → length digest ≡ 32 → BeginsWithTexts digest bytes texts
     → IsFoundAt digest (drop head_length bytes) (length bytes) place damaged → length (file_of digest texts) ≤ place

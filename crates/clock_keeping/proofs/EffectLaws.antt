@@ -22,7 +22,7 @@ use Rattle.clock_front.specs.declared.front.response.Response.{Response}
 use Rattle.clock_front.proofs.FrontLaws.{away_command, needs_by_test, outcome_after}
 use Rattle.clock_keeping.specs.Keeping.{IsAccepted, is_change}
 
--- what a command changes as a house stands is what it changes after the commands that the house stands for
+-- a command changes the same in a house and after the commands that the house stands for
 effect_after : (house : HouseFields) (commands : List Command) (command : Command) → StandsFor commands house
     → effect_in house command ≡ effect_in (house_after house.setup commands) command
 effect_after house commands (put bidder round bids) stands =
@@ -73,7 +73,7 @@ nothing_where Nothing is = refl
 nothing_where Sheet is = absurd (let no : ⊥ = cc in no)
 nothing_where (Closing round) is = absurd (let no : ⊥ = cc in no)
 
--- what has changed something did not want memory
+-- a response that changed something is not out of memory
 pub right_where : (text : List ℕ) (response : Response) (old new : HouseFields) → RespondsTo text response old new
     → is_change response.effect ≡ true → IsRightResponse text old new response
 right_where text response old new (inl right) is = right
@@ -91,7 +91,7 @@ nothing_needs_more : needs_more [] ≡ true
 unfolding framing
 nothing_needs_more = refl
 
--- so a text that is accepted is not empty
+-- so an accepted text is not empty
 pub some_bytes : (text : List ℕ) (response : Response) (old new : HouseFields) → RespondsTo text response old new
     → is_change response.effect ≡ true → 1 ≤ length text
 some_bytes [] response old new responds is =

@@ -1,4 +1,4 @@
--- How an answered text is kept, or passed over.
+-- How an answered text is logged, or not.
 use Rattle.std.proofs.Common.{◌≡◌, inl, inr, ℕ, Bool, true, false, List, [], ◌∷◌, ◌++◌, refl, sym, ap, ◌∙◌, subst}
 use Rattle.clock_house.specs.House.{HouseFields}
 use Rattle.clock_front.specs.Effects.{IsRightResponse, RespondsTo, effect}
@@ -14,7 +14,7 @@ onto-push : (texts : List (List ℕ)) (text : List ℕ) (past : List (List ℕ))
 onto-push [] text past = refl
 onto-push (one ∷ texts) text past = onto-push texts text (one ∷ past)
 
--- a text that changed nothing is passed over
+-- a text that changed nothing is not logged
 pub passed_over : (digest : List ℕ) (past : List (List ℕ)) (text : List ℕ) (response : Response) (old new : HouseFields)
     (journal : JournalState) → IsInStep digest past journal old → RespondsTo text response old new
     → is_change response.effect ≡ false → IsKept digest past text response.reply journal old new
@@ -38,7 +38,7 @@ passed_over digest past text response old new journal in_step (inr (struck, noth
   in_step = record { has = in_step.has; stands = stands_still (onto past []) old new in_step.stands still };
 }
 
--- a text that changed the auction is kept
+-- a text that changed the auction is logged
 pub kept : (digest : List ℕ) (past : List (List ℕ)) (text : List ℕ) (response : Response) (old new : HouseFields)
     (journal : JournalState) → HasTexts digest (past ++ text ∷ []) journal → StandsForKept past old
     → RespondsTo text response old new → is_change response.effect ≡ true

@@ -16,14 +16,14 @@ use Rattle.clock_keeping.specs.Starts.{IsNotGoingOn, IsOwn}
 use Rattle.clock_keeping.specs.declared.taking.GoOnFault.{GoOnFault}
 use Rattle.clock_keeping.specs.declared.taking.GoOnFault.TheVariants.{Refused, Failed}
 
--- each of the texts, the oldest first, is accepted after the past, the newest first, and the texts
+-- each of the texts, the oldest first, is accepted after `past`, the newest first, and the texts
 -- before it
 abbrev pub AreAccepted : SetupFields → List (List ℕ) → List (List ℕ) → Type 0
 AreAccepted setup past [] = Unit {0}
 AreAccepted setup past (text ∷ texts) =
     IsAccepted setup past text × AreAccepted setup (text ∷ past) texts
 
--- whatever a crash leaves of the file reads as the first of these accepted texts, at least `least`
+-- whatever a crash leaves of the file reads as a prefix of these accepted texts, at least `least`
 -- of them
 pub record IsOwnFile (setup : SetupFields) (digest : List ℕ) (texts : List (List ℕ)) (least : ℕ)
     (journal : JournalState) : Type 0 where

@@ -35,43 +35,45 @@ is_change Nothing = false
 is_change Sheet = true
 is_change (Closing round) = true
 
--- after these texts, of which the newest stands first, the text changes the auction
+-- after these texts, the newest first, the text changes the auction
 abbrev pub IsAccepted : SetupFields → List (List ℕ) → List ℕ → Type 0
 IsAccepted setup texts text = is_change (effect setup texts text) ≡ true
 
--- or it does not: it is refused, asks for a page alone, or is no request
+-- or it does not: it is refused, only asks for a page, or is no request
 abbrev pub IsRefused : SetupFields → List (List ℕ) → List ℕ → Type 0
 IsRefused setup texts text = is_change (effect setup texts text) ≡ false
 
--- a text that changes the auction is put behind those that were kept, the oldest first, and no other is
+-- a text that changes the auction is appended to the logged ones, the oldest first
 abbrev pub kept_if : Bool → List (List ℕ) → List ℕ → List (List ℕ)
 kept_if changes past text = if changes then past ++ text ∷ [] else past
 
 abbrev pub kept_after : SetupFields → List (List ℕ) → List ℕ → List (List ℕ)
 kept_after setup past text = kept_if (is_change (effect setup (onto past []) text)) past text
 
--- the right reply after the kept texts, and what is kept after it; or no memory, and all is as it was
+-- the right reply after the logged texts, and what is logged then; or out of memory, and nothing
+-- changes
 abbrev pub IsNextKept : SetupFields → List (List ℕ) → List ℕ → Answer → List (List ℕ) → Type 0
 IsNextKept setup past text answer texts =
     ((answer ≡ reply setup (onto past []) text) × (texts ≡ kept_after setup past text))
     ⊎ (IsStruckOut text answer × (texts ≡ past))
 
--- the house stands for the texts of a journal, of which the oldest stands first
+-- the house stands for the texts of a journal, the oldest first
 abbrev pub StandsForKept : List (List ℕ) → HouseFields → Type 0
 StandsForKept texts house = StandsForTexts (onto texts []) house
 
--- the file was only added to; whatever texts it had, a stop at any moment since leaves these, and at most this one more
+-- the file was only appended to; a crash at any moment since leaves the texts that it had, and at
+-- most this one more
 pub record LeavesOneMore (text : List ℕ) (old new : JournalState) : Type 0 where
   pub added_to : new.uncut ≡ old.uncut
   pub moments : (digest : List ℕ) (texts : List (List ℕ)) → HasTexts digest texts old
       → (left : List ℕ) → MayBeLeft old.synced new.written left → LeavesTexts digest left (texts ++ text ∷ []) (length texts)
 
--- the journal has these texts, the oldest first, all of them on its disk; and the house stands for them
+-- the journal has these texts, the oldest first, all on its disk, and the house stands for them
 pub record IsInStep (digest : List ℕ) (texts : List (List ℕ)) (journal : JournalState) (house : HouseFields) : Type 0 where
   pub has : HasTexts digest texts journal
   pub stands : StandsForKept texts house
 
--- the text is answered, and kept if it changes the auction; journal and house stay in step
+-- the text is answered, and logged if it changes the auction; journal and house stay in step
 pub record IsKept (digest : List ℕ) (past : List (List ℕ)) (text : List ℕ) (answer : Answer) (journal : JournalState)
     (old new : HouseFields) : Type 0 where
   pub texts : List (List ℕ)
@@ -89,7 +91,7 @@ pub record IsTakenUp (digest bytes : List ℕ) (recovered : Recovered) (house : 
   pub stands : StandsForKept texts house
   pub count_is : count ≡ counted texts
 
--- the house stands for the first of the texts, in order, none left out: so many of them at least; and the file has these
+-- the house stands for a prefix of the texts, at least `least` of them, and the file has these
 pub record HasTakenUp (digest bytes : List ℕ) (texts : List (List ℕ)) (least : ℕ) (house : HouseFields)
     (recovered : Recovered) : Type 0 where
   pub count : ℕ
@@ -98,11 +100,11 @@ pub record HasTakenUp (digest bytes : List ℕ) (texts : List (List ℕ)) (least
   pub placed : IsPlaced digest bytes (take count texts) recovered
   pub stands : StandsForKept (take count texts) house
 
--- these were added, in order, and no others; nothing is said where they are not told
+-- exactly these were appended, in order, if contracts see the list
 abbrev pub GrowsBy : {A : Type 0} → Option (List A) → Option (List A) → List A → Type 0
 GrowsBy (Some old) new more = new ≡ Some (old ++ more)
 GrowsBy None new more = Unit {0}
 
--- a journal of which nothing is told, and no call failed: nothing is kept
+-- a journal that shows nothing and has not failed: nothing is logged
 abbrev pub no_journal : JournalState
 no_journal = record { written = None; synced = None; has_failed = false; chain = []; uncut = 0; moments = None }

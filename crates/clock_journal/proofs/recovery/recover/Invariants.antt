@@ -3,7 +3,7 @@ use Rattle.clock_journal.specs.Format.{head_length}
 use Rattle.clock_journal.specs.inside.Replays.{IsOnWay}
 use Rattle.clock_journal.proofs.recovery.recover.Given as goal
 
--- some texts were taken, and the rest is left
+-- some texts were taken and counted, and the rest is left
 abbrev pub invariant-loop-chain : goal.invariant-loop-chain
 invariant-loop-chain g l =
     IsOnWay (g.M.Machine.stands_for l.initial.machine) (g.M.Machine.stands_for l.machine) l.digest (drop head_length l.bytes) l.chain l.rest
