@@ -1,11 +1,7 @@
 // The server's routes. A token stays in the memory of this tab, and is sent only in the header of a request.
 
-// how long to wait for a reply: closing a round of a very large auction may take some minutes; an answer that is slow is
-// reported before that
-const SECONDS = 20;
-const CLOSING_SECONDS = 300;
-const SLOW_SECONDS = 3;
-const ASKED = "/asked/close.json";
+// Seconds to wait for a reply: closing a very large round may take minutes. A slow answer is reported before that.
+const SECONDS = 20, CLOSING_SECONDS = 300, SLOW_SECONDS = 3;
 
 /** A refusal of the server, or no answer: then `status` is 0, and the request may have taken effect or not. */
 export class Fault extends Error {
@@ -38,7 +34,7 @@ export class Asker {
         continue;
       }
       const page = await reply.json().catch(() => null);
-      if (path === ASKED && reply.ok) return null;
+      if (reply.status === 201 || reply.status === 204) return null; // nginx stored what was asked of the conductor
       if (reply.ok && ["round", "products", "closed", "state", "auction"].some((key) => page?.[key])) return page;
       // nginx without the server, or neither of them
       if (reply.ok || !page?.code || (page.code === "proxy" && reply.status >= 500)) throw noAnswer();
@@ -67,7 +63,7 @@ export class Asker {
   slip(n) { return this.ask("/v1/me/rounds/" + n); }
   put(round, bids) { return this.ask("/v1/me/bids", "PUT", { bids, round }); }
   close(closing) { return this.ask("/v1/close", "POST", closing); }
-  askConductor(closing) { return this.ask(ASKED, "PUT", closing); }
+  askConductor(closing) { return this.ask("/asked/close.json", "PUT", closing); }
   results() { return this.ask("/v1/results"); }
   conductor() { return this.ask("/conductor.json"); }
   commitment() { return this.ask("/public/commitment.json"); }

@@ -29,9 +29,6 @@ export class Conductor {
   /** Whether the conductor waits for a person. */
   needsYou() { return this.#report !== null && (this.#isStale() || HELD.includes(this.#report.state)); }
 
-  /** Whether it reports, so that it can be asked for something. */
-  isRunning() { return this.#report !== null && !this.#isStale(); }
-
   /** What the conductor waits for. */
   words() {
     if (!this.#report) {
@@ -44,7 +41,7 @@ export class Conductor {
 
   /** A sentence for the question before a closing, if the conductor would close the round by itself. */
   early() {
-    const isActive = this.isRunning() && !HELD.includes(this.#report.state);
+    const isActive = this.#report && !this.#isStale() && !HELD.includes(this.#report.state);
     return isActive ? ` The conductor would close it by itself: ${this.#report.waits_for}` : "";
   }
 

@@ -15,6 +15,7 @@ const LONG = 72; // letters that a row has space for
 const rounds = new Map(), conductor = new Conductor();
 // the results, which have the round too; `underWay` is the round that is being closed; when the server last answered
 let asker, page, results, underWay = 0, increments = [], gone = false, answered = "";
+const sheetsOf = (round) => conductor.sheetsOf(round, results.bidders.map((bidder) => bidder.name)); // or null if not known
 
 const incTable = new Rows(at("incframe"), at("incbody"), drawIncrement);
 const resTable = new Rows(at("resframe"), at("resbody"), drawBidder);
@@ -52,11 +53,11 @@ function drawAll(last) {
 
 /** Shows who has submitted bids in this round, and what the conductor waits for. */
 function drawState() {
-  const names = results.bidders.map((bidder) => bidder.name), sheets = conductor.sheetsOf(results.round, names);
+  const sheets = sheetsOf(results.round);
   tell("waits", conductor.words());
   at("waits").className = conductor.needsYou() ? "fault" : "";
   at("submitted").hidden = at("missing").hidden = results.ended || !sheets;
-  facts("submitted", [["Bidders with submitted bids", `${number(sheets?.submitted.length)} of ${number(names.length)}`]]);
+  facts("submitted", [["Bidders with submitted bids", `${number(sheets?.submitted.length)} of ${number(results.bidders.length)}`]]);
   tell("missing", sheets?.missing.length ? `No bids from: ${listed(sheets.missing, 40)}.` : "All bidders have submitted bids.");
 }
 
@@ -123,12 +124,6 @@ function closing() {
   return page.version === 1 ? { ...base, increment: Number(one) } : { ...base, increments: all.map(Number) };
 }
 
-/** Whether only the conductor can close a round: from round 2 on, tie-breaking numbers come from a seed, which no browser has. */
-async function needsSeed(round) {
-  const { chain } = round === 1 ? {} : await asker.commitment().catch(() => ({ chain: "not known" }));
-  return Boolean(chain);
-}
-
 /** Who has submitted bids, for the question before a closing. */
 function sheetWords(sheets, round) {
   if (!sheets) return "This page does not know who has submitted bids.";
@@ -143,24 +138,19 @@ function sheetWords(sheets, round) {
 /** The question before a closing, and the answer that closes. */
 function questionOf(asked) {
   const percents = [asked.increments ?? asked.increment].flat(), low = Math.min(...percents), high = Math.max(...percents);
-  const sheets = conductor.sheetsOf(asked.round, results.bidders.map((bidder) => bidder.name));
+  const sheets = sheetsOf(asked.round);
   const words = `Close round ${asked.round} for all bidders? Clock prices rise by ${low === high ? low : `${low} to ${high}`} percent. ` +
     `${sheetWords(sheets, asked.round)}${conductor.early()} Bids that have not arrived will not count. This cannot be undone.`;
-  return [words, isEmpty(asked.round) ? "Close it without any bids" : "Close the round"];
+  return [words, sheets?.submitted.length === 0 ? "Close it without any bids" : "Close the round"];
 }
 
-/** Whether it is known that nobody has submitted bids in a round. */
-const isEmpty = (round) => conductor.sheetsOf(round, results.bidders.map((bidder) => bidder.name))?.submitted.length === 0;
-
-/** Has the conductor close the round with the numbers of its seed. It says in its report if it does not. */
+/** Has the conductor close the round with the numbers of its seed, which no browser has. Its report says if it does not. */
 async function closeBySeed({ ties: _, ...asked }) {
-  if (!conductor.isRunning()) {
-    return say(`⚠ Not closed: round ${asked.round} needs tie-breaking numbers from its seed. Start the conductor, or use deploy/close.`);
-  }
-  const [words, yes] = questionOf(asked), without_sheets = isEmpty(asked.round);
-  if (!await question(words, yes)) return;
-  say(`Asking the conductor to close round ${asked.round} …`);
-  await asker.askConductor({ ...asked, without_sheets }).catch(tellRefused);
+  const { round } = asked, sheets = sheetsOf(round);
+  if (!sheets) return say(`⚠ Not closed: round ${round} needs tie-breaking numbers from its seed. Start the conductor, or use deploy/close.`);
+  if (!await question(...questionOf(asked))) return;
+  say(`Asking the conductor to close round ${round} …`);
+  await asker.askConductor({ ...asked, without_sheets: sheets.submitted.length === 0 }).catch(tellRefused);
 }
 
 /** Asks first, and closes the round that the question names, even if another one is open by then. `heard` says when it is closed. */
@@ -168,7 +158,8 @@ async function close() {
   const asked = closing();
   if (!asked) return say("⚠ Not closed: " + wordsOf("increment") + ".");
   if (asked.round === underWay) return say(`Round ${underWay} is already being closed.`);
-  if (await needsSeed(asked.round)) return closeBySeed(asked);
+  const { chain } = asked.round === 1 ? {} : await asker.commitment().catch(() => ({ chain: "not known" }));
+  if (chain) return closeBySeed(asked);
   if (!await question(...questionOf(asked))) return;
   underWay = asked.round;
   say(`Closing round ${underWay} …`);
@@ -182,9 +173,8 @@ async function close() {
 
 function tellRefused(fault) {
   const product = fault.code === "price_limit" ? page.products[fault.place]?.name : undefined;
-  if (fault.status === 0) {
-    return say("⚠ No answer from the server. It is not known whether the round was closed: see whether its number has risen.");
-  }
+  const unknown = "⚠ No answer from the server. It is not known whether the round was closed: see whether its number has risen.";
+  if (fault.status === 0) return say(unknown);
   say(`⚠ Refused: ${wordsOf(fault.code)}${product ? ` (${product})` : ""}. Nothing was closed.`);
 }
 
