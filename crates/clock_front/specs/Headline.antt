@@ -1,28 +1,33 @@
 -- The headline: what is proved of a whole run, a list of requests and the replies to them.
 --
--- Right: each reply is the right one after the requests before it. `reply` is computed, so exactly
--- one reply is right.
+-- Right: each reply is the one that the rules give after the requests before it: what is accepted,
+-- and all prices, demands, and eligibilities in the pages. `reply` is computed, so exactly one
+-- reply is right.
 --
--- Private: the reply to a bidder's own request is computed by `answer` from the public set-up, the
--- bidder's row, its view, and the request. No rival occurs among these. So the right reply has the
--- same bytes after any other list of requests, under another set-up and with other rivals, if a
--- bidder with an equal row sees the same there.
+-- Private: the reply to a bidder's own request, one with its token, is computed by `answer` from
+-- the public set-up, the bidder's row, its view, and the request. What rivals bid enters only
+-- through the results in the view. So after any other list of requests, with other rivals, the
+-- right reply has the same bytes if the public set-up, the row, and the view are equal there.
 --
--- The view has the bidder's own requests, and of each accepted closing the round results and its
--- bidder results. Read its definition with care (`text_view`).
+-- The view has, in order, the bidder's own requests, accepted or refused, but none that was
+-- answered out of memory. Of each accepted closing it has the round results and the bidder results.
+-- It has no operator's token, no refused closing, and no tie-breaking number. Read its definition
+-- with care (`text_view`).
 --
--- Public: the right reply to a request with no valid token has the same bytes wherever the public
--- set-up and the round results are the same, whatever bids led to them.
+-- Public: a request with no valid token has the same right reply wherever it has none and everyone
+-- sees the same: the public set-up and the round results, whatever bids led to them.
 --
--- Sound: at the end the auction has the properties of `IsSound`.
+-- Sound: in addition, the auction made by the requests that were not out of memory is sound at the
+-- end (`IsSound`). Bidders are within their caps and eligibility, rounds are numbered and bounded,
+-- and prices are in order unless it has ended. Aggregate demand, once at supply, is never below it.
 --
--- Outside the headline: time, tokens on the wire, what rivals say to each other, connections
--- refused while 256 are open, and running out of memory. A request may be answered out of memory at
--- any time, and `run` or `run_events` may return `NoMemory`: the headline is about those that
--- return `Ok`.
+-- Out of memory: a request that needs memory may be answered so at any time. It changes nothing,
+-- and no later reply depends on it. `run` or `run_events` may also return `NoMemory`: the headline
+-- is about those that return `Ok`.
 --
--- Replies to the operator are proved to be right, not private: they may show everything. In what a
--- bidder sees there is no operator's token, no refused closing, and no tie-breaking number.
+-- Outside the headline: time, crashes (the second headline), tokens on the wire, what rivals or the
+-- operator say and choose, and what it reveals that a connection is refused. Replies to the
+-- operator are proved to be right, not private: they may show everything.
 --
 --     SeesTheSame one two ..      a bidder sees the same in two runs
 --     IsPrivate setup bidder past text one      the reply follows from what the bidder sees
@@ -44,7 +49,7 @@ use Rattle.clock_front.specs.Views.{is_own, text_view, answer, IsOfNobody, publi
 use Rattle.clock_connections.specs.Pieces.{requests_of}
 
 -- A bidder sees the same in two runs: the public set-up, its own row, and its view are equal. Its
--- number, the rivals, and their number may differ.
+-- number, the rivals, and their number may differ, as far as the results in the view are equal.
 pub record SeesTheSame (one two : SetupFields) (bidder other_number : ℕ) (past other_past : List (List ℕ)) : Type 0 where
   pub public : public_setup one ≡ public_setup two
   pub row : bidder_at one bidder ≡ bidder_at two other_number

@@ -108,6 +108,7 @@ answer setup row view text = answer_of (bidder_outcome setup row (typed_view vie
 abbrev pub IsOfNobody : SetupFields → List ℕ → Type 0
 IsOfNobody setup text = asker setup (request_of text).token ≡ Nobody
 
--- The public view: the round results of the closed rounds, newest first.
+-- The public view: the round results of the closed rounds, newest first. They have the prices, and
+-- aggregate demand if it is above supply.
 abbrev pub public_view : SetupFields → List (List ℕ) → List RoundSheet
 public_view setup past = map (λ closed. closed.sheet) (history setup (commands_of setup past)).closed
