@@ -1,5 +1,5 @@
 -- There is a digest for each round that is closed; what is audited of a file.
-use Rattle.std.proofs.Common.{◌≡◌, ◌≤◌, ◌+◌, ◌-◌, ◌^◌, min, ℕ, List, [], ◌∷◌, length, ap, sym, ◌∙◌, subst, arith}
+use Rattle.std.proofs.Common.{◌≡◌, ◌≤◌, ◌+◌, ℕ, List, [], ◌∷◌, length, ap, sym, ◌∙◌, subst, arith}
 use Rattle.std.proofs.Common.{length-append}
 use Rattle.std.specs.Prelude.{reverse}
 use Rattle.std.proofs.lemmas.List.{length-map, length-reverse}
@@ -13,12 +13,12 @@ use Rattle.clock_front.specs.declared.front.response.Effect.{Effect}
 use Rattle.clock_front.specs.declared.front.response.Effect.TheVariants.{Nothing, Sheet, Closing}
 use Rattle.clock_reports.specs.FinalReport.{report_of}
 use Rattle.clock_reports.specs.Reports.{ReportFields}
-use Rattle.clock_journal.specs.Format.{link}
-use Rattle.clock_journal.specs.Reading.{onto}
+use Rattle.clock_journal.specs.Entries.{Entry, entries_onto, texts_in}
 use Rattle.clock_journal.specs.Recovering.{IsPlaced}
+use Rattle.clock_journal.specs.declared.recovery.Record.{Record}
 use Rattle.clock_journal.specs.declared.recovery.Recovered.{Recovered}
 use Rattle.clock_serving.proofs.Telling.{CountsOn, counts_text}
-use Rattle.clock_auction.specs.Audits.{IsAuditOf, IsRecounted, audited, chain_of, closed_after, closing_digests, with_digest}
+use Rattle.clock_auction.specs.Audits.{IsAuditOf, IsRecounted, audited, closed_after, closing_digests, with_digest}
 
 still_enough : (one : Effect) (before after : ℕ) (digests : List (List ℕ)) (chain : List ℕ) → CountsOn one before after
     → before ≤ length digests → after ≤ length (with_digest one digests chain)
@@ -27,25 +27,26 @@ still_enough Sheet before after digests chain counts enough = omega (arith, coun
 still_enough (Closing round) before after digests chain counts enough =
     omega (arith, counts.1, enough, length-append digests (encode_lower chain ∷ []))
 
-enough_digests : (first : List ℕ) (setup : SetupFields) (texts : List (List ℕ))
-    → length (closed_after setup texts) ≤ length (closing_digests first setup texts)
-enough_digests first setup [] = omega arith
-enough_digests first setup (text ∷ past) =
-    still_enough (effect setup past text) (length (closed_after setup past)) (length (closed_after setup (text ∷ past)))
-    (closing_digests first setup past) (chain_of first (text ∷ past)) (counts_text setup past text)
-    (enough_digests first setup past)
+enough_digests : (setup : SetupFields) (entries : List Entry)
+    → length (closed_after setup (texts_in entries)) ≤ length (closing_digests setup entries)
+enough_digests setup [] = omega arith
+enough_digests setup (entry ∷ past) =
+    still_enough (effect setup (texts_in past) entry.1) (length (closed_after setup (texts_in past)))
+    (length (closed_after setup (entry.1 ∷ texts_in past))) (closing_digests setup past) entry.0.digest
+    (counts_text setup (texts_in past) entry.1) (enough_digests setup past)
 
-enough_for : (first : List ℕ) (texts : List (List ℕ)) (house : HouseFields) (chain : List ℕ) (count : ℕ) (digests : List (List ℕ)) → IsRecounted first texts house chain count digests
+enough_for : (entries : List Entry) (house : HouseFields) (digests : List (List ℕ)) → IsRecounted entries house digests
     → length house.closed ≤ length digests
-enough_for first texts house chain count digests is =
+enough_for entries house digests is =
     subst (λ (all : List (List ℕ)). length house.closed ≤ length all) (sym is.digests_are)
-    (subst (λ (closed : List ClosedRound). length closed ≤ length (closing_digests first house.setup texts)) (sym is.stands.closed)
-    (enough_digests first house.setup texts))
+    (subst (λ (closed : List ClosedRound). length closed ≤ length (closing_digests house.setup entries)) (sym is.stands.closed)
+    (enough_digests house.setup entries))
 
 -- a digest for each sheet of the report
-pub enough_for_report : (first : List ℕ) (texts : List (List ℕ)) (house : HouseFields) (chain : List ℕ) (count : ℕ) (digests given : List (List ℕ)) (report : ReportFields)
-    → IsRecounted first texts house chain count digests → report ≡ report_of house.setup house.closed → given ≡ digests → length report.sheets ≤ length given
-enough_for_report first texts house chain count digests given report recounted is same =
+pub enough_for_report : (entries : List Entry) (house : HouseFields) (digests given : List (List ℕ)) (report : ReportFields)
+    → IsRecounted entries house digests → report ≡ report_of house.setup house.closed → given ≡ digests
+    → length report.sheets ≤ length given
+enough_for_report entries house digests given report recounted is same =
     let many = length-map (reverse house.closed) (λ (closed : ClosedRound). closed.sheet) in
     omega (
       arith,
@@ -53,41 +54,30 @@ enough_for_report first texts house chain count digests given report recounted i
       many,
       length-reverse house.closed,
       ap length same,
-      enough_for first texts house chain count digests recounted,
+      enough_for entries house digests recounted,
     )
 
 -- what is shown of an auction that stands for all texts of a file, and goes by what it went by before them
-pub audit_is : (setup setup_new : SetupFields) (first first_new bytes given shown : List ℕ) (texts : List (List ℕ)) (recovered : Recovered) (house : HouseFields)
-    (chain : List ℕ) (count : ℕ) (digests : List (List ℕ)) → given ≡ bytes → setup_new ≡ setup → first_new ≡ first → IsPlaced first given texts recovered
-    → IsRecounted first_new (onto texts []) house chain count digests → shown ≡ audited setup_new first_new (onto texts [])
-    → IsAuditOf setup first bytes shown count chain
-audit_is setup setup_new first first_new bytes given shown texts recovered house chain count digests same same_setup same_first placed recounted is = record {
+pub audit_is : (setup setup_new : SetupFields) (first bytes given shown : List ℕ) (texts : List (List ℕ)) (recovered : Recovered)
+    → given ≡ bytes → setup_new ≡ setup → IsPlaced first given texts recovered
+    → shown ≡ audited setup_new (entries_onto first [] texts []) → IsAuditOf setup first bytes shown recovered
+audit_is setup setup_new first bytes given shown texts recovered same same_setup placed is = record {
   texts = texts;
-  recovered = recovered;
   placed = subst (λ (file : List ℕ). IsPlaced first file texts recovered) same placed;
-  shown_is = is
-      ∙ ap (λ (of_setup : SetupFields). audited of_setup first_new (onto texts [])) same_setup
-      ∙ ap (λ (from : List ℕ). audited setup from (onto texts [])) same_first;
-  count_is = recounted.count_is;
-  chain_is = recounted.chain_is ∙ ap (λ (from : List ℕ). chain_of from (onto texts [])) same_first;
+  shown_is = is ∙ ap (λ (of_setup : SetupFields). audited of_setup (entries_onto first [] texts [])) same_setup;
 }
 
 -- one more text is recounted
-pub recounted_on : (first : List ℕ) (texts : List (List ℕ)) (text : List ℕ) (changed : Effect) (old new : HouseFields)
-    (chain chain_new : List ℕ) (count count_new : ℕ) (digests digests_new : List (List ℕ))
-    → IsRecounted first texts old chain count digests → changed ≡ effect old.setup texts text
-    → StandsForTexts (text ∷ texts) new → new.setup ≡ old.setup → count_new ≡ min (count + 1) (2 ^ 64 - 1)
-    → chain_new ≡ link chain text → digests_new ≡ with_digest changed digests chain_new
-    → IsRecounted first (text ∷ texts) new chain_new count_new digests_new
-recounted_on first texts text changed old new chain chain_new count count_new digests digests_new is right stands same counts links added =
-    let linked : chain_new ≡ chain_of first (text ∷ texts) = links ∙ ap (λ (digest : List ℕ). link digest text) is.chain_is in
-    let before = closing_digests first old.setup texts in
+pub recounted_on : (entries : List Entry) (at : Record) (text : List ℕ) (changed : Effect) (old new : HouseFields)
+    (digests digests_new : List (List ℕ)) → IsRecounted entries old digests
+    → changed ≡ effect old.setup (texts_in entries) text → StandsForTexts (text ∷ texts_in entries) new
+    → new.setup ≡ old.setup → digests_new ≡ with_digest changed digests at.digest
+    → IsRecounted ((at, text) ∷ entries) new digests_new
+recounted_on entries at text changed old new digests digests_new is right stands same added =
+    let before = closing_digests old.setup entries in
     record {
       stands = stands;
-      chain_is = linked;
-      count_is = omega (arith, counts, is.count_is);
-      digests_are = added ∙ ap (λ (all : List (List ℕ)). with_digest changed all chain_new) is.digests_are
-          ∙ ap (λ (digest : List ℕ). with_digest changed before digest) linked
-          ∙ ap (λ (one : Effect). with_digest one before (chain_of first (text ∷ texts))) right
-          ∙ ap (λ (setup : SetupFields). closing_digests first setup (text ∷ texts)) (sym same);
+      digests_are = added ∙ ap (λ (all : List (List ℕ)). with_digest changed all at.digest) is.digests_are
+          ∙ ap (λ (one : Effect). with_digest one before at.digest) right
+          ∙ ap (λ (setup : SetupFields). closing_digests setup ((at, text) ∷ entries)) (sym same);
     }

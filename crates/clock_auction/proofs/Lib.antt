@@ -1,2 +1,1 @@
 mod AuditLaws
-mod ListingLaws

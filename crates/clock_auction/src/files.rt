@@ -1,10 +1,10 @@
-//! What files hold, and what is told of a journal.
+//! Reading files, and the line of a journal.
 ghost use Rattle.std.specs.Prelude.{◌≡◌};
 ghost use Rattle.hex.specs.Hex.{encode_lower};
 
 use clock_commands::{Fault, read_all};
 use clock_device::{FromReader, Text};
-use clock_journal::Link;
+use clock_journal::{Link, Recovered};
 use clock_reports::Digits;
 use hex::encode_to_slice;
 use std::alloc::Global;
@@ -26,7 +26,7 @@ pub fn file_bytes<R: Files + Alloc<A = Global>>(rt: &R, path: &str) -> Result<Te
     }
 }
 
-/// All bytes of a journal that is only read.
+/// All bytes of a journal, which is only read.
 pub fn journal_bytes<R>(rt: &R, path: &str) -> Result<Vec<u8>, Fault>
 where
     R: Files<File = File> + Alloc<A = Global>,
@@ -35,13 +35,13 @@ where
     bytes_of(rt.alloc(), &file)
 }
 
-/// All bytes of a file of a disk, which is locked before they are read. Where standard output was closed when the
-/// program began, the file has its number, and what is told would be written behind the texts.
+/// Locks a file, and reads all its bytes. Refuses a file that has the number of standard output,
+/// which was closed when the program began: the program would print into the journal.
 pub fn locked_bytes(alloc: Global, file: &File) -> Result<Vec<u8>, Fault> {
     if file.as_raw_fd() == STANDARD_OUTPUT {
         return Err(Fault::Output);
     }
-    // looked at before it is locked: what is no file of a disk is told as that, also where another server has it
+    // before the lock, so that a device is never reported as busy
     if !matches!(file.metadata(), Ok(metadata) if metadata.is_file()) {
         return Err(Fault::Journal);
     }
@@ -52,13 +52,13 @@ pub fn locked_bytes(alloc: Global, file: &File) -> Result<Vec<u8>, Fault> {
     }
 }
 
-/// All bytes of a file of a disk, from its beginning. No other is read: a device may have bytes without end.
+/// All bytes of a regular file. A device is refused, since it may never end.
 fn bytes_of(alloc: Global, file: &File) -> Result<Vec<u8>, Fault> {
     let metadata = file.metadata().or(Err(Fault::Journal))?;
     if !metadata.is_file() {
         return Err(Fault::Journal);
     }
-    // with room for one byte more the end is found without a growth
+    // with one more byte of capacity, the end is found without another allocation
     let room = (metadata.len() as usize).saturating_add(1);
     let mut bytes = Vec::with_capacity(alloc, room).or(Err(Fault::Memory))?;
     let mut reader = file;
@@ -69,13 +69,14 @@ fn bytes_of(alloc: Global, file: &File) -> Result<Vec<u8>, Fault> {
     }
 }
 
-/// Tells how many texts a journal has, and the digest of the last.
-pub fn tell_journal<R: Print>(rt: &R, texts: u64, chain: Link) -> Result<(), Fault> {
-    let digest = Hex(chain);
+/// Prints the number of texts in a journal, and the digest of the last.
+pub fn tell_journal<R: Print>(rt: &R, recovered: Recovered) -> Result<(), Fault> {
+    let texts = recovered.texts;
+    let digest = Hex(recovered.chain);
     println!(rt; "journal {texts} {digest}").or(Err(Fault::Output))
 }
 
-/// A digest in 64 small digits of base 16.
+/// A digest in 64 lowercase hexadecimal digits.
 pub fn digits_of(digest: &Link) -> Digits
     ensures { result ≡ encode_lower digest.now }
 {
@@ -84,7 +85,7 @@ pub fn digits_of(digest: &Link) -> Digits
     digits
 }
 
-/// A digest that is shown in digits.
+/// A digest that is printed in digits.
 #[derive(Clone, Copy)]
 pub struct Hex(pub Link);
 

@@ -20,7 +20,8 @@ use std::process::ExitCode;
 use std::rt::Env;
 use std::{env, io};
 
-/// Standard input is the document's, standard output the text's, and standard error the fault's.
+/// Reads a document from standard input, prints the result on standard output, and a fault on
+/// standard error.
 fn main(rt: HostRuntime) -> io::Result<ExitCode> {
     let status = match given_words(&rt) {
         Ok(words) => match texts_of(rt.alloc(), words.as_slice()) {
@@ -38,8 +39,8 @@ fn main(rt: HostRuntime) -> io::Result<ExitCode> {
     Ok(ExitCode::from(status))
 }
 
-/// Does what the words ask for, and answers the exit status. What is to be done with files is done here, and all else
-/// by `command`.
+/// Runs the command that the words name, and returns the exit status. Commands that name files are
+/// run here, and all others by `command`.
 fn run(rt: &HostRuntime, words: &[&str]) -> u8 {
     let done = match read_words(rt.alloc(), words) {
         Ok(Some(Asked::Serve(serving))) => serve(rt, &serving),
@@ -71,9 +72,10 @@ fn given_words(rt: &(impl Env + Alloc<A = Global>)) -> io::Result<Vec<String>> {
     Ok(words)
 }
 
-/// The words as texts, in order.
+/// The words as `&str`, in order.
 fn texts_of(alloc: Global, words: &[String]) -> Result<Vec<&str>, AllocError>
-    ensures { IfOk result (λ texts. map (λ text. text.now) texts.items ≡ map string_bytes words.now) }
+    ensures { IfOk result
+        (λ texts. map (λ text. text.now) texts.items ≡ map string_bytes words.now) }
 {
     let mut texts = Vec::new(alloc);
     for word in words {
@@ -82,7 +84,7 @@ fn texts_of(alloc: Global, words: &[String]) -> Result<Vec<&str>, AllocError>
     Ok(texts)
 }
 
-/// Shows the line of a fault on standard error, and answers the status of a run that has one.
+/// Prints the line of a fault on standard error, and returns the exit status.
 fn fault_status(rt: &HostRuntime, fault: Fault) -> u8
     ensures { result ≡ 1 }
 {

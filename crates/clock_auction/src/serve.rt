@@ -1,5 +1,4 @@
-//! `serve`: an auction on a port of this machine. Its journal, where it has one, is taken over before the port is
-//! listened on, and each closing is then told on standard output.
+//! `serve`: an auction on a port of this machine.
 ghost use Rattle.std.specs.Prelude.{◌≡◌, [], IfErr, IfOk, IfSome, Ok, false, None};
 ghost use Rattle.clock_terms.specs.Faults.{IsRefusal};
 ghost use Rattle.clock_front.specs.Fronts.{StandsForTexts};
@@ -24,8 +23,8 @@ use std::net::{Ipv4Addr, Net, TcpListener, TcpStream};
 use std::os::unix::fs::OpenOptionsExt;
 use std::rt::Files;
 
-/// Serves an auction of the set-up in a file: takes its journal over, where one is named, listens on 127.0.0.1, and
-/// serves so many connections, one after the other. The first fault ends it.
+/// Serves the auction of a set-up: replays its journal, if one is named, listens on 127.0.0.1, and
+/// serves `serving.connections` connections, one after the other. The first fault ends it.
 pub fn serve<R>(rt: &R, serving: &Serving) -> Result<(), Fault>
 where
     R: Files<File = File>
@@ -43,12 +42,12 @@ where
     };
     let digest = digest_of(document.as_slice());
     let front = front_in(rt.alloc(), document)?;
-    let mut auction = Auction { front, texts: 0 };
+    let mut auction = Auction { front };
     let served = match taken_over(rt, &mut auction, digest, path) {
         Ok(journal) => listen(rt, &mut auction.front, Some(journal), serving),
         Err(fault) => Err(fault),
     };
-    // let go by a call: at the end of the scope it would be proved part by part
+    // `drop` here keeps the proof small: at the end of the scope, each field is proved
     drop(auction);
     served
 }
@@ -64,8 +63,8 @@ pub fn front_in(alloc: Global, document: Text) -> Result<Front<Woken>, Fault>
     Ok(Front::new(alloc, setup, Woken)?)
 }
 
-/// The journal in a file that is held by this server alone, and which a loss of power leaves in its folder. How many
-/// texts it has and the digest of the last are told.
+/// Locks the file of a journal, replays it, and continues it. Prints the line of the journal. The
+/// name of the file is on the disk, too.
 fn taken_over<R>(
     rt: &R,
     auction: &mut Auction<Woken>,
@@ -77,7 +76,7 @@ where
     requires { StandsForTexts [] auction.old.front }
     ensures unfailed { IfOk result (λ journal. journal.has_failed ≡ false) }
 {
-    // the file is made where there is none, readable by its owner alone
+    // a new file can be read only by its owner
     let mut how = OpenOptions::new();
     how.read(true).append(true).create(true).mode(0o600);
     let file = how.open(rt, path).or(Err(Fault::Journal))?;
@@ -86,16 +85,16 @@ where
     let tell = |recovered: Recovered| tell_cut(rt, recovered.end, bytes.len());
     let mut journal = Journal::new(FileDisk::new(file), digest);
     match go_on(auction, &mut journal, bytes, tell) {
-        Ok(()) => {
+        Ok(recovered) => {
             sync_folder(rt, path)?;
-            tell_journal(rt, auction.texts, *journal.chain())?;
+            tell_journal(rt, recovered)?;
             Ok(journal)
         }
         Err(fault) => Err(start_fault(fault)),
     }
 }
 
-/// The fault of a journal that is not gone on with.
+/// The fault of a journal that cannot be continued.
 pub fn start_fault(fault: GoOnFault) -> Fault
     ensures { result ≡ of_start fault }
 {
@@ -105,16 +104,16 @@ pub fn start_fault(fault: GoOnFault) -> Fault
     }
 }
 
-/// Tells of bytes behind the last text, which are cut off.
+/// Reports bytes after the last text, which will be truncated.
 fn tell_cut<R: Eprint>(rt: &R, end: usize, size: usize) {
     if end < size {
         let cut = size - end;
-        // it is told for the operator's eyes alone: where that fails the auction goes on
-        let _untold = eprintln!(rt; "cut {cut} bytes at {end}");
+        // only the operator reads it: the auction continues if it cannot be printed
+        let _unprinted = eprintln!(rt; "cut {cut} bytes at {end}");
     }
 }
 
-/// Puts the name of the file on the disk, which its folder holds.
+/// Puts the name of a file on the disk: syncs its folder.
 fn sync_folder<R: Files<File = File>>(rt: &R, path: &str) -> Result<(), Fault> {
     let folder = match path.rfind('/') {
         Some(0) => "/",
@@ -125,7 +124,7 @@ fn sync_folder<R: Files<File = File>>(rt: &R, path: &str) -> Result<(), Fault> {
     folder.sync_all().or(Err(Fault::Journal))
 }
 
-/// Listens on a port, tells it, and serves connections by a front.
+/// Listens on the port, prints that, and serves connections.
 fn listen<R>(
     rt: &R,
     front: &mut Front<Woken>,
@@ -148,8 +147,7 @@ where
     Ok(serve_all(rt.alloc(), front, &mut telling, &mut taken, count)?)
 }
 
-/// A journal that tells each closing with its digest. Which closings were told is not seen, as standard output tells
-/// none.
+/// A journal that prints each closing with its digest. Contracts do not see what is printed.
 #[derive(Drop)]
 struct Telling<'a, R, D: Durable> {
     rt: &'a R,
@@ -170,10 +168,10 @@ impl<R: Print, D: Durable> Keeper for Telling<'_, R, D> {
         self.journal.answer(front, text, progress)
     }
 
-    /// The reply was given out, so nothing waits for the line.
+    /// The reply was written before, so a reader of the output cannot delay it.
     fn round_closed(&mut self, round: u64) {
         let rt = self.rt;
         let digest = Hex(*self.journal.chain());
-        let _untold = println!(rt; "closed {round} {digest}");
+        let _unprinted = println!(rt; "closed {round} {digest}");
     }
 }

@@ -10,3 +10,4 @@ pub mod Placed
 pub mod Tails
 pub mod Passing
 pub mod Starting
+pub mod EntryLaws

@@ -3,7 +3,8 @@ use Rattle.std.proofs.Common.{◌≡◌, ◌≤◌, ◌<◌, ◌+◌, ◌++◌, 
 use Rattle.std.proofs.lemmas.List.{append_assoc, take-append-drop, take_at, drop_at, get_or-drop}
 use Rattle.clock_journal.specs.Format.{head_length, head, link, record_of, records, last_link}
 use Rattle.clock_journal.specs.Headings.{Heading, headed, heading}
-use Rattle.clock_journal.specs.Reading.{Reads, Stops, Ends, damaged, onto}
+use Rattle.clock_journal.specs.Reading.{Reads, Stops, damaged}
+use Rattle.clock_journal.specs.Entries.{Entry, entries_onto}
 use Rattle.clock_journal.specs.Kept.{file_of}
 use Rattle.clock_journal.specs.Crash.{BeginsWith, BeginsWithTexts}
 use Rattle.clock_journal.specs.Recovering.{HasTakenFirst, IsFoundAt}
@@ -83,7 +84,7 @@ told_of_front digest bytes texts told size begins is =
     (bytes_eq_same (take head_length bytes) (head digest) same)
 
 -- the texts are taken first
-pub has_taken_first : (old new : List (List ℕ) → Type 0) (digest bytes : List ℕ) (texts : List (List ℕ)) (recovered : Recovered)
+pub has_taken_first : (old new : List Entry → Type 0) (digest bytes : List ℕ) (texts : List (List ℕ)) (recovered : Recovered)
     → ((place : ℕ) → get_or bytes place 0 < 256) → length digest ≡ 32 → BeginsWithTexts digest bytes texts
     → IsReplayed old new digest (drop head_length bytes) (length bytes) recovered
     → HasTakenFirst old new digest texts recovered
@@ -91,7 +92,7 @@ has_taken_first old new digest bytes texts recovered small size begins done =
     let first = texts_first digest bytes texts done.texts done.rest small size begins done.reads (ends_stop _ _ done.ends) in
     record {
       further = first.0.0;
-      stands = λ past was. subst (λ (all : List (List ℕ)). new (onto all past)) first.0.1 (done.stands past was);
+      stands = λ past was. subst (λ (all : List (List ℕ)). new (entries_onto digest [] all past)) first.0.1 (done.stands past was);
       behind = omega (arith, first.1, done.end_is);
     }
 

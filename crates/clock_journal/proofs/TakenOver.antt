@@ -1,8 +1,9 @@
 -- What is taken over from a file, and what of one that a stop of the machine has left.
-use Rattle.std.proofs.Common.{◌≡◌, ◌≤◌, ◌<◌, ◌+◌, ◌++◌, ℕ, Bool, true, false, List, length, get_or, take, drop, bytes_eq, refl, sym, ap, ◌∙◌, subst, arith, length-append, inl, inr}
+use Rattle.std.proofs.Common.{◌≡◌, ◌≤◌, ◌<◌, ◌+◌, ◌++◌, ℕ, Bool, true, false, List, [], length, get_or, take, drop, bytes_eq, refl, sym, ap, ◌∙◌, subst, arith, length-append, inl, inr}
 use Rattle.std.proofs.lemmas.List.{length-take, append_assoc, take-append-drop, take_at, drop_at, get_or-drop, take-take}
 use Rattle.clock_journal.specs.Format.{head_length, head, kind, records, last_link}
-use Rattle.clock_journal.specs.Reading.{Ends, onto, next, damaged}
+use Rattle.clock_journal.specs.Reading.{Ends, next, damaged}
+use Rattle.clock_journal.specs.Entries.{Entry, entries_onto}
 use Rattle.clock_journal.specs.Headings.{Heading, begun, headed, of_another, unknown, heading}
 use Rattle.clock_journal.specs.Kept.{file_of}
 use Rattle.clock_journal.specs.Crash.{IsPartOfHead, LeavesJournal, LeavesTexts, ReadsSome}
@@ -61,7 +62,7 @@ pub told_of_left : (digest left : List ℕ) (texts : List (List ℕ)) (least : �
 told_of_left digest left texts least told size leaves is = is ∙ heading_of_left digest left texts least size leaves
 
 -- up to the place where its last record ends the file is the journal of its texts
-pub headed_at : (old new : List (List ℕ) → Type 0) (digest bytes : List ℕ) (recovered : Recovered) → ((place : ℕ) → get_or bytes place 0 < 256)
+pub headed_at : (old new : List Entry → Type 0) (digest bytes : List ℕ) (recovered : Recovered) → ((place : ℕ) → get_or bytes place 0 < 256)
     → head_length ≤ length bytes → take head_length bytes ≡ head digest
     → (done : IsReplayed old new digest (drop head_length bytes) (length bytes) recovered) → IsHeaded digest bytes done.texts recovered
 headed_at old new digest bytes recovered small long same done =
@@ -77,11 +78,12 @@ headed_at old new digest bytes recovered small long same done =
       within = omega (arith, done.end_is);
       fit = back.1;
       chain_is = done.chain_is;
+      count_is = done.count_is;
       ends = subst (λ (b : List ℕ). Ends (last_link digest done.texts) b) (sym (ap (drop recovered.end) all ∙ drop_at (file_of digest done.texts) done.rest recovered.end at)) done.ends;
     }
 
 -- and all is taken that was on the disk
-pub has_taken : (old new : List (List ℕ) → Type 0) (digest left : List ℕ) (texts : List (List ℕ)) (least : ℕ) (recovered : Recovered)
+pub has_taken : (old new : List Entry → Type 0) (digest left : List ℕ) (texts : List (List ℕ)) (least : ℕ) (recovered : Recovered)
     → ((place : ℕ) → get_or left place 0 < 256) → length digest ≡ 32 → head_length ≤ length left
     → LeavesTexts digest left texts least → IsReplayed old new digest (drop head_length left) (length left) recovered
     → HasTaken old new digest left texts least recovered
@@ -95,13 +97,13 @@ has_taken old new digest left texts least recovered small size long leaves done 
       most = some.most;
       placed = inl (subst (λ (all : List (List ℕ)). IsHeaded digest left all recovered) same.0
           (headed_at old new digest left recovered small long front done));
-      stands = λ past was. subst (λ (all : List (List ℕ)). new (onto all past)) same.0 (done.stands past was);
+      stands = λ past was. subst (λ (all : List (List ℕ)). new (entries_onto digest [] all past)) same.0 (done.stands past was);
     }
 
 -- a file that is less than a head is begun anew
-pub has_taken_none : (same : List (List ℕ) → Type 0) (digest left : List ℕ) (texts : List (List ℕ)) (least : ℕ)
+pub has_taken_none : (same : List Entry → Type 0) (digest left : List ℕ) (texts : List (List ℕ)) (least : ℕ)
     → length digest ≡ 32 → LeavesJournal digest left texts least → length left < head_length
-    → HasTaken same same digest left texts least (record { chain = digest; end = 0 })
+    → HasTaken same same digest left texts least (record { chain = digest; end = 0; texts = 0 })
 has_taken_none same digest left texts least size (inl leaves) short =
     let e = ap length leaves.headed in
     let before = length-head digest size in
@@ -111,7 +113,7 @@ has_taken_none same digest left texts least size (inr part) short = record {
   count = 0;
   enough = omega (arith, part.0);
   most = omega arith;
-  placed = inr (record { none = refl; short = short; front = part.1.front; chain_is = refl; end_is = refl });
+  placed = inr (record { none = refl; short = short; front = part.1.front; chain_is = refl; end_is = refl; count_is = refl });
   stands = λ past was. was;
 }
 

@@ -4,6 +4,7 @@ pub mod Crash
 pub mod Disks
 pub mod Kept
 pub mod Headings
+pub mod Entries
 pub mod Recovering
 pub mod Chain
 pub mod Laws

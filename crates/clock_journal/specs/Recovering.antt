@@ -14,6 +14,7 @@
 --         none for it
 --     IsRefusedRightly refuses old first bytes size fault      a text that is told as refused is refused
 use Rattle.std.specs.Prelude.{◌≡◌, ◌⊎◌, ◌<◌, ◌≤◌, ◌+◌, ◌++◌, ℕ, List, [], length, take, drop}
+use Rattle.clock_journal.specs.Entries.{Entry, entries_onto, texts_in}
 use Rattle.clock_journal.specs.Format.{head, head_length, last_link, AllFit}
 use Rattle.clock_journal.specs.Kept.{file_of}
 use Rattle.clock_journal.specs.Headings.{heading, headed, of_another, unknown}
@@ -24,9 +25,9 @@ use Rattle.clock_journal.specs.declared.recovery.JournalFault.TheVariants as fau
 
 -- whatever the machine stood for, it stands for that, for these texts, and for further ones; and all records of these
 -- texts are before the place
-pub record HasTakenFirst (old new : List (List ℕ) → Type 0) (digest : List ℕ) (texts : List (List ℕ)) (recovered : Recovered) : Type 0 where
+pub record HasTakenFirst (old new : List Entry → Type 0) (digest : List ℕ) (texts : List (List ℕ)) (recovered : Recovered) : Type 0 where
   pub further : List (List ℕ)
-  pub stands : (past : List (List ℕ)) → old past → new (onto (texts ++ further) past)
+  pub stands : (past : List Entry) → old past → new (entries_onto digest [] (texts ++ further) past)
   pub behind : length (file_of digest texts) ≤ recovered.end
 
 -- the file is right: it is only that a text in it is refused, or that there is no memory
@@ -51,6 +52,7 @@ pub record IsHeaded (digest bytes : List ℕ) (texts : List (List ℕ)) (recover
   pub within : recovered.end ≤ length bytes
   pub fit : AllFit texts
   pub chain_is : recovered.chain ≡ last_link digest texts
+  pub count_is : recovered.texts ≡ length texts
   pub ends : Ends (last_link digest texts) (drop recovered.end bytes)
 
 -- the file is less than a head, and is to be begun anew
@@ -60,25 +62,26 @@ pub record IsBegun (digest bytes : List ℕ) (texts : List (List ℕ)) (recovere
   pub front : bytes ≡ take (length bytes) (head digest)
   pub chain_is : recovered.chain ≡ digest
   pub end_is : recovered.end ≡ 0
+  pub count_is : recovered.texts ≡ 0
 
 abbrev pub IsPlaced : List ℕ → List ℕ → List (List ℕ) → Recovered → Type 0
 IsPlaced digest bytes texts recovered = IsHeaded digest bytes texts recovered ⊎ IsBegun digest bytes texts recovered
 
 -- whatever the machine stood for, it stands for that and for the first of the texts, so many at least; and up to the
 -- place that is told the file has these
-pub record HasTaken (old new : List (List ℕ) → Type 0) (digest bytes : List ℕ) (texts : List (List ℕ)) (least : ℕ)
+pub record HasTaken (old new : List Entry → Type 0) (digest bytes : List ℕ) (texts : List (List ℕ)) (least : ℕ)
     (recovered : Recovered) : Type 0 where
   pub count : ℕ
   pub enough : least ≤ count
   pub most : count ≤ length texts
   pub placed : IsPlaced digest bytes (take count texts) recovered
-  pub stands : (past : List (List ℕ)) → old past → new (onto (take count texts) past)
+  pub stands : (past : List Entry) → old past → new (entries_onto digest [] (take count texts) past)
 
 -- whatever the machine stood for, it stands for that and for the texts of the file
-pub record IsRecovered (old new : List (List ℕ) → Type 0) (digest bytes : List ℕ) (recovered : Recovered) : Type 0 where
+pub record IsRecovered (old new : List Entry → Type 0) (digest bytes : List ℕ) (recovered : Recovered) : Type 0 where
   pub texts : List (List ℕ)
   pub placed : IsPlaced digest bytes texts recovered
-  pub stands : (past : List (List ℕ)) → old past → new (onto texts past)
+  pub stands : (past : List Entry) → old past → new (entries_onto digest [] texts past)
 
 -- all before the place reads as texts, and there stands this. The size is that of the file, whose last bytes these are
 pub record IsFoundAt (first bytes : List ℕ) (size place : ℕ) (found : Next) : Type 0 where
@@ -98,12 +101,12 @@ IsRefusal digest bytes (fault.Refused place) =
 IsRefusal digest bytes fault.NoMemory = Unit {0}
 
 -- all before the place reads as texts, and there stands one that the machine refuses after them, whatever it stood for
-pub record IsRefusedAt (refuses : List (List ℕ) → List ℕ → Type 0) (old : List (List ℕ) → Type 0) (first bytes : List ℕ) (size place : ℕ) : Type 0 where
+pub record IsRefusedAt (refuses : List (List ℕ) → List ℕ → Type 0) (old : List Entry → Type 0) (first bytes : List ℕ) (size place : ℕ) : Type 0 where
   pub text : List ℕ
   pub found : IsFoundAt first bytes size place (whole text)
-  pub refused : (past : List (List ℕ)) → old past → refuses (onto found.texts past) text
+  pub refused : (past : List Entry) → old past → refuses (onto found.texts (texts_in past)) text
 
-abbrev pub IsRefusedRightly : (List (List ℕ) → List ℕ → Type 0) → (List (List ℕ) → Type 0) → List ℕ → List ℕ → ℕ → JournalFault → Type 0
+abbrev pub IsRefusedRightly : (List (List ℕ) → List ℕ → Type 0) → (List Entry → Type 0) → List ℕ → List ℕ → ℕ → JournalFault → Type 0
 IsRefusedRightly refuses old first bytes size fault.Unknown = Unit {0}
 IsRefusedRightly refuses old first bytes size fault.Setup = Unit {0}
 IsRefusedRightly refuses old first bytes size (fault.Damaged place) = Unit {0}

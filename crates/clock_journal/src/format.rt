@@ -1,4 +1,4 @@
-//! The bytes of a journal: digests, its head, and the records behind that.
+//! The bytes of a journal: digests, its head, and its records.
 
 ghost use Rattle.std.specs.Prelude.{◌≡◌, ◌≤◌, ◌++◌};
 ghost use Rattle.sha2.specs.Sha256.{sha256};
@@ -10,7 +10,7 @@ use sha2::{Digest, Sha256};
 /// The digest of a text and of all before it.
 pub type Link = [u8; 32];
 
-/// The digest of a text behind another digest.
+/// The digest of a text that follows another digest.
 #[tactic(auto, unfolding(crate::specs::Format::link))]
 pub fn link_of(chain: &Link, text: &[u8]) -> Link
     ensures { result ≡ link chain.now text.now }
@@ -21,23 +21,23 @@ pub fn link_of(chain: &Link, text: &[u8]) -> Link
     hasher.finalize()
 }
 
-/// The digest of a set-up document, with which its journal begins.
+/// The digest of a set-up document, which is in the head of its journal.
 pub fn digest_of(document: &[u8]) -> Link
     ensures { result ≡ sha256 document.now }
 {
     Sha256::digest(document)
 }
 
-/// How many bytes stand before the first record of a journal.
+/// The length of a journal's head.
 pub const HEAD_LENGTH: usize = 56;
 
-/// How many of them are the same in every journal.
+/// How many bytes of the head are the same in every journal.
 pub const KIND_LENGTH: usize = 24;
 
-/// What every journal of this format begins with.
+/// The first bytes of every journal.
 pub const KIND: &[u8; KIND_LENGTH] = b"clock_auction journal 1\n";
 
-/// What a journal begins with, for the set-up document of a digest.
+/// The head of the journal of a set-up document, which has this digest.
 #[tactic(auto, unfolding(crate::specs::Format::head, crate::specs::Format::kind))]
 pub fn head_of(digest: &Link) -> [u8; HEAD_LENGTH]
     ensures { result ≡ head digest.now }
@@ -48,28 +48,29 @@ pub fn head_of(digest: &Link) -> [u8; HEAD_LENGTH]
     bytes
 }
 
-/// How long a text may be.
+/// The length of the longest text.
 pub const MOST_TEXT: usize = 16_777_215;
 
-/// How many bytes tell the length of a text, twice.
+/// The bytes of a record that have the length of its text, twice.
 const MARK_LENGTH: usize = 8;
 
-/// How many bytes of a record stand before its text: its mark and its digest.
+/// The bytes of a record before its text: the length twice, and the digest.
 pub const BEFORE_TEXT: usize = 40;
 
-/// What stands at the front of bytes.
+/// What bytes of a journal begin with.
+///
+/// - `Ended`: there are none.
+/// - `Torn`: a record that is not complete, or the last one with a wrong digest.
+/// - `Damaged`: what no crash leaves.
+/// - `Whole`: the record of this text, with this digest.
 pub enum Next<'a> {
-    /// Nothing.
     Ended,
-    /// A record that is not all there, or whose digest is wrong and behind which nothing stands.
     Torn,
-    /// What no stop of the machine leaves.
     Damaged,
-    /// The record of this text, with its digest.
     Whole(&'a [u8], Link),
 }
 
-/// What stands before a text in its record.
+/// The bytes of a record before its text.
 #[tactic(auto, unfolding(crate::specs::Format::mark))]
 pub fn front_of(count: usize, digest: &Link) -> [u8; BEFORE_TEXT]
     requires { count ≤ most_text }
@@ -83,7 +84,7 @@ pub fn front_of(count: usize, digest: &Link) -> [u8; BEFORE_TEXT]
     front
 }
 
-/// What stands at the front of bytes behind a digest.
+/// Finds what bytes begin with. `chain` is the digest of the text before them.
 #[tactic(auto, unfolding(crate::specs::Reading::next, crate::specs::Reading::is_marked, crate::specs::Reading::marked_length))]
 pub fn next_record<'a>(chain: &Link, bytes: &'a [u8]) -> Next<'a>
     ensures next { shown result ≡ next chain.now bytes.now }

@@ -1,8 +1,10 @@
-ghost use Rattle.std.specs.Prelude.{◌≡◌, ◌++◌, [], ◌∷◌, List, ℕ, OnOk, OnErr, Some, false, is_err, length};
-ghost use Rattle.clock_journal.specs.{Disks.{LeaveOnly, MayBeLeft}, Format.{Fits, link}, Kept.{HasTexts, JournalState}};
+ghost use Rattle.std.specs.Prelude.{◌≡◌, ◌++◌, [], ◌∷◌, List, ℕ, OnOk, OnErr, Some, false, is_err};
+ghost use Rattle.std.specs.Prelude.{length};
+ghost use Rattle.clock_journal.specs.{Disks.{LeaveOnly, MayBeLeft}, Format.{Fits, link}};
+ghost use Rattle.clock_journal.specs.{Kept.{HasTexts, JournalState}, Recovering.{IsPlaced}};
 ghost use Rattle.clock_journal.specs.Crash.{BeginsWithTexts, LeavesJournal, LeavesTexts, StaysSo};
-ghost use Rattle.clock_journal.specs.{Chain.{ChainBinds, JournalsBind}, Laws.{CutLeaves, EveryFront, ReadsBack, WhateverFollows}};
-ghost use Rattle.clock_journal.specs.Recovering.{IsPlaced};
+ghost use Rattle.clock_journal.specs.Chain.{ChainBinds, JournalsBind};
+ghost use Rattle.clock_journal.specs.Laws.{CutLeaves, EveryFront, ReadsBack, WhateverFollows};
 
 use crate::durable::Durable;
 use crate::format::{Link, front_of, head_of, link_of};
@@ -10,10 +12,9 @@ use crate::recovery::Recovered;
 use clock_device::Failed;
 use std::marker::Model;
 
-/// A journal on a disk. It is begun there or taken over from it before its first text.
+/// A journal on a disk. Begin it on an empty disk, or resume it, before the first text.
 ///
-/// Contracts see what stands on its disk and what of that is synced, where the disk tells it, whether a call of it has
-/// failed, whether its file was only added to, each moment that the disk went through, and the digest of the last text.
+/// In contracts, a journal is what contracts see of its disk, and the digest of its last text.
 #[derive(Drop)]
 pub struct Journal<D: Durable> {
     disk: D,
@@ -34,7 +35,7 @@ impl<D: Durable> Model for Journal<D> {
 }
 
 impl<D: Durable> Journal<D> {
-    /// The journal of the set-up document of a digest on a disk, before any call.
+    /// The journal of a set-up document, which has this digest, on a disk.
     pub fn new(disk: D, digest: Link) -> Journal<D>
         ensures written { result.written ≡ D.written disk }
         ensures synced { result.synced ≡ D.synced disk }
@@ -47,10 +48,12 @@ impl<D: Durable> Journal<D> {
         Journal { disk, chain }
     }
 
-    /// Begins it on an empty disk: at `Ok` its head is on the disk. A stop at any moment leaves a front of the head.
+    /// Begins the journal on an empty disk. At `Ok`, its head is on the disk. A crash at any
+    /// moment leaves a prefix of the head.
     pub fn begin(&mut self) -> Result<(), Failed>
         requires unfailed { self.old.has_failed ≡ false }
-        ensures kept { self.old.written ≡ Some [] → OnOk result (HasTexts self.old.chain [] self.new) }
+        ensures kept { self.old.written ≡ Some []
+            → OnOk result (HasTexts self.old.chain [] self.new) }
         ensures moments { self.old.written ≡ Some [] → LeaveOnly self.old.moments self.new.moments
             (λ left. LeavesJournal self.old.chain left [] 0) }
         ensures uncut { self.new.uncut ≡ self.old.uncut }
@@ -61,11 +64,10 @@ impl<D: Durable> Journal<D> {
         self.disk.sync()
     }
 
-    /// Goes on with the journal of a file that was taken over. All that stands in the file is put on the disk, and what
-    /// is torn is then cut off.
+    /// Continues the journal of a file that was recovered: syncs it, and truncates what is torn.
     ///
-    /// `crash`, `any_tail`: if a stop before this leaves the texts that were told, so does a stop at any moment of it, at
-    /// `Err` too.
+    /// `crash`, `any_tail`: if a crash before this call leaves these texts, so does a crash at any
+    /// moment of the call, also at `Err`.
     pub fn resume(&mut self, recovered: Recovered) -> Result<(), Failed>
         requires unfailed { self.old.has_failed ≡ false }
         ensures kept { (bytes : List ℕ) (texts : List (List ℕ))
@@ -74,14 +76,15 @@ impl<D: Durable> Journal<D> {
         ensures crash { (bytes synced : List ℕ) (read texts : List (List ℕ)) (least : ℕ)
             → self.old.written ≡ Some bytes → self.old.synced ≡ Some synced
             → IsPlaced self.old.chain bytes read recovered
-            → StaysSo self.old self.new (λ left. LeavesJournal self.old.chain left texts least) }
+            → StaysSo self.old self.new
+            (λ left. LeavesJournal self.old.chain left texts least) }
         ensures any_tail { (bytes synced : List ℕ) (read texts : List (List ℕ))
             → self.old.written ≡ Some bytes → self.old.synced ≡ Some synced
             → IsPlaced self.old.chain bytes read recovered
             → StaysSo self.old self.new (λ left. BeginsWithTexts self.old.chain left texts) }
         ensures failed { self.new.has_failed ≡ is_err result }
     {
-        // a stop while it is cut off leaves what stood up to that place, if that was on the disk
+        // only synced bytes survive a crash during the truncation
         self.disk.sync()?;
         self.disk.cut(recovered.end)?;
         if recovered.end == 0 {
@@ -92,17 +95,16 @@ impl<D: Durable> Journal<D> {
         Ok(())
     }
 
-    /// Adds a text. At `Ok` it is on the disk: no stop of the machine takes it. At `Err` it may be there or not, all
-    /// that was on the disk is, and the journal is to be opened anew: nothing more can be added to this one, since a
-    /// sync that failed says nothing when it is tried again. The file is only added to.
-    ///
-    /// It takes no memory.
+    /// Appends a text. At `Ok`, it is on the disk and survives a crash. At `Err`, it may be there
+    /// or not, and all that was on the disk still is. Do not append after an `Err`: a failed sync
+    /// that is repeated may report success. Allocates nothing.
     pub fn append(&mut self, text: &[u8]) -> Result<(), Failed>
         requires fits { Fits text.now }
         requires unfailed { self.old.has_failed ≡ false }
         ensures kept { (digest : List ℕ) (texts : List (List ℕ)) → HasTexts digest texts self.old
             → OnOk result (HasTexts digest (texts ++ text.now ∷ []) self.new) }
-        ensures any_moment { (digest : List ℕ) (texts : List (List ℕ)) → HasTexts digest texts self.old
+        ensures any_moment { (digest : List ℕ) (texts : List (List ℕ))
+            → HasTexts digest texts self.old
             → (left : List ℕ) → MayBeLeft self.old.synced self.new.written left
             → LeavesTexts digest left (texts ++ text.now ∷ []) (length texts) }
         ensures moments { (digest : List ℕ) (texts : List (List ℕ)) → HasTexts digest texts self.old
@@ -120,14 +122,14 @@ impl<D: Durable> Journal<D> {
         self.disk.sync()
     }
 
-    /// The digest of its last text, or of the set-up document: it stands for all texts.
+    /// The digest of its last text, or of the set-up document.
     pub fn chain(&self) -> &Link
         ensures { result.now ≡ self.now.chain }
     {
         &self.chain
     }
 
-    /// The disk that it stands on.
+    /// The disk of the journal.
     pub fn disk(&self) -> &D
         ensures written { D.written result.now ≡ self.now.written }
         ensures synced { D.synced result.now ≡ self.now.synced }
@@ -138,12 +140,11 @@ impl<D: Durable> Journal<D> {
     }
 }
 
-/// Laws of all journals. It does nothing when it runs: a caller is handed them.
+/// Laws of all journals. The call does nothing.
 ///
-/// `as_many`, `any`: the digest of a journal's last text stands for the set-up and all texts before it: two journals that
-/// end with the same digest are the same, or of the messages that were hashed for them two differ and have one digest.
-/// If one may have more texts than the other there is a third way out: a set-up document begins with 32 bytes which are
-/// a digest of the other journal.
+/// `as_many`, `any`: two journals with the same last digest are the same, or two different messages
+/// that were hashed for them have the same digest. For journals of different lengths, `any` has a
+/// third case: a set-up document begins with 32 bytes that are a digest of the other journal.
 pub fn law_of_journals()
     ensures as_many { ChainBinds }
     ensures any { JournalsBind }

@@ -1,4 +1,4 @@
-//! A journal of request texts, which outlives a stop of the machine.
+//! A journal of request texts, which survives a crash.
 #![tactic(auto)]
 
 mod durable;
@@ -9,4 +9,4 @@ mod recovery;
 pub use durable::{Durable, FileDisk};
 pub use format::{BEFORE_TEXT, HEAD_LENGTH, Link, MOST_TEXT, digest_of, link_of};
 pub use journal::{Journal, law_of_journals};
-pub use recovery::{JournalFault, Machine, Recovered, Untaken, recover};
+pub use recovery::{JournalFault, Machine, Record, Recovered, Untaken, recover};

@@ -1,57 +1,78 @@
-//! How a journal is taken over from a file: its texts go to a machine, one after the other.
+//! Recovery: a machine takes the texts of a file, one after the other.
 
 ghost use Rattle.std.specs.Prelude.{◌≡◌, ◌∷◌, List, ℕ, Err, MatchResult, OnOk, drop, length};
-ghost use Rattle.clock_journal.specs.{Crash.{BeginsWithTexts, LeavesJournal}, Format.{head_length}, Kept.{file_of}};
-ghost use Rattle.clock_journal.specs.Recovering.{HasTaken, HasTakenFirst, IsBehind, IsRecovered, IsRefusal};
-ghost use Rattle.clock_journal.specs.Recovering.{IsRefusedRightly, IsUntaken};
+ghost use Rattle.clock_journal.specs.{Crash.{BeginsWithTexts, LeavesJournal}, Kept.{file_of}};
+ghost use Rattle.clock_journal.specs.{Entries.{Entry, texts_in}, Format.{head_length}};
+ghost use Rattle.clock_journal.specs.Recovering.{HasTaken, HasTakenFirst, IsBehind, IsRecovered};
+ghost use Rattle.clock_journal.specs.Recovering.{IsRefusal, IsRefusedRightly, IsUntaken};
 
 use crate::format::{
     BEFORE_TEXT, HEAD_LENGTH, KIND, KIND_LENGTH, Link, Next, head_of, next_record,
 };
 
-/// Why a text was not taken: it is none that changes the machine as it stands, or there was no memory. The machine is
-/// not to be used any more.
+/// Why a machine did not take a text: it would change nothing, or the machine is out of memory. The
+/// machine cannot be used any more.
 #[derive(Clone, Copy, Debug, PartialEq, Eq)]
 pub enum Untaken {
     Refused,
     NoMemory,
 }
 
-/// What stands for a list of texts.
+/// The record of a text in a file.
+#[derive(Clone, Copy, Debug, PartialEq, Eq)]
+pub struct Record {
+    /// The text's number in the file, from 1.
+    pub number: u64,
+    /// The byte of the file at which the record begins.
+    pub place: usize,
+    /// The digest of the text and of all before it.
+    pub digest: Link,
+}
+
+/// What takes the texts of a journal, in order.
+///
+/// In contracts, a machine stands for the texts that it took, each with its record, the newest
+/// first.
 pub trait Machine {
-    /// What it goes by, which no text changes.
+    /// What decides whether it refuses a text. No text changes it.
     ghost Rules: { Type 0 } = { Unit {0} };
 
     ghost rules: { Self → Self.Rules };
 
-    /// It stands for these texts, of which the newest stands first.
-    ghost stands_for: { Self → List (List ℕ) → Type 0 };
+    ghost stands_for: { Self → List Entry → Type 0 };
 
-    /// By what it goes by, a text is none for it after these texts.
+    /// By these rules, a machine that took these texts refuses this one.
     ghost refuses: { Self.Rules → List (List ℕ) → List ℕ → Type 0 };
 
-    /// Takes one more text.
-    fn take(&mut self, text: &[u8]) -> Result<(), Untaken>
-        ensures taken { OnOk result ((texts : List (List ℕ))
-            → stands_for self.old texts → stands_for self.new (text.now ∷ texts)) }
-        ensures refused { (texts : List (List ℕ))
-            → result ≡ Err Untaken.Refused → stands_for self.old texts → refuses (rules self.old) texts text.now }
+    /// Takes the next text, whose record is `at`.
+    fn take(&mut self, text: &[u8], at: &Record) -> Result<(), Untaken>
+        ensures taken { OnOk result ((entries : List Entry) → stands_for self.old entries
+            → stands_for self.new ((at.now, text.now) ∷ entries)) }
+        ensures refused { (entries : List Entry)
+            → result ≡ Err Untaken.Refused → stands_for self.old entries
+            → refuses (rules self.old) (texts_in entries) text.now }
         ensures rules { rules self.new ≡ rules self.old };
 }
 
-/// How a journal was taken over.
+/// What a file has, if its journal can be continued.
 #[derive(Clone, Copy, Debug, PartialEq, Eq)]
 pub struct Recovered {
-    /// The digest of its last text.
+    /// The digest of its last text, or of the set-up document.
     pub chain: Link,
-    /// Where its last record ends: what stands behind that is torn, and to be cut off. It is 0 where there is no whole
-    /// head.
+    /// Where its last record ends. What follows is torn, and will be truncated. If the file has no
+    /// whole head, `end` is 0.
     pub end: usize,
+    /// The number of its texts.
+    pub texts: u64,
 }
 
-/// Why a file is not taken over as the journal: it is none, or one of another set-up, or damaged at a place, that is it
-/// has there what no stop of the machine leaves, or the text of the record at a place is refused by the machine, or
-/// there was no memory.
+/// Why the journal in a file cannot be continued.
+///
+/// - `Unknown`: the file is no journal.
+/// - `Setup`: it is the journal of another set-up.
+/// - `Damaged`: at this place it has what no crash leaves.
+/// - `Refused`: the machine refuses the text whose record begins at this place.
+/// - `NoMemory`: the machine is out of memory.
 #[derive(Clone, Copy, Debug, PartialEq, Eq)]
 pub enum JournalFault {
     Unknown,
@@ -61,10 +82,11 @@ pub enum JournalFault {
     NoMemory,
 }
 
-/// Takes all texts of a file, in order, and tells where the last of them ends. It changes nothing in the file.
+/// Gives a machine all texts of a file, in order, each with its record. `digest` is that of the
+/// set-up document. If the file begins with the journal of some texts, the machine takes these
+/// first, and `Damaged` names no place before their end.
 ///
-/// If the file begins with the journal of some texts, whatever follows, these are taken first, and nothing is told as
-/// damaged at a place before their end.
+/// Changes nothing in the file.
 pub fn recover<M: Machine>(
     machine: &mut M,
     digest: &Link,
@@ -73,9 +95,10 @@ pub fn recover<M: Machine>(
     ensures read { MatchResult result
         (IsRecovered (M.stands_for machine.old) (M.stands_for machine.new) digest.now bytes.now)
         (IsRefusal digest.now bytes.now) }
-    ensures crash { (texts : List (List ℕ)) (least : ℕ) → LeavesJournal digest.now bytes.now texts least
-        → MatchResult result
-        (HasTaken (M.stands_for machine.old) (M.stands_for machine.new) digest.now bytes.now texts least)
+    ensures crash { (texts : List (List ℕ)) (least : ℕ)
+        → LeavesJournal digest.now bytes.now texts least → MatchResult result
+        (HasTaken (M.stands_for machine.old) (M.stands_for machine.new) digest.now bytes.now texts
+        least)
         IsUntaken }
     ensures any_tail { (texts : List (List ℕ)) → BeginsWithTexts digest.now bytes.now texts
         → MatchResult result
@@ -87,10 +110,15 @@ pub fn recover<M: Machine>(
     ensures rules { M.rules machine.new ≡ M.rules machine.old }
 {
     let mut chain = *digest;
+    let mut texts: u64 = 0;
     let head = head_of(digest);
     if bytes.len() < HEAD_LENGTH {
         if bytes[..] == head[..bytes.len()] {
-            return Ok(Recovered { chain, end: 0 });
+            return Ok(Recovered {
+                chain,
+                end: 0,
+                texts,
+            });
         }
         return Err(JournalFault::Unknown);
     }
@@ -104,16 +132,25 @@ pub fn recover<M: Machine>(
     loop {
         let end = bytes.len() - rest.len();
         match next_record(&chain, rest) {
-            Next::Ended | Next::Torn => return Ok(Recovered { chain, end }),
+            Next::Ended | Next::Torn => return Ok(Recovered { chain, end, texts }),
             Next::Damaged => return Err(JournalFault::Damaged(end)),
-            Next::Whole(text, digest) => match machine.take(text) {
-                Ok(()) => {
-                    chain = digest;
-                    rest = &rest[BEFORE_TEXT + text.len()..];
+            Next::Whole(text, digest) => {
+                let number = texts + 1;
+                let record = Record {
+                    number,
+                    place: end,
+                    digest,
+                };
+                match machine.take(text, &record) {
+                    Ok(()) => {
+                        chain = digest;
+                        texts = number;
+                        rest = &rest[BEFORE_TEXT + text.len()..];
+                    }
+                    Err(Untaken::Refused) => return Err(JournalFault::Refused(end)),
+                    Err(Untaken::NoMemory) => return Err(JournalFault::NoMemory),
                 }
-                Err(Untaken::Refused) => return Err(JournalFault::Refused(end)),
-                Err(Untaken::NoMemory) => return Err(JournalFault::NoMemory),
-            },
+            }
         }
     }
 }

@@ -7,6 +7,7 @@ use Rattle.clock_terms.specs.Limits.{SetupFields}
 use Rattle.clock_house.specs.House.{HouseFields}
 use Rattle.clock_front.specs.Effects.{effect}
 use Rattle.clock_journal.specs.Format.{before_text, head, head_length, kind, last_link, link}
+use Rattle.clock_journal.specs.Entries.{Entry}
 use Rattle.clock_journal.specs.Headings.{begun, headed, heading, of_another, unknown}
 use Rattle.clock_journal.specs.Reading.{Reads, Stops, next, onto, whole}
 use Rattle.clock_journal.specs.Crash.{IsPartOfHead, LeavesJournal, LeavesTexts}
@@ -111,7 +112,7 @@ begun_is digest left part =
 -- so no text of the file is refused
 none_refused : (setup : SetupFields) (digest bytes : List ℕ) (texts : List (List ℕ)) (least size place : ℕ)
     → length (head digest) ≡ head_length → AreAccepted setup [] texts → LeavesTexts digest bytes texts least
-    → IsRefusedAt (IsRefused setup) (λ (past : List (List ℕ)). past ≡ []) digest (drop head_length bytes) size place → ⊥
+    → IsRefusedAt (IsRefused setup) (λ (past : List Entry). past ≡ []) digest (drop head_length bytes) size place → ⊥
 none_refused setup digest bytes texts least size place long accepted leaves refused =
     let some = leaves.reads in
     let found = refused.found in
@@ -124,14 +125,14 @@ none_refused setup digest bytes texts least size place long accepted leaves refu
     (accepted_at setup [] found.texts refused.text among.0 all) (refused.refused [] refl)
 
 pub own_starts : OwnStarts
-own_starts setup digest bytes texts least house count (Refused fault.Unknown) accepted leaves own refused = absurd own
-own_starts setup digest bytes texts least house count (Refused fault.Setup) accepted leaves own refused = absurd own
-own_starts setup digest bytes texts least house count (Refused (fault.Damaged place)) accepted leaves own refused = absurd own
-own_starts setup digest bytes texts least house count (Refused (fault.Refused place)) accepted (inl leaves) own refused =
+own_starts setup digest bytes texts least house (Refused fault.Unknown) accepted leaves own refused = absurd own
+own_starts setup digest bytes texts least house (Refused fault.Setup) accepted leaves own refused = absurd own
+own_starts setup digest bytes texts least house (Refused (fault.Damaged place)) accepted leaves own refused = absurd own
+own_starts setup digest bytes texts least house (Refused (fault.Refused place)) accepted (inl leaves) own refused =
     absurd (none_refused setup digest bytes texts least (length bytes) place
     (whole_head digest bytes (drop head_length bytes) refused.0.0) accepted leaves refused.1)
-own_starts setup digest bytes texts least house count (Refused (fault.Refused place)) accepted (inr part) own refused =
+own_starts setup digest bytes texts least house (Refused (fault.Refused place)) accepted (inr part) own refused =
     let both : begun ≡ headed (drop head_length bytes) = sym (begun_is digest bytes part.1) ∙ refused.0.0 in
     absurd (let no : ⊥ = cc in no)
-own_starts setup digest bytes texts least house count (Refused fault.NoMemory) accepted leaves own refused = tt
-own_starts setup digest bytes texts least house count Failed accepted leaves own refused = tt
+own_starts setup digest bytes texts least house (Refused fault.NoMemory) accepted leaves own refused = tt
+own_starts setup digest bytes texts least house Failed accepted leaves own refused = tt

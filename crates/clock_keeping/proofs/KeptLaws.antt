@@ -1,7 +1,7 @@
 -- How an answered text is logged, or not.
 use Rattle.std.proofs.Common.{◌≡◌, inl, inr, ℕ, Bool, true, false, List, [], ◌∷◌, ◌++◌, refl, sym, ap, ◌∙◌, subst}
 use Rattle.clock_house.specs.House.{HouseFields}
-use Rattle.clock_front.specs.Effects.{IsRightResponse, RespondsTo, effect}
+use Rattle.clock_front.specs.Effects.{RespondsTo}
 use Rattle.clock_front.specs.Fronts.{StandsForTexts}
 use Rattle.clock_front.specs.declared.front.response.Response.{Response}
 use Rattle.clock_journal.specs.Kept.{JournalState, HasTexts}

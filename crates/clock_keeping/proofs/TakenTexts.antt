@@ -1,6 +1,5 @@
 -- How a text of a journal is taken by an auction.
-use Rattle.std.proofs.Common.{◌≡◌, inl, inr, ℕ, Bool, true, false, List, ◌∷◌, Result, Ok, Err, IfOk, refl, sym, ap, ◌∙◌, subst}
-use Rattle.std.specs.Prelude.{OnOk}
+use Rattle.std.proofs.Common.{◌≡◌, inl, inr, ℕ, true, false, List, ◌∷◌, Result, Err, IfOk, refl, sym, ap, ◌∙◌, subst}
 use Rattle.clock_house.specs.House.{HouseFields}
 use Rattle.clock_http.specs.declared.code.Code.{Code}
 use Rattle.clock_http.specs.Replies.{Answer}

@@ -1,63 +1,62 @@
 -- What a machine has taken is what the auction stands for.
-use Rattle.std.proofs.Common.{◌≡◌, ◌+◌, List, [], ◌∷◌, ℕ, Result, Ok, Err, MatchResult, length, arith, sym, subst}
+use Rattle.std.proofs.Common.{◌≡◌, ◌++◌, List, [], ℕ, take, Result, Ok, Err, MatchResult, sym, subst}
 use Rattle.clock_house.specs.House.{HouseFields}
 use Rattle.clock_front.specs.Fronts.{StandsForTexts}
-use Rattle.clock_journal.specs.Reading.{onto}
+use Rattle.clock_journal.specs.Entries.{Entry, texts_in}
 use Rattle.clock_journal.specs.Recovering.{HasTaken, HasTakenFirst, IsBehind, IsRecovered, IsRefusal, IsRefusedRightly, IsUntaken}
 use Rattle.clock_journal.specs.declared.recovery.JournalFault.{JournalFault}
 use Rattle.clock_journal.specs.declared.recovery.Recovered.{Recovered}
 use Rattle.clock_journal.specs.declared.recovery.JournalFault.TheVariants.{Unknown, Setup, Damaged, Refused, NoMemory}
-use Rattle.clock_keeping.specs.Keeping.{HasTakenUp, IsTakenUp, counted}
+use Rattle.clock_journal.proofs.EntryLaws.{texts_in-onto}
+use Rattle.clock_keeping.specs.Keeping.{HasTakenUp, IsTakenUp}
 use Rattle.clock_keeping.specs.Starts.{HasTakenUpFirst}
 
--- the texts in the other order are as many
-pub length-onto : (texts past : List (List ℕ)) → length (onto texts past) ≡ length texts + length past
-length-onto [] past = omega arith
-length-onto (text ∷ texts) past = omega (arith, length-onto texts (text ∷ past))
+-- the auction stands for the texts of these entries
+abbrev pub IsAt : HouseFields → List Entry → Type 0
+IsAt house entries = StandsForTexts (texts_in entries) house
 
--- the auction stands for some texts, and they are counted
-abbrev pub IsAt : HouseFields → ℕ → List (List ℕ) → Type 0
-IsAt house count texts = StandsForTexts texts house × (count ≡ counted texts)
-
-module _ (old : List (List ℕ) → Type 0) (begun : old []) where
+module _ (old : List Entry → Type 0) (begun : old []) where
   -- of what a stop has left
-  pub has_taken_up : (new : HouseFields) (count : ℕ) (digest bytes : List ℕ) (texts : List (List ℕ)) (least : ℕ) (result : Result Recovered JournalFault)
-      → MatchResult result (HasTaken old (IsAt new count) digest bytes texts least) IsUntaken
+  pub has_taken_up : (new : HouseFields) (digest bytes : List ℕ) (texts : List (List ℕ)) (least : ℕ) (result : Result Recovered JournalFault)
+      → MatchResult result (HasTaken old (IsAt new) digest bytes texts least) IsUntaken
       → MatchResult result (HasTakenUp digest bytes texts least new) IsUntaken
-  has_taken_up new count digest bytes texts least (Ok recovered) taken = record {
+  has_taken_up new digest bytes texts least (Ok recovered) taken = record {
     count = taken.count;
     enough = taken.enough;
     most = taken.most;
     placed = taken.placed;
-    stands = (taken.stands [] begun).0;
+    stands = subst (λ (all : List (List ℕ)). StandsForTexts all new) (texts_in-onto digest [] (take taken.count texts) [])
+        (taken.stands [] begun);
   }
-  has_taken_up new count digest bytes texts least (Err fault) taken = taken
+  has_taken_up new digest bytes texts least (Err fault) taken = taken
 
   -- of a file that begins with some texts
-  pub has_taken_up_first : (new : HouseFields) (count : ℕ) (digest : List ℕ) (texts : List (List ℕ)) (size : ℕ) (result : Result Recovered JournalFault)
-      → MatchResult result (HasTakenFirst old (IsAt new count) digest texts) (IsBehind size)
+  pub has_taken_up_first : (new : HouseFields) (digest : List ℕ) (texts : List (List ℕ)) (size : ℕ) (result : Result Recovered JournalFault)
+      → MatchResult result (HasTakenFirst old (IsAt new) digest texts) (IsBehind size)
       → MatchResult result (HasTakenUpFirst digest texts new) (IsBehind size)
-  has_taken_up_first new count digest texts size (Ok recovered) taken =
-      record { further = taken.further; stands = (taken.stands [] begun).0; behind = taken.behind }
-  has_taken_up_first new count digest texts size (Err fault) behind = behind
+  has_taken_up_first new digest texts size (Ok recovered) taken = record {
+    further = taken.further;
+    stands = subst (λ (all : List (List ℕ)). StandsForTexts all new) (texts_in-onto digest [] (texts ++ taken.further) [])
+        (taken.stands [] begun);
+    behind = taken.behind;
+  }
+  has_taken_up_first new digest texts size (Err fault) behind = behind
 
   -- of any file
-  pub is_taken_up : (new : HouseFields) (count : ℕ) (digest bytes : List ℕ) (result : Result Recovered JournalFault)
-      → MatchResult result (IsRecovered old (IsAt new count) digest bytes) (IsRefusal digest bytes)
-      → MatchResult result (λ recovered. IsTakenUp digest bytes recovered new count) (IsRefusal digest bytes)
-  is_taken_up new count digest bytes (Ok recovered) taken =
-      let now = taken.stands [] begun in
-      record {
-        texts = taken.texts;
-        placed = taken.placed;
-        stands = now.0;
-        count_is = omega (arith, now.1, length-onto taken.texts []);
-      }
-  is_taken_up new count digest bytes (Err fault) refusal = refusal
+  pub is_taken_up : (new : HouseFields) (digest bytes : List ℕ) (result : Result Recovered JournalFault)
+      → MatchResult result (IsRecovered old (IsAt new) digest bytes) (IsRefusal digest bytes)
+      → MatchResult result (λ recovered. IsTakenUp digest bytes recovered new) (IsRefusal digest bytes)
+  is_taken_up new digest bytes (Ok recovered) taken = record {
+    texts = taken.texts;
+    placed = taken.placed;
+    stands = subst (λ (all : List (List ℕ)). StandsForTexts all new) (texts_in-onto digest [] taken.texts [])
+        (taken.stands [] begun);
+  }
+  is_taken_up new digest bytes (Err fault) refusal = refusal
 
   -- a text that is refused, of whatever refuses it
   pub refused_first : (refuses : List (List ℕ) → List ℕ → Type 0) (first bytes : List ℕ) (size : ℕ) (fault : JournalFault)
-      → IsRefusedRightly refuses old first bytes size fault → IsRefusedRightly refuses (λ (past : List (List ℕ)). past ≡ []) first bytes size fault
+      → IsRefusedRightly refuses old first bytes size fault → IsRefusedRightly refuses (λ (past : List Entry). past ≡ []) first bytes size fault
   refused_first refuses first bytes size Unknown refused = tt
   refused_first refuses first bytes size Setup refused = tt
   refused_first refuses first bytes size (Damaged place) refused = tt
@@ -70,6 +69,6 @@ module _ (old : List (List ℕ) → Type 0) (begun : old []) where
 
   pub refused_in : (refuses : List (List ℕ) → List ℕ → Type 0) (first bytes : List ℕ) (size : ℕ) (result : Result Recovered JournalFault)
       → MatchResult result (λ _. Unit {0}) (IsRefusedRightly refuses old first bytes size)
-      → MatchResult result (λ _. Unit {0}) (IsRefusedRightly refuses (λ (past : List (List ℕ)). past ≡ []) first bytes size)
+      → MatchResult result (λ _. Unit {0}) (IsRefusedRightly refuses (λ (past : List Entry). past ≡ []) first bytes size)
   refused_in refuses first bytes size (Ok recovered) refused = tt
   refused_in refuses first bytes size (Err fault) refused = refused_first refuses first bytes size fault refused

@@ -41,6 +41,6 @@ IsNotRefused Failed = Unit {0}
 -- of the disk
 abbrev pub OwnStarts : Type 0
 OwnStarts = (setup : SetupFields) (digest bytes : List ℕ) (texts : List (List ℕ)) (least : ℕ)
-    (house : HouseFields) (count : ℕ) (fault : GoOnFault) → AreAccepted setup [] texts
+    (house : HouseFields) (fault : GoOnFault) → AreAccepted setup [] texts
     → LeavesJournal digest bytes texts least → IsOwn fault
-    → IsNotGoingOn setup digest bytes house count fault → IsNotRefused fault
+    → IsNotGoingOn setup digest bytes house fault → IsNotRefused fault

@@ -7,13 +7,12 @@
 --         most this one more
 --     IsInStep digest texts journal house      the journal has these texts on its disk, and the house stands for them
 --     IsKept digest past text answer journal old new      how a text is answered and kept
---     counted texts      how many texts are counted. Own rule: a count stays at the greatest u64
---     IsTakenUp digest bytes recovered house count      the house stands for all texts of a file, and they are counted
+--     IsTakenUp digest bytes recovered house      the house stands for all texts of a file
 --     HasTakenUp digest bytes texts least house recovered      it stands for the first of the texts, so many at least,
 --         and the file has these
 --     GrowsBy old new more      these were added at the end, where that is told
 --     no_journal      what is kept where nothing is
-use Rattle.std.specs.Prelude.{◌≡◌, ◌⊎◌, ◌≤◌, ◌++◌, ◌-◌, ◌^◌, min, ℕ, Bool, true, false, List, [], ◌∷◌, Option, Some, None}
+use Rattle.std.specs.Prelude.{◌≡◌, ◌⊎◌, ◌≤◌, ◌++◌, ℕ, Bool, true, false, List, [], ◌∷◌, Option, Some, None}
 use Rattle.std.specs.Prelude.{if◌then◌else◌, length, take}
 use Rattle.clock_terms.specs.Limits.{SetupFields}
 use Rattle.clock_house.specs.House.{HouseFields}
@@ -80,16 +79,11 @@ pub record IsKept (digest : List ℕ) (past : List (List ℕ)) (text : List ℕ)
   pub next : IsNextKept old.setup past text answer texts
   pub in_step : IsInStep digest texts journal new
 
--- as many as there are
-abbrev pub counted : List (List ℕ) → ℕ
-counted texts = min (length texts) (2 ^ 64 - 1)
-
--- the house stands for all texts of the file, which has them up to the place that is told; and so many are they
-pub record IsTakenUp (digest bytes : List ℕ) (recovered : Recovered) (house : HouseFields) (count : ℕ) : Type 0 where
+-- the house stands for all texts of the file, and the file has them as it was recovered
+pub record IsTakenUp (digest bytes : List ℕ) (recovered : Recovered) (house : HouseFields) : Type 0 where
   pub texts : List (List ℕ)
   pub placed : IsPlaced digest bytes texts recovered
   pub stands : StandsForKept texts house
-  pub count_is : count ≡ counted texts
 
 -- the house stands for a prefix of the texts, at least `least` of them, and the file has these
 pub record HasTakenUp (digest bytes : List ℕ) (texts : List (List ℕ)) (least : ℕ) (house : HouseFields)

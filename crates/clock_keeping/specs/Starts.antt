@@ -1,8 +1,8 @@
 -- How a server goes on with a journal.
 --     HasTakenUpFirst digest texts house recovered      the auction stands for these texts and further ones behind them
---     IsGoingOn digest bytes journal house count      the journal has the texts of a file, and the auction stands for
---         these, counted
---     IsNotGoingOn setup digest bytes house count told      the file has this fault, or a call of the disk has failed
+--     IsGoingOn digest bytes journal house recovered      the journal has the texts of a file, and the auction stands for
+--         these
+--     IsNotGoingOn setup digest bytes house told      the file has this fault, or a call of the disk has failed
 --         behind its texts
 --     HasResumed digest texts least journal house      journal and auction have the first of the texts, so many at least
 --     IsOwn told      the fault is none of a journal's own file
@@ -14,7 +14,7 @@ use Rattle.clock_journal.specs.Format.{head_length}
 use Rattle.clock_journal.specs.Kept.{JournalState, file_of}
 use Rattle.clock_journal.specs.Recovering.{IsPlaced, IsRefusal, IsRefusedRightly, IsUntaken}
 use Rattle.clock_journal.specs.declared.recovery.Recovered.{Recovered}
-use Rattle.clock_keeping.specs.Keeping.{IsInStep, IsRefused, IsTakenUp, StandsForKept, counted}
+use Rattle.clock_keeping.specs.Keeping.{IsInStep, IsRefused, IsTakenUp, StandsForKept}
 use Rattle.clock_keeping.specs.declared.taking.GoOnFault.{GoOnFault}
 use Rattle.clock_keeping.specs.declared.taking.GoOnFault.TheVariants.{Refused, Failed}
 
@@ -25,20 +25,18 @@ pub record HasTakenUpFirst (digest : List ℕ) (texts : List (List ℕ)) (house 
   pub behind : length (file_of digest texts) ≤ recovered.end
 
 -- the file is the journal of so many texts, but for a torn tail; all are on the disk, and the auction stands for them
-pub record IsGoingOn (digest bytes : List ℕ) (journal : JournalState) (house : HouseFields) (count : ℕ) : Type 0 where
+pub record IsGoingOn (digest bytes : List ℕ) (journal : JournalState) (house : HouseFields) (recovered : Recovered) : Type 0 where
   pub texts : List (List ℕ)
-  pub recovered : Recovered
   pub placed : IsPlaced digest bytes texts recovered
   pub in_step : IsInStep digest texts journal house
-  pub count_is : count ≡ counted texts
 
 -- the fault is one of the file, or want of memory, and a text that is told as refused is refused behind those before it;
 -- or the auction stands for all texts of the file, and a call of the disk has failed
-abbrev pub IsNotGoingOn : SetupFields → List ℕ → List ℕ → HouseFields → ℕ → GoOnFault → Type 0
-IsNotGoingOn setup digest bytes house count (Refused fault) =
+abbrev pub IsNotGoingOn : SetupFields → List ℕ → List ℕ → HouseFields → GoOnFault → Type 0
+IsNotGoingOn setup digest bytes house (Refused fault) =
     IsRefusal digest bytes fault
     × IsRefusedRightly (IsRefused setup) (λ past. past ≡ []) digest (drop head_length bytes) (length bytes) fault
-IsNotGoingOn setup digest bytes house count Failed = (recovered : Recovered) × IsTakenUp digest bytes recovered house count
+IsNotGoingOn setup digest bytes house Failed = (recovered : Recovered) × IsTakenUp digest bytes recovered house
 
 -- no call was made on a refused file: neither its bytes nor its moments have changed. Otherwise a
 -- call of the disk has failed

@@ -1,7 +1,7 @@
-//! An auction whose accepted texts are kept in a journal, and which is taken up from there.
+//! An auction that logs its accepted texts in a journal, and is resumed from it.
 //!
-//! A [`Keeper`] answers one text: a journal, or [`Unkept`]. [`take_up`] answers all texts of a file, with whose journal
-//! [`go_on`] goes on.
+//! A [`Keeper`], such as a journal or [`Unkept`], answers one text. [`take_up`] replays all texts
+//! of a file, and [`go_on`] also continues its journal.
 #![tactic(auto)]
 
 mod keeping;

@@ -6,7 +6,6 @@ use Rattle.clock_terms.specs.Limits.{SetupFields}
 use Rattle.clock_house.specs.House.{HouseFields}
 use Rattle.clock_journal.specs.Crash.{LeavesJournal}
 use Rattle.clock_journal.specs.Disks.{CouldBeLeft, LeaveOnly, MayBeLeft, Moment}
-use Rattle.clock_journal.specs.Format.{head}
 use Rattle.clock_journal.specs.Kept.{HasTexts, JournalState}
 use Rattle.clock_journal.proofs.Starting.{now_left}
 use Rattle.clock_keeping.specs.Accepted.{AreAccepted, IsOwnFile}

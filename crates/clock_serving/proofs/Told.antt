@@ -1,5 +1,5 @@
 -- How serving one connection ends, by what the keeper was told.
-use Rattle.std.proofs.Common.{◌≡◌, Bool, true, false, ℕ, List, [], ◌∷◌, Option, Result, Ok, Err, refl, sym, subst}
+use Rattle.std.proofs.Common.{◌≡◌, false, ℕ, List, [], ◌∷◌, Option, Result, Ok, Err, refl, sym, subst}
 use Rattle.std.specs.Prelude.{OnOk}
 use Rattle.clock_house.specs.House.{HouseFields}
 use Rattle.clock_front.specs.declared.front.response.Effect.{Effect}

@@ -1,25 +1,28 @@
 -- How the records of a journal are taken over by a machine that stands for a list of texts.
 --     IsReplayed old new first bytes size recovered      all texts were taken, and what is left is nothing or torn
---     IsOnWay old new first bytes chain rest      some texts were taken, and the rest is left
-use Rattle.std.specs.Prelude.{◌≡◌, ◌≤◌, ◌+◌, ℕ, List, length}
+--     IsOnWay old new first bytes chain count rest      so many texts were taken, and the rest is left
+use Rattle.std.specs.Prelude.{◌≡◌, ◌≤◌, ◌+◌, ℕ, List, [], length}
+use Rattle.clock_journal.specs.Entries.{Entry, entries_onto}
 use Rattle.clock_journal.specs.Format.{last_link}
-use Rattle.clock_journal.specs.Reading.{Reads, Ends, onto}
+use Rattle.clock_journal.specs.Reading.{Reads, Ends}
 use Rattle.clock_journal.specs.declared.recovery.Recovered.{Recovered}
 
 -- the bytes read as texts, and whatever the machine stood for, it stands for that and for these texts
-pub record IsReplayed (old new : List (List ℕ) → Type 0) (first bytes : List ℕ) (size : ℕ) (recovered : Recovered) : Type 0 where
+pub record IsReplayed (old new : List Entry → Type 0) (first bytes : List ℕ) (size : ℕ) (recovered : Recovered) : Type 0 where
   pub texts : List (List ℕ)
   pub rest : List ℕ
   pub reads : Reads first bytes texts rest
   pub ends : Ends (last_link first texts) rest
   pub chain_is : recovered.chain ≡ last_link first texts
+  pub count_is : recovered.texts ≡ length texts
   pub end_is : recovered.end + length rest ≡ size
-  pub stands : (past : List (List ℕ)) → old past → new (onto texts past)
+  pub stands : (past : List Entry) → old past → new (entries_onto first [] texts past)
 
 -- on the way: some texts were taken, and the rest is left
-pub record IsOnWay (old new : List (List ℕ) → Type 0) (first bytes chain rest : List ℕ) : Type 0 where
+pub record IsOnWay (old new : List Entry → Type 0) (first bytes chain : List ℕ) (count : ℕ) (rest : List ℕ) : Type 0 where
   pub texts : List (List ℕ)
   pub reads : Reads first bytes texts rest
   pub chain_is : chain ≡ last_link first texts
+  pub count_is : count ≡ length texts
   pub within : length rest ≤ length bytes
-  pub stands : (past : List (List ℕ)) → old past → new (onto texts past)
+  pub stands : (past : List Entry) → old past → new (entries_onto first [] texts past)

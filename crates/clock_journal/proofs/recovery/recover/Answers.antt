@@ -1,15 +1,20 @@
-use Rattle.std.proofs.Common.{◌≡◌, ◌≤◌, ◌+◌, ◌-◌, ◌++◌, inl, List, [], ◌∷◌, ℕ, length, take, drop, refl, sym, ap, ◌∙◌, subst, arith, length-drop, rules, Bool, true, false, bytes_eq}
+use Rattle.std.proofs.Common.{◌≡◌, ◌≤◌, ◌+◌, ◌-◌, ◌++◌, inl, List, [], ◌∷◌, ℕ, length, take, drop, refl, sym, ap, ◌∙◌, subst, arith, length-drop, length-append, get_or, ◌<◌, rules, Bool, true, false, bytes_eq}
 use Rattle.std.specs.Prelude.{not}
-use Rattle.std.proofs.lemmas.List.{take_rest}
-use Rattle.clock_journal.specs.Format.{before_text, head_length, kind, link, last_link}
+use Rattle.std.proofs.lemmas.List.{get_or-drop, take_rest}
+use Rattle.clock_journal.specs.Entries.{Entry, entries_onto, entry_of, texts_in}
+use Rattle.clock_journal.specs.Format.{before_text, head, head_length, kind, link, last_link, records}
 use Rattle.clock_journal.specs.Headings.{heading, of_another, unknown}
-use Rattle.clock_journal.specs.Reading.{Reads, Ends, Next, next, damaged, whole, onto}
+use Rattle.clock_journal.specs.Reading.{Reads, Ends, Next, next, damaged, whole}
 use Rattle.clock_journal.specs.inside.Replays.{IsOnWay, IsReplayed}
 use Rattle.clock_journal.specs.Recovering.{IsFoundAt, IsRefusedAt}
-use Rattle.clock_journal.proofs.Moments.{last_link-push}
+use Rattle.clock_journal.specs.Kept.{file_of}
+use Rattle.clock_journal.specs.declared.recovery.Record.{Record}
+use Rattle.clock_journal.proofs.EntryLaws.{entries-push, many_bytes, texts_in-onto}
+use Rattle.clock_journal.proofs.Moments.{last_link-push, length-head}
 use Rattle.clock_journal.proofs.TakenOver.{another_is, has_taken, has_taken_none, headed_at, headed_is, is_undamaged, kind_unknown, none_unknown, short_unknown, texts_left, told_of_left}
 use Rattle.clock_journal.proofs.Tails.{damaged_behind, has_taken_first, told_of_front}
 use Rattle.clock_journal.proofs.Tested.{same_where}
+use Rattle.clock_journal.proofs.Whole.{read_back}
 use Rattle.clock_journal.proofs.recovery.recover.Goals as goal
 
 was_false : (test : Bool) → not test ≡ true → test ≡ false
@@ -25,70 +30,119 @@ reads-push : (chain bytes : List ℕ) (texts : List (List ℕ)) (mid text : List
 reads-push chain bytes [] mid text reads is = (ap (next chain) (sym reads) ∙ is, ap (drop (before_text + length text)) reads)
 reads-push chain bytes (one ∷ texts) mid text reads is = (reads.0, reads-push (link chain one) (drop (before_text + length one) bytes) texts mid text reads.1 is)
 
-onto-push : (texts : List (List ℕ)) (text : List ℕ) (past : List (List ℕ)) → onto (texts ++ text ∷ []) past ≡ text ∷ onto texts past
-onto-push [] text past = refl
-onto-push (one ∷ texts) text past = onto-push texts text (one ∷ past)
-
--- one more text was taken
-on_way_more : (old mid new : List (List ℕ) → Type 0) (first bytes chain rest text digest : List ℕ) → IsOnWay old mid first bytes chain rest
-    → next chain rest ≡ whole text → digest ≡ link chain text → ((texts : List (List ℕ)) → mid texts → new (text ∷ texts))
-    → IsOnWay old new first bytes digest (drop (before_text + length text) rest)
-on_way_more old mid new first bytes chain rest text digest way is linked taken = record {
+-- one more text was taken, with its record
+on_way_more : (old mid new : List Entry → Type 0) (first bytes chain : List ℕ) (count : ℕ) (rest text digest : List ℕ)
+    (record_is : Record) → (way : IsOnWay old mid first bytes chain count rest) → next chain rest ≡ whole text
+    → digest ≡ link chain text → (record_is, text) ≡ entry_of first way.texts text
+    → ((entries : List Entry) → mid entries → new ((record_is, text) ∷ entries))
+    → IsOnWay old new first bytes digest (count + 1) (drop (before_text + length text) rest)
+on_way_more old mid new first bytes chain count rest text digest record_is way is linked same taken = record {
   texts = way.texts ++ text ∷ [];
   reads = reads-push first bytes way.texts rest text way.reads (ap (λ (before : List ℕ). next before rest) (sym way.chain_is) ∙ is);
   chain_is = linked ∙ (ap (λ (before : List ℕ). link before text) way.chain_is ∙ sym (last_link-push first way.texts text));
+  count_is = omega (arith, way.count_is, length-append way.texts (text ∷ []));
   within = omega (arith, way.within, length-drop (before_text + length text) rest);
-  stands = λ past was. subst new (sym (onto-push way.texts text past)) (taken (onto way.texts past) (way.stands past was));
+  stands = λ past was.
+      subst new (ap (λ (entry : Entry). entry ∷ entries_onto first [] way.texts past) same
+      ∙ sym (entries-push first [] way.texts text past)) (taken (entries_onto first [] way.texts past) (way.stands past was));
 }
 
+-- the place and the number of the next record
+next_place : (old new : List Entry → Type 0) (digest bytes chain : List ℕ) (count : ℕ) (rest : List ℕ)
+    → ((place : ℕ) → get_or bytes place 0 < 256) → length digest ≡ 32 → head_length ≤ length bytes
+    → (way : IsOnWay old new digest (drop head_length bytes) chain count rest)
+    → (length bytes - length rest ≡ length (file_of digest way.texts)) × (count + length rest ≤ length bytes)
+next_place old new digest bytes chain count rest small size long way =
+    let back = read_back digest (drop head_length bytes) way.texts rest
+    (λ place. subst (λ (n : ℕ). n < 256) (sym (get_or-drop head_length bytes place 0)) (small (head_length + place))) way.reads in
+    let all = ap length back.0 ∙ length-append (records digest way.texts) rest in
+    let file = length-append (head digest) (records digest way.texts) in
+    let before = length-head digest size in
+    let behind = length-drop head_length bytes in
+    let many = many_bytes digest way.texts in
+    (omega (arith, all, file, before, behind, long), omega (arith, all, behind, many, way.count_is))
+
+-- the record that is made is that of the next text
+next_entry : (first : List ℕ) (texts : List (List ℕ)) (text chain : List ℕ) (count place : ℕ) (digest : List ℕ)
+    → count ≡ length texts → place ≡ length (file_of first texts) → chain ≡ last_link first texts
+    → digest ≡ link chain text
+    → (let made : Record = record { number = count + 1; place = place; digest = digest } in (made, text)) ≡ entry_of first texts text
+next_entry first texts text chain count place digest counts places linked is =
+    ap (λ (n : ℕ). let made : Record = record { number = n + 1; place = place; digest = digest } in (made, text)) counts
+    ∙ ap (λ (at : ℕ). let made : Record = record { number = length texts + 1; place = at; digest = digest } in (made, text)) places
+    ∙ ap (λ (last : List ℕ). let made : Record = record { number = length texts + 1; place = length (file_of first texts); digest = last } in (made, text))
+    (is ∙ ap (λ (before : List ℕ). link before text) linked ∙ sym (last_link-push first texts text))
+
 pub loop-chain-preserved : goal.loop-chain-preserved
-loop-chain-preserved g c = (
-  subst (λ rest. IsOnWay (g.M.Machine.stands_for c.args.machine.now) (g.M.Machine.stands_for c.take.new.self) c.args.digest.now (drop head_length c.args.bytes.now) c.in-Whole.digest rest)
-      (sym (take_rest c.loop-chain.rest.now (before_text + length c.in-Whole.text.now)))
-      (on_way_more (g.M.Machine.stands_for c.args.machine.now) (g.M.Machine.stands_for c.loop-chain.machine) (g.M.Machine.stands_for c.take.new.self)
-      c.args.digest.now (drop head_length c.args.bytes.now) c.loop-chain.chain c.loop-chain.rest.now c.in-Whole.text.now c.in-Whole.digest
-      c.loop-chain.invariant.0 (sym c.in-Whole.ensures.next) c.in-Whole.ensures.record.linked c.in-Ok.ensures.taken),
-  c.in-Ok.ensures.rules ∙ c.loop-chain.invariant.1,
-)
+loop-chain-preserved g c =
+    let old = g.M.Machine.stands_for c.args.machine.now in
+    let mid = g.M.Machine.stands_for c.loop-chain.machine in
+    let text = c.in-Whole.text.now in
+    let way = c.loop-chain.invariant.0 in
+    let places = next_place old mid c.args.digest.now c.args.bytes.now c.loop-chain.chain c.loop-chain.texts c.loop-chain.rest.now
+    (λ place. search rules) (search rules) (omega (arith, c.if-bytes-lt-HEAD_LENGTH.false)) way in (
+      subst (λ rest. IsOnWay old (g.M.Machine.stands_for c.take.new.self) c.args.digest.now (drop head_length c.args.bytes.now) c.in-Whole.digest (c.loop-chain.texts + 1) rest)
+          (sym (take_rest c.loop-chain.rest.now (before_text + length text)))
+          (on_way_more old mid (g.M.Machine.stands_for c.take.new.self)
+          c.args.digest.now (drop head_length c.args.bytes.now) c.loop-chain.chain c.loop-chain.texts c.loop-chain.rest.now text c.in-Whole.digest _
+          way (sym c.in-Whole.ensures.next) c.in-Whole.ensures.record.linked
+          (next_entry c.args.digest.now way.texts text c.loop-chain.chain c.loop-chain.texts (length c.args.bytes.now - length c.loop-chain.rest.now) c.in-Whole.digest
+          way.count_is places.0 way.chain_is c.in-Whole.ensures.record.linked)
+          c.in-Ok.ensures.taken),
+      c.in-Ok.ensures.rules ∙ c.loop-chain.invariant.1,
+    )
+
+-- so the count does not overflow
+pub overflow_add-number : goal.overflow_add-number
+overflow_add-number g c =
+    let places = next_place (g.M.Machine.stands_for c.args.machine.now) (g.M.Machine.stands_for c.loop-chain.machine)
+    c.args.digest.now c.args.bytes.now c.loop-chain.chain c.loop-chain.texts c.loop-chain.rest.now
+    (λ place. search rules) (search rules) (omega (arith, c.if-bytes-lt-HEAD_LENGTH.false)) c.loop-chain.invariant.0 in
+    let whole = c.in-Whole.ensures.record.within in
+    omega (arith, places.1, whole)
 
 -- what stands behind a head is shorter than the file
-rest_within : (old new : List (List ℕ) → Type 0) (first bytes chain rest : List ℕ) → head_length ≤ length bytes
-    → IsOnWay old new first (drop head_length bytes) chain rest → length rest ≤ length bytes
-rest_within old new first bytes chain rest long way = omega (arith, way.within, length-drop head_length bytes)
+rest_within : (old new : List Entry → Type 0) (first bytes chain : List ℕ) (count : ℕ) (rest : List ℕ) → head_length ≤ length bytes
+    → IsOnWay old new first (drop head_length bytes) chain count rest → length rest ≤ length bytes
+rest_within old new first bytes chain count rest long way = omega (arith, way.within, length-drop head_length bytes)
 
-found_at : (old new : List (List ℕ) → Type 0) (first bytes chain rest : List ℕ) (found : Next) → head_length ≤ length bytes
-    → IsOnWay old new first (drop head_length bytes) chain rest → next chain rest ≡ found
+found_at : (old new : List Entry → Type 0) (first bytes chain : List ℕ) (count : ℕ) (rest : List ℕ) (found : Next) → head_length ≤ length bytes
+    → IsOnWay old new first (drop head_length bytes) chain count rest → next chain rest ≡ found
     → IsFoundAt first (drop head_length bytes) (length bytes) (length bytes - length rest) found
-found_at old new first bytes chain rest found long way is = record {
+found_at old new first bytes chain count rest found long way is = record {
   texts = way.texts;
   rest = rest;
   reads = way.reads;
   found_is = ap (λ (before : List ℕ). next before rest) (sym way.chain_is) ∙ is;
-  place_is = omega (arith, rest_within old new first bytes chain rest long way);
+  place_is = omega (arith, rest_within old new first bytes chain count rest long way);
 }
 
-replayed : (old new : List (List ℕ) → Type 0) (first bytes chain rest : List ℕ) → head_length ≤ length bytes
-    → IsOnWay old new first (drop head_length bytes) chain rest → Ends chain rest
-    → IsReplayed old new first (drop head_length bytes) (length bytes) (record { chain = chain; end = length bytes - length rest })
-replayed old new first bytes chain rest long way ends = record {
+replayed : (old new : List Entry → Type 0) (first bytes chain : List ℕ) (count : ℕ) (rest : List ℕ) → head_length ≤ length bytes
+    → IsOnWay old new first (drop head_length bytes) chain count rest → Ends chain rest
+    → IsReplayed old new first (drop head_length bytes) (length bytes) (record { chain = chain; end = length bytes - length rest; texts = count })
+replayed old new first bytes chain count rest long way ends = record {
   texts = way.texts;
   rest = rest;
   reads = way.reads;
   ends = subst (λ (before : List ℕ). Ends before rest) way.chain_is ends;
   chain_is = way.chain_is;
-  end_is = omega (arith, rest_within old new first bytes chain rest long way);
+  count_is = way.count_is;
+  end_is = omega (arith, rest_within old new first bytes chain count rest long way);
   stands = way.stands;
 }
 
-refused_at : (refuses now : List (List ℕ) → List ℕ → Type 0) (old new : List (List ℕ) → Type 0) (first bytes chain rest text : List ℕ)
-    → (long : head_length ≤ length bytes) → (way : IsOnWay old new first (drop head_length bytes) chain rest) → next chain rest ≡ whole text → now ≡ refuses
-    → ((texts : List (List ℕ)) → new texts → now texts text)
+refused_at : (refuses now : List (List ℕ) → List ℕ → Type 0) (old new : List Entry → Type 0) (first bytes chain : List ℕ) (count : ℕ) (rest text : List ℕ)
+    → (long : head_length ≤ length bytes) → (way : IsOnWay old new first (drop head_length bytes) chain count rest) → next chain rest ≡ whole text → now ≡ refuses
+    → ((entries : List Entry) → new entries → now (texts_in entries) text)
     → IsRefusedAt refuses old first (drop head_length bytes) (length bytes) (length bytes - length rest)
 unfolding found_at
-refused_at refuses now old new first bytes chain rest text long way is same refused = record {
+refused_at refuses now old new first bytes chain count rest text long way is same refused = record {
   text = text;
-  found = found_at old new first bytes chain rest (whole text) long way is;
-  refused = λ past was. subst (λ (by : List (List ℕ) → List ℕ → Type 0). by (onto way.texts past) text) same (refused (onto way.texts past) (way.stands past was));
+  found = found_at old new first bytes chain count rest (whole text) long way is;
+  refused = λ past was.
+      subst (λ (all : List (List ℕ)). refuses all text) (texts_in-onto first [] way.texts past)
+      (subst (λ (by : List (List ℕ) → List ℕ → Type 0). by (texts_in (entries_onto first [] way.texts past)) text) same
+      (refused (entries_onto first [] way.texts past) (way.stands past was)));
 }
 
 pub returns-then-bytes-lt-HEAD_LENGTH-clause-read : goal.returns-then-bytes-lt-HEAD_LENGTH-clause-read
@@ -155,6 +209,7 @@ loop-chain-init g c = (
     texts = [];
     reads = take_rest c.args.bytes.now head_length;
     chain_is = refl;
+    count_is = refl;
     within = omega (arith, ap length (take_rest c.args.bytes.now head_length));
     stands = λ past was. was;
   },
@@ -170,7 +225,7 @@ returns-in-Ended-clause-read g c =
     let same = subst (λ (h : List ℕ). take head_length c.args.bytes.now ≡ h) c.head_of-head.ensures
     (same_where _ _ (was_true _ (sym c.ne-2.ensures ∙ c.if-ne-2.false))) in
     let done = replayed (g.M.Machine.stands_for c.args.machine.now) (g.M.Machine.stands_for c.loop-chain.machine) c.args.digest.now c.args.bytes.now
-    c.loop-chain.chain c.loop-chain.rest.now long c.loop-chain.invariant.0 (search rules) in
+    c.loop-chain.chain c.loop-chain.texts c.loop-chain.rest.now long c.loop-chain.invariant.0 (search rules) in
     record {
       texts = done.texts;
       placed = inl (headed_at _ _ c.args.digest.now c.args.bytes.now _ (λ place. search rules) long same done);
@@ -183,7 +238,7 @@ returns-in-Ended-clause-crash g c texts least leaves =
     has_taken _ _ c.args.digest.now c.args.bytes.now texts least _ (λ place. search rules) (search rules) long
     (texts_left c.args.digest.now c.args.bytes.now texts least leaves long)
     (replayed (g.M.Machine.stands_for c.args.machine.now) (g.M.Machine.stands_for c.loop-chain.machine) c.args.digest.now c.args.bytes.now
-    c.loop-chain.chain c.loop-chain.rest.now long c.loop-chain.invariant.0 (search rules))
+    c.loop-chain.chain c.loop-chain.texts c.loop-chain.rest.now long c.loop-chain.invariant.0 (search rules))
 
 pub returns-in-Damaged-clause-read : goal.returns-in-Damaged-clause-read
 returns-in-Damaged-clause-read g c =
@@ -191,7 +246,7 @@ returns-in-Damaged-clause-read g c =
       headed_is c.args.digest.now c.args.bytes.now long
           (subst (λ (h : List ℕ). bytes_eq (take head_length c.args.bytes.now) h ≡ true) c.head_of-head.ensures (was_true _ (sym c.ne-2.ensures ∙ c.if-ne-2.false))),
       found_at (g.M.Machine.stands_for c.args.machine.now) (g.M.Machine.stands_for c.loop-chain.machine) c.args.digest.now c.args.bytes.now
-          c.loop-chain.chain c.loop-chain.rest.now damaged long c.loop-chain.invariant.0 (sym c.in-Damaged.ensures.next),
+          c.loop-chain.chain c.loop-chain.texts c.loop-chain.rest.now damaged long c.loop-chain.invariant.0 (sym c.in-Damaged.ensures.next),
     )
 
 pub returns-in-Damaged-clause-crash : goal.returns-in-Damaged-clause-crash
@@ -200,7 +255,7 @@ returns-in-Damaged-clause-crash g c texts least leaves =
     is_undamaged c.args.digest.now c.args.bytes.now texts least (length c.args.bytes.now) _ (search rules)
     (texts_left c.args.digest.now c.args.bytes.now texts least leaves long)
     (found_at (g.M.Machine.stands_for c.args.machine.now) (g.M.Machine.stands_for c.loop-chain.machine) c.args.digest.now c.args.bytes.now
-    c.loop-chain.chain c.loop-chain.rest.now damaged long c.loop-chain.invariant.0 (sym c.in-Damaged.ensures.next))
+    c.loop-chain.chain c.loop-chain.texts c.loop-chain.rest.now damaged long c.loop-chain.invariant.0 (sym c.in-Damaged.ensures.next))
 
 pub returns-in-Err-Refused-clause-read : goal.returns-in-Err-Refused-clause-read
 returns-in-Err-Refused-clause-read g c =
@@ -210,7 +265,7 @@ returns-in-Err-Refused-clause-read g c =
       (
         c.in-Whole.text.now,
         found_at (g.M.Machine.stands_for c.args.machine.now) (g.M.Machine.stands_for c.loop-chain.machine) c.args.digest.now c.args.bytes.now
-            c.loop-chain.chain c.loop-chain.rest.now (whole c.in-Whole.text.now) long c.loop-chain.invariant.0 (sym c.in-Whole.ensures.next),
+            c.loop-chain.chain c.loop-chain.texts c.loop-chain.rest.now (whole c.in-Whole.text.now) long c.loop-chain.invariant.0 (sym c.in-Whole.ensures.next),
       ),
     )
 
@@ -218,18 +273,18 @@ pub returns-in-Err-Refused-clause-refused : goal.returns-in-Err-Refused-clause-r
 returns-in-Err-Refused-clause-refused g c =
     refused_at (g.M.Machine.refuses (g.M.Machine.rules c.args.machine.now)) (g.M.Machine.refuses (g.M.Machine.rules c.loop-chain.machine))
     (g.M.Machine.stands_for c.args.machine.now) (g.M.Machine.stands_for c.loop-chain.machine) c.args.digest.now c.args.bytes.now
-    c.loop-chain.chain c.loop-chain.rest.now c.in-Whole.text.now (omega (arith, c.if-bytes-lt-HEAD_LENGTH.false)) c.loop-chain.invariant.0 (sym c.in-Whole.ensures.next)
-    (ap g.M.Machine.refuses c.loop-chain.invariant.1) (λ texts. c.take.ensures.refused texts (search rules))
+    c.loop-chain.chain c.loop-chain.texts c.loop-chain.rest.now c.in-Whole.text.now (omega (arith, c.if-bytes-lt-HEAD_LENGTH.false)) c.loop-chain.invariant.0 (sym c.in-Whole.ensures.next)
+    (ap g.M.Machine.refuses c.loop-chain.invariant.1) (λ entries. c.take.ensures.refused entries (search rules))
 
 pub returns-in-Ended-clause-any_tail : goal.returns-in-Ended-clause-any_tail
 returns-in-Ended-clause-any_tail g c texts begins =
     has_taken_first (g.M.Machine.stands_for c.args.machine.now) (g.M.Machine.stands_for c.loop-chain.machine)
     c.args.digest.now c.args.bytes.now texts _ (λ place. search rules) (search rules) begins
     (replayed (g.M.Machine.stands_for c.args.machine.now) (g.M.Machine.stands_for c.loop-chain.machine) c.args.digest.now c.args.bytes.now
-    c.loop-chain.chain c.loop-chain.rest.now (omega (arith, c.if-bytes-lt-HEAD_LENGTH.false)) c.loop-chain.invariant.0 (search rules))
+    c.loop-chain.chain c.loop-chain.texts c.loop-chain.rest.now (omega (arith, c.if-bytes-lt-HEAD_LENGTH.false)) c.loop-chain.invariant.0 (search rules))
 
 pub returns-in-Damaged-clause-any_tail : goal.returns-in-Damaged-clause-any_tail
 returns-in-Damaged-clause-any_tail g c texts begins =
     damaged_behind c.args.digest.now c.args.bytes.now texts _ (λ place. search rules) (search rules) begins
     (found_at (g.M.Machine.stands_for c.args.machine.now) (g.M.Machine.stands_for c.loop-chain.machine) c.args.digest.now c.args.bytes.now
-    c.loop-chain.chain c.loop-chain.rest.now damaged (omega (arith, c.if-bytes-lt-HEAD_LENGTH.false)) c.loop-chain.invariant.0 (sym c.in-Damaged.ensures.next))
+    c.loop-chain.chain c.loop-chain.texts c.loop-chain.rest.now damaged (omega (arith, c.if-bytes-lt-HEAD_LENGTH.false)) c.loop-chain.invariant.0 (sym c.in-Damaged.ensures.next))

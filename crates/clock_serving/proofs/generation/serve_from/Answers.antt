@@ -19,7 +19,7 @@ returns-in-Err-clause-generation g c =
         now.refused,
         λ written texts least synced is own.
             let leaves = own_left setup found.chain texts least found synced bytes is written own in (
-              own_starts setup found.chain bytes texts least auction.front auction.texts c.in-Err.fault own.accepted leaves
+              own_starts setup found.chain bytes texts least auction.front c.in-Err.fault own.accepted leaves
                   (now.resumed texts least written leaves) now.err,
               now.crash synced texts least written is own.leaves,
             ),

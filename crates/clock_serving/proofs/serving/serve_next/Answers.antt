@@ -1,4 +1,4 @@
-use Rattle.std.proofs.Common.{◌≡◌, Option, List, ℕ, sym, subst, ◌∙◌, refl}
+use Rattle.std.proofs.Common.{Option, List, ℕ, subst, ◌∙◌}
 use Rattle.clock_serving.specs.Exchanges.{Exchange}
 use Rattle.clock_serving.specs.inside.Served.{IsToldAs}
 use Rattle.clock_serving.proofs.Told.{ends_one, not_accept, unfailed}

@@ -1,7 +1,7 @@
-use Rattle.std.proofs.Common.{Result, Ok, Err, arith}
+use Rattle.std.proofs.Common.{Result, Ok, Err, List, ℕ, ◌++◌, ◌∙◌, ap}
 use Rattle.std.specs.Prelude.{OnOk}
 use Rattle.std.specs.Result.{result_or}
-use Rattle.clock_auction.proofs.ListingLaws.{listed_on}
+use Rattle.clock_auction.specs.Listings.{text_listed}
 use Rattle.clock_auction.proofs.journal_text.ListingMachine.take.Goals as goal
 
 -- what follows from a result follows from it with another error too
@@ -11,7 +11,5 @@ with_other (Err refused) other holds then_ = tt
 
 pub returns-clause-taken : goal.returns-clause-taken
 returns-clause-taken c =
-    rw c.or.ensures (with_other c.push_text.result _ c.push_text.ensures (λ added texts is.
-    listed_on c.args.self.now.first texts c.args.text.now c.args.self.now.text _ c.args.self.now.chain _ c.args.self.now.texts _ c.args.self.now.place _ is
-    c.saturating_add-self.ensures c.link_of-self.ensures added
-    (omega (arith, c.saturating_add-self-2.ensures, c.saturating_add-length.ensures))))
+    rw c.or.ensures (with_other c.push_text.result _ c.push_text.ensures (λ added entries is.
+    added ∙ ap (λ (before : List ℕ). before ++ text_listed c.args.at.now c.args.text.now) is))

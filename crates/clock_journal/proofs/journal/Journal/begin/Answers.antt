@@ -1,5 +1,4 @@
-use Rattle.std.proofs.Common.{◌≡◌, ℕ, List, [], Option, Some, length, subst, rules}
-use Rattle.clock_device.specs.Streams.{HasWrittenFront}
+use Rattle.std.proofs.Common.{◌≡◌, [], Some, length, subst, rules}
 use Rattle.clock_journal.specs.Disks.{LeaveOnly}
 use Rattle.clock_journal.specs.Crash.{LeavesJournal}
 use Rattle.clock_journal.specs.Kept.{JournalState}

@@ -1,0 +1,33 @@
+-- The texts of a journal with their records.
+--     Entry      a text and its record
+--     texts_in entries      the texts of these entries
+--     entry_of digest before text      a text and its record, in the journal of this set-up, after these texts
+--     entries_onto digest before texts past      the entries of texts, which follow others, put onto the past
+use Rattle.std.specs.Prelude.{◌++◌, ◌+◌, ℕ, List, [], ◌∷◌, length}
+use Rattle.clock_journal.specs.Format.{last_link}
+use Rattle.clock_journal.specs.Kept.{file_of}
+use Rattle.clock_journal.specs.declared.recovery.Record.{Record}
+
+abbrev pub Entry : Type 0
+Entry = Record × List ℕ
+
+abbrev pub texts_in : List Entry → List (List ℕ)
+texts_in [] = []
+texts_in (entry ∷ entries) = entry.1 ∷ texts_in entries
+
+-- its number counts from 1, its record begins where the texts before it end, and its digest is the last of all of them
+abbrev pub entry_of : List ℕ → List (List ℕ) → List ℕ → Entry
+entry_of digest before text = (
+  record {
+    number = length before + 1;
+    place = length (file_of digest before);
+    digest = last_link digest (before ++ text ∷ []);
+  },
+  text,
+)
+
+-- the texts before and the texts have the oldest first; the past has the newest first
+abbrev pub entries_onto : List ℕ → List (List ℕ) → List (List ℕ) → List Entry → List Entry
+entries_onto digest before [] past = past
+entries_onto digest before (text ∷ texts) past =
+    entries_onto digest (before ++ text ∷ []) texts (entry_of digest before text ∷ past)
