@@ -1,4 +1,4 @@
--- There is a digest for each round that is closed; what is audited of a file.
+-- Each closed round has a digest, and so an audit prints what a file's texts determine.
 use Rattle.std.proofs.Common.{◌≡◌, ◌≤◌, ◌+◌, ℕ, List, [], ◌∷◌, length, ap, sym, ◌∙◌, subst, arith}
 use Rattle.std.proofs.Common.{length-append}
 use Rattle.std.specs.Prelude.{reverse}
@@ -57,7 +57,7 @@ enough_for_report entries house digests given report recounted is same =
       enough_for entries house digests recounted,
     )
 
--- what is shown of an auction that stands for all texts of a file, and goes by what it went by before them
+-- what is printed for an auction that stands for all texts of a file
 pub audit_is : (setup setup_new : SetupFields) (first bytes given shown : List ℕ) (texts : List (List ℕ)) (recovered : Recovered)
     → given ≡ bytes → setup_new ≡ setup → IsPlaced first given texts recovered
     → shown ≡ audited setup_new (entries_onto first [] texts []) → IsAuditOf setup first bytes shown recovered
@@ -67,7 +67,7 @@ audit_is setup setup_new first bytes given shown texts recovered same same_setup
   shown_is = is ∙ ap (λ (of_setup : SetupFields). audited of_setup (entries_onto first [] texts [])) same_setup;
 }
 
--- one more text is recounted
+-- one more text is counted
 pub recounted_on : (entries : List Entry) (at : Record) (text : List ℕ) (changed : Effect) (old new : HouseFields)
     (digests digests_new : List (List ℕ)) → IsRecounted entries old digests
     → changed ≡ effect old.setup (texts_in entries) text → StandsForTexts (text ∷ texts_in entries) new

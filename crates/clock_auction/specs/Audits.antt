@@ -1,11 +1,13 @@
--- What an auction is counted as from its set-up document and its journal. The newest entry comes first.
+-- What `audit` computes from a set-up document and a journal. Lists have the newest entry first.
 --     closed_after setup texts      the rounds that texts have closed
---     with_digest effect digests digest      one digest more if a round was closed
---     closing_digests setup entries      the digests of the texts that closed a round, in digits, the oldest first
---     IsRecounted entries house digests      the auction stands for the texts, with the digests of its closings
---     IsUnrecounted setup first bytes fault      a fault is reported of a file that has it
+--     with_digest effect digests digest      one more digest if a round was closed
+--     closing_digests setup entries      the digests of the texts that closed a round, in digits,
+--         the oldest first
+--     IsRecounted entries house digests      the auction stands for the texts, with the digests of
+--         its closings
+--     IsUnrecounted setup first bytes fault      the reported fault is one of this file
 --     audited setup entries      what an audit prints of the rounds
---     IsAuditOf setup first bytes shown recovered      that is printed of all texts of a file
+--     IsAuditOf setup first bytes shown recovered      this is printed of all texts of a file
 use Rattle.std.specs.Prelude.{◌≡◌, ◌++◌, ℕ, List, [], ◌∷◌, drop, length}
 use Rattle.hex.specs.Hex.{encode_lower}
 use Rattle.clock_terms.specs.Limits.{SetupFields}
@@ -62,7 +64,8 @@ text_of_rounds setup (round ∷ closed) digests = audit_text (report_of setup (r
 abbrev pub audited : SetupFields → List Entry → List ℕ
 audited setup entries = text_of_rounds setup (closed_after setup (texts_in entries)) (closing_digests setup entries)
 
--- the file is the journal of these texts, except for a torn tail, and the rounds of all of them are printed
+-- the file is the journal of these texts, except for a torn tail, and the rounds of all of them are
+-- printed
 pub record IsAuditOf (setup : SetupFields) (first bytes shown : List ℕ) (recovered : Recovered) : Type 0 where
   pub texts : List (List ℕ)
   pub placed : IsPlaced first bytes texts recovered

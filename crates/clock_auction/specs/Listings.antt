@@ -1,8 +1,8 @@
--- What the command `journal` lists of a journal. The newest entry comes first. (Own format.)
+-- What the command `journal` lists of a journal. Lists have the newest entry first. (Own format.)
 --     text_listed record text      the line of a text, and its bytes as they came
 --     listed first entries      the line of the set-up document's digest, and then the texts
---     IsListingOf first bytes shown recovered      the same for all texts of a file
---     IsUnlisted first bytes fault      a fault is reported of a file that has it
+--     IsListingOf first bytes shown recovered      this is listed of all texts of a file
+--     IsUnlisted first bytes fault      the reported fault is one of this file
 use Rattle.std.specs.Prelude.{◌≡◌, ◌++◌, ℕ, List, [], ◌∷◌, codes, decimal, length}
 use Rattle.hex.specs.Hex.{encode_lower}
 use Rattle.clock_journal.specs.Entries.{Entry, entries_onto}
@@ -22,7 +22,8 @@ spaced number = decimal number ++ codes " "
 abbrev pub digest_line : List ℕ → List ℕ
 digest_line digest = encode_lower digest ++ codes "\n"
 
--- the word text, its number, its record's place and its length, each with a space after it, its digest, and the text
+-- the word `text`, the number, place, and length, each with a space after it, the digest, and the
+-- text
 abbrev pub text_listed : Record → List ℕ → List ℕ
 text_listed at text =
     codes "text " ++ spaced at.number ++ spaced at.place ++ spaced (length text) ++ digest_line at.digest ++ text ++ codes "\n"

@@ -77,9 +77,9 @@ fn remember(digests: &mut Vec<Digits>, effect: Effect, digest: &Link) -> Result<
     }
 }
 
-/// The lines of the closed rounds in a journal, each with the digest of its closing, and if the
-/// auction has ended, what each bidder won. `first` is the digest of the set-up document. Returns
-/// what was recovered, too.
+/// Returns the lines of the closed rounds in a journal, each with the digest of its closing, and if
+/// the auction has ended, what each bidder won. `first` is the digest of the set-up document.
+/// Returns what was recovered, too.
 pub fn audit_of(
     alloc: Global,
     front: Front<Woken>,
@@ -104,7 +104,7 @@ pub fn audit_of(
     Ok((text, recovered))
 }
 
-/// The lines of the rounds.
+/// Returns the lines of the closed rounds. `recount` has taken all texts.
 fn rounds_of(alloc: Global, recount: &Recount) -> Result<Text, NoMemory>
     requires { (entries : List Entry) × IsRecounted entries recount.now.front
         recount.now.digests.items }

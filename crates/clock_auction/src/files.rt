@@ -26,7 +26,7 @@ pub fn file_bytes<R: Files + Alloc<A = Global>>(rt: &R, path: &str) -> Result<Te
     }
 }
 
-/// All bytes of a journal, which is only read.
+/// Reads all bytes of a journal, and changes nothing in it.
 pub fn journal_bytes<R>(rt: &R, path: &str) -> Result<Vec<u8>, Fault>
 where
     R: Files<File = File> + Alloc<A = Global>,
@@ -52,7 +52,7 @@ pub fn locked_bytes(alloc: Global, file: &File) -> Result<Vec<u8>, Fault> {
     }
 }
 
-/// All bytes of a regular file. A device is refused, since it may never end.
+/// Reads all bytes of a regular file. Refuses a device, since it may never end.
 fn bytes_of(alloc: Global, file: &File) -> Result<Vec<u8>, Fault> {
     let metadata = file.metadata().or(Err(Fault::Journal))?;
     if !metadata.is_file() {
@@ -76,7 +76,7 @@ pub fn tell_journal<R: Print>(rt: &R, recovered: Recovered) -> Result<(), Fault>
     println!(rt; "journal {texts} {digest}").or(Err(Fault::Output))
 }
 
-/// A digest in 64 lowercase hexadecimal digits.
+/// Returns a digest in 64 lowercase hexadecimal digits.
 pub fn digits_of(digest: &Link) -> Digits
     ensures { result ≡ encode_lower digest.now }
 {

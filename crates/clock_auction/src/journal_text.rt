@@ -76,7 +76,7 @@ fn push_digits(text: &mut Text, digest: &Link) -> Result<(), NoMemory>
     text.push(b'\n')
 }
 
-/// The line of the set-up document's digest, and for each text of a journal the line
+/// Returns the line of the set-up document's digest, and for each text of a journal the line
 /// `text NUMBER PLACE LENGTH DIGEST`, its bytes, and a line feed. Returns what was recovered, too.
 pub fn listing_of(alloc: Global, first: Link, bytes: &[u8]) -> Result<(Text, Recovered), Fault>
     ensures ok { IfOk result (λ listing. IsListingOf first bytes.now listing.0 listing.1) }

@@ -72,7 +72,7 @@ fn given_words(rt: &(impl Env + Alloc<A = Global>)) -> io::Result<Vec<String>> {
     Ok(words)
 }
 
-/// The words as `&str`, in order.
+/// Returns the words as `&str`, in order.
 fn texts_of(alloc: Global, words: &[String]) -> Result<Vec<&str>, AllocError>
     ensures { IfOk result
         (λ texts. map (λ text. text.now) texts.items ≡ map string_bytes words.now) }

@@ -63,8 +63,8 @@ pub fn front_in(alloc: Global, document: Text) -> Result<Front<Woken>, Fault>
     Ok(Front::new(alloc, setup, Woken)?)
 }
 
-/// Locks the file of a journal, replays it, and continues it. Prints the line of the journal. The
-/// name of the file is on the disk, too.
+/// Locks the file of a journal, replays it, and continues it. Prints the line of the journal. Syncs
+/// the folder of the file, too.
 fn taken_over<R>(
     rt: &R,
     auction: &mut Auction<Woken>,
@@ -94,7 +94,7 @@ where
     }
 }
 
-/// The fault of a journal that cannot be continued.
+/// Returns the fault of a journal that cannot be continued.
 pub fn start_fault(fault: GoOnFault) -> Fault
     ensures { result ≡ of_start fault }
 {

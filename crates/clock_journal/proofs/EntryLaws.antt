@@ -1,4 +1,4 @@
--- Entries of texts that follow others.
+-- Lists of entries, by induction on their texts.
 use Rattle.std.proofs.Common.{◌≡◌, ◌≤◌, ◌++◌, ℕ, List, [], ◌∷◌, length, refl, sym, ap, ◌∙◌, arith, length-append}
 use Rattle.std.proofs.lemmas.List.{append_assoc, append-nil}
 use Rattle.clock_journal.specs.Entries.{Entry, entries_onto, entry_of, texts_in}
@@ -18,14 +18,14 @@ entries-push digest before (one ∷ texts) text past =
     ∷ entries_onto digest (before ++ one ∷ []) texts (entry_of digest before one ∷ past))
     (append_assoc before (one ∷ []) texts)
 
--- the texts of entries are these texts
+-- the texts of the entries are these texts
 pub texts_in-onto : (digest : List ℕ) (before texts : List (List ℕ)) (past : List Entry)
     → texts_in (entries_onto digest before texts past) ≡ onto texts (texts_in past)
 texts_in-onto digest before [] past = refl
 texts_in-onto digest before (text ∷ texts) past =
     texts_in-onto digest (before ++ text ∷ []) texts (entry_of digest before text ∷ past)
 
--- a record has at least as many bytes as its text, and so has all that was read
+-- each record has at least one byte, so there are no more texts than bytes
 pub many_bytes : (chain : List ℕ) (texts : List (List ℕ)) → length texts ≤ length (records chain texts)
 many_bytes chain [] = omega arith
 many_bytes chain (text ∷ texts) =

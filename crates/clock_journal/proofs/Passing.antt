@@ -1,4 +1,4 @@
--- What a stop at the moments of a call could have left.
+-- What a crash at the moments of a call could have left.
 use Rattle.std.proofs.Common.{◌⊎◌, inl, inr, ◌++◌, ℕ, List, [], ◌∷◌, Option, Some, None, refl, sym, ap, ◌∙◌, subst}
 use Rattle.std.proofs.lemmas.List.{append_assoc}
 use Rattle.clock_journal.specs.Disks.{CouldBeLeft, LeaveOnly, MayBeLeft, Moment, Passes}

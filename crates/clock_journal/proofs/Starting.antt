@@ -1,4 +1,4 @@
--- What a stop leaves while a journal is begun, or taken over from a file.
+-- What a crash leaves while a journal is begun, or resumed from a file: by cases on the moments of the calls.
 use Rattle.std.proofs.Common.{◌≡◌, ◌≤◌, ◌<◌, ◌+◌, inl, inr, ◌++◌, ℕ, List, [], Option, Some, None, length, take, drop, refl, sym, ap, ◌∙◌, subst, arith, length-append}
 use Rattle.std.proofs.lemmas.List.{append_assoc, append-nil, take_all, take-take, length-take, length-take-le, take-append-drop, drop_at}
 use Rattle.std.proofs.lemmas.Bool.{cases_lt}
@@ -56,7 +56,7 @@ head_known : (digest : List ℕ) (synced written : Option (List ℕ)) → length
 head_known digest synced (Some written) size front left may = head_left digest written left synced size front may
 head_known digest synced None size front left may = absurd front.1
 
--- while the head, or a front of it, was added to nothing
+-- while the head, or a prefix of it, was appended to an empty file
 pub head_reads : (digest bytes : List ℕ) (old synced written : Option (List ℕ)) → length digest ≡ 32 → old ≡ Some []
     → bytes ≡ head digest → HasWrittenFront old written bytes → (left : List ℕ) → MayBeLeft synced written left
     → LeavesJournal digest left [] 0
@@ -64,7 +64,7 @@ head_reads digest bytes old synced written size empty is front =
     head_known digest synced written size (subst (λ (h : List ℕ). HasWrittenFront (Some []) written h) is
     (subst (λ (o : Option (List ℕ)). HasWrittenFront o written bytes) empty front))
 
--- ---- the file is cut off
+-- ---- the file is truncated
 
 cut_passes : (old new : Option (List Moment)) (synced written was : Option (List ℕ)) (bytes : List ℕ) (place : ℕ)
     → synced ≡ was → written ≡ was → was ≡ Some bytes → Passes old new (up_to place synced) written
@@ -73,7 +73,7 @@ cut_passes old new synced written was bytes place same still is passes =
     subst (λ (w : Option (List ℕ)). Passes old new (Some (take place bytes)) w) (still ∙ is)
     (subst (λ (s : Option (List ℕ)). Passes old new (up_to place s) written) (same ∙ is) passes)
 
--- through a sync and a cut behind it
+-- through a sync and a truncation after it
 pub through_cut : (first mid last : Option (List Moment)) (synced written synced_then written_then : Option (List ℕ))
     (bytes : List ℕ) (place : ℕ) (Leaves : List ℕ → Type 0) → Passes first mid synced written
     → ((left : List ℕ) → MayBeLeft synced written left → Leaves left)
@@ -85,7 +85,7 @@ through_cut first mid last synced written synced_then written_then bytes place L
     (leave_one mid last (Some (take place bytes)) (Some bytes) Leaves
     (cut_passes mid last synced_then written_then written bytes place same still is cut) after)
 
--- what stands there now may be left
+-- a crash now may leave what is in the file
 pub now_left : (synced written : Option (List ℕ)) (on_disk bytes : List ℕ) → synced ≡ Some on_disk → written ≡ Some bytes
     → MayBeLeft synced written bytes
 now_left synced written on_disk bytes same is =
@@ -121,7 +121,7 @@ crash_cut digest bytes texts read least recovered left size (inr part) (inr begu
           (omega (arith, shorter, short)),
     )
 
--- texts that stand first stand before the place
+-- the first texts of a file end within its recovered part
 first_before : (digest bytes : List ℕ) (texts read : List (List ℕ)) (recovered : Recovered) → length digest ≡ 32
     → BeginsWithTexts digest bytes texts → IsHeaded digest bytes read recovered
     → length (file_of digest texts) ≤ recovered.end
@@ -165,7 +165,7 @@ tail_cut digest bytes texts read recovered left size begins (inr begun) may =
     let short = begun.short in
     absurd (omega (arith, long, short))
 
--- ---- a file that is begun anew
+-- ---- a journal that begins again
 
 nothing_told : (digest bytes : List ℕ) (texts : List (List ℕ)) (least : ℕ) → length digest ≡ 32
     → LeavesJournal digest bytes texts least → length bytes < head_length → least ≡ 0
@@ -198,7 +198,7 @@ none_of_any digest left texts leaves =
       };
     }
 
--- so whatever texts there were, none was told
+-- so none of its texts had a reply: what a crash leaves of an empty journal, it may leave of these texts
 pub anew_leaves : (digest bytes : List ℕ) (texts read : List (List ℕ)) (least : ℕ) (recovered : Recovered) (left : List ℕ)
     → length digest ≡ 32 → recovered.end ≡ 0 → LeavesJournal digest bytes texts least
     → IsPlaced digest bytes read recovered → LeavesJournal digest left [] 0 → LeavesJournal digest left texts least

@@ -1,4 +1,4 @@
--- What is taken over from a file, and what of one that a stop of the machine has left.
+-- What is replayed from a file, and what from a file that a crash left.
 use Rattle.std.proofs.Common.{◌≡◌, ◌≤◌, ◌<◌, ◌+◌, ◌++◌, ℕ, Bool, true, false, List, [], length, get_or, take, drop, bytes_eq, refl, sym, ap, ◌∙◌, subst, arith, length-append, inl, inr}
 use Rattle.std.proofs.lemmas.List.{length-take, append_assoc, take-append-drop, take_at, drop_at, get_or-drop, take-take}
 use Rattle.clock_journal.specs.Format.{head_length, head, kind, records, last_link}
@@ -56,12 +56,12 @@ heading_of_left digest left texts least size leaves =
     let same : take head_length left ≡ head digest = ap (λ (n : ℕ). take n left) (sym e) ∙ leaves.headed in
     headed_is digest left (omega (arith, ap length same, length-take head_length left, e)) (bytes_eq_same (take head_length left) (head digest) same)
 
--- so no other answer is given of it
+-- so no other heading is found
 pub told_of_left : (digest left : List ℕ) (texts : List (List ℕ)) (least : ℕ) (told : Heading) → length digest ≡ 32 → LeavesTexts digest left texts least
     → told ≡ heading digest left → told ≡ headed (drop head_length left)
 told_of_left digest left texts least told size leaves is = is ∙ heading_of_left digest left texts least size leaves
 
--- up to the place where its last record ends the file is the journal of its texts
+-- up to the end of its last whole record, the file is the journal of its texts
 pub headed_at : (old new : List Entry → Type 0) (digest bytes : List ℕ) (recovered : Recovered) → ((place : ℕ) → get_or bytes place 0 < 256)
     → head_length ≤ length bytes → take head_length bytes ≡ head digest
     → (done : IsReplayed old new digest (drop head_length bytes) (length bytes) recovered) → IsHeaded digest bytes done.texts recovered
@@ -82,7 +82,7 @@ headed_at old new digest bytes recovered small long same done =
       ends = subst (λ (b : List ℕ). Ends (last_link digest done.texts) b) (sym (ap (drop recovered.end) all ∙ drop_at (file_of digest done.texts) done.rest recovered.end at)) done.ends;
     }
 
--- and all is taken that was on the disk
+-- all that was on the disk is taken
 pub has_taken : (old new : List Entry → Type 0) (digest left : List ℕ) (texts : List (List ℕ)) (least : ℕ) (recovered : Recovered)
     → ((place : ℕ) → get_or left place 0 < 256) → length digest ≡ 32 → head_length ≤ length left
     → LeavesTexts digest left texts least → IsReplayed old new digest (drop head_length left) (length left) recovered
@@ -100,7 +100,7 @@ has_taken old new digest left texts least recovered small size long leaves done 
       stands = λ past was. subst (λ (all : List (List ℕ)). new (entries_onto digest [] all past)) same.0 (done.stands past was);
     }
 
--- a file that is less than a head is begun anew
+-- the journal of a file with less than a head begins again
 pub has_taken_none : (same : List Entry → Type 0) (digest left : List ℕ) (texts : List (List ℕ)) (least : ℕ)
     → length digest ≡ 32 → LeavesJournal digest left texts least → length left < head_length
     → HasTaken same same digest left texts least (record { chain = digest; end = 0; texts = 0 })
@@ -117,7 +117,7 @@ has_taken_none same digest left texts least size (inr part) short = record {
   stands = λ past was. was;
 }
 
--- it is told as begun
+-- its heading is `begun`
 begun_is : (digest left : List ℕ) → IsPartOfHead digest left → heading digest left ≡ begun
 unfolding heading
 begun_is digest left part =
@@ -133,13 +133,13 @@ none_unknown digest left texts least size (inl leaves) short is =
 none_unknown digest left texts least size (inr part) short is =
     let both : begun ≡ unknown = sym (begun_is digest left part.1) ∙ is in cc
 
--- a longer one has its head
+-- a longer file has its head
 pub texts_left : (digest left : List ℕ) (texts : List (List ℕ)) (least : ℕ) → LeavesJournal digest left texts least
     → head_length ≤ length left → LeavesTexts digest left texts least
 texts_left digest left texts least (inl leaves) long = leaves
 texts_left digest left texts least (inr part) long = let short = part.1.short in absurd (omega (arith, short, long))
 
--- and nothing is damaged
+-- nothing is damaged
 pub is_undamaged : (digest left : List ℕ) (texts : List (List ℕ)) (least size place : ℕ) → length digest ≡ 32
     → LeavesTexts digest left texts least → IsFoundAt digest (drop head_length left) size place damaged → ⊥
 is_undamaged digest left texts least size place long leaves found =

@@ -20,12 +20,12 @@ pub trait Durable {
 
     ghost has_failed: { Self → Bool };
 
-    /// No clause says what it becomes if the file is truncated.
+    /// No clause says what `uncut` becomes if the file is truncated.
     ghost uncut: { Self → ℕ };
 
     ghost moments: { Self → Option (List Moment) };
 
-    /// Appends bytes, or a prefix of them if it fails.
+    /// Appends `bytes`, or a prefix of them at `Err`.
     fn append(&mut self, bytes: &[u8]) -> Result<(), Failed>
         ensures written { WritesText (written self.old) (written self.new) bytes.now result }
         ensures synced { synced self.new ≡ synced self.old }
@@ -44,8 +44,9 @@ pub trait Durable {
         ensures uncut { uncut self.new ≡ uncut self.old }
         ensures failed { has_failed self.new ≡ (has_failed self.old || is_err result) };
 
-    /// Truncates the file to `place` bytes, and syncs it. Requires that the file is synced, so
-    /// that a crash leaves these bytes.
+    /// Truncates the file to `place` bytes, and syncs it.
+    ///
+    /// Requires a synced file, so that a crash leaves these bytes.
     fn cut(&mut self, place: usize) -> Result<(), Failed>
         requires { synced self.old ≡ written self.old }
         ensures written { CutsTo (written self.old) (written self.new) place result }

@@ -10,7 +10,7 @@ use sha2::{Digest, Sha256};
 /// The digest of a text and of all before it.
 pub type Link = [u8; 32];
 
-/// The digest of a text that follows another digest.
+/// Returns the digest of a text. `chain` is the digest before it.
 #[tactic(auto, unfolding(crate::specs::Format::link))]
 pub fn link_of(chain: &Link, text: &[u8]) -> Link
     ensures { result ≡ link chain.now text.now }
@@ -21,7 +21,7 @@ pub fn link_of(chain: &Link, text: &[u8]) -> Link
     hasher.finalize()
 }
 
-/// The digest of a set-up document, which is in the head of its journal.
+/// Returns the digest of a set-up document, which is in the head of its journal.
 pub fn digest_of(document: &[u8]) -> Link
     ensures { result ≡ sha256 document.now }
 {
@@ -37,7 +37,7 @@ pub const KIND_LENGTH: usize = 24;
 /// The first bytes of every journal.
 pub const KIND: &[u8; KIND_LENGTH] = b"clock_auction journal 1\n";
 
-/// The head of the journal of a set-up document, which has this digest.
+/// Returns the head of a journal, for the set-up document with this digest.
 #[tactic(auto, unfolding(crate::specs::Format::head, crate::specs::Format::kind))]
 pub fn head_of(digest: &Link) -> [u8; HEAD_LENGTH]
     ensures { result ≡ head digest.now }
@@ -70,7 +70,7 @@ pub enum Next<'a> {
     Whole(&'a [u8], Link),
 }
 
-/// The bytes of a record before its text.
+/// Returns the bytes of a record before its text of `count` bytes.
 #[tactic(auto, unfolding(crate::specs::Format::mark))]
 pub fn front_of(count: usize, digest: &Link) -> [u8; BEFORE_TEXT]
     requires { count ≤ most_text }
@@ -84,7 +84,7 @@ pub fn front_of(count: usize, digest: &Link) -> [u8; BEFORE_TEXT]
     front
 }
 
-/// Finds what bytes begin with. `chain` is the digest of the text before them.
+/// Finds what `bytes` begin with. `chain` is the digest of the text before them. Hashes one text.
 #[tactic(auto, unfolding(crate::specs::Reading::next, crate::specs::Reading::is_marked, crate::specs::Reading::marked_length))]
 pub fn next_record<'a>(chain: &Link, bytes: &'a [u8]) -> Next<'a>
     ensures next { shown result ≡ next chain.now bytes.now }

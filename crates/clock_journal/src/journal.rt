@@ -35,7 +35,7 @@ impl<D: Durable> Model for Journal<D> {
 }
 
 impl<D: Durable> Journal<D> {
-    /// The journal of a set-up document, which has this digest, on a disk.
+    /// Wraps a disk as the journal of the set-up document with this digest. Makes no call of it.
     pub fn new(disk: D, digest: Link) -> Journal<D>
         ensures written { result.written ≡ D.written disk }
         ensures synced { result.synced ≡ D.synced disk }
@@ -50,6 +50,8 @@ impl<D: Durable> Journal<D> {
 
     /// Begins the journal on an empty disk. At `Ok`, its head is on the disk. A crash at any
     /// moment leaves a prefix of the head.
+    ///
+    /// Requires that no call of the disk has failed.
     pub fn begin(&mut self) -> Result<(), Failed>
         requires unfailed { self.old.has_failed ≡ false }
         ensures kept { self.old.written ≡ Some []
@@ -68,6 +70,8 @@ impl<D: Durable> Journal<D> {
     ///
     /// `crash`, `any_tail`: if a crash before this call leaves these texts, so does a crash at any
     /// moment of the call, also at `Err`.
+    ///
+    /// Requires that no call of the disk has failed.
     pub fn resume(&mut self, recovered: Recovered) -> Result<(), Failed>
         requires unfailed { self.old.has_failed ≡ false }
         ensures kept { (bytes : List ℕ) (texts : List (List ℕ))
@@ -96,8 +100,11 @@ impl<D: Durable> Journal<D> {
     }
 
     /// Appends a text. At `Ok`, it is on the disk and survives a crash. At `Err`, it may be there
-    /// or not, and all that was on the disk still is. Do not append after an `Err`: a failed sync
-    /// that is repeated may report success. Allocates nothing.
+    /// or not, and all that was on the disk still is.
+    ///
+    /// Requires a text of 1 to [`MOST_TEXT`](crate::MOST_TEXT) bytes, and no earlier `Err`: a
+    /// failed sync that is repeated may report success. Writes twice, syncs once, and allocates
+    /// nothing.
     pub fn append(&mut self, text: &[u8]) -> Result<(), Failed>
         requires fits { Fits text.now }
         requires unfailed { self.old.has_failed ≡ false }
@@ -122,14 +129,14 @@ impl<D: Durable> Journal<D> {
         self.disk.sync()
     }
 
-    /// The digest of its last text, or of the set-up document.
+    /// Returns the digest of the last text, or of the set-up document if there is none.
     pub fn chain(&self) -> &Link
         ensures { result.now ≡ self.now.chain }
     {
         &self.chain
     }
 
-    /// The disk of the journal.
+    /// Returns the disk of the journal.
     pub fn disk(&self) -> &D
         ensures written { D.written result.now ≡ self.now.written }
         ensures synced { D.synced result.now ≡ self.now.synced }

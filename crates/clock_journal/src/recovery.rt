@@ -10,8 +10,8 @@ use crate::format::{
     BEFORE_TEXT, HEAD_LENGTH, KIND, KIND_LENGTH, Link, Next, head_of, next_record,
 };
 
-/// Why a machine did not take a text: it would change nothing, or the machine is out of memory. The
-/// machine cannot be used any more.
+/// Why a machine did not take a text: it would change nothing, or the machine is out of memory. Do
+/// not use the machine afterward.
 #[derive(Clone, Copy, Debug, PartialEq, Eq)]
 pub enum Untaken {
     Refused,
@@ -86,7 +86,8 @@ pub enum JournalFault {
 /// set-up document. If the file begins with the journal of some texts, the machine takes these
 /// first, and `Damaged` names no place before their end.
 ///
-/// Changes nothing in the file.
+/// Errors, in this order: `Unknown`, `Setup`; then, of the first record that is not taken,
+/// `Damaged`, `Refused`, or `NoMemory`. Hashes each text once, and allocates nothing.
 pub fn recover<M: Machine>(
     machine: &mut M,
     digest: &Link,

@@ -1,4 +1,4 @@
--- How a text of a journal is taken by an auction.
+-- How an auction takes a text of a journal.
 use Rattle.std.proofs.Common.{◌≡◌, inl, inr, ℕ, true, false, List, ◌∷◌, Result, Err, IfOk, refl, sym, ap, ◌∙◌, subst}
 use Rattle.clock_house.specs.House.{HouseFields}
 use Rattle.clock_http.specs.declared.code.Code.{Code}

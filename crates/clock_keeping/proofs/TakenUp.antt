@@ -1,4 +1,4 @@
--- What a machine has taken is what the auction stands for.
+-- What a machine took is what the auction stands for.
 use Rattle.std.proofs.Common.{◌≡◌, ◌++◌, List, [], ℕ, take, Result, Ok, Err, MatchResult, sym, subst}
 use Rattle.clock_house.specs.House.{HouseFields}
 use Rattle.clock_front.specs.Fronts.{StandsForTexts}
@@ -16,7 +16,7 @@ abbrev pub IsAt : HouseFields → List Entry → Type 0
 IsAt house entries = StandsForTexts (texts_in entries) house
 
 module _ (old : List Entry → Type 0) (begun : old []) where
-  -- of what a stop has left
+  -- for what a crash left
   pub has_taken_up : (new : HouseFields) (digest bytes : List ℕ) (texts : List (List ℕ)) (least : ℕ) (result : Result Recovered JournalFault)
       → MatchResult result (HasTaken old (IsAt new) digest bytes texts least) IsUntaken
       → MatchResult result (HasTakenUp digest bytes texts least new) IsUntaken
@@ -30,7 +30,7 @@ module _ (old : List Entry → Type 0) (begun : old []) where
   }
   has_taken_up new digest bytes texts least (Err fault) taken = taken
 
-  -- of a file that begins with some texts
+  -- for a file that begins with some texts
   pub has_taken_up_first : (new : HouseFields) (digest : List ℕ) (texts : List (List ℕ)) (size : ℕ) (result : Result Recovered JournalFault)
       → MatchResult result (HasTakenFirst old (IsAt new) digest texts) (IsBehind size)
       → MatchResult result (HasTakenUpFirst digest texts new) (IsBehind size)
@@ -42,7 +42,7 @@ module _ (old : List Entry → Type 0) (begun : old []) where
   }
   has_taken_up_first new digest texts size (Err fault) behind = behind
 
-  -- of any file
+  -- for any file
   pub is_taken_up : (new : HouseFields) (digest bytes : List ℕ) (result : Result Recovered JournalFault)
       → MatchResult result (IsRecovered old (IsAt new) digest bytes) (IsRefusal digest bytes)
       → MatchResult result (λ recovered. IsTakenUp digest bytes recovered new) (IsRefusal digest bytes)
@@ -54,7 +54,7 @@ module _ (old : List Entry → Type 0) (begun : old []) where
   }
   is_taken_up new digest bytes (Err fault) refusal = refusal
 
-  -- a text that is refused, of whatever refuses it
+  -- a refused text, by whatever refuses it
   pub refused_first : (refuses : List (List ℕ) → List ℕ → Type 0) (first bytes : List ℕ) (size : ℕ) (fault : JournalFault)
       → IsRefusedRightly refuses old first bytes size fault → IsRefusedRightly refuses (λ (past : List Entry). past ≡ []) first bytes size fault
   refused_first refuses first bytes size Unknown refused = tt

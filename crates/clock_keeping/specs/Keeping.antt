@@ -1,17 +1,20 @@
--- An auction whose accepted texts are kept in a journal. (Own rule: what changes nothing is not kept.)
+-- An auction whose accepted texts are logged in a journal. (Own rule: a text that changes nothing
+-- is not logged.)
 --     is_change effect      a sheet or a closing was accepted
---     IsAccepted setup texts text, IsRefused setup texts text      after these texts a text changes the auction, or not
---     kept_after setup past text      what is kept after a text, behind the texts that were kept before
---     IsNextKept setup past text answer texts      how a text is answered, and what is kept then
---     LeavesOneMore text old new      the file was only added to, and a stop leaves the texts that were there, and at
---         most this one more
---     IsInStep digest texts journal house      the journal has these texts on its disk, and the house stands for them
---     IsKept digest past text answer journal old new      how a text is answered and kept
+--     IsAccepted setup texts text, IsRefused setup texts text      after these texts, a text
+--         changes the auction, or not
+--     kept_after setup past text      the logged texts after one more text
+--     IsNextKept setup past text answer texts      how a text is answered, and what is logged then
+--     LeavesOneMore text old new      the file was only appended to, and a crash leaves the texts
+--         before, and at most this one more
+--     IsInStep digest texts journal house      the journal has these texts on its disk, and the
+--         house stands for them
+--     IsKept digest past text answer journal old new      how a text is answered and logged
 --     IsTakenUp digest bytes recovered house      the house stands for all texts of a file
---     HasTakenUp digest bytes texts least house recovered      it stands for the first of the texts, so many at least,
---         and the file has these
---     GrowsBy old new more      these were added at the end, where that is told
---     no_journal      what is kept where nothing is
+--     HasTakenUp digest bytes texts least house recovered      it stands for a prefix of the texts,
+--         at least `least` of them, and the file has these
+--     GrowsBy old new more      exactly these were appended, if contracts see the list
+--     no_journal      the journal of a server that logs nothing
 use Rattle.std.specs.Prelude.{◌≡◌, ◌⊎◌, ◌≤◌, ◌++◌, ℕ, Bool, true, false, List, [], ◌∷◌, Option, Some, None}
 use Rattle.std.specs.Prelude.{if◌then◌else◌, length, take}
 use Rattle.clock_terms.specs.Limits.{SetupFields}

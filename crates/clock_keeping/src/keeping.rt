@@ -25,6 +25,8 @@ pub trait Keeper {
     /// Responds to a text, after which the input has ended. If the text changed the auction, it is
     /// in the journal, and on the disk.
     ///
+    /// Requires a journal that has not failed, and in `progress` what is known of the text.
+    ///
     /// At `Err`, an accepted text could not be logged: a call of the disk failed, or the text is
     /// too long for a journal. All that was on the disk still is. Send no reply, and use neither
     /// the front nor the keeper again.

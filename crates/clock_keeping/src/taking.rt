@@ -70,7 +70,8 @@ fn taken(effect: Effect, code: Code) -> Result<Effect, Untaken>
 /// most the one that was being appended. `any_tail`: if the file begins with the journal of some
 /// texts, the auction takes these first, and `Damaged` names no place before their end.
 ///
-/// Do not use the auction after an `Err`.
+/// Requires an auction without texts. Errors, in this order: as [`recover`]. Do not use the auction
+/// after an `Err`.
 pub fn take_up<P: Processor>(
     auction: &mut Auction<P>,
     digest: &Link,
@@ -112,6 +113,9 @@ pub enum GoOnFault {
 /// refused file is not changed, and `Failed` means that a call of the disk failed. `crash`,
 /// `any_tail`: if a crash before this call leaves these texts, so does a crash at any moment of the
 /// call, also at `Err`.
+///
+/// Requires an auction without texts, and a journal that has not failed. Errors, in this order:
+/// `Refused`, `Failed`. Do not use auction and journal after an `Err`.
 pub fn go_on<P: Processor, D: Durable, F: FnOnce(Recovered)>(
     auction: &mut Auction<P>,
     journal: &mut Journal<D>,

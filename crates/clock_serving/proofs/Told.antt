@@ -1,4 +1,4 @@
--- How serving one connection ends, by what the keeper was told.
+-- How serving one connection ends, by what was reported to the keeper.
 use Rattle.std.proofs.Common.{◌≡◌, false, ℕ, List, [], ◌∷◌, Option, Result, Ok, Err, refl, sym, subst}
 use Rattle.std.specs.Prelude.{OnOk}
 use Rattle.clock_house.specs.House.{HouseFields}
@@ -50,7 +50,7 @@ module _ (coming_old coming_new : Option (List (List ℕ))) (closed_old closed_n
     told,
   )
 
--- taking the connection has not failed
+-- accepting the connection has not failed
 pub not_accept : {U E : Type 0} (told_old told_new : Option (List ℕ)) (served : Result Effect E) (result : Result U ServeFault)
     → IsToldAs told_old told_new served result → false ≡ is_accept_fault result
 not_accept told_old told_new (Ok effect) (Ok done) told = refl

@@ -1,13 +1,15 @@
--- How the records of a journal are taken over by a machine that stands for a list of texts.
---     IsReplayed old new first bytes size recovered      all texts were taken, and what is left is nothing or torn
---     IsOnWay old new first bytes chain count rest      so many texts were taken, and the rest is left
+-- How a machine takes the texts of a journal, one after the other.
+--     IsReplayed old new first bytes size recovered      all texts were taken, and what is left is
+--         nothing or torn
+--     IsOnWay old new first bytes chain count rest      `count` texts were taken, and `rest` is
+--         left
 use Rattle.std.specs.Prelude.{◌≡◌, ◌≤◌, ◌+◌, ℕ, List, [], length}
 use Rattle.clock_journal.specs.Entries.{Entry, entries_onto}
 use Rattle.clock_journal.specs.Format.{last_link}
 use Rattle.clock_journal.specs.Reading.{Reads, Ends}
 use Rattle.clock_journal.specs.declared.recovery.Recovered.{Recovered}
 
--- the bytes read as texts, and whatever the machine stood for, it stands for that and for these texts
+-- the bytes read as texts, and the machine stands for what it stood for, and then these texts
 pub record IsReplayed (old new : List Entry → Type 0) (first bytes : List ℕ) (size : ℕ) (recovered : Recovered) : Type 0 where
   pub texts : List (List ℕ)
   pub rest : List ℕ
@@ -18,7 +20,7 @@ pub record IsReplayed (old new : List Entry → Type 0) (first bytes : List ℕ)
   pub end_is : recovered.end + length rest ≡ size
   pub stands : (past : List Entry) → old past → new (entries_onto first [] texts past)
 
--- on the way: some texts were taken, and the rest is left
+-- in the loop: `count` texts were taken, and `rest` is left
 pub record IsOnWay (old new : List Entry → Type 0) (first bytes chain : List ℕ) (count : ℕ) (rest : List ℕ) : Type 0 where
   pub texts : List (List ℕ)
   pub reads : Reads first bytes texts rest

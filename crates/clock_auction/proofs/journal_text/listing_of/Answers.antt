@@ -7,7 +7,7 @@ use Rattle.clock_journal.specs.declared.recovery.JournalFault.TheVariants.{NoMem
 use Rattle.clock_auction.specs.Listings.{listed}
 use Rattle.clock_auction.proofs.journal_text.listing_of.Goals as goal
 
--- what refuses no text has the fault of none
+-- a machine that refuses no text reports none as refused
 takes_all : (old : List Entry → Type 0) (first bytes : List ℕ) (size : ℕ) (fault : JournalFault) → old []
     → IsRefusedRightly (λ (past : List (List ℕ)) (text : List ℕ). ⊥) old first bytes size fault → (place : ℕ) → fault ≡ Refused place → ⊥
 takes_all old first bytes size fault begun refused place is =

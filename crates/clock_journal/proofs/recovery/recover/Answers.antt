@@ -62,7 +62,7 @@ next_place old new digest bytes chain count rest small size long way =
     let many = many_bytes digest way.texts in
     (omega (arith, all, file, before, behind, long), omega (arith, all, behind, many, way.count_is))
 
--- the record that is made is that of the next text
+-- the record that the code makes is that of the next text
 next_entry : (first : List ℕ) (texts : List (List ℕ)) (text chain : List ℕ) (count place : ℕ) (digest : List ℕ)
     → count ≡ length texts → place ≡ length (file_of first texts) → chain ≡ last_link first texts
     → digest ≡ link chain text
@@ -92,7 +92,7 @@ loop-chain-preserved g c =
       c.in-Ok.ensures.rules ∙ c.loop-chain.invariant.1,
     )
 
--- so the count does not overflow
+-- there are no more texts than bytes, so the count does not overflow
 pub overflow_add-number : goal.overflow_add-number
 overflow_add-number g c =
     let places = next_place (g.M.Machine.stands_for c.args.machine.now) (g.M.Machine.stands_for c.loop-chain.machine)
@@ -101,7 +101,7 @@ overflow_add-number g c =
     let whole = c.in-Whole.ensures.record.within in
     omega (arith, places.1, whole)
 
--- what stands behind a head is shorter than the file
+-- what follows a head is shorter than the file
 rest_within : (old new : List Entry → Type 0) (first bytes chain : List ℕ) (count : ℕ) (rest : List ℕ) → head_length ≤ length bytes
     → IsOnWay old new first (drop head_length bytes) chain count rest → length rest ≤ length bytes
 rest_within old new first bytes chain count rest long way = omega (arith, way.within, length-drop head_length bytes)
