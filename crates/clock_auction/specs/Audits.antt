@@ -5,7 +5,7 @@
 --         the oldest first
 --     IsRecounted entries house digests      the auction stands for the texts, with the digests of
 --         its closings
---     IsUnrecounted setup first bytes fault      the reported fault is one of this file
+--     IsAuditFault setup first bytes fault      the reported fault is one of this file
 --     audited setup entries      what an audit prints of the rounds
 --     IsAuditOf setup first bytes shown recovered      this is printed of all texts of a file
 use Rattle.std.specs.Prelude.{◌≡◌, ◌++◌, ℕ, List, [], ◌∷◌, drop, length}
@@ -22,7 +22,7 @@ use Rattle.clock_commands.specs.FaultLines.{of_journal}
 use Rattle.clock_commands.specs.declared.fault.Fault.{Fault}
 use Rattle.clock_journal.specs.Entries.{Entry, entries_onto, texts_in}
 use Rattle.clock_journal.specs.Format.{head_length}
-use Rattle.clock_journal.specs.Recovering.{IsPlaced, IsRefusal, IsRefusedRightly}
+use Rattle.clock_journal.specs.Recovering.{IsPlaced, IsJournalRefusal, IsRefusedRightly}
 use Rattle.clock_journal.specs.declared.recovery.JournalFault.{JournalFault}
 use Rattle.clock_journal.specs.declared.recovery.Recovered.{Recovered}
 use Rattle.clock_keeping.specs.Keeping.{IsRefused}
@@ -49,10 +49,10 @@ pub record IsRecounted (entries : List Entry) (house : HouseFields) (digests : L
   pub digests_are : digests ≡ closing_digests house.setup entries
 
 -- the file has this fault, and a text that is reported as refused is refused after those before it
-pub record IsUnrecounted (setup : SetupFields) (first bytes : List ℕ) (told : Fault) : Type 0 where
+pub record IsAuditFault (setup : SetupFields) (first bytes : List ℕ) (told : Fault) : Type 0 where
   pub fault : JournalFault
   pub told_is : told ≡ of_journal fault
-  pub is : IsRefusal first bytes fault
+  pub is : IsJournalRefusal first bytes fault
   pub rightly : IsRefusedRightly (IsRefused setup) (λ past. past ≡ []) first (drop head_length bytes) (length bytes) fault
 
 -- the lines of the closed rounds, each with its closing's digest, and what each bidder won if the

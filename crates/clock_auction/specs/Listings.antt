@@ -2,11 +2,11 @@
 --     text_listed record text      the line of a text, and its bytes as they came
 --     listed first entries      the line of the set-up document's digest, and then the texts
 --     IsListingOf first bytes shown recovered      this is listed of all texts of a file
---     IsUnlisted first bytes fault      the reported fault is one of this file
+--     IsListFault first bytes fault      the reported fault is one of this file
 use Rattle.std.specs.Prelude.{◌≡◌, ◌++◌, ℕ, List, [], ◌∷◌, codes, decimal, length}
 use Rattle.hex.specs.Hex.{encode_lower}
 use Rattle.clock_journal.specs.Entries.{Entry, entries_onto}
-use Rattle.clock_journal.specs.Recovering.{IsPlaced, IsRefusal}
+use Rattle.clock_journal.specs.Recovering.{IsPlaced, IsJournalRefusal}
 use Rattle.clock_journal.specs.declared.recovery.JournalFault.{JournalFault}
 use Rattle.clock_journal.specs.declared.recovery.JournalFault.TheVariants.{Refused}
 use Rattle.clock_journal.specs.declared.recovery.Record.{Record}
@@ -40,8 +40,8 @@ pub record IsListingOf (first bytes shown : List ℕ) (recovered : Recovered) : 
   pub shown_is : shown ≡ listed first (entries_onto first [] texts [])
 
 -- the file has this fault or memory ran out; no text is refused
-pub record IsUnlisted (first bytes : List ℕ) (told : Fault) : Type 0 where
+pub record IsListFault (first bytes : List ℕ) (told : Fault) : Type 0 where
   pub fault : JournalFault
   pub told_is : told ≡ of_journal fault
-  pub is : IsRefusal first bytes fault
+  pub is : IsJournalRefusal first bytes fault
   pub takes_all : (place : ℕ) → fault ≡ Refused place → ⊥

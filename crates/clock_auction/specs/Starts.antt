@@ -1,12 +1,12 @@
 -- How the command `serve` reports that it does not resume a journal.
 --     of_start fault      the fault of a refused file, or of a disk
-use Rattle.clock_keeping.specs.declared.taking.GoOnFault.{GoOnFault}
-use Rattle.clock_keeping.specs.declared.taking.GoOnFault.TheVariants.{Refused, Failed}
+use Rattle.clock_keeping.specs.declared.taking.ResumeFault.{ResumeFault}
+use Rattle.clock_keeping.specs.declared.taking.ResumeFault.TheVariants.{Refused, Failed}
 use Rattle.clock_commands.specs.FaultLines.{of_journal}
 use Rattle.clock_commands.specs.declared.fault.Fault.{Fault}
 use Rattle.clock_commands.specs.declared.fault.Fault.TheVariants.{Journal}
 
 -- the fault that is reported of a journal's file; `Journal` if a call of the disk failed
-abbrev pub of_start : GoOnFault → Fault
+abbrev pub of_start : ResumeFault → Fault
 of_start (Refused fault) = of_journal fault
 of_start Failed = Journal

@@ -4,7 +4,7 @@ ghost use Rattle.clock_terms.specs.Limits.{SetupFields};
 ghost use Rattle.clock_front.specs.Fronts.{StandsForTexts};
 ghost use Rattle.clock_journal.specs.Entries.{Entry};
 ghost use Rattle.clock_keeping.specs.Keeping.{IsRefused};
-ghost use Rattle.clock_auction.specs.Audits.{IsAuditOf, IsRecounted, IsUnrecounted, audited};
+ghost use Rattle.clock_auction.specs.Audits.{IsAuditOf, IsRecounted, IsAuditFault, audited};
 ghost use Rattle.clock_auction.specs.Audits.{with_digest};
 
 use crate::files::{digits_of, file_bytes, journal_bytes, tell_journal};
@@ -12,17 +12,17 @@ use crate::serve::front_in;
 use clock_commands::Fault;
 use clock_device::{NoMemory, Sink, Text, write_all};
 use clock_front::{Effect, Front};
-use clock_journal::{Link, Machine, Record, Recovered, Untaken, digest_of, recover};
+use clock_journal::{Link, Machine, Record, Recovered, TakeError, digest_of, recover};
 use clock_keeping::take_text;
 use clock_queue::Woken;
 use clock_reports::{Digits, audit_text, report_so_far};
-use clock_words::Files as Named;
+use clock_words::NamedFiles;
 use std::alloc::Global;
 use std::fs::File;
 use std::rt::Files;
 
 /// Prints the rounds of a journal.
-pub fn tell_audit<R>(rt: &R, out: &mut impl Sink, named: &Named) -> Result<(), Fault>
+pub fn tell_audit<R>(rt: &R, out: &mut impl Sink, named: &NamedFiles) -> Result<(), Fault>
 where
     R: Files<File = File> + Print + Alloc<A = Global>,
 {
@@ -58,9 +58,9 @@ impl Machine for Recount {
 
     ghost refuses = { λ setup texts text. IsRefused setup texts text };
 
-    fn take(&mut self, text: &[u8], at: &Record) -> Result<(), Untaken> {
+    fn take(&mut self, text: &[u8], at: &Record) -> Result<(), TakeError> {
         let effect = take_text(&mut self.front, text)?;
-        remember(&mut self.digests, effect, &at.digest).or(Err(Untaken::NoMemory))
+        remember(&mut self.digests, effect, &at.digest).or(Err(TakeError::NoMemory))
     }
 }
 
@@ -89,7 +89,7 @@ pub fn audit_of(
     requires { StandsForTexts [] front }
     ensures ok { IfOk result
         (λ audit. IsAuditOf front.setup first.now bytes.items audit.0 audit.1) }
-    ensures err { IfErr result (IsUnrecounted front.setup first.now bytes.items) }
+    ensures err { IfErr result (IsAuditFault front.setup first.now bytes.items) }
 {
     let mut recount = Recount {
         front,

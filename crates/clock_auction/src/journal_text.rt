@@ -1,19 +1,19 @@
 //! `journal`: the texts of a journal.
 ghost use Rattle.std.specs.Prelude.{◌≡◌, ◌++◌, List, ℕ, IfErr, IfOk, OnOk};
-ghost use Rattle.clock_auction.specs.Listings.{IsListingOf, IsUnlisted, digest_line, listed};
+ghost use Rattle.clock_auction.specs.Listings.{IsListingOf, IsListFault, digest_line, listed};
 ghost use Rattle.clock_auction.specs.Listings.{spaced, text_listed};
 
 use crate::files::{digits_of, file_bytes, journal_bytes, tell_journal};
 use clock_commands::Fault;
 use clock_device::{NoMemory, Sink, Text, write_all};
-use clock_journal::{Link, Machine, Record, Recovered, Untaken, digest_of, recover};
-use clock_words::Files as Named;
+use clock_journal::{Link, Machine, Record, Recovered, TakeError, digest_of, recover};
+use clock_words::NamedFiles;
 use std::alloc::Global;
 use std::fs::File;
 use std::rt::Files;
 
 /// Prints the texts of a journal.
-pub fn tell_texts<R>(rt: &R, out: &mut impl Sink, named: &Named) -> Result<(), Fault>
+pub fn tell_texts<R>(rt: &R, out: &mut impl Sink, named: &NamedFiles) -> Result<(), Fault>
 where
     R: Files<File = File> + Print + Alloc<A = Global>,
 {
@@ -42,8 +42,8 @@ impl Machine for Listing {
 
     ghost refuses = { λ rules texts text. ⊥ };
 
-    fn take(&mut self, text: &[u8], at: &Record) -> Result<(), Untaken> {
-        push_text(&mut self.text, text, at).or(Err(Untaken::NoMemory))
+    fn take(&mut self, text: &[u8], at: &Record) -> Result<(), TakeError> {
+        push_text(&mut self.text, text, at).or(Err(TakeError::NoMemory))
     }
 }
 
@@ -80,7 +80,7 @@ fn push_digits(text: &mut Text, digest: &Link) -> Result<(), NoMemory>
 /// `text NUMBER PLACE LENGTH DIGEST`, its bytes, and a line feed. Returns what was recovered, too.
 pub fn listing_of(alloc: Global, first: Link, bytes: &[u8]) -> Result<(Text, Recovered), Fault>
     ensures ok { IfOk result (λ listing. IsListingOf first bytes.now listing.0 listing.1) }
-    ensures err { IfErr result (IsUnlisted first bytes.now) }
+    ensures err { IfErr result (IsListFault first bytes.now) }
 {
     let mut text = Text::new(alloc);
     text.extend_from_slice(b"setup ")?;

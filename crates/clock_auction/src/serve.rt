@@ -12,10 +12,10 @@ use clock_device::{Failed, Text};
 use clock_front::{Front, Response};
 use clock_http::Progress;
 use clock_journal::{Durable, FileDisk, Journal, Link, Recovered, digest_of};
-use clock_keeping::{Auction, GoOnFault, Keeper, go_on};
+use clock_keeping::{ReplayedAuction, ResumeFault, RequestLog, resume_auction};
 use clock_processor::Processor;
 use clock_queue::Woken;
-use clock_serving::{Listening, serve_all, serve_on};
+use clock_serving::{PortAcceptor, serve_all, serve_on};
 use clock_words::Serving;
 use std::alloc::Global;
 use std::fs::{File, OpenOptions};
@@ -42,8 +42,8 @@ where
     };
     let digest = digest_of(document.as_slice());
     let front = front_in(rt.alloc(), document)?;
-    let mut auction = Auction { front };
-    let served = match taken_over(rt, &mut auction, digest, path) {
+    let mut auction = ReplayedAuction { front };
+    let served = match resumed_journal(rt, &mut auction, digest, path) {
         Ok(journal) => listen(rt, &mut auction.front, Some(journal), serving),
         Err(fault) => Err(fault),
     };
@@ -65,9 +65,9 @@ pub fn front_in(alloc: Global, document: Text) -> Result<Front<Woken>, Fault>
 
 /// Locks the file of a journal, replays it, and continues it. Prints the line of the journal. Syncs
 /// the folder of the file, too.
-fn taken_over<R>(
+fn resumed_journal<R>(
     rt: &R,
-    auction: &mut Auction<Woken>,
+    auction: &mut ReplayedAuction<Woken>,
     digest: Link,
     path: &str,
 ) -> Result<Journal<FileDisk<File>>, Fault>
@@ -84,7 +84,7 @@ where
     let bytes = bytes.as_slice();
     let tell = |recovered: Recovered| tell_cut(rt, recovered.end, bytes.len());
     let mut journal = Journal::new(FileDisk::new(file), digest);
-    match go_on(auction, &mut journal, bytes, tell) {
+    match resume_auction(auction, &mut journal, bytes, tell) {
         Ok(recovered) => {
             sync_folder(rt, path)?;
             tell_journal(rt, recovered)?;
@@ -95,12 +95,12 @@ where
 }
 
 /// Returns the fault of a journal that cannot be continued.
-pub fn start_fault(fault: GoOnFault) -> Fault
+pub fn start_fault(fault: ResumeFault) -> Fault
     ensures { result ≡ of_start fault }
 {
     match fault {
-        GoOnFault::Refused(fault) => Fault::from(fault),
-        GoOnFault::Failed => Fault::Journal,
+        ResumeFault::Refused(fault) => Fault::from(fault),
+        ResumeFault::Failed => Fault::Journal,
     }
 }
 
@@ -143,7 +143,7 @@ where
         return Ok(serve_on(rt.alloc(), front, &listener, count)?);
     };
     let mut telling = Telling { rt, journal };
-    let mut taken = Listening::new(&listener);
+    let mut taken = PortAcceptor::new(&listener);
     Ok(serve_all(rt.alloc(), front, &mut telling, &mut taken, count)?)
 }
 
@@ -154,7 +154,7 @@ struct Telling<'a, R, D: Durable> {
     journal: Journal<D>,
 }
 
-impl<R: Print, D: Durable> Keeper for Telling<'_, R, D> {
+impl<R: Print, D: Durable> RequestLog for Telling<'_, R, D> {
     ghost journal = { λ telling. telling.journal };
 
     ghost told = { λ telling. None };

@@ -13,7 +13,7 @@ use Rattle.clock_bids.specs.declared.sheet.Bid.{Bid}
 use Rattle.clock_bids.specs.declared.sheet.BidFault.{BidFault}
 use Rattle.clock_bids.specs.declared.sheet.BidFault.TheVariants.{PriceOrder, MixedDirection, KeepPrice}
 use Rattle.clock_bids.specs.inside.Parts.{is_above_prices}
-use Rattle.clock_bids.specs.Sheet.{last_quantity, keeps_direction, is_kept_at_clock}
+use Rattle.clock_bids.specs.Sheet.{last_quantity, keeps_direction, is_maintained_at_clock}
 use Rattle.clock_bids.specs.inside.Chains.{Climbs, Falls, Moves, up, down, kept, RisesFrom, IsInRange, IsGoodChain, last_after, last_of, is_step_on, step_checks}
 
 -- the last bid has the last quantity
@@ -166,7 +166,7 @@ abbrev pub chain_checks : ℕ → ℕ → List Bid → ℕ → Bid → List (Bid
 chain_checks held clock chain i bid =
     (PriceOrder i, is_above_prices chain bid)
     ∷ (MixedDirection i, keeps_direction held chain bid)
-    ∷ (KeepPrice i, is_kept_at_clock held clock chain bid)
+    ∷ (KeepPrice i, is_maintained_at_clock held clock chain bid)
     ∷ []
 
 -- these checks give the same first fault as those by the last bid

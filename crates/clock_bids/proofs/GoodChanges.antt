@@ -22,7 +22,7 @@ use Rattle.clock_bids.specs.Holding.{Holding}
 use Rattle.clock_bids.specs.Sheet.{chain_of, most_bids, IsGoodSheet}
 use Rattle.clock_bids.specs.Changes.{changes_of_product, changes_of_sheet}
 use Rattle.clock_bids.specs.inside.Chains.{IsGoodChain}
-use Rattle.clock_terms.specs.Requests.{same_kind, is_request_of, asked_of, IsChangeOf, StandsBefore, AreApart, GoOneWay, AreChangesOf}
+use Rattle.clock_terms.specs.Requests.{same_kind, is_request_of, asked_of, IsChangeOf, IsBefore, AreApart, GoOneWay, AreChangesOf}
 use Rattle.clock_bids.proofs.Good.{no_sheet_fault, good_sheet_chains, last_quantity-le}
 use Rattle.clock_bids.proofs.Links.{IsStep, AreSteps, AreProductSteps, KeepsWithin, product_steps}
 
@@ -143,7 +143,7 @@ chains_apart item (bid ∷ bids) =
 pub length-filter-le : {A : Type 0} (test : A → Bool) (xs : List A) → length (filter test xs) ≤ length xs
 length-filter-le test xs = omega (arith, length-filter test xs, count_by-le-length test xs)
 
-no_place_twice : (a b : Change) → StandsBefore a b → a.product ≡ b.product → a.place ≡ b.place → ⊥
+no_place_twice : (a b : Change) → IsBefore a b → a.product ≡ b.product → a.place ≡ b.place → ⊥
 no_place_twice a b before product place = elim before as (λ _. ⊥) [
   | inl lower ↦ omega (arith, lower, product)
   | inr same ↦ omega (arith, same.1, place)
@@ -207,9 +207,9 @@ module _ (products : List Product) (prices : List PricePair) (demands : List ℕ
         (from_on (from + 1) n (omega (arith, within))))
         (asks from) (its_steps from known))
 
-    sorted : (from n : ℕ) → from + n ≤ length products → AllPairs StandsBefore (flat_map asks (range_with_len from n))
-    sorted = pairs StandsBefore
-        (λ item known. pairs_with (IsItsStep item (steps item known).way) (λ (a b : Change). a.place < b.place) StandsBefore
+    sorted : (from n : ℕ) → from + n ≤ length products → AllPairs IsBefore (flat_map asks (range_with_len from n))
+    sorted = pairs IsBefore
+        (λ item known. pairs_with (IsItsStep item (steps item known).way) (λ (a b : Change). a.place < b.place) IsBefore
         (λ a b first second before. inr (first.product ∙ sym second.product, before)) (asks item) (its_steps item known) (steps item known).steps.placed)
         (λ a b before. inl before)
 
@@ -278,7 +278,7 @@ module _ (products : List Product) (prices : List PricePair) (demands : List ℕ
       count = omega (arith, count 0 (length products) (omega arith), length-filter-le (λ (bid : Bid). nat_le 0 bid.product) bids, few_bids, few_products);
       all = each 0 (length products) (omega arith);
       sorted = sorted 0 (length products) (omega arith);
-      apart = pairs_weaker StandsBefore AreApart (λ a b before bidder product place. no_place_twice a b before product place)
+      apart = pairs_weaker IsBefore AreApart (λ a b before bidder product place. no_place_twice a b before product place)
           (flat_map asks (range_with_len 0 (length products))) (sorted 0 (length products) (omega arith));
       one_way = one_way 0 (length products) (omega arith);
       capped = λ item known. (let own : Keeps owner item (prices_at prices item) (cap_of products item) (slice_index demands item)

@@ -20,7 +20,7 @@ use Rattle.clock_closing.specs.declared.fault.CloseFault.{CloseFault}
 use Rattle.clock_closing.specs.declared.fault.CloseFault.TheVariants as close_faults
 use Rattle.clock_closing.specs.declared.closed_round.Results.{Results}
 use Rattle.clock_closing.specs.Faults.{fault_check}
-use Rattle.clock_closing.specs.ToldFaults.{told_of_post}
+use Rattle.clock_closing.specs.ReportedFaults.{fault_from_post}
 use Rattle.clock_closing.specs.OpenRound.{OpenRound, OpenRoundFields}
 use Rattle.clock_closing.specs.Closing.{ClosedRound, RoundResult, round_result, closed_round, closing, slips_after}
 use Rattle.clock_closing.specs.Results.{demands_of}
@@ -63,7 +63,7 @@ module _ (setup : PublicSetup) (now : OpenRound) (increments : Increments) (resu
 
   -- A refused posting refuses the closing for the same reason.
   posts_told : (limit : Option ℕ) (fault : PostFault) → IsFirstFault post_faults.NoMemory (post_fault limit) fault →
-      IsRefusal close_faults.NoMemory (by_limit limit) (told_of_post fault)
+      IsRefusal close_faults.NoMemory (by_limit limit) (fault_from_post fault)
   posts_told None (post_faults.PriceLimit product) is = λ other. absurd (none-some _ (is (λ same. cc)))
   posts_told (Some limit) (post_faults.PriceLimit product) is = λ other. let same : Some (post_faults.PriceLimit limit)
       ≡ Some (post_faults.PriceLimit product) = is (λ same. cc) in cc
@@ -71,7 +71,7 @@ module _ (setup : PublicSetup) (now : OpenRound) (increments : Increments) (resu
 
   pub posts-refused : (fault : PostFault) → IsFirstFault post_faults.NoMemory
       (post_fault (price_limit_fault setup.products result.grid result.posted increments)) fault →
-      IsRefusal close_faults.NoMemory (by_limit (price_limit_fault setup.products result.grid result.posted increments)) (told_of_post fault)
+      IsRefusal close_faults.NoMemory (by_limit (price_limit_fault setup.products result.grid result.posted increments)) (fault_from_post fault)
   posts-refused fault is = posts_told (price_limit_fault setup.products result.grid result.posted increments) fault is
 
 -- A posting or a refusal, from what its call returned.
@@ -95,7 +95,7 @@ module _ (round : OpenRoundFields) (demands : List (List ℕ)) (posting : Result
       posts (public_setup round.setup) round.before increments result one results both.0 both.1 refl refl slips_are demands_are
 
   -- If there is no posting, there are no results.
-  pub round-refused : (fault : PostFault) (told : CloseFault) → posting ≡ Err fault → told ≡ told_of_post fault →
+  pub round-refused : (fault : PostFault) (told : CloseFault) → posting ≡ Err fault → told ≡ fault_from_post fault →
       IsRoundOf round demands posting (Err told)
   round-refused fault told same is_told = λ increments list is.
       let result : RoundResult = record { grid = demands; posted = list } in

@@ -5,5 +5,5 @@ pub mod OpenRound
 pub mod Closing
 pub mod Prepared
 pub mod Results
-pub mod ToldFaults
+pub mod ReportedFaults
 pub mod inside

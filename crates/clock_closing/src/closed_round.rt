@@ -4,7 +4,7 @@ ghost use Rattle.clock_closing.specs.{Prepared.{PreparedClosing}, Results.{AreCo
 use clock_device::Items;
 use clock_order::Ties;
 use clock_posting::RoundSheet;
-use clock_terms::{Grid, Increments, KeptRow, Prices};
+use clock_terms::{Grid, Increments, PackedRow, Prices};
 use std::marker::Model;
 
 /// The results of one bidder after a round.
@@ -17,7 +17,7 @@ pub struct Slip {
     /// The eligibility for the next round, in bidding units.
     pub eligibility: u64,
     /// The processed demand for each product, in blocks.
-    pub demands: KeptRow,
+    pub demands: PackedRow,
 }
 
 /// Bidder results, one per bidder in the order of the set-up.

@@ -1,6 +1,6 @@
 ghost use Rattle.std.specs.Prelude.{◌≡◌};
 ghost use Rattle.clock_closing.specs.declared.fault.CloseFault.TheVariants as close_faults;
-ghost use Rattle.clock_closing.specs.ToldFaults.{told_of_post, told_of_tie};
+ghost use Rattle.clock_closing.specs.ReportedFaults.{fault_from_post, fault_from_tie};
 
 use clock_device::NoMemory;
 use clock_order::TieFault;
@@ -42,7 +42,7 @@ impl From<NoMemory> for CloseFault {
 }
 
 impl From<TieFault> for CloseFault {
-    ghost from_gives = { λ fault told. told ≡ told_of_tie fault };
+    ghost from_gives = { λ fault told. told ≡ fault_from_tie fault };
 
     fn from(fault: TieFault) -> CloseFault {
         match fault {
@@ -53,7 +53,7 @@ impl From<TieFault> for CloseFault {
 }
 
 impl From<PostFault> for CloseFault {
-    ghost from_gives = { λ fault told. told ≡ told_of_post fault };
+    ghost from_gives = { λ fault told. told ≡ fault_from_post fault };
 
     fn from(fault: PostFault) -> CloseFault {
         match fault {

@@ -3,12 +3,12 @@ use Rattle.std.proofs.Common.{◌≡◌, ℕ, ◌+◌, ◌≤◌, false, true, L
 use Rattle.std.proofs.lemmas.List.{append-nil, length-append}
 use Rattle.clock_device.specs.Streams.{HasRead}
 use Rattle.clock_device.proofs.Streams.{read_twice}
-use Rattle.clock_device.specs.Told.{Reading, SourceTold}
+use Rattle.clock_device.specs.Told.{Reading, SourceReport}
 use Rattle.clock_commands.specs.Input.{IsReadingOf, Takes, most_bytes}
 use Rattle.clock_commands.specs.declared.fault.Fault.TheVariants as fault
 
 -- the reads before one more
-module _ (reading : Reading) (mid : SourceTold) (document : List ℕ)
+module _ (reading : Reading) (mid : SourceReport) (document : List ℕ)
     (read : HasRead reading.before.left mid.left document) (few : length document ≤ most_bytes)
     (used : mid.calls ≤ length document + mid.interruptions) (unfailed : mid.has_failed ≡ false)
     (once : reading.after.calls ≤ mid.calls + 1) (kept : mid.interruptions ≤ reading.after.interruptions) where

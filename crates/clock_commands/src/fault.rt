@@ -4,7 +4,7 @@ ghost use Rattle.clock_commands.specs.FaultLines.{of_journal, of_opening, of_scr
 ghost use Rattle.clock_commands.specs.FaultLines.{fault_line, fault_words, opening_words, place_words};
 ghost use Rattle.clock_commands.specs.FaultLines.{script_words, setup_words};
 ghost use Rattle.clock_commands.specs.declared.fault.Fault.TheVariants.{Memory};
-ghost use Rattle.clock_commands.specs.inside.Lines.{behind, code_behind, text_of_words};
+ghost use Rattle.clock_commands.specs.inside.Lines.{spaced_number, spaced_code, text_of_words};
 
 use clock_device::{Failed, NoMemory, Sink, write_all, write_number};
 use clock_http::Code;
@@ -136,15 +136,15 @@ pub fn write_fault<W: Sink>(sink: &mut W, fault: Fault) -> Result<(), Failed>
     let words = words_of(fault);
     write_all(sink, b"fault: ")?;
     write_all(sink, words.0.as_bytes())?;
-    write_behind(sink, words.1)?;
-    write_behind(sink, words.2)?;
-    write_code_behind(sink, words.3)?;
+    write_spaced_number(sink, words.1)?;
+    write_spaced_number(sink, words.2)?;
+    write_spaced_code(sink, words.3)?;
     write_all(sink, b"\n")
 }
 
 /// Writes a space and a number, if there is one.
-fn write_behind<W: Sink>(sink: &mut W, number: Option<u64>) -> Result<(), Failed>
-    ensures bytes { WritesText (W.told sink.old).taken (W.told sink.new).taken (behind number) result }
+fn write_spaced_number<W: Sink>(sink: &mut W, number: Option<u64>) -> Result<(), Failed>
+    ensures bytes { WritesText (W.told sink.old).taken (W.told sink.new).taken (spaced_number number) result }
     ensures failed { (W.told sink.new).has_failed ≡ ((W.told sink.old).has_failed || is_err result) }
 {
     let Some(number) = number else {
@@ -155,8 +155,8 @@ fn write_behind<W: Sink>(sink: &mut W, number: Option<u64>) -> Result<(), Failed
 }
 
 /// Writes a space and a code, if there is one.
-fn write_code_behind<W: Sink>(sink: &mut W, code: Option<Code>) -> Result<(), Failed>
-    ensures bytes { WritesText (W.told sink.old).taken (W.told sink.new).taken (code_behind code) result }
+fn write_spaced_code<W: Sink>(sink: &mut W, code: Option<Code>) -> Result<(), Failed>
+    ensures bytes { WritesText (W.told sink.old).taken (W.told sink.new).taken (spaced_code code) result }
     ensures failed { (W.told sink.new).has_failed ≡ ((W.told sink.old).has_failed || is_err result) }
 {
     let Some(code) = code else {

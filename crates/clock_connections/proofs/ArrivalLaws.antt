@@ -3,7 +3,7 @@ use Rattle.std.proofs.Common.{◌≡◌, ℕ, ◌+◌, ◌≤◌, true, false, �
 use Rattle.clock_device.specs.Streams.{HasRead}
 use Rattle.clock_device.proofs.Streams.{read_nothing, read_twice, same_bytes}
 use Rattle.clock_http.specs.Framing.{framing, needs_more}
-use Rattle.clock_device.specs.Told.{IsUnread, Reading, SourceTold}
+use Rattle.clock_device.specs.Told.{IsUnread, Reading, SourceReport}
 use Rattle.clock_connections.specs.Arrivals.{IsReadByNeed, HasNoRoom}
 
 pub nothing_needs_more : needs_more [] ≡ true
@@ -14,12 +14,12 @@ pub nothing_read : (bytes : Option (List ℕ)) → HasRead bytes bytes []
 nothing_read bytes = read_nothing bytes bytes (same_bytes bytes)
 
 -- memory was refused before any read
-pub no_room_at_first : (told : SourceTold) → IsUnread told → HasNoRoom (record { before = told; after = told })
+pub no_room_at_first : (told : SourceReport) → IsUnread told → HasNoRoom (record { before = told; after = told })
 no_room_at_first told none =
     ([], [], record { read = nothing_read told.left; needed = nothing_needs_more; used = omega (arith, none.uncounted) }, none.unfailed)
 
 -- the reads before one more
-module _ (reading : Reading) (mid : SourceTold) (front : List ℕ)
+module _ (reading : Reading) (mid : SourceReport) (front : List ℕ)
     (read : HasRead reading.before.left mid.left front) (needed : needs_more front ≡ true)
     (used : mid.calls ≤ length front + mid.interruptions) (unfailed : mid.has_failed ≡ false)
     (once : reading.after.calls ≤ mid.calls + 1) (kept : mid.interruptions ≤ reading.after.interruptions) where

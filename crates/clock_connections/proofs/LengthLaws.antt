@@ -9,7 +9,7 @@ use Rattle.clock_http.specs.declared.code.Code.{Code}
 use Rattle.clock_http.specs.declared.code.Code.TheVariants.{LongBody, LongHead}
 use Rattle.clock_http.specs.Scans.{head_length}
 use Rattle.clock_http.specs.HeaderLines.{body_length, body_limit, length_from, pairs_of, unless_coded, values_of, within_limit}
-use Rattle.clock_http.specs.Framing.{Framing, Head, and_length, ended_head, framed_at, framed_head, framing, head_limit, incomplete, is_incomplete, kept, length_read, needs_more}
+use Rattle.clock_http.specs.Framing.{Framing, Head, and_length, ended_head, framed_at, framed_head, framing, head_limit, incomplete, is_incomplete, stored_head, length_read, needs_more}
 use Rattle.clock_http.specs.Framing.{refusal, whole}
 use Rattle.clock_http.proofs.Prefixes.{cond_cases, head_length_within}
 use Rattle.clock_connections.specs.Arrivals.{HasArrived, most_piece}
@@ -36,7 +36,7 @@ uncoded (value ∷ more) told n e = absurd cc
 
 measured : (head : RequestHead) (told : Result ℕ Code) (read : Head × ℕ) → and_length head told ≡ Ok read → told ≡ Ok read.1
 measured head (Err code) read e = absurd cc
-measured head (Ok n) read e = (let same : (kept head, n) ≡ read = cc in ap (λ (r : Head × ℕ). Ok r.1) same)
+measured head (Ok n) read e = (let same : (stored_head head, n) ≡ read = cc in ap (λ (r : Head × ℕ). Ok r.1) same)
 
 body_within : (ended : Result RequestHead Code) (read : Head × ℕ) → length_read ended ≡ Ok read → read.1 ≤ body_limit
 body_within (Err code) read e = absurd cc

@@ -8,9 +8,9 @@ use Rattle.std.proofs.lemmas.Bool.Decides.{nat_tests}
 use Rattle.std.proofs.lemmas.List.{get_or_append_left, get_or_push, get_or_past, get_or-set_same, get_or-set_other, length-set}
 use Rattle.std.proofs.lemmas.List.Sums.{sum_by_push, sum_by-set}
 use Rattle.clock_connections.specs.declared.connections.Conn.{Conn}
-use Rattle.clock_connections.specs.Connections.{most_connections, most_serials, ConnectionFields, text_of, standing_count, is_full, KeepsOthers, IsConnected, IsTaken, IsGone}
+use Rattle.clock_connections.specs.Connections.{most_connections, most_serials, ConnectionFields, text_of, open_count, is_full, LeavesOthers, IsConnected, IsTaken, IsGone}
 use Rattle.clock_connections.specs.Pieces.{Numbered, text_at}
-use Rattle.clock_connections.specs.inside.Numbers.{opened, conn_at, text_of_made, Stands}
+use Rattle.clock_connections.specs.inside.Numbers.{opened, conn_at, text_of_made, AreNumbered}
 
 -- ---- a client connects
 
@@ -55,14 +55,14 @@ made_before conns number conn is =
 
 -- a new connection has another serial number than all before it
 pub serial_differs : (numbered : Numbered) (old new : ConnectionFields) (conns : List (Option Conn)) (conn other : Conn) (number : ℕ)
-    → Stands numbered old conns → IsConnected old new conn → conn_at conns number ≡ Some other → other ≢ conn
+    → AreNumbered numbered old conns → IsConnected old new conn → conn_at conns number ≡ Some other → other ≢ conn
 serial_differs numbered old new conns conn other number stands is at =
     λ same. (let lt = stands.earlier number other at in let e : other.serial ≡ conn.serial = ap (λ (c : Conn). c.serial) same in
     let s = is.serial in omega arith)
 
 -- the text of an earlier connection after one more was opened
 pub text_kept : (numbered : Numbered) (old new : ConnectionFields) (conns : List (Option Conn)) (conn : Conn) (number : ℕ)
-    → Stands numbered old conns → IsConnected old new conn → (o : Option Conn) → conn_at conns number ≡ o
+    → AreNumbered numbered old conns → IsConnected old new conn → (o : Option Conn) → conn_at conns number ≡ o
     → text_of_made new o ≡ text_of_made old o
 text_kept numbered old new conns conn number stands is None at = refl
 text_kept numbered old new conns conn number stands is (Some other) at = is.others other (serial_differs numbered old new conns conn other number stands is at)
@@ -120,10 +120,10 @@ abbrev opened_if : Bool → Option (List ℕ)
 opened_if b = cond b (Some []) None
 
 -- no connection is opened if the limit is reached
-pub refused_stands : (numbered : Numbered) (connections : ConnectionFields) (conns : List (Option Conn)) → Stands numbered connections conns
-    → is_full connections ≡ true → length conns < most_serials → Stands (numbered ++ opened numbered ∷ []) connections (conns ++ None ∷ [])
+pub refused_stands : (numbered : Numbered) (connections : ConnectionFields) (conns : List (Option Conn)) → AreNumbered numbered connections conns
+    → is_full connections ≡ true → length conns < most_serials → AreNumbered (numbered ++ opened numbered ∷ []) connections (conns ++ None ∷ [])
 refused_stands numbered connections conns stands full few =
-    subst (λ (o : Option (List ℕ)). Stands (numbered ++ o ∷ []) connections (conns ++ None ∷ [])) (sym none)
+    subst (λ (o : Option (List ℕ)). AreNumbered (numbered ++ o ∷ []) connections (conns ++ None ∷ [])) (sym none)
     (record {
       all = pushed_length conns None None ∙ ap (λ n. n + 1) stands.all ∙ sym (pushed_length numbered None None);
       texts = pushed_texts numbered connections conns None None stands.all stands.texts refl;
@@ -138,7 +138,7 @@ refused_stands numbered connections conns stands full few =
   where
     none : opened numbered ≡ None
     none =
-        elim (cases_Bool (nat_le most_connections (standing_count connections))) [
+        elim (cases_Bool (nat_le most_connections (open_count connections))) [
           | inl many_stand ↦ (let c = stands.count in let no_room : nat_lt (count_by is_some numbered) most_connections ≡ false =
               grind (arith, nat_tests) in ap opened_if no_room)
           | inr room ↦ absurd (let bad : nat_le most_serials connections.next ≡ true =
@@ -147,10 +147,10 @@ refused_stands numbered connections conns stands full few =
         ]
 
 -- a connection is opened if the limit is not reached
-pub connected_stands : (numbered : Numbered) (old new : ConnectionFields) (conns : List (Option Conn)) (conn : Conn) → Stands numbered old conns
-    → IsConnected old new conn → Stands (numbered ++ opened numbered ∷ []) new (conns ++ Some conn ∷ [])
+pub connected_stands : (numbered : Numbered) (old new : ConnectionFields) (conns : List (Option Conn)) (conn : Conn) → AreNumbered numbered old conns
+    → IsConnected old new conn → AreNumbered (numbered ++ opened numbered ∷ []) new (conns ++ Some conn ∷ [])
 connected_stands numbered old new conns conn stands is =
-    subst (λ (o : Option (List ℕ)). Stands (numbered ++ o ∷ []) new (conns ++ Some conn ∷ [])) (sym some)
+    subst (λ (o : Option (List ℕ)). AreNumbered (numbered ++ o ∷ []) new (conns ++ Some conn ∷ [])) (sym some)
     (record {
       all = pushed_length conns (Some conn) None ∙ ap (λ n. n + 1) stands.all ∙ sym (pushed_length numbered (Some []) None);
       texts = pushed_texts numbered new conns (Some conn) (Some []) stands.all
@@ -168,7 +168,7 @@ connected_stands numbered old new conns conn stands is =
   where
     some : opened numbered ≡ Some []
     some =
-        elim (cases_Bool (nat_le most_connections (standing_count old))) [
+        elim (cases_Bool (nat_le most_connections (open_count old))) [
           | inl many_stand ↦ absurd (let bad : true ≡ false = sym (ap (λ (b : Bool). b || nat_le most_serials old.next) many_stand) ∙ is.room in cc)
           | inr room ↦ (let c = stands.count in let less : nat_lt (count_by is_some numbered) most_connections ≡ true =
               grind (arith, nat_tests) in ap opened_if less)
@@ -179,13 +179,13 @@ connected_stands numbered old new conns conn stands is =
 -- one connection has this text now, or none, and all else is unchanged
 pub record IsChanged (old new : ConnectionFields) (conn : Conn) (before now : Option (List ℕ)) : Type 0 where
   pub shown : text_of new conn ≡ now
-  pub others : KeepsOthers old new conn
+  pub others : LeavesOthers old new conn
   pub next : new.next ≡ old.next
-  pub count : standing_count new + one_if before ≡ standing_count old + one_if now
+  pub count : open_count new + one_if before ≡ open_count old + one_if now
 
 -- the texts by number, if the text of one number changes
 changed_texts : (numbered : Numbered) (old new : ConnectionFields) (conns : List (Option Conn)) (number : ℕ) (conn : Conn) (before now : Option (List ℕ))
-    → Stands numbered old conns → conn_at conns number ≡ Some conn → IsChanged old new conn before now
+    → AreNumbered numbered old conns → conn_at conns number ≡ Some conn → IsChanged old new conn before now
     → (other : ℕ) → text_of_made new (conn_at conns other) ≡ text_at (set numbered number now) other
 changed_texts numbered old new conns number conn before now stands at is other =
     elim (cases_Bool (eqb other number)) [
@@ -209,8 +209,8 @@ changed_texts numbered old new conns number conn before now stands at is other =
 
 -- the connection of a number has another text, or none
 pub changed_stands : (numbered : Numbered) (old new : ConnectionFields) (conns : List (Option Conn)) (number : ℕ) (conn : Conn) (now : Option (List ℕ))
-    → Stands numbered old conns → conn_at conns number ≡ Some conn → IsChanged old new conn (text_at numbered number) now
-    → Stands (set numbered number now) new conns
+    → AreNumbered numbered old conns → conn_at conns number ≡ Some conn → IsChanged old new conn (text_at numbered number) now
+    → AreNumbered (set numbered number now) new conns
 changed_stands numbered old new conns number conn now stands at is =
     let size = length-set numbered number now in
     record {
@@ -225,8 +225,8 @@ changed_stands numbered old new conns number conn now stands at is =
 
 -- a piece was appended, and the connection stays open
 pub taken_stands : (numbered : Numbered) (old new : ConnectionFields) (conns : List (Option Conn)) (number : ℕ) (conn : Conn) (text joined : List ℕ)
-    → Stands numbered old conns → conn_at conns number ≡ Some conn → text_at numbered number ≡ Some text → IsTaken old new conn joined
-    → Stands (set numbered number (Some joined)) new conns
+    → AreNumbered numbered old conns → conn_at conns number ≡ Some conn → text_at numbered number ≡ Some text → IsTaken old new conn joined
+    → AreNumbered (set numbered number (Some joined)) new conns
 taken_stands numbered old new conns number conn text joined stands at has is =
     changed_stands numbered old new conns number conn (Some joined) stands at
     (record {
@@ -238,8 +238,8 @@ taken_stands numbered old new conns number conn text joined stands at has is =
 
 -- the connection was answered
 pub gone_stands : (numbered : Numbered) (old new : ConnectionFields) (conns : List (Option Conn)) (number : ℕ) (conn : Conn) (text : List ℕ)
-    → Stands numbered old conns → conn_at conns number ≡ Some conn → text_at numbered number ≡ Some text → IsGone old new conn
-    → Stands (set numbered number None) new conns
+    → AreNumbered numbered old conns → conn_at conns number ≡ Some conn → text_at numbered number ≡ Some text → IsGone old new conn
+    → AreNumbered (set numbered number None) new conns
 gone_stands numbered old new conns number conn text stands at has is =
     changed_stands numbered old new conns number conn None stands at
     (record {
@@ -251,5 +251,5 @@ gone_stands numbered old new conns number conn text stands at has is =
 
 -- an open connection has the text of its number
 pub standing_text : (numbered : Numbered) (connections : ConnectionFields) (conns : List (Option Conn)) (number : ℕ) (conn : Conn)
-    → Stands numbered connections conns → conn_at conns number ≡ Some conn → text_of connections conn ≡ text_at numbered number
+    → AreNumbered numbered connections conns → conn_at conns number ≡ Some conn → text_of connections conn ≡ text_at numbered number
 standing_text numbered connections conns number conn stands at = ap (text_of_made connections) (sym at) ∙ stands.texts number

@@ -5,11 +5,11 @@ use Rattle.clock_http.specs.Framing.{needs_more}
 use Rattle.clock_connections.proofs.ArrivalLaws.{nothing_needs_more}
 use Rattle.clock_connections.specs.declared.connections.Conn.{Conn}
 use Rattle.clock_connections.specs.declared.connections.HubFault.{HubFault}
-use Rattle.clock_connections.specs.Connections.{ConnectionFields, IsConnected, KeepsOthers, text_of}
+use Rattle.clock_connections.specs.Connections.{ConnectionFields, IsConnected, LeavesOthers, text_of}
 use Rattle.clock_connections.specs.inside.Waiting.{AllNeedMore}
 
 -- one connection has changed, and its text needs more if it is still open
-pub keeps_waiting : (old new : ConnectionFields) (conn : Conn) → AllNeedMore old → KeepsOthers old new conn
+pub keeps_waiting : (old new : ConnectionFields) (conn : Conn) → AllNeedMore old → LeavesOthers old new conn
     → ((text : List ℕ) → text_of new conn ≡ Some text → needs_more text ≡ true) → AllNeedMore new
 keeps_waiting old new conn before others here other text at = by (needs_more text) refl
   where

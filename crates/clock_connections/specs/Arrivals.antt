@@ -10,8 +10,8 @@ use Rattle.clock_device.specs.Streams.{HasRead, IsReadOut}
 use Rattle.clock_device.specs.Readings.{HasFailedRead, RunsOutOfReads}
 use Rattle.clock_device.specs.Told.{Reading}
 use Rattle.clock_http.specs.Framing.{needs_more, IsDecided}
-use Rattle.clock_connections.specs.declared.arrival.Unread.{Unread}
-use Rattle.clock_connections.specs.declared.arrival.Unread.TheVariants as unread
+use Rattle.clock_connections.specs.declared.arrival.RequestReadError.{RequestReadError}
+use Rattle.clock_connections.specs.declared.arrival.RequestReadError.TheVariants as unread
 
 -- the most reads
 abbrev pub most_request_reads : ℕ
@@ -59,7 +59,7 @@ abbrev pub HasNoRoom : Reading → Type 0
 HasNoRoom reading = (front : List ℕ) × (last : List ℕ) × IsReadByNeed reading front last × (reading.after.has_failed ≡ false)
 
 -- how reading a request ends; interrupted reads are retried
-abbrev pub EndsArrival : Reading → Result (List ℕ) Unread → Type 0
+abbrev pub EndsArrival : Reading → Result (List ℕ) RequestReadError → Type 0
 EndsArrival reading (Ok text) = HasArrived reading text
 EndsArrival reading (Err unread.Read) = IsNotRead reading
 EndsArrival reading (Err unread.Memory) = HasNoRoom reading

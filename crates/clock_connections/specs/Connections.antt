@@ -43,16 +43,16 @@ abbrev pub text_of : ConnectionFields → Conn → Option (List ℕ)
 text_of connections conn = text_with conn.serial (slot_of connections conn.slot)
 
 -- the number of open connections
-abbrev pub standing_count : ConnectionFields → ℕ
-standing_count connections = count_by is_some connections.slots
+abbrev pub open_count : ConnectionFields → ℕ
+open_count connections = count_by is_some connections.slots
 
 -- 256 connections are open, or all serial numbers are used
 abbrev pub is_full : ConnectionFields → Bool
-is_full connections = nat_le most_connections (standing_count connections) || nat_le most_serials connections.next
+is_full connections = nat_le most_connections (open_count connections) || nat_le most_serials connections.next
 
 -- every other connection is unchanged
-abbrev pub KeepsOthers : ConnectionFields → ConnectionFields → Conn → Type 0
-KeepsOthers old new conn = (other : Conn) → other ≢ conn → text_of new other ≡ text_of old other
+abbrev pub LeavesOthers : ConnectionFields → ConnectionFields → Conn → Type 0
+LeavesOthers old new conn = (other : Conn) → other ≢ conn → text_of new other ≡ text_of old other
 
 -- a connection was opened, with a new serial number and no bytes
 pub record IsConnected (old new : ConnectionFields) (conn : Conn) : Type 0 where
@@ -60,8 +60,8 @@ pub record IsConnected (old new : ConnectionFields) (conn : Conn) : Type 0 where
   pub serial : conn.serial ≡ old.next
   pub next : new.next ≡ old.next + 1
   pub stands : text_of new conn ≡ Some []
-  pub others : KeepsOthers old new conn
-  pub count : standing_count new ≡ standing_count old + 1
+  pub others : LeavesOthers old new conn
+  pub count : open_count new ≡ open_count old + 1
 
 -- why no connection was opened
 abbrev pub IsConnectFault : ConnectionFields → HubFault → Type 0
@@ -72,13 +72,13 @@ IsConnectFault connections Unknown = ⊥
 -- an open connection now has this text
 pub record IsTaken (old new : ConnectionFields) (conn : Conn) (text : List ℕ) : Type 0 where
   pub stands : text_of new conn ≡ Some text
-  pub others : KeepsOthers old new conn
-  pub count : standing_count new ≡ standing_count old
+  pub others : LeavesOthers old new conn
+  pub count : open_count new ≡ open_count old
   pub next : new.next ≡ old.next
 
 -- a connection was closed
 pub record IsGone (old new : ConnectionFields) (conn : Conn) : Type 0 where
   pub gone : text_of new conn ≡ None
-  pub others : KeepsOthers old new conn
-  pub count : standing_count new + 1 ≡ standing_count old
+  pub others : LeavesOthers old new conn
+  pub count : open_count new + 1 ≡ open_count old
   pub next : new.next ≡ old.next

@@ -1,7 +1,7 @@
 ghost use Rattle.std.specs.Prelude.{◌≡◌, ◌≤◌};
 ghost use Rattle.clock_device.specs.Told.{IsUnread};
 ghost use Rattle.clock_connections.specs.Arrivals.{most_request_reads, EndsArrival};
-ghost use Rattle.clock_connections.specs.declared.arrival.Unread.TheVariants as unread;
+ghost use Rattle.clock_connections.specs.declared.arrival.RequestReadError.TheVariants as unread;
 
 use clock_device::{NoMemory, Source, Stop, room_for_read};
 use clock_http::Arriving;
@@ -15,25 +15,25 @@ const PIECE: usize = 16_384;
 
 /// Why no request was read.
 #[derive(Clone, Copy, Debug, PartialEq, Eq)]
-pub enum Unread {
+pub enum RequestReadError {
     /// A read failed, or the limit of reads was reached.
     Read,
     /// Out of memory for the bytes.
     Memory,
 }
 
-impl From<NoMemory> for Unread {
+impl From<NoMemory> for RequestReadError {
     ghost from_gives = { λ _ fault. fault ≡ unread.Memory };
 
-    fn from(_refused: NoMemory) -> Unread {
-        Unread::Memory
+    fn from(_refused: NoMemory) -> RequestReadError {
+        RequestReadError::Memory
     }
 }
 
 /// Reads until the bytes are a whole request or refused, or the input ends. Retries interrupted
 /// reads; makes 2,000,000 reads at most. Requires a source without earlier reads. Errors: `Read`.
 /// May return `Memory`, also after some reads.
-pub fn read_request<R: Source>(alloc: Global, source: &mut R) -> Result<Arriving, Unread>
+pub fn read_request<R: Source>(alloc: Global, source: &mut R) -> Result<Arriving, RequestReadError>
     requires { IsUnread (R.told source.old) }
     ensures arrival { EndsArrival (record { before = R.told source.old; after = R.told source.new }) result }
     ensures calls { (R.told source.new).calls ≤ most_request_reads }
@@ -44,12 +44,12 @@ pub fn read_request<R: Source>(alloc: Global, source: &mut R) -> Result<Arriving
         let count = match source.read(piece.as_mut_slice()) {
             Ok(count) => count,
             Err(Stop::Interrupted) => continue,
-            Err(Stop::Failed) => return Err(Unread::Read),
+            Err(Stop::Failed) => return Err(RequestReadError::Read),
         };
         let short = request.take(&piece[..count])?;
         if count == 0 || !short {
             return Ok(request);
         }
     }
-    Err(Unread::Read)
+    Err(RequestReadError::Read)
 }

@@ -1,7 +1,7 @@
 -- A sink that stores its bytes in memory.
 use Rattle.std.specs.Prelude.{◌==◌, ◌-◌, ◌||◌, ◌++◌, ℕ, Bool, false, List, [], length, take, min, Option, Some, None, if◌then◌else◌, is_some, not}
 use Rattle.clock_device.specs.Calls.{count_after}
-use Rattle.clock_device.specs.Told.{SinkTold}
+use Rattle.clock_device.specs.Told.{SinkReport}
 
 -- the bytes written, the most in all, the most of one write, the write that fails, and the counts
 pub record SinkState : Type 0 where
@@ -13,8 +13,8 @@ pub record SinkState : Type 0 where
   pub has_failed : Bool
 
 -- what it reports
-abbrev pub sink_told : SinkState → SinkTold
-sink_told s = record { taken = Some s.taken; calls = s.calls; has_failed = s.has_failed }
+abbrev pub sink_report : SinkState → SinkReport
+sink_report s = record { taken = Some s.taken; calls = s.calls; has_failed = s.has_failed }
 
 -- without writes so far
 abbrev pub new_sink : ℕ → ℕ → Option ℕ → SinkState

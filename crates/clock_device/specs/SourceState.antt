@@ -1,7 +1,7 @@
 -- A source of bytes in memory.
 use Rattle.std.specs.Prelude.{◌==◌, ◌||◌, ℕ, Bool, false, List, length, drop, min, Option, Some, None, Result, Ok, Err, if◌then◌else◌}
 use Rattle.clock_device.specs.Calls.{count_after, interruptions_after, is_failed_read}
-use Rattle.clock_device.specs.Told.{SourceTold}
+use Rattle.clock_device.specs.Told.{SourceReport}
 use Rattle.clock_device.specs.declared.stream.Stop.{Stop}
 
 -- the bytes left, the most of one read, the read that stops and how, and the counts
@@ -14,8 +14,8 @@ pub record SourceState : Type 0 where
   pub has_failed : Bool
 
 -- what it reports
-abbrev pub source_told : SourceState → SourceTold
-source_told s = record { left = Some s.left; calls = s.calls; interruptions = s.interruptions; has_failed = s.has_failed }
+abbrev pub source_report : SourceState → SourceReport
+source_report s = record { left = Some s.left; calls = s.calls; interruptions = s.interruptions; has_failed = s.has_failed }
 
 -- without reads so far
 abbrev pub new_source : List ℕ → ℕ → Option (ℕ × Stop) → SourceState

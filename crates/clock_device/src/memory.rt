@@ -1,8 +1,8 @@
 ghost use Rattle.std.specs.Prelude.{◌≡◌, ◌≤◌, ◌||◌, ◌++◌, length, take, drop, IfOk, OnErr, Some, vec_len, vec_capacity, is_err};
 ghost use Rattle.std.specs.{Result.{result_ok}, Io.{ReadsAtMost}, Io.KnownBytes.{ReadConsumes, WriteAppends}};
 ghost use Rattle.clock_device.specs.{Calls.{count_after, interruptions_after, is_failed_read}, Streams.{CountsTaken}};
-ghost use Rattle.clock_device.specs.SourceState.{SourceState, after_read, new_source, read_answer, source_told};
-ghost use Rattle.clock_device.specs.SinkState.{SinkState, after_write, new_sink, sink_told, write_count};
+ghost use Rattle.clock_device.specs.SourceState.{SourceState, after_read, new_source, read_answer, source_report};
+ghost use Rattle.clock_device.specs.SinkState.{SinkState, after_write, new_sink, sink_report, write_count};
 
 use crate::items::NoMemory;
 use crate::stream::{Failed, Sink, Source, Stop};
@@ -54,7 +54,7 @@ impl<'a> ListSource<'a> {
 }
 
 impl Source for ListSource<'_> {
-    ghost told = { λ source. source_told source };
+    ghost told = { λ source. source_report source };
 
     /// Stops only at the read that `stop` names. Leaves the buffer unchanged after the bytes that
     /// it returns.
@@ -149,7 +149,7 @@ impl ListSink {
 }
 
 impl Sink for ListSink {
-    ghost told = { λ sink. sink_told sink };
+    ghost told = { λ sink. sink_report sink };
 
     /// Fails at the write that `stop` names, if the sink is full, and if `bytes` is empty.
     fn write(&mut self, bytes: &[u8]) -> Result<usize, Failed>

@@ -1,6 +1,6 @@
 ghost use Rattle.std.specs.{Prelude.{◌≡◌, ◌||◌, vec_len, IfOk, is_err}, Io.{ReadsAtMost, KnownBytes.{ReadConsumes, WriteAppends}}};
 ghost use Rattle.clock_device.specs.{Calls.{count_after, interruptions_after, is_failed_read}, Streams.{CountsTaken, WritesText}};
-ghost use Rattle.clock_device.specs.Told.{SinkTold, SourceTold, IsUnread, IsUnused, unread, unused};
+ghost use Rattle.clock_device.specs.Told.{SinkReport, SourceReport, IsUnread, IsUnused, unread, unused};
 
 use crate::items::NoMemory;
 use std::alloc::Global;
@@ -29,7 +29,7 @@ pub struct Failed;
 /// In contracts, a source reports the bytes still to be read, if it knows them; the numbers of
 /// reads and of interrupted reads, which stay at the greatest `u64`; and whether a read has failed.
 pub trait Source {
-    ghost told: { Self → SourceTold };
+    ghost told: { Self → SourceReport };
 
     /// Reads the next bytes into the start of the buffer, and returns their number. For a nonempty
     /// buffer this is 0 exactly if no byte is left. The rest of the buffer may have any content.
@@ -53,7 +53,7 @@ pub fn room_for_read(alloc: Global, size: usize) -> Result<Vec<u8>, NoMemory>
 /// In contracts, a sink reports the bytes written to it, if it knows them; the number of writes,
 /// which stays at the greatest `u64`; and whether a write has failed.
 pub trait Sink {
-    ghost told: { Self → SinkTold };
+    ghost told: { Self → SinkReport };
 
     /// Writes some of the bytes, from their start and at least one, and returns their number.
     fn write(&mut self, bytes: &[u8]) -> Result<usize, Failed>

@@ -8,7 +8,7 @@ use Rattle.clock_order.specs.declared.ties.Tie.{Tie}
 use Rattle.clock_house.specs.Command.{Command, close, other}
 use Rattle.clock_closing.specs.declared.closed_round.ClosedRound.{ClosedRound}
 use Rattle.clock_closing.specs.declared.fault.CloseFault.{CloseFault}
-use Rattle.clock_house.specs.House.{HouseFields, IsUnchanged, IsFollowedBy, StandsStill, closing_in}
+use Rattle.clock_house.specs.House.{HouseFields, IsUnchanged, IsFollowedBy, StandsForTheSame, closing_in}
 use Rattle.clock_house.specs.Prepared.{PreparedClosing, FitsClosing}
 use Rattle.clock_front.specs.Outcomes.{close_outcome, done}
 use Rattle.clock_views.specs.OperatorPages.{closed_value}
@@ -45,7 +45,7 @@ abbrev followed_by : HouseFields → HouseFields → ℕ → Increments → List
 followed_by old new round increments ties = IsFollowedBy (close round increments ties) old new
 
 -- A step that changes nothing, followed by a command, does that command.
-still_then : (command : Command) (old mid new : HouseFields) → StandsStill old mid → IsFollowedBy command mid new → IsFollowedBy command old new
+still_then : (command : Command) (old mid new : HouseFields) → StandsForTheSame old mid → IsFollowedBy command mid new → IsFollowedBy command old new
 still_then command old mid new still followed = record {
   setup = followed.setup ∙ still.setup;
   stands = λ commands stood. followed.stands commands (still.stands commands stood);
@@ -53,7 +53,7 @@ still_then command old mid new still followed = record {
 
 -- The closing that was committed is the one that was asked for.
 pub closing_followed : (prepared : PreparedClosing) (old mid new : HouseFields) (round : ℕ) (increments : Increments) (ties : List Tie)
-    → prepared.round ≡ round → prepared.increments ≡ increments → prepared.ties ≡ ties → StandsStill old mid
+    → prepared.round ≡ round → prepared.increments ≡ increments → prepared.ties ≡ ties → StandsForTheSame old mid
     → IsFollowedBy (close prepared.round prepared.increments prepared.ties) mid new → IsFollowedBy (close round increments ties) old new
 closing_followed prepared old mid new round increments ties r i t still followed =
     still_then (close round increments ties) old mid new still

@@ -18,7 +18,7 @@ use Rattle.clock_connections.specs.declared.connections.Event.TheVariants.{Conne
 use Rattle.clock_front.specs.declared.runs.EventReply.{EventReply}
 use Rattle.clock_connections.specs.Pieces.{Numbered, completed, after, and_then, requests_from, requests_of}
 use Rattle.clock_connections.specs.Connections.{ConnectionFields}
-use Rattle.clock_connections.specs.inside.Numbers.{Stands}
+use Rattle.clock_connections.specs.inside.Numbers.{AreNumbered}
 use Rattle.clock_front.specs.inside.NumberedHubs.{HasCompleted}
 use Rattle.clock_front.specs.Headline.{IsEventRun}
 use Rattle.clock_front.specs.inside.EventRuns.{kept, numbers_of, numbers_of_requests, texts_of, answers_of}
@@ -29,7 +29,7 @@ pub record IsOnItsWay (setup : SetupFields) (events : List Event) (index : ℕ) 
     (connections : ConnectionFields) (conns : List (Option Conn)) (house : HouseFields) : Type 0 where
   pub numbered : Numbered
   pub done : List (ℕ × List ℕ)
-  pub stands : Stands numbered connections conns
+  pub stands : AreNumbered numbered connections conns
   pub few : length numbered ≤ index
   pub rest : done ++ requests_from numbered (drop index events) ≡ requests_of events
   pub numbers : numbers_of replies ≡ numbers_of_requests done
@@ -85,7 +85,7 @@ pub goes_on : (setup : SetupFields) (limits : IsSetup setup) (events : List Even
     (connections later : ConnectionFields) (conns more : List (Option Conn)) (house next : HouseFields)
     (event : Event) (told : Option EventReply) (before : IsOnItsWay setup events index replies connections conns house)
     → index < length events → event ≡ get_or events index event
-    → Stands (after before.numbered event) later more → HasCompleted (completed before.numbered event) house next told
+    → AreNumbered (after before.numbered event) later more → HasCompleted (completed before.numbered event) house next told
     → IsOnItsWay setup events (index + 1) (kept replies told) later more next
 goes_on setup limits events index replies connections later conns more house next event told before lt at stands is = record {
   numbered = after before.numbered event;
@@ -104,7 +104,7 @@ goes_on setup limits events index replies connections later conns more house nex
 -- The invariant before the first event.
 pub begins : (setup : SetupFields) (events : List Event) (replies : List EventReply) (connections : ConnectionFields)
     (conns : List (Option Conn)) (house : HouseFields)
-    → replies ≡ [] → Stands [] connections conns → house.setup ≡ setup → StandsForTexts [] house → IsOnItsWay setup events 0 replies connections conns house
+    → replies ≡ [] → AreNumbered [] connections conns → house.setup ≡ setup → StandsForTexts [] house → IsOnItsWay setup events 0 replies connections conns house
 begins setup events replies connections conns house none stands kept new = record {
   numbered = [];
   done = [];

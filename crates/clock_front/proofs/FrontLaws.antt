@@ -12,16 +12,16 @@ use Rattle.clock_http.specs.declared.code.Code.{Code}
 use Rattle.clock_http.specs.Framing.{Head, Framing, incomplete, refusal, whole, framing, is_incomplete, needs_more}
 use Rattle.clock_http.proofs.FramedLaws.{refused_by, whole_head}
 use Rattle.std.specs.Prelude.{IfOk, OnErr, OnOk}
-use Rattle.clock_views.specs.Refusals.{alone}
+use Rattle.clock_views.specs.Refusals.{bare}
 use Rattle.clock_views.specs.RefusalPage.{refusal_bytes}
 use Rattle.clock_views.proofs.Codes.{refusal_in_bytes}
 use Rattle.clock_http.specs.Replies.{Answer, reply_bytes}
 use Rattle.clock_front.specs.FixedReplies.{cut_short}
 use Rattle.clock_front.specs.inside.FixedReplies.{refusal_of, is_fixed}
-use Rattle.clock_front.specs.Askers.{asker}
+use Rattle.clock_front.specs.Callers.{caller}
 use Rattle.clock_front.specs.Requests.{Ask, Request, ask_of, ask_by_route, request_of, turned_away}
 use Rattle.clock_http.specs.Routes.{page_of}
-use Rattle.clock_front.specs.declared.front.askers.Asker.{Asker}
+use Rattle.clock_front.specs.declared.front.callers.Caller.{Caller}
 use Rattle.clock_front.specs.Outcomes.{Outcome, outcome, answer_of, refused, command_of}
 use Rattle.clock_front.specs.Fronts.{house_after}
 use Rattle.clock_front.proofs.OutcomeLaws.{away_other}
@@ -41,15 +41,15 @@ needs_by_test text more = by (framing text) more
 
 -- ---- what a house that stands for commands replies
 
-abbrev shown_by : SetupFields → Asker → Ask → List ClosedRound → List (Option (List Bid)) → Outcome
-shown_by setup asker ask closed sheets = outcome (record { setup = setup; closed = closed; sheets = sheets; spare = 0 }) asker ask
+abbrev shown_by : SetupFields → Caller → Ask → List ClosedRound → List (Option (List Bid)) → Outcome
+shown_by setup caller ask closed sheets = outcome (record { setup = setup; closed = closed; sheets = sheets; spare = 0 }) caller ask
 
 -- A house that stands for commands gives the replies that follow from these commands.
-pub outcome_after : (house : HouseFields) (commands : List Command) (asker : Asker) (ask : Ask) → StandsFor commands house
-    → outcome house asker ask ≡ outcome (house_after house.setup commands) asker ask
-outcome_after house commands asker ask stands =
-    ap (λ closed. shown_by house.setup asker ask closed house.sheets) stands.closed
-    ∙ ap (shown_by house.setup asker ask (history house.setup commands).closed) stands.sheets
+pub outcome_after : (house : HouseFields) (commands : List Command) (caller : Caller) (ask : Ask) → StandsFor commands house
+    → outcome house caller ask ≡ outcome (house_after house.setup commands) caller ask
+outcome_after house commands caller ask stands =
+    ap (λ closed. shown_by house.setup caller ask closed house.sheets) stands.closed
+    ∙ ap (shown_by house.setup caller ask (history house.setup commands).closed) stands.sheets
 
 -- ---- what a request asks for, by its framing
 
@@ -66,25 +66,25 @@ unfolding request_of
 ask_by text f is = ap ask_of is
 
 -- A request that is turned away by its bytes or its path gets the refusal with that code.
-pub away_told : (house : HouseFields) (who : Asker) (text : List ℕ) (f : Framing) (code : Code) → f ≡ framing text → ask_of f ≡ turned_away code
-    → answer_of (refused (alone code)) ≡ answer_of (outcome house who (request_of text).ask)
+pub away_told : (house : HouseFields) (who : Caller) (text : List ℕ) (f : Framing) (code : Code) → f ≡ framing text → ask_of f ≡ turned_away code
+    → answer_of (refused (bare code)) ≡ answer_of (outcome house who (request_of text).ask)
 away_told house who text f code is away = ap (λ ask. answer_of (outcome house who ask)) (sym away ∙ ask_by text f is)
 
 -- Such a request is no command.
-pub away_command : (setup : SetupFields) (who : Asker) (text : List ℕ) (f : Framing) (code : Code) → f ≡ framing text → ask_of f ≡ turned_away code
+pub away_command : (setup : SetupFields) (who : Caller) (text : List ℕ) (f : Framing) (code : Code) → f ≡ framing text → ask_of f ≡ turned_away code
     → command_of setup who (request_of text).ask ≡ other
 away_command setup who text f code is away = ap (command_of setup who) (sym (ask_by text f is) ∙ away) ∙ away_other setup who code
 
 -- A fact about the sender of a complete request and what it asks for is a fact about the request's bytes.
-pub of_text : (setup : SetupFields) (text : List ℕ) (P : Asker → Ask → Type 0) (who : Asker) (ask : Ask) (head : Head) (body : List ℕ)
-    → who ≡ asker setup head.token → ask ≡ ask_by_route (page_of head.path) head body → whole head body ≡ framing text
-    → P who ask → P (asker setup (request_of text).token) (request_of text).ask
+pub of_text : (setup : SetupFields) (text : List ℕ) (P : Caller → Ask → Type 0) (who : Caller) (ask : Ask) (head : Head) (body : List ℕ)
+    → who ≡ caller setup head.token → ask ≡ ask_by_route (page_of head.path) head body → whole head body ≡ framing text
+    → P who ask → P (caller setup (request_of text).token) (request_of text).ask
 of_text setup text P who ask head body sender asks is holds =
-    subst (λ request. P (asker setup request.token) request.ask) (whole_request text head body is)
-    (subst (λ a. P (asker setup head.token) a) asks (subst (λ w. P w ask) sender holds))
+    subst (λ request. P (caller setup request.token) request.ask) (whole_request text head body is)
+    (subst (λ a. P (caller setup head.token) a) asks (subst (λ w. P w ask) sender holds))
 
 -- The code of the reply to a request that is refused for its head or its length.
-pub refused_code : (house : HouseFields) (who : Asker) (text : List ℕ) (code : Code) → framing text ≡ refusal code
+pub refused_code : (house : HouseFields) (who : Caller) (text : List ℕ) (code : Code) → framing text ≡ refusal code
     → (answer_of (outcome house who (request_of text).ask)).code ≡ code
 refused_code house who text code is =
     ap (λ ask. (answer_of (outcome house who ask)).code) (sym (ask_by text (refusal code) (sym is)))
@@ -105,13 +105,13 @@ if_refused (Err e) is = is
 
 -- The bytes of a refusal with only a code.
 abbrev pub constant_bytes : Code → List ℕ
-constant_bytes code = reply_bytes code None (refusal_bytes (alone code))
+constant_bytes code = reply_bytes code None (refusal_bytes (bare code))
 
 pub constant_reply : (code : Code) → constant_bytes code ≡ (refusal_of code).bytes
-constant_reply code = ap (reply_bytes code None) (sym (refusal_in_bytes (alone code)))
+constant_reply code = ap (reply_bytes code None) (sym (refusal_in_bytes (bare code)))
 
 -- The reply to a request that was incomplete when its input ended.
-pub answered_cut_short : (house : HouseFields) (who : Asker) (text : List ℕ) → needs_more text ≡ true
+pub answered_cut_short : (house : HouseFields) (who : Caller) (text : List ℕ) → needs_more text ≡ true
     → answer_of (outcome house who (request_of text).ask) ≡ cut_short
 answered_cut_short house who text is =
     ap (λ ask. answer_of (outcome house who ask)) (sym (ask_by text incomplete (sym (needs_by_test text is))))

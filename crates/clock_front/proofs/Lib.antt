@@ -11,6 +11,6 @@ mod ConnectionLaws
 mod NumberedLaws
 mod EventLaws
 mod StreamLaws
-pub mod AskerLaws
+pub mod CallerLaws
 pub mod TextViews
 mod PrivateLaws

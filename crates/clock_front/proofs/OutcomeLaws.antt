@@ -6,8 +6,8 @@ use Rattle.clock_terms.specs.Limits.{SetupFields}
 use Rattle.clock_house.specs.Command.{other}
 use Rattle.clock_closing.specs.declared.closed_round.ClosedRound.{ClosedRound}
 use Rattle.clock_http.specs.declared.code.Code.{Code}
-use Rattle.clock_front.specs.declared.front.askers.Asker.{Asker}
-use Rattle.clock_front.specs.declared.front.askers.Asker.TheVariants.{Nobody, Operator, Bidder}
+use Rattle.clock_front.specs.declared.front.callers.Caller.{Caller}
+use Rattle.clock_front.specs.declared.front.callers.Caller.TheVariants.{Nobody, Operator, Bidder}
 use Rattle.clock_front.specs.Requests as asked
 use Rattle.clock_front.specs.Outcomes.{done, page_or_no_round, command_of}
 
@@ -19,7 +19,7 @@ found_page value part (Some round) x is = (let same : x ≡ part round = cc in a
 
 -- ---- requests that are no commands
 
-pub away_other : (setup : SetupFields) (asker : Asker) (code : Code) → command_of setup asker (asked.turned_away code) ≡ other
+pub away_other : (setup : SetupFields) (caller : Caller) (code : Code) → command_of setup caller (asked.turned_away code) ≡ other
 away_other setup Nobody code = refl
 away_other setup Operator code = refl
 away_other setup (Bidder b) code = refl

@@ -5,29 +5,29 @@ use Rattle.std.specs.Prelude.{IfOk, IfErr}
 use Rattle.clock_terms.specs.Limits.{IsSetup}
 use Rattle.clock_house.specs.House.{HouseFields}
 use Rattle.clock_http.specs.Framing.{framing, incomplete}
-use Rattle.clock_front.specs.Askers.{asker}
+use Rattle.clock_front.specs.Callers.{caller}
 use Rattle.clock_front.specs.Effects.{IsRightResponse}
 use Rattle.clock_front.specs.Fronts.{commands_of}
 use Rattle.clock_front.specs.Outcomes.{outcome, answer_of}
 use Rattle.clock_front.specs.Private.{IsPrivateReply}
-use Rattle.clock_front.specs.Rooms.{IsPrivateWant, IsWantOf, WantsRoom, asks_for_page, refusal_room, reply_room}
-use Rattle.clock_front.specs.declared.front.replies.Unanswered.{Unanswered}
-use Rattle.clock_front.specs.declared.front.replies.Unanswered.TheVariants.{Room}
+use Rattle.clock_front.specs.Rooms.{FailsByPrivateAllocation, FailsByAllocation, NeedsRoom, asks_for_page, refusal_room, reply_room}
+use Rattle.clock_front.specs.declared.front.replies.AnswerError.{AnswerError}
+use Rattle.clock_front.specs.declared.front.replies.AnswerError.TheVariants.{Room}
 use Rattle.clock_http.specs.Replies.{Answer}
 use Rattle.clock_front.specs.declared.front.response.Response.{Response}
 use Rattle.clock_front.specs.Requests.{request_of}
 use Rattle.clock_front.proofs.FrontLaws.{ask_by, outcome_after}
 use Rattle.clock_front.proofs.RunLaws.{right}
-use Rattle.clock_front.proofs.AskerLaws.{asker_own}
+use Rattle.clock_front.proofs.CallerLaws.{caller_own}
 use Rattle.clock_front.proofs.TextViews.{told_from_view}
 
 -- The right reply to a bidder's own request is private.
 pub private_reply : (house : HouseFields) (text : List ℕ) (answer : Answer) → IsSetup house.setup
-    → answer ≡ answer_of (outcome house (asker house.setup (request_of text).token) (request_of text).ask) → IsPrivateReply text house answer
+    → answer ≡ answer_of (outcome house (caller house.setup (request_of text).token) (request_of text).ask) → IsPrivateReply text house answer
 private_reply house text answer limits is =
     λ texts bidder stands lt own.
     (right house.setup limits texts text answer
-    (is ∙ ap answer_of (outcome_after house (commands_of house.setup texts) (asker house.setup (request_of text).token) (request_of text).ask stands))).private
+    (is ∙ ap answer_of (outcome_after house (commands_of house.setup texts) (caller house.setup (request_of text).token) (request_of text).ask stands))).private
     bidder lt own
 
 pub if_private : {N : Type 0} (told : Result Response N) (old new : HouseFields) (text : List ℕ) → IsSetup old.setup
@@ -37,26 +37,26 @@ if_private (Err e) old new text limits is = tt
 
 -- ---- what running out of memory reveals
 
-pub want_as : {T : Type 0} (told : Result T Unanswered) (P Q : Unanswered → Type 0) → ((why : Unanswered) → P why → Q why) → IfErr told P → IfErr told Q
+pub want_as : {T : Type 0} (told : Result T AnswerError) (P Q : AnswerError → Type 0) → ((why : AnswerError) → P why → Q why) → IfErr told P → IfErr told Q
 want_as (Ok done) P Q goes is = tt
 want_as (Err why) P Q goes is = goes why is
 
 -- The failed allocation for the refusal of a request that was incomplete when its input ended.
-pub cut_short_want : (house : HouseFields) (text : List ℕ) (why : Unanswered) → incomplete ≡ framing text → why ≡ Room refusal_room → IsWantOf text house why
+pub cut_short_want : (house : HouseFields) (text : List ℕ) (why : AnswerError) → incomplete ≡ framing text → why ≡ Room refusal_room → FailsByAllocation text house why
 cut_short_want house text why is wants =
-    let who = asker house.setup (request_of text).token in
-    subst (λ ask. WantsRoom who ask (outcome house who ask) why) (ask_by text incomplete is) (λ reading. wants)
+    let who = caller house.setup (request_of text).token in
+    subst (λ ask. NeedsRoom who ask (outcome house who ask) why) (ask_by text incomplete is) (λ reading. wants)
 
 -- The size of the allocation for a bidder's own request follows from its view.
-private_want : (house : HouseFields) (text : List ℕ) (why : Unanswered) → IsSetup house.setup → IsWantOf text house why → IsPrivateWant text house why
+private_want : (house : HouseFields) (text : List ℕ) (why : AnswerError) → IsSetup house.setup → FailsByAllocation text house why → FailsByPrivateAllocation text house why
 private_want house text why limits want =
     λ texts bidder stands lt own asks.
-    want (ap (λ who. asks_for_page who (request_of text).ask) (asker_own house.setup limits.tokens bidder lt (request_of text).token own) ∙ asks)
+    want (ap (λ who. asks_for_page who (request_of text).ask) (caller_own house.setup limits.tokens bidder lt (request_of text).token own) ∙ asks)
     ∙ ap (λ told. Room (reply_room (request_of text).ask told))
-    (outcome_after house (commands_of house.setup texts) (asker house.setup (request_of text).token) (request_of text).ask stands
+    (outcome_after house (commands_of house.setup texts) (caller house.setup (request_of text).token) (request_of text).ask stands
     ∙ told_from_view house.setup bidder texts text limits.tokens lt own)
 
-pub if_private_want : {T : Type 0} (told : Result T Unanswered) (house : HouseFields) (text : List ℕ) → IsSetup house.setup
-    → IfErr told (IsWantOf text house) → IfErr told (IsPrivateWant text house)
+pub if_private_want : {T : Type 0} (told : Result T AnswerError) (house : HouseFields) (text : List ℕ) → IsSetup house.setup
+    → IfErr told (FailsByAllocation text house) → IfErr told (FailsByPrivateAllocation text house)
 if_private_want told house text limits =
-    want_as told (IsWantOf text house) (IsPrivateWant text house) (λ why want. private_want house text why limits want)
+    want_as told (FailsByAllocation text house) (FailsByPrivateAllocation text house) (λ why want. private_want house text why limits want)

@@ -14,14 +14,14 @@ use Rattle.clock_house.specs.History.{history, standing, round_at}
 use Rattle.clock_house.proofs.Numbers.{reverse_cons}
 use Rattle.clock_http.specs.Decimals.{plain_number}
 use Rattle.clock_http.specs.declared.code.Code.TheVariants.{Token}
-use Rattle.clock_views.specs.Refusals.{alone}
+use Rattle.clock_views.specs.Refusals.{bare}
 use Rattle.clock_views.specs.PublicPages.{status_value, products_value, sheet_value}
-use Rattle.clock_front.specs.declared.front.askers.Asker.TheVariants.{Nobody}
+use Rattle.clock_front.specs.declared.front.callers.Caller.TheVariants.{Nobody}
 use Rattle.clock_front.specs.Requests.{Ask, request_of}
 use Rattle.clock_front.specs.Requests as asked
 use Rattle.clock_front.specs.Outcomes.{Outcome, answer_of, done, refused, not_allowed, outcome, page_or_no_round}
 use Rattle.clock_front.specs.Fronts.{commands_of, house_after, reply}
-use Rattle.clock_front.specs.Views.{IsOfNobody, public_view}
+use Rattle.clock_front.specs.Views.{HasNoValidToken, public_view}
 
 -- The state of the auction, from its round results.
 abbrev standing_by : List Product → List RoundSheet → Standing
@@ -30,14 +30,14 @@ standing_by products (last ∷ earlier) = standing_after last
 
 -- The reply to a request with no valid token, from the public set-up and the round results.
 abbrev public_outcome : PublicSetup → List RoundSheet → Ask → Outcome
-public_outcome setup sheets (asked.turned_away why) = refused (alone why)
+public_outcome setup sheets (asked.turned_away why) = refused (bare why)
 public_outcome setup sheets (asked.no_method page) = not_allowed page
 public_outcome setup sheets asked.status =
     done (status_value setup (standing_by setup.products sheets).round (standing_by setup.products sheets).ended)
 public_outcome setup sheets asked.products = done (products_value setup)
 public_outcome setup sheets (asked.sheet segment) =
     page_or_no_round (option_map (sheet_value setup) (option_and_then (λ n. round_at n sheets) (plain_number segment)))
-public_outcome setup sheets _ = refused (alone Token)
+public_outcome setup sheets _ = refused (bare Token)
 
 abbrev sheet_of : ClosedRound → RoundSheet
 sheet_of closed = closed.sheet
@@ -79,14 +79,14 @@ told_of_public setup commands (asked.sheet segment) =
     ap page_or_no_round (named_sheet (public_setup setup) (history setup commands).closed (plain_number segment))
 told_of_public setup commands _ = refl
 
-answered_from_public : (setup : SetupFields) (past : List (List ℕ)) (text : List ℕ) → IsOfNobody setup text
+answered_from_public : (setup : SetupFields) (past : List (List ℕ)) (text : List ℕ) → HasNoValidToken setup text
     → reply setup past text ≡ answer_of (public_outcome (public_setup setup) (public_view setup past) (request_of text).ask)
 answered_from_public setup past text none =
     ap (λ who. answer_of (outcome (house_after setup (commands_of setup past)) who (request_of text).ask)) none
     ∙ ap answer_of (told_of_public setup (commands_of setup past) (request_of text).ask)
 
 -- If everyone sees the same in two runs, a request with no valid token gets the same reply in both.
-pub told_alike : (one two : SetupFields) (past other_past : List (List ℕ)) (text : List ℕ) → IsOfNobody one text → IsOfNobody two text
+pub told_alike : (one two : SetupFields) (past other_past : List (List ℕ)) (text : List ℕ) → HasNoValidToken one text → HasNoValidToken two text
     → public_setup one ≡ public_setup two → public_view one past ≡ public_view two other_past → reply one past text ≡ reply two other_past text
 told_alike one two past other_past text none other_none public seen =
     answered_from_public one past text none

@@ -7,9 +7,9 @@ use Rattle.clock_house.specs.Command as command
 use Rattle.clock_closing.specs.declared.closed_round.ClosedRound.{ClosedRound}
 use Rattle.clock_closing.specs.declared.fault.CloseFault.{CloseFault}
 use Rattle.clock_house.specs.declared.fault.PutFault.{PutFault}
-use Rattle.clock_house.specs.House.{HouseFields, IsFollowedBy, StandsStill, put_fault_in, closing_in}
+use Rattle.clock_house.specs.House.{HouseFields, IsFollowedBy, StandsForTheSame, put_fault_in, closing_in}
 use Rattle.clock_http.specs.Replies.{Answer}
-use Rattle.clock_views.specs.Refusals.{alone}
+use Rattle.clock_views.specs.Refusals.{bare}
 use Rattle.clock_bodies.specs.CloseBodies.{in_version}
 use Rattle.clock_bodies.specs.declared.put_body.PutBody.{PutBody}
 use Rattle.clock_bodies.specs.declared.close_body.CloseBody.{CloseBody}
@@ -18,8 +18,8 @@ use Rattle.clock_bodies.specs.declared.body.BodyFault.TheVariants.{NoMemory}
 use Rattle.clock_front.specs.Effects.{IsRightFor, close_effect, effect_in, put_effect}
 use Rattle.clock_front.specs.Requests.{Ask, put, close}
 use Rattle.clock_front.specs.Outcomes.{answer_of, body_code, close_command, close_outcome, close_to, command_of, outcome, put_outcome, refused}
-use Rattle.clock_front.specs.declared.front.askers.Asker.{Asker}
-use Rattle.clock_front.specs.declared.front.askers.Asker.TheVariants.{Operator, Bidder}
+use Rattle.clock_front.specs.declared.front.callers.Caller.{Caller}
+use Rattle.clock_front.specs.declared.front.callers.Caller.TheVariants.{Operator, Bidder}
 use Rattle.clock_front.specs.declared.front.response.Effect.{Effect}
 use Rattle.clock_front.specs.declared.front.response.Effect.TheVariants.{Nothing, Sheet, Closing}
 use Rattle.clock_front.specs.declared.front.response.Response.{Response}
@@ -27,11 +27,11 @@ use Rattle.clock_front.specs.inside.Roomless.{without_room}
 use Rattle.clock_front.proofs.ChangeLaws.{none_followed, other_followed}
 
 -- A house that is not changed stands for the same commands.
-pub same_stands : (house : HouseFields) → StandsStill house house
+pub same_stands : (house : HouseFields) → StandsForTheSame house house
 same_stands house = record { setup = refl; stands = λ commands stood. stood }
 
 -- The response to a request that is no command is right.
-pub unchanged_right : (who : Asker) (ask : Ask) (house : HouseFields) (response : Response) → response.reply ≡ answer_of (outcome house who ask)
+pub unchanged_right : (who : Caller) (ask : Ask) (house : HouseFields) (response : Response) → response.reply ≡ answer_of (outcome house who ask)
     → response.effect ≡ Nothing → command_of house.setup who ask ≡ command.other → IsRightFor who ask house house response
 unchanged_right who ask house response reply nothing none = record {
   reply = reply;
@@ -41,7 +41,7 @@ unchanged_right who ask house response reply nothing none = record {
 }
 
 -- The reply of a right response.
-pub right_reply : {N : Type 0} (told : Result Response N) (old new : HouseFields) (who : Asker) (ask : Ask) → IfOk told (IsRightFor who ask old new)
+pub right_reply : {N : Type 0} (told : Result Response N) (old new : HouseFields) (who : Caller) (ask : Ask) → IfOk told (IsRightFor who ask old new)
     → IfOk told (λ response. response.reply ≡ answer_of (outcome old who ask))
 right_reply (Ok response) old new who ask is = is.reply
 right_reply (Err why) old new who ask is = tt
@@ -75,14 +75,14 @@ sheet_refused house bidder sent sheet fault response is told nothing faulty foll
     })
 
 -- The response to a body that is not a sheet.
-refused_body : (who : Asker) (ask : Ask) (house : HouseFields) (response : Response) (answer : Answer) → response ≡ record { reply = answer; effect = Nothing }
+refused_body : (who : Caller) (ask : Ask) (house : HouseFields) (response : Response) (answer : Answer) → response ≡ record { reply = answer; effect = Nothing }
     → answer ≡ answer_of (outcome house who ask) → command_of house.setup who ask ≡ command.other → IsRightFor who ask house house response
 refused_body who ask house response answer is right none =
     unchanged_right who ask house response (ap (λ (one : Response). one.reply) is ∙ right) (ap (λ (one : Response). one.effect) is) none
 
 pub refused_put : {N : Type 0} (told : Result Response N) (house : HouseFields) (bidder : ℕ) (sent : Result PutBody BodyFault) (fault : BodyFault)
     → (fault ≢ NoMemory → sent ≡ Err fault) → OnOk told (fault ≢ NoMemory)
-    → IfOk told (λ response. response ≡ record { reply = answer_of (refused (alone (body_code fault))); effect = Nothing })
+    → IfOk told (λ response. response ≡ record { reply = answer_of (refused (bare (body_code fault))); effect = Nothing })
     → IfOk told (IsRightFor (Bidder bidder) (put sent) house house)
 refused_put (Ok response) house bidder sent fault err known is =
     subst (λ body. IsRightFor (Bidder bidder) (put body) house house response) (sym (err known))
@@ -96,7 +96,7 @@ record IsClosingResponse (old new : HouseFields) (response : Response) (body : R
   reply : response.reply ≡ answer_of (close_to (without_room old) body)
   effect : response.effect ≡ effect_in old (close_command body)
   followed : IsFollowedBy (close_command body) old new
-  still : response.effect ≡ Nothing → StandsStill old new
+  still : response.effect ≡ Nothing → StandsForTheSame old new
 
 closing_response : (old new : HouseFields) (response : Response) (sent : Result CloseBody BodyFault)
     → IsClosingResponse old new response (in_version old.setup.version sent) → IsRightFor Operator (close sent) old new response
@@ -121,7 +121,7 @@ closing_made old new sent closing closed reply is made told followed =
 pub closing_refused : (old new : HouseFields) (sent : Result CloseBody BodyFault) (closing : CloseBody) (fault : CloseFault) (response : Response)
     → in_version old.setup.version sent ≡ Ok closing → closing_in old closing.round closing.increments closing.ties ≡ Err fault
     → response.reply ≡ answer_of (close_outcome closing.round (closing_in old closing.round closing.increments closing.ties)) → response.effect ≡ Nothing
-    → IsFollowedBy (command.close closing.round closing.increments closing.ties) old new → StandsStill old new → IsRightFor Operator (close sent) old new response
+    → IsFollowedBy (command.close closing.round closing.increments closing.ties) old new → StandsForTheSame old new → IsRightFor Operator (close sent) old new response
 closing_refused old new sent closing fault response is faulty told nothing followed still =
     closing_response old new response sent
     (subst (IsClosingResponse old new response) (sym is)
@@ -135,7 +135,7 @@ closing_refused old new sent closing fault response is faulty told nothing follo
 -- The response to a body that is not a closing.
 pub refused_close : {N : Type 0} (told : Result Response N) (house : HouseFields) (sent : Result CloseBody BodyFault) (fault : BodyFault)
     → (fault ≢ NoMemory → in_version house.setup.version sent ≡ Err fault) → OnOk told (fault ≢ NoMemory)
-    → IfOk told (λ response. response ≡ record { reply = answer_of (refused (alone (body_code fault))); effect = Nothing })
+    → IfOk told (λ response. response ≡ record { reply = answer_of (refused (bare (body_code fault))); effect = Nothing })
     → IfOk told (IsRightFor Operator (close sent) house house)
 refused_close (Ok response) house sent fault err known is =
     closing_response house house response sent

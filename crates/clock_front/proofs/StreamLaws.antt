@@ -4,14 +4,14 @@ use Rattle.clock_device.specs.Told.{Reading}
 use Rattle.clock_connections.specs.Arrivals.{HasArrived, HasNoRoom}
 use Rattle.clock_house.specs.House.{HouseFields}
 use Rattle.clock_front.specs.FixedReplies.{no_memory}
-use Rattle.clock_front.specs.Fronts.{AnswersText, IsStruckOut, StandsForTexts}
+use Rattle.clock_front.specs.Fronts.{AnswersText, IsOutOfMemoryReply, StandsForTexts}
 use Rattle.clock_front.specs.Private.{IsPrivateReply}
 use Rattle.clock_http.specs.Replies.{Answer}
 use Rattle.clock_front.specs.Streamed.{HasServed, IsAnswerTo}
 
 -- The request that was read is answered.
 pub answer_read : (reading : Reading) (text : List ℕ) (told answer : Answer) (old new mid : HouseFields) → answer ≡ told → mid ≡ new
-    → HasArrived reading text → AnswersText text told old new → (IsStruckOut text told ⊎ IsPrivateReply text old told)
+    → HasArrived reading text → AnswersText text told old new → (IsOutOfMemoryReply text told ⊎ IsPrivateReply text old told)
     → IsAnswerTo reading answer old mid
 answer_read reading text told answer old new mid is same arrived answers private =
     subst (λ (one : Answer). IsAnswerTo reading one old mid) (sym is)

@@ -25,9 +25,9 @@ use Rattle.clock_views.specs.BidderPages.{bids_value, slip_value}
 use Rattle.clock_bodies.specs.declared.put_body.PutBody.{PutBody}
 use Rattle.clock_bodies.specs.declared.close_body.CloseBody.{CloseBody}
 use Rattle.clock_bodies.specs.declared.body.BodyFault.{BodyFault}
-use Rattle.clock_front.specs.declared.front.askers.Asker.{Asker}
-use Rattle.clock_front.specs.declared.front.askers.Asker.TheVariants as who
-use Rattle.clock_front.specs.Askers.{asker, HasOwnTokens}
+use Rattle.clock_front.specs.declared.front.callers.Caller.{Caller}
+use Rattle.clock_front.specs.declared.front.callers.Caller.TheVariants as who
+use Rattle.clock_front.specs.Callers.{caller, HasOwnTokens}
 use Rattle.clock_http.specs.Decimals.{plain_number}
 use Rattle.clock_front.specs.Requests.{Ask, request_of}
 use Rattle.clock_front.specs.Requests as ask
@@ -37,7 +37,7 @@ use Rattle.clock_front.specs.Fronts.{text_command, commands_of, house_after}
 use Rattle.clock_front.specs.Views.{SeenText, own, seen_close, is_own, closings_of, seen_of_text, text_view, sheet_put, typed_view, bidder_outcome, answer}
 use Rattle.clock_front.specs.inside.Knowledge.{Knowledge, known_from, known_outcome}
 use Rattle.clock_front.specs.inside.Isolation.{IsAnsweredFromView, IsIsolated}
-use Rattle.clock_front.proofs.AskerLaws.{asker_own, asker_other}
+use Rattle.clock_front.proofs.CallerLaws.{caller_own, caller_other}
 
 -- The sheets and closings of two views joined are those of each, joined.
 typed_view-append : (front back : List SeenText) → typed_view (front ++ back) ≡ typed_view front ++ typed_view back
@@ -73,7 +73,7 @@ rival_put_seen setup b d auction sent differ =
     let no : eqb d b ≡ false = grind (arith, nat_tests) in
     ap (λ t. cond t (own_put sent.round sent.bids ∷ []) []) no
 
-other_seen : (setup : SetupFields) (b : ℕ) (auction : Auction) (author : Asker) (asked : Ask) → (author ≡ who.Bidder b → ⊥) →
+other_seen : (setup : SetupFields) (b : ℕ) (auction : Auction) (author : Caller) (asked : Ask) → (author ≡ who.Bidder b → ⊥) →
     typed_view (closings_of (seen_of setup b auction (command_of setup author asked))) ≡ seen_of setup b auction (command_of setup author asked)
 other_seen setup b auction (who.Bidder d) (ask.put (Ok sent)) not_b =
     let none = rival_put_seen setup b d auction sent (λ e. not_b (ap who.Bidder e)) in
@@ -90,10 +90,10 @@ text_seen setup b tokens lt past text true is =
     append-nil (sheet_put (request_of text).ask)
     ∙ sym (own_seen setup b (history setup (commands_of setup past)) (request_of text).ask)
     ∙ ap (λ author. seen_of setup b (history setup (commands_of setup past)) (command_of setup author (request_of text).ask))
-    (sym (asker_own setup tokens b lt (request_of text).token is))
+    (sym (caller_own setup tokens b lt (request_of text).token is))
 text_seen setup b tokens lt past text false is =
-    other_seen setup b (history setup (commands_of setup past)) (asker setup (request_of text).token) (request_of text).ask
-    (asker_other setup b (request_of text).token is)
+    other_seen setup b (history setup (commands_of setup past)) (caller setup (request_of text).token) (request_of text).ask
+    (caller_other setup b (request_of text).token is)
 
 pub typed_view-text_view : (setup : SetupFields) (b : ℕ) (tokens : HasOwnTokens setup) → b < length setup.bidders → (past : List (List ℕ)) →
     typed_view (text_view setup b past) ≡ view_of setup b (commands_of setup past)
@@ -217,11 +217,11 @@ told_by_known setup row view _ = refl
 -- The reply to an own request follows from the view.
 pub told_from_view : (setup : SetupFields) (b : ℕ) (past : List (List ℕ)) (text : List ℕ) → HasOwnTokens setup → b < length setup.bidders
     → is_own (bidder_at setup b) text ≡ true
-    → outcome (house_after setup (commands_of setup past)) (asker setup (request_of text).token) (request_of text).ask
+    → outcome (house_after setup (commands_of setup past)) (caller setup (request_of text).token) (request_of text).ask
     ≡ bidder_outcome (public_setup setup) (bidder_at setup b) (typed_view (text_view setup b past)) (request_of text).ask
 told_from_view setup b past text tokens lt is =
     ap (λ author. outcome (house_after setup (commands_of setup past)) author (request_of text).ask)
-    (asker_own setup tokens b lt (request_of text).token is)
+    (caller_own setup tokens b lt (request_of text).token is)
     ∙ told_of_view setup b lt (commands_of setup past) (request_of text).ask
     ∙ ap (λ view. known_outcome (public_setup setup) (bidder_at setup b) (known_from (public_setup setup) (bidder_at setup b) view)
     (request_of text).ask) (sym (typed_view-text_view setup b tokens lt past))

@@ -8,13 +8,13 @@ use Rattle.clock_terms.specs.Limits.{SetupFields}
 use Rattle.clock_closing.specs.declared.closed_round.ClosedRound.{ClosedRound}
 use Rattle.clock_closing.specs.declared.fault.CloseFault.{CloseFault}
 use Rattle.clock_house.specs.Command.{Command, put, close, other}
-use Rattle.clock_house.specs.House.{HouseFields, IsFollowedBy, StandsStill, put_fault_in, closing_in}
+use Rattle.clock_house.specs.House.{HouseFields, IsFollowedBy, StandsForTheSame, put_fault_in, closing_in}
 use Rattle.clock_house.specs.declared.fault.PutFault.{PutFault}
-use Rattle.clock_front.specs.Askers.{asker}
-use Rattle.clock_front.specs.Fronts.{IsStruckOut, commands_of, house_after, text_command}
+use Rattle.clock_front.specs.Callers.{caller}
+use Rattle.clock_front.specs.Fronts.{IsOutOfMemoryReply, commands_of, house_after, text_command}
 use Rattle.clock_front.specs.Outcomes.{answer_of, command_of, outcome}
 use Rattle.clock_front.specs.Requests.{Ask, request_of}
-use Rattle.clock_front.specs.declared.front.askers.Asker.{Asker}
+use Rattle.clock_front.specs.declared.front.callers.Caller.{Caller}
 use Rattle.clock_front.specs.declared.front.response.Effect.{Effect}
 use Rattle.clock_front.specs.declared.front.response.Effect.TheVariants.{Nothing, Sheet, Closing}
 use Rattle.clock_front.specs.declared.front.response.Response.{Response}
@@ -41,19 +41,19 @@ effect setup texts text = effect_in (house_after setup (commands_of setup texts)
 
 -- The reply and the effect follow from the old house. The new house stands for one more command; if
 -- the effect is `Nothing`, it also stands for the commands of the old one.
-pub record IsRightFor (who : Asker) (ask : Ask) (old new : HouseFields) (response : Response) : Type 0 where
+pub record IsRightFor (who : Caller) (ask : Ask) (old new : HouseFields) (response : Response) : Type 0 where
   pub reply : response.reply ≡ answer_of (outcome old who ask)
   pub effect : response.effect ≡ effect_in old (command_of old.setup who ask)
   pub followed : IsFollowedBy (command_of old.setup who ask) old new
-  pub still : response.effect ≡ Nothing → StandsStill old new
+  pub still : response.effect ≡ Nothing → StandsForTheSame old new
 
 -- The right response to the bytes of a request, by their token and what they ask for.
 abbrev pub IsRightResponse : List ℕ → HouseFields → HouseFields → Response → Type 0
 IsRightResponse text old new response =
-    IsRightFor (asker old.setup (request_of text).token) (request_of text).ask old new response
+    IsRightFor (caller old.setup (request_of text).token) (request_of text).ask old new response
 
 -- The right response; or out of memory, and the house stands for the same commands as before.
 abbrev pub RespondsTo : List ℕ → Response → HouseFields → HouseFields → Type 0
 RespondsTo text response old new =
     IsRightResponse text old new response
-    ⊎ (IsStruckOut text response.reply × (response.effect ≡ Nothing) × StandsStill old new)
+    ⊎ (IsOutOfMemoryReply text response.reply × (response.effect ≡ Nothing) × StandsForTheSame old new)

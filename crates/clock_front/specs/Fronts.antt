@@ -5,25 +5,25 @@
 --     StandsForTexts texts house      the house stands for the commands of these requests
 --     right_answer house text      the reply to a request, by the current state of the house
 --     IsCutShort reply      the reply to an incomplete request, or the out-of-memory reply
---     IsStruckOut text reply      the out-of-memory reply, to a request that needs memory
+--     IsOutOfMemoryReply text reply      the out-of-memory reply, to a request that needs memory
 --     IsDoneBy text reply old new      right reply and command done, or out of memory and no change
 --     AnswersText text reply old new      that, for every list the house stands for
 use Rattle.std.specs.Prelude.{◌≡◌, ◌⊎◌, ℕ, List, ◌∷◌, map}
 use Rattle.clock_terms.specs.Limits.{SetupFields}
 use Rattle.clock_house.specs.Command.{Command}
 use Rattle.clock_house.specs.History.{history, sheet_in_force, for_each_bidder}
-use Rattle.clock_house.specs.House.{HouseFields, StandsFor, IsFollowedBy, StandsStill}
+use Rattle.clock_house.specs.House.{HouseFields, StandsFor, IsFollowedBy, StandsForTheSame}
 use Rattle.clock_http.specs.declared.code.Code.{Code}
 use Rattle.clock_http.specs.Framing.{framing, refusal}
 use Rattle.clock_http.specs.Replies.{Answer}
 use Rattle.clock_front.specs.FixedReplies.{no_memory, cut_short}
 use Rattle.clock_front.specs.Requests.{request_of}
-use Rattle.clock_front.specs.Askers.{asker}
+use Rattle.clock_front.specs.Callers.{caller}
 use Rattle.clock_front.specs.Outcomes.{answer_of, outcome, command_of}
 
 -- The command that a request is: a sheet of its sender, a closing, or neither.
 abbrev pub text_command : SetupFields → List ℕ → Command
-text_command setup text = command_of setup (asker setup (request_of text).token) (request_of text).ask
+text_command setup text = command_of setup (caller setup (request_of text).token) (request_of text).ask
 
 abbrev pub commands_of : SetupFields → List (List ℕ) → List Command
 commands_of setup texts = map (text_command setup) texts
@@ -39,7 +39,7 @@ house_after setup commands = record {
 -- The one right reply, computed from the auction so far, the request's token, and what it asks for.
 abbrev pub reply : SetupFields → List (List ℕ) → List ℕ → Answer
 reply setup texts text =
-    answer_of (outcome (house_after setup (commands_of setup texts)) (asker setup (request_of text).token) (request_of text).ask)
+    answer_of (outcome (house_after setup (commands_of setup texts)) (caller setup (request_of text).token) (request_of text).ask)
 
 -- All that the house shows follows from these requests: it stands for their commands.
 abbrev pub StandsForTexts : List (List ℕ) → HouseFields → Type 0
@@ -47,14 +47,14 @@ StandsForTexts texts house = StandsFor (commands_of house.setup texts) house
 
 -- The right reply to a request, by the current state of the house.
 abbrev pub right_answer : HouseFields → List ℕ → Answer
-right_answer house text = answer_of (outcome house (asker house.setup (request_of text).token) (request_of text).ask)
+right_answer house text = answer_of (outcome house (caller house.setup (request_of text).token) (request_of text).ask)
 
 -- The reply to a request that was incomplete when its input ended: `cut_short`, or out of memory.
 abbrev pub IsCutShort : Answer → Type 0
 IsCutShort answer = (answer ≡ cut_short) ⊎ (answer ≡ no_memory)
 
 -- Answered out of memory. A request that is refused for its head or its length needs no memory.
-pub record IsStruckOut (text : List ℕ) (answer : Answer) : Type 0 where
+pub record IsOutOfMemoryReply (text : List ℕ) (answer : Answer) : Type 0 where
   pub is : answer ≡ no_memory
   pub needs : (code : Code) → framing text ≡ refusal code → ⊥
 
@@ -63,11 +63,11 @@ pub record IsStruckOut (text : List ℕ) (answer : Answer) : Type 0 where
 abbrev pub IsDoneBy : List ℕ → Answer → HouseFields → HouseFields → Type 0
 IsDoneBy text answer old new =
     ((answer ≡ right_answer old text) × IsFollowedBy (text_command old.setup text) old new)
-    ⊎ (IsStruckOut text answer × StandsStill old new)
+    ⊎ (IsOutOfMemoryReply text answer × StandsForTheSame old new)
 
 -- For every list of requests that the house stands for: the right reply after them, and it then
 -- stands for this one too; or out of memory, and it stands for the list as before.
 abbrev pub AnswersText : List ℕ → Answer → HouseFields → HouseFields → Type 0
 AnswersText text answer old new = (texts : List (List ℕ)) → StandsForTexts texts old
     → ((answer ≡ reply old.setup texts text) × StandsForTexts (text ∷ texts) new)
-    ⊎ (IsStruckOut text answer × StandsForTexts texts new)
+    ⊎ (IsOutOfMemoryReply text answer × StandsForTexts texts new)

@@ -43,9 +43,9 @@ use Rattle.clock_house.specs.Laws.{IsSound}
 use Rattle.clock_http.specs.Replies.{Answer}
 use Rattle.clock_connections.specs.declared.connections.Event.{Event}
 use Rattle.clock_front.specs.declared.runs.EventReply.{EventReply}
-use Rattle.clock_front.specs.Askers.{HasOwnTokens}
-use Rattle.clock_front.specs.Fronts.{reply, commands_of, IsStruckOut}
-use Rattle.clock_front.specs.Views.{is_own, text_view, answer, IsOfNobody, public_view}
+use Rattle.clock_front.specs.Callers.{HasOwnTokens}
+use Rattle.clock_front.specs.Fronts.{reply, commands_of, IsOutOfMemoryReply}
+use Rattle.clock_front.specs.Views.{is_own, text_view, answer, HasNoValidToken, public_view}
 use Rattle.clock_connections.specs.Pieces.{requests_of}
 
 -- A bidder sees the same in two runs: the public set-up, its own row, and its view are equal. Its
@@ -66,7 +66,7 @@ pub record IsPrivate (setup : SetupFields) (bidder : ℕ) (past : List (List ℕ
 -- The reply is also the right reply after every other list of requests after which everyone sees
 -- the same, if the request has no valid token there either.
 abbrev pub IsPublic : SetupFields → List (List ℕ) → List ℕ → Answer → Type 0
-IsPublic setup past text one = (other : SetupFields) (other_past : List (List ℕ)) → IsOfNobody other text
+IsPublic setup past text one = (other : SetupFields) (other_past : List (List ℕ)) → HasNoValidToken other text
     → public_setup setup ≡ public_setup other → public_view setup past ≡ public_view other other_past → one ≡ reply other other_past text
 
 -- The reply is the right one after the requests of the past. If the request is a bidder's own, the
@@ -74,7 +74,7 @@ IsPublic setup past text one = (other : SetupFields) (other_past : List (List �
 pub record IsRight (setup : SetupFields) (past : List (List ℕ)) (text : List ℕ) (one : Answer) : Type 0 where
   pub is : one ≡ reply setup past text
   pub private : (bidder : ℕ) → bidder < length setup.bidders → is_own (bidder_at setup bidder) text ≡ true → IsPrivate setup bidder past text one
-  pub public : IsOfNobody setup text → IsPublic setup past text one
+  pub public : HasNoValidToken setup text → IsPublic setup past text one
 
 -- Each request has the right reply, or was answered out of memory: then it is left out of the past
 -- of the requests after it. `end` lists the requests that were not left out, newest first.
@@ -83,7 +83,7 @@ Runs setup past [] [] end = end ≡ past
 Runs setup past [] (one ∷ answers) end = ⊥
 Runs setup past (text ∷ texts) [] end = ⊥
 Runs setup past (text ∷ texts) (one ∷ answers) end =
-    (IsStruckOut text one × Runs setup past texts answers end)
+    (IsOutOfMemoryReply text one × Runs setup past texts answers end)
     ⊎ (IsRight setup past text one × Runs setup (text ∷ past) texts answers end)
 
 -- A run from the beginning of an auction: each reply is right, or its request is left out. The

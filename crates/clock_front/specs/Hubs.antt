@@ -11,7 +11,7 @@ use Rattle.clock_connections.specs.declared.connections.HubFault.{HubFault}
 use Rattle.clock_connections.specs.declared.connections.HubFault.TheVariants.{Full, NoMemory, Unknown}
 use Rattle.clock_http.specs.Framing.{needs_more}
 use Rattle.clock_http.specs.Replies.{Answer}
-use Rattle.clock_front.specs.Fronts.{AnswersText, IsStruckOut}
+use Rattle.clock_front.specs.Fronts.{AnswersText, IsOutOfMemoryReply}
 use Rattle.clock_front.specs.Private.{IsPrivateReply}
 use Rattle.clock_front.specs.declared.hub.Fed.{Fed}
 use Rattle.clock_front.specs.declared.hub.Fed.TheVariants.{More, Reply}
@@ -26,7 +26,7 @@ pub record HubFields : Type 0 where
 pub record IsAnswered (old new : HubFields) (conn : Conn) (text : List ℕ) (reply : Answer) : Type 0 where
   pub gone : IsGone old.connections new.connections conn
   pub answered : AnswersText text reply old.house new.house
-  pub private : IsStruckOut text reply ⊎ IsPrivateReply text old.house reply
+  pub private : IsOutOfMemoryReply text reply ⊎ IsPrivateReply text old.house reply
   pub setup : new.house.setup ≡ old.house.setup
 
 -- A connection's bytes are now `text`. If they are less than a request, the connection waits for

@@ -1,5 +1,5 @@
 pub mod FixedReplies
-pub mod Askers
+pub mod Callers
 pub mod Requests
 pub mod Outcomes
 pub mod Fronts

@@ -8,7 +8,7 @@ use Rattle.clock_house.specs.House.{HouseFields}
 use Rattle.clock_http.specs.declared.code.Code.{Code}
 use Rattle.clock_http.specs.Replies.{Answer}
 use Rattle.clock_front.specs.FixedReplies.{no_memory}
-use Rattle.clock_front.specs.Fronts.{AnswersText, IsStruckOut, StandsForTexts}
+use Rattle.clock_front.specs.Fronts.{AnswersText, IsOutOfMemoryReply, StandsForTexts}
 use Rattle.clock_front.specs.Private.{IsPrivateReply}
 use Rattle.clock_device.specs.Told.{Reading, Writing}
 use Rattle.clock_device.specs.Writings.{WritesWhole, WritesFront, WritesNothing}
@@ -25,7 +25,7 @@ IsLeftUnread reading old new = IsNotRead reading × (new ≡ old)
 -- reply, because memory ran out while they were read, and then the front is unchanged.
 abbrev pub IsAnswerTo : Reading → Answer → HouseFields → HouseFields → Type 0
 IsAnswerTo reading answer old new =
-    ((text : List ℕ) × HasArrived reading text × AnswersText text answer old new × (IsStruckOut text answer ⊎ IsPrivateReply text old answer))
+    ((text : List ℕ) × HasArrived reading text × AnswersText text answer old new × (IsOutOfMemoryReply text answer ⊎ IsPrivateReply text old answer))
     ⊎ (HasNoRoom reading × (answer ≡ no_memory) × (new ≡ old))
 
 -- How a stream was served, by the result. `Ok`: the whole reply with this code was written. `Read`:

@@ -4,7 +4,7 @@
 --     text_view setup bidder past      all that the bidder sees of these requests, newest first
 --     bidder_outcome setup row view ask      the bidder's reply, from its sheets and the closings
 --     answer setup row view text      the reply to an own request; no rival is an argument
---     IsOfNobody setup text      the request has no token, or none of the set-up
+--     HasNoValidToken setup text      the request has no token, or none of the set-up
 --     public_view setup past      what everyone sees: the round results of the closed rounds
 use Rattle.std.specs.Prelude.{◌≡◌, ℕ, Bool, false, List, [], ◌∷◌, ◌++◌, map, if◌then◌else◌, Option, option_map, option_and_then, Ok, Err}
 use Rattle.std.specs.Option.{option_map_or}
@@ -17,14 +17,14 @@ use Rattle.clock_house.specs.History.{history, bidder_at}
 use Rattle.clock_house.specs.View.{Seen, seen_of, seen_standing, seen_holding, seen_in_force, seen_round}
 use Rattle.clock_house.specs.View as typed
 use Rattle.clock_http.specs.declared.code.Code.TheVariants as code
-use Rattle.clock_views.specs.Refusals.{alone}
+use Rattle.clock_views.specs.Refusals.{bare}
 use Rattle.clock_views.specs.PublicPages.{status_value, products_value, sheet_value}
 use Rattle.clock_views.specs.BidderPages.{account_value, bids_value, slip_value}
 use Rattle.clock_http.specs.Heads.{same_bytes}
 use Rattle.clock_http.specs.Decimals.{plain_number}
 use Rattle.clock_http.specs.Replies.{Answer}
-use Rattle.clock_front.specs.declared.front.askers.Asker.TheVariants.{Nobody}
-use Rattle.clock_front.specs.Askers.{asker}
+use Rattle.clock_front.specs.declared.front.callers.Caller.TheVariants.{Nobody}
+use Rattle.clock_front.specs.Callers.{caller}
 use Rattle.clock_front.specs.Requests.{Ask, request_of}
 use Rattle.clock_front.specs.Requests as asked
 use Rattle.clock_front.specs.Outcomes.{Outcome, done, refused, not_allowed, answer_of, body_code, page_or_no_round, put_outcome}
@@ -78,7 +78,7 @@ round_of_segment view segment = option_and_then (λ n. seen_round n view) (plain
 -- The reply to a bidder: the pages for everyone, its own pages, and the replies to its sheets. All
 -- are computed from the public set-up, its row, and its view. The operator's pages are refused.
 unfoldable pub bidder_outcome : PublicSetup → Bidder → List Seen → Ask → Outcome
-bidder_outcome setup row view (asked.turned_away why) = refused (alone why)
+bidder_outcome setup row view (asked.turned_away why) = refused (bare why)
 bidder_outcome setup row view (asked.no_method page) = not_allowed page
 bidder_outcome setup row view asked.status =
     done (status_value setup (seen_standing setup view).round (seen_standing setup view).ended)
@@ -89,13 +89,13 @@ bidder_outcome setup row view asked.account = done (account_value setup.products
     (seen_standing setup view).round (seen_holding setup row view) (seen_standing setup view).ended)
 bidder_outcome setup row view asked.bids =
     done (bids_value (seen_standing setup view).round (seen_in_force setup row view))
-bidder_outcome setup row view (asked.put (Err fault)) = refused (alone (body_code fault))
+bidder_outcome setup row view (asked.put (Err fault)) = refused (bare (body_code fault))
 bidder_outcome setup row view (asked.put (Ok body)) =
     put_outcome body (put_fault setup (seen_standing setup view) (seen_holding setup row view) body.round body.bids)
 bidder_outcome setup row view (asked.slip segment) =
     page_or_no_round (option_map (λ seen. slip_value seen.1) (round_of_segment view segment))
-bidder_outcome setup row view (asked.close body) = refused (alone code.Role)
-bidder_outcome setup row view asked.results = refused (alone code.Role)
+bidder_outcome setup row view (asked.close body) = refused (bare code.Role)
+bidder_outcome setup row view asked.results = refused (bare code.Role)
 
 -- The reply to a bidder's own request, by the public set-up, the bidder's row, and its view.
 abbrev pub answer : PublicSetup → Bidder → List SeenText → List ℕ → Answer
@@ -105,8 +105,8 @@ answer setup row view text = answer_of (bidder_outcome setup row (typed_view vie
 
 -- The request has no valid token: its head has none of the set-up, or is no whole, well-formed
 -- head.
-abbrev pub IsOfNobody : SetupFields → List ℕ → Type 0
-IsOfNobody setup text = asker setup (request_of text).token ≡ Nobody
+abbrev pub HasNoValidToken : SetupFields → List ℕ → Type 0
+HasNoValidToken setup text = caller setup (request_of text).token ≡ Nobody
 
 -- The public view: the round results of the closed rounds, newest first. They have the prices, and
 -- aggregate demand if it is above supply.

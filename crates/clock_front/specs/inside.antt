@@ -1,5 +1,5 @@
 -- Definitions that only proofs and private functions use. No clause of a public call cites them.
-pub mod Askers
+pub mod Callers
 pub mod EventRuns
 pub mod FixedReplies
 pub mod Hubs

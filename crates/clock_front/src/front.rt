@@ -2,19 +2,19 @@ ghost use Rattle.std.specs.Prelude.{◌≡◌, ◌⊎◌, [], ℕ, List, IfOk, I
 ghost use Rattle.clock_http.specs.declared.code.Code.{Code as ReplyCode};
 ghost use Rattle.clock_http.specs.Framing.{framing as framing_of, incomplete, refusal as refusal_of};
 ghost use Rattle.clock_http.specs.Shown.{IsFramed, shown_framing};
-ghost use Rattle.clock_house.specs.House.{HouseFields, StandsStill};
-ghost use Rattle.clock_front.specs.Fronts.{AnswersText, IsCutShort, IsDoneBy, IsStruckOut, StandsForTexts};
+ghost use Rattle.clock_house.specs.House.{HouseFields, StandsForTheSame};
+ghost use Rattle.clock_front.specs.Fronts.{AnswersText, IsCutShort, IsDoneBy, IsOutOfMemoryReply, StandsForTexts};
 ghost use Rattle.clock_front.specs.{Effects.{IsRightResponse, RespondsTo}, Private.{IsPrivateReply}};
-ghost use Rattle.clock_front.specs.Rooms.{IsPrivateWant, IsWantOf};
+ghost use Rattle.clock_front.specs.Rooms.{FailsByPrivateAllocation, FailsByAllocation};
 ghost use Rattle.clock_front.specs.inside.{HeldTokens.{IsTableOf}, KeptPage.{IsProductsPage}};
 
 mod answering;
-mod askers;
+mod callers;
 mod replies;
 mod response;
 
 use crate::front::answering::answer_request;
-use crate::front::askers::{Tokens, asker_of, tokens_of};
+use crate::front::callers::{Tokens, caller_of, tokens_of};
 use crate::front::replies::{fixed_reply, refusal};
 use crate::front::response::unchanged;
 use clock_device::{NoMemory, Text};
@@ -23,7 +23,7 @@ use clock_http::{Code, Framing, Reply, Routes, frame};
 use clock_processor::Processor;
 use clock_terms::Setup;
 use clock_views::{Refusal, products_page};
-pub use replies::{Unanswered, no_memory_reply};
+pub use replies::{AnswerError, no_memory_reply};
 pub use response::{Effect, Response};
 use std::alloc::Global;
 use std::marker::Model;
@@ -36,23 +36,23 @@ use std::marker::Model;
 pub struct Front<P> {
     alloc: Global,
     house: House<P>,
-    kept: Kept,
+    kept: FixedParts,
 }
 
 /// The parts of a front that never change: whose each token is, the routes, and the page of
 /// products.
 #[derive(Drop)]
-struct Kept {
+struct FixedParts {
     tokens: Tokens,
     routes: Routes,
     products: Text,
 }
 
 /// Builds the constant parts of a front from a set-up.
-fn what_is_kept(alloc: Global, setup: &Setup) -> Result<Kept, NoMemory>
+fn fixed_parts(alloc: Global, setup: &Setup) -> Result<FixedParts, NoMemory>
     ensures { IfOk result (λ kept. IsTableOf setup.now kept.tokens.entries × IsProductsPage setup.now kept.products) }
 {
-    Ok(Kept {
+    Ok(FixedParts {
         tokens: tokens_of(alloc, setup)?,
         routes: Routes::new(alloc)?,
         products: products_page(alloc, setup)?,
@@ -73,7 +73,7 @@ impl<P: Processor> Front<P> {
         ensures setup { IfOk result (λ front. front.setup ≡ setup) }
         ensures stands { IfOk result (StandsForTexts []) }
     {
-        let kept = what_is_kept(alloc, &setup)?;
+        let kept = fixed_parts(alloc, &setup)?;
         let house = House::new(alloc, setup, processor)?;
         Ok(Front { alloc, house, kept })
     }
@@ -84,28 +84,28 @@ impl<P: Processor> Front<P> {
     /// Errors: out of memory, and then nothing has changed. If the request asks for no change, the
     /// error has the number of bytes that could not be allocated for its page. That number follows
     /// from the right reply, so for a bidder's own request it follows from its view.
-    pub fn try_answer(&mut self, framing: Framing<'_>) -> Result<Response, Unanswered>
+    pub fn try_answer(&mut self, framing: Framing<'_>) -> Result<Response, AnswerError>
         requires { (text : List ℕ) × IsFramed text framing }
         ensures response { (text : List ℕ) → IsFramed text framing.entry
             → IfOk result (IsRightResponse text self.old self.new) }
-        ensures still { OnErr result (StandsStill self.old self.new) }
+        ensures still { OnErr result (StandsForTheSame self.old self.new) }
         ensures private { (text : List ℕ) → IsFramed text framing.entry
             → IfOk result (λ response. IsPrivateReply text self.old response.reply) }
-        ensures wanted { (text : List ℕ) → IsFramed text framing.entry → IfErr result (IsWantOf text self.old) }
+        ensures wanted { (text : List ℕ) → IsFramed text framing.entry → IfErr result (FailsByAllocation text self.old) }
         ensures wanted_privately { (text : List ℕ) → IsFramed text framing.entry
-            → IfErr result (IsPrivateWant text self.old) }
+            → IfErr result (FailsByPrivateAllocation text self.old) }
         ensures refused { (code : ReplyCode) → shown_framing framing.entry ≡ refusal_of code → IsOk result }
     {
         self.house.law_of_house();
         match framing {
             Framing::NeedMore => {
-                let reply = refusal(self.alloc, Refusal::alone(Code::CutShort), None)?;
+                let reply = refusal(self.alloc, Refusal::bare(Code::CutShort), None)?;
                 Ok(unchanged(reply))
             }
             Framing::Refused(code) => Ok(unchanged(fixed_reply(code))),
             Framing::Whole { head, body } => {
-                let asker = asker_of(&self.kept.tokens, head.token);
-                answer_request(self.alloc, &mut self.house, &self.kept, asker, &head, body)
+                let caller = caller_of(&self.kept.tokens, head.token);
+                answer_request(self.alloc, &mut self.house, &self.kept, caller, &head, body)
             }
         }
     }
@@ -117,7 +117,7 @@ impl<P: Processor> Front<P> {
         ensures response { (text : List ℕ) → IsFramed text framing.entry
             → RespondsTo text result self.old self.new }
         ensures private { (text : List ℕ) → IsFramed text framing.entry
-            → IsStruckOut text result.reply ⊎ IsPrivateReply text self.old result.reply }
+            → IsOutOfMemoryReply text result.reply ⊎ IsPrivateReply text self.old result.reply }
         ensures setup { self.new.setup ≡ self.old.setup }
         ensures refused { (code : ReplyCode) → shown_framing framing.entry ≡ refusal_of code
             → result.reply.code ≡ code }
@@ -136,7 +136,7 @@ impl<P: Processor> Front<P> {
         ensures answered { (text : List ℕ) → IsFramed text framing.entry → AnswersText text result self.old self.new }
         ensures done { (text : List ℕ) → IsFramed text framing.entry → IsDoneBy text result self.old self.new }
         ensures private { (text : List ℕ) → IsFramed text framing.entry
-            → IsStruckOut text result ⊎ IsPrivateReply text self.old result }
+            → IsOutOfMemoryReply text result ⊎ IsPrivateReply text self.old result }
         ensures setup { self.new.setup ≡ self.old.setup }
         ensures refused { (code : ReplyCode) → shown_framing framing.entry ≡ refusal_of code → result.code ≡ code }
         ensures cut_short { shown_framing framing.entry ≡ incomplete → IsCutShort result }
@@ -152,7 +152,7 @@ impl<P: Processor> Front<P> {
     pub fn answer(&mut self, text: &[u8]) -> Reply
         ensures answered { AnswersText text.now result self.old self.new }
         ensures done { IsDoneBy text.now result self.old self.new }
-        ensures private { IsStruckOut text.now result ⊎ IsPrivateReply text.now self.old result }
+        ensures private { IsOutOfMemoryReply text.now result ⊎ IsPrivateReply text.now self.old result }
         ensures setup { self.new.setup ≡ self.old.setup }
         ensures refused { (code : ReplyCode) → framing_of text.now ≡ refusal_of code → result.code ≡ code }
     {

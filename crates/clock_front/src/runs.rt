@@ -1,5 +1,5 @@
 ghost use Rattle.std.specs.Prelude.{[], ◌≡◌, ◌<◌, IfOk, length, Some, None, OnOk};
-ghost use Rattle.clock_connections.specs.{inside.Numbers.{Stands, conn_at}, Pieces.{Numbered, completed, after}};
+ghost use Rattle.clock_connections.specs.{inside.Numbers.{AreNumbered, conn_at}, Pieces.{Numbered, completed, after}};
 ghost use Rattle.clock_connections.specs.Connections.{most_serials};
 ghost use Rattle.clock_front.specs.{Fronts.{StandsForTexts}, Headline.{IsRun, IsEventRun}, inside.NumberedHubs.{HasCompleted}};
 
@@ -72,7 +72,7 @@ fn take_each<P: Processor>(
     hub: &mut NumberedHub<P>,
     events: &[Event],
 ) -> Result<EventReplies, NoMemory>
-    requires none { Stands [] hub.old.hub.connections hub.old.conns }
+    requires none { AreNumbered [] hub.old.hub.connections hub.old.conns }
     requires new { StandsForTexts [] hub.old.hub.house }
     ensures { IfOk result (IsEventRun hub.old.hub.house.setup events.now) }
 {
@@ -126,9 +126,9 @@ impl<P: Processor> NumberedHub<P> {
     /// Takes an event, and returns the reply to the request that it completes, if any.
     fn take_event(&mut self, event: &Event) -> Result<Option<EventReply>, NoMemory>
         requires { length self.old.conns < most_serials }
-        ensures stands { (numbered : Numbered) → Stands numbered self.old.hub.connections self.old.conns
-            → OnOk result (Stands (after numbered event.now) self.new.hub.connections self.new.conns) }
-        ensures told { (numbered : Numbered) → Stands numbered self.old.hub.connections self.old.conns
+        ensures stands { (numbered : Numbered) → AreNumbered numbered self.old.hub.connections self.old.conns
+            → OnOk result (AreNumbered (after numbered event.now) self.new.hub.connections self.new.conns) }
+        ensures told { (numbered : Numbered) → AreNumbered numbered self.old.hub.connections self.old.conns
             → IfOk result (HasCompleted (completed numbered event.now) self.old.hub.house self.new.hub.house) }
     {
         match event {

@@ -4,7 +4,7 @@ ghost use Rattle.clock_connections.specs.Arrivals.{most_request_reads};
 ghost use Rattle.clock_front.specs.{Fronts.{StandsForTexts}, Streamed.{HasServed, IsServed}};
 
 use crate::front::{Front, no_memory_reply};
-use clock_connections::{Unread, read_request};
+use clock_connections::{RequestReadError, read_request};
 use clock_device::{Sink, Source, write_all};
 use clock_http::Code;
 use clock_processor::Processor;
@@ -47,8 +47,8 @@ pub fn serve_stream<P: Processor, R: Source, W: Sink>(
 {
     let reply = match read_request(alloc, source) {
         Ok(request) => front.answer_framed(request.framing()),
-        Err(Unread::Memory) => no_memory_reply(),
-        Err(Unread::Read) => return Err(StreamFault::Read),
+        Err(RequestReadError::Memory) => no_memory_reply(),
+        Err(RequestReadError::Read) => return Err(StreamFault::Read),
     };
     let code = reply.code();
     match write_all(sink, reply.bytes()) {

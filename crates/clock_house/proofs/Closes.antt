@@ -15,7 +15,7 @@ use Rattle.clock_house.specs.Command.{Command, close}
 use Rattle.clock_closing.specs.OpenRound.{OpenRound, OpenRoundFields}
 use Rattle.clock_closing.specs.Closing.{closing, closing_now}
 use Rattle.clock_house.specs.History.{ClosedRound, history, standing, closing_of, after_closing, for_each_bidder, sheet_in_force}
-use Rattle.clock_house.specs.House.{HouseFields, StandsFor, IsFollowedBy, StandsStill, IsUnchanged, HasClosed, AnswersClose, ToHistory}
+use Rattle.clock_house.specs.House.{HouseFields, StandsFor, IsFollowedBy, StandsForTheSame, IsUnchanged, HasClosed, AnswersClose, ToHistory}
 use Rattle.clock_house.specs.Standing.{Standing}
 use Rattle.clock_house.specs.House.{standing_in, closing_in}
 use Rattle.clock_house.specs.inside.OpenRounds.{open_round_in}
@@ -117,7 +117,7 @@ standing_unchanged old new same =
     ap (λ (setup : SetupFields). standing setup.products new.closed) same.setup ∙ ap (standing old.setup.products) same.closed
 
 -- Houses that differ only in this memory stand for the same commands.
-pub still_unchanged : (old new : HouseFields) → IsUnchanged old new → StandsStill old new
+pub still_unchanged : (old new : HouseFields) → IsUnchanged old new → StandsForTheSame old new
 still_unchanged old new same = record { setup = same.setup; stands = λ commands stands. stands_unchanged old new commands same stands }
 
 -- The result of preparing a closing is the result of the closing.
@@ -192,7 +192,7 @@ module _ (old mid new : HouseFields) (round : ℕ) (increments : Increments) (ti
         sheets = done.sheets ∙ ap (λ (setup : SetupFields). for_each_bidder setup (λ bidder. None)) same.setup;
       })
 
-  pub close-done-followed : StandsStill old mid → IsFollowedBy (close prepared.round prepared.increments prepared.ties) mid new →
+  pub close-done-followed : StandsForTheSame old mid → IsFollowedBy (close prepared.round prepared.increments prepared.ties) mid new →
       IsFollowedBy (close round increments ties) old new
   close-done-followed still followed = record {
     setup = followed.setup ∙ still.setup;

@@ -12,7 +12,7 @@ use Rattle.clock_terms.specs.Prices.{opening_prices}
 use Rattle.clock_closing.specs.OpenRound.{OpenRound, IsOpenRound}
 use Rattle.clock_house.specs.History.{ClosedRound, round_at, history, standing, holding, for_each_bidder}
 use Rattle.clock_house.specs.inside.OpenRounds.{open_round, open_round_in}
-use Rattle.clock_house.specs.inside.Kept.{IsKept}
+use Rattle.clock_house.specs.inside.Kept.{AgreesWithRounds}
 use Rattle.clock_house.specs.House.{HouseFields, StandsFor, standing_in, holding_in}
 use Rattle.clock_house.specs.Laws.{AreNumbered, IsSound, IsOpen}
 use Rattle.clock_house.proofs.Sound.{sound, open_sound}
@@ -93,8 +93,8 @@ module _ (house : HouseFields) (limits : IsSetup house.setup) (commands : List C
 
 -- The invariant of a house does not depend on its memory for further rounds.
 pub kept_in_room : (house : HouseFields) (spare : ℕ) (ended : Bool) (round : ℕ) (prices : List PricePair) (eligibilities : List ℕ) (demands : List (List ℕ)) →
-    IsKept house ended round prices eligibilities demands →
-    IsKept (record { setup = house.setup; closed = house.closed; sheets = house.sheets; spare = spare }) ended round prices eligibilities demands
+    AgreesWithRounds house ended round prices eligibilities demands →
+    AgreesWithRounds (record { setup = house.setup; closed = house.closed; sheets = house.sheets; spare = spare }) ended round prices eligibilities demands
 kept_in_room house spare ended round prices eligibilities demands kept = record {
   limits = kept.limits;
   commands = kept.commands;

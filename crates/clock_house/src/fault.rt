@@ -1,6 +1,6 @@
 ghost use Rattle.std.specs.Prelude.{◌≡◌};
 ghost use Rattle.clock_house.specs.declared.fault.PutFault.TheVariants as put_faults;
-ghost use Rattle.clock_house.specs.ToldFaults.{told_of_bid};
+ghost use Rattle.clock_house.specs.ReportedFaults.{fault_from_bid};
 
 use clock_bids::BidFault;
 use clock_device::NoMemory;
@@ -35,7 +35,7 @@ impl From<NoMemory> for PutFault {
 }
 
 impl From<BidFault> for PutFault {
-    ghost from_gives = { λ fault told. told ≡ told_of_bid fault };
+    ghost from_gives = { λ fault told. told ≡ fault_from_bid fault };
 
     fn from(fault: BidFault) -> PutFault {
         match fault {

@@ -10,7 +10,7 @@ use Rattle.clock_http.specs.Scans.{head_length, is_loose}
 use Rattle.clock_http.specs.Heads.{head_of}
 use Rattle.clock_http.specs.Decimals.{is_number}
 use Rattle.clock_http.specs.HeaderLines.{pairs_of, values_of, length_from, within_limit, unless_coded, body_length, body_limit}
-use Rattle.clock_http.specs.Framing.{head_limit, or_bad_head, ended_head, Head, kept, and_length, length_read, Known, unended}
+use Rattle.clock_http.specs.Framing.{head_limit, or_bad_head, ended_head, Head, stored_head, and_length, length_read, Known, unended}
 use Rattle.clock_http.specs.Framing.{waiting, complete, refused, known_with_head, known_with_end, known}
 use Rattle.clock_http.specs.Framing.{refusal, whole, framing, ok_head, head_in}
 use Rattle.clock_http.specs.inside.Framed.{framed}
@@ -108,7 +108,7 @@ head_or (Ok read) head = read.0
 abbrev as_read : ℕ → Head → Result (Head × ℕ) Code
 as_read n head = Ok (head, n)
 
-measured_head : (h : RequestHead) (r : Result ℕ Code) (head : Head) (n : ℕ) → and_length h r ≡ Ok (head, n) → kept h ≡ head
+measured_head : (h : RequestHead) (r : Result ℕ Code) (head : Head) (n : ℕ) → and_length h r ≡ Ok (head, n) → stored_head h ≡ head
 measured_head h (Err c) head n e = absurd cc
 measured_head h (Ok m) head n e = ap (λ r. head_or r head) e
 

@@ -42,8 +42,8 @@ pub record Head : Type 0 where
   pub token : Option (List ℕ)
 
 -- the path is the target up to the first question mark
-abbrev pub kept : RequestHead → Head
-kept head = record {
+abbrev pub stored_head : RequestHead → Head
+stored_head head = record {
   method = head.method;
   path = before_first (λ b. b == question_mark) head.target;
   token = token_of (pairs_of head);
@@ -51,7 +51,7 @@ kept head = record {
 
 abbrev pub and_length : RequestHead → Result ℕ Code → Result (Head × ℕ) Code
 and_length head (Err fault) = Err fault
-and_length head (Ok n) = Ok (kept head, n)
+and_length head (Ok n) = Ok (stored_head head, n)
 
 -- a head and the length of its body, or why they are refused
 abbrev pub length_read : Result RequestHead Code → Result (Head × ℕ) Code
@@ -94,7 +94,7 @@ IsDecided text = needs_more text ≡ false
 
 abbrev pub ok_head : Result RequestHead Code → Option Head
 ok_head (Err fault) = None
-ok_head (Ok head) = Some (kept head)
+ok_head (Ok head) = Some (stored_head head)
 
 -- the head of a text, once it has ended
 unfoldable pub head_in : List ℕ → Option Head

@@ -9,7 +9,7 @@ use Rattle.clock_journal.specs.Format.{before_text, mark_length, head, link, rec
 use Rattle.clock_journal.specs.Kept.{file_of}
 use Rattle.clock_journal.specs.Reading.{Next, ended, torn, damaged, whole, marked_length, is_marked, next, Reads, Ends}
 use Rattle.clock_journal.specs.Crash.{ReadsSome, LeavesTexts}
-use Rattle.clock_journal.specs.Recovering.{IsHeaded}
+use Rattle.clock_journal.specs.Recovering.{BeginsWithHead}
 use Rattle.clock_journal.specs.Laws.{CutLeaves}
 use Rattle.clock_journal.specs.declared.recovery.Recovered.{Recovered}
 use Rattle.clock_journal.proofs.Records.{next_none, next_short, next_cut}
@@ -113,7 +113,7 @@ front_of_ends chain rest n ends =
 -- ---- the file up to its last whole record, and then a torn one
 
 leaves_front : (digest bytes : List ℕ) (texts read : List (List ℕ)) (least : ℕ) (recovered : Recovered) (left : List ℕ) (count : ℕ)
-    → LeavesTexts digest bytes texts least → IsHeaded digest bytes read recovered → recovered.end ≤ count → left ≡ take count bytes → LeavesTexts digest left texts least
+    → LeavesTexts digest bytes texts least → BeginsWithHead digest bytes read recovered → recovered.end ≤ count → left ≡ take count bytes → LeavesTexts digest left texts least
 leaves_front digest bytes texts read least recovered left count leaves headed enough is =
     let all : bytes ≡ file_of digest read ++ drop recovered.end bytes =
     sym (take-append-drop recovered.end bytes) ∙ ap (λ (b : List ℕ). b ++ drop recovered.end bytes) headed.file in

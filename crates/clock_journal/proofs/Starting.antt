@@ -8,7 +8,7 @@ use Rattle.clock_journal.specs.Format.{head, head_length, records, last_link}
 use Rattle.clock_journal.specs.Kept.{file_of}
 use Rattle.clock_journal.specs.Reading.{Ends, Reads}
 use Rattle.clock_journal.specs.Crash.{BeginsWithTexts, IsPartOfHead, LeavesJournal, LeavesTexts}
-use Rattle.clock_journal.specs.Recovering.{IsPlaced, IsHeaded}
+use Rattle.clock_journal.specs.Recovering.{IsPlaced, BeginsWithHead}
 use Rattle.clock_journal.specs.declared.recovery.Recovered.{Recovered}
 use Rattle.clock_journal.proofs.Cuts.{cut_leaves}
 use Rattle.clock_journal.proofs.Fronts.{ends_stop, reads_first, reads_records, take_none}
@@ -94,7 +94,7 @@ now_left synced written on_disk bytes same is =
     (length on_disk + length bytes, omega arith, sym (take_all (length on_disk + length bytes) bytes (omega arith))))
 
 long_file : (digest bytes : List ℕ) (read : List (List ℕ)) (recovered : Recovered) → length digest ≡ 32
-    → IsHeaded digest bytes read recovered
+    → BeginsWithHead digest bytes read recovered
     → (length (file_of digest read) ≡ recovered.end) × (head_length ≤ recovered.end) × (recovered.end ≤ length bytes)
 long_file digest bytes read recovered size headed =
     let same = sym (ap length headed.file) ∙ length-take-le recovered.end bytes headed.within in
@@ -123,7 +123,7 @@ crash_cut digest bytes texts read least recovered left size (inr part) (inr begu
 
 -- the first texts of a file end within its recovered part
 first_before : (digest bytes : List ℕ) (texts read : List (List ℕ)) (recovered : Recovered) → length digest ≡ 32
-    → BeginsWithTexts digest bytes texts → IsHeaded digest bytes read recovered
+    → BeginsWithTexts digest bytes texts → BeginsWithHead digest bytes read recovered
     → length (file_of digest texts) ≤ recovered.end
 first_before digest bytes texts read recovered size begins headed =
     let more = drop (length (file_of digest texts)) bytes in

@@ -8,7 +8,7 @@ use Rattle.clock_journal.specs.Headings.{Heading, begun, headed, of_another, unk
 use Rattle.clock_journal.specs.Kept.{file_of}
 use Rattle.clock_journal.specs.Crash.{IsPartOfHead, LeavesJournal, LeavesTexts, ReadsSome}
 use Rattle.clock_journal.specs.inside.Replays.{IsReplayed}
-use Rattle.clock_journal.specs.Recovering.{HasTaken, IsFoundAt, IsHeaded}
+use Rattle.clock_journal.specs.Recovering.{HasTaken, IsFoundAt, BeginsWithHead}
 use Rattle.clock_journal.specs.declared.recovery.Recovered.{Recovered}
 use Rattle.clock_journal.proofs.Whole.{read_back}
 use Rattle.clock_journal.proofs.Fronts.{reads_once, ends_stop, damage_stops, ends_undamaged}
@@ -64,7 +64,7 @@ told_of_left digest left texts least told size leaves is = is ∙ heading_of_lef
 -- up to the end of its last whole record, the file is the journal of its texts
 pub headed_at : (old new : List Entry → Type 0) (digest bytes : List ℕ) (recovered : Recovered) → ((place : ℕ) → get_or bytes place 0 < 256)
     → head_length ≤ length bytes → take head_length bytes ≡ head digest
-    → (done : IsReplayed old new digest (drop head_length bytes) (length bytes) recovered) → IsHeaded digest bytes done.texts recovered
+    → (done : IsReplayed old new digest (drop head_length bytes) (length bytes) recovered) → BeginsWithHead digest bytes done.texts recovered
 headed_at old new digest bytes recovered small long same done =
     let back = read_back digest (drop head_length bytes) done.texts done.rest
     (λ place. subst (λ (n : ℕ). n < 256) (sym (get_or-drop head_length bytes place 0)) (small (head_length + place))) done.reads in
@@ -95,7 +95,7 @@ has_taken old new digest left texts least recovered small size long leaves done 
       count = some.count;
       enough = some.enough;
       most = some.most;
-      placed = inl (subst (λ (all : List (List ℕ)). IsHeaded digest left all recovered) same.0
+      placed = inl (subst (λ (all : List (List ℕ)). BeginsWithHead digest left all recovered) same.0
           (headed_at old new digest left recovered small long front done));
       stands = λ past was. subst (λ (all : List (List ℕ)). new (entries_onto digest [] all past)) same.0 (done.stands past was);
     }

@@ -3,13 +3,13 @@
 --         texts, at least `least` of them, and the file has these
 --     HasTakenFirst old new digest texts recovered      it took these texts and perhaps further
 --         ones, and the recovered part of the file has these
---     IsUntaken fault      the file itself is right
---     IsBehind count fault      no damage is in the first `count` bytes
+--     IsTakeFault fault      the file itself is right
+--     IsDamagedAfter count fault      no damage is in the first `count` bytes
 --     IsPlaced digest bytes texts recovered      the recovered part of the file is the journal of
 --         the texts
 --     IsRecovered old new digest bytes recovered      the machine took all texts of the file
 --     IsFoundAt first bytes size place found      after the records before `place` comes this
---     IsRefusal digest bytes fault      the file has this fault
+--     IsJournalRefusal digest bytes fault      the file has this fault
 --     IsRefusedAt refuses old first bytes size place      the machine refuses the text at `place`
 --     IsRefusedRightly refuses old first bytes size fault      a text that is reported as refused
 --         is refused
@@ -31,25 +31,25 @@ pub record HasTakenFirst (old new : List Entry → Type 0) (digest : List ℕ) (
   pub behind : length (file_of digest texts) ≤ recovered.end
 
 -- the file is right: a text in it is refused, or memory ran out
-abbrev pub IsUntaken : JournalFault → Type 0
-IsUntaken fault.Unknown = ⊥
-IsUntaken fault.Setup = ⊥
-IsUntaken (fault.Damaged place) = ⊥
-IsUntaken (fault.Refused place) = Unit {0}
-IsUntaken fault.NoMemory = Unit {0}
+abbrev pub IsTakeFault : JournalFault → Type 0
+IsTakeFault fault.Unknown = ⊥
+IsTakeFault fault.Setup = ⊥
+IsTakeFault (fault.Damaged place) = ⊥
+IsTakeFault (fault.Refused place) = Unit {0}
+IsTakeFault fault.NoMemory = Unit {0}
 
 -- the file has its head, and any damage is after the first `count` bytes; a text may be refused
 -- anywhere
-abbrev pub IsBehind : ℕ → JournalFault → Type 0
-IsBehind count fault.Unknown = ⊥
-IsBehind count fault.Setup = ⊥
-IsBehind count (fault.Damaged place) = count ≤ place
-IsBehind count (fault.Refused place) = Unit {0}
-IsBehind count fault.NoMemory = Unit {0}
+abbrev pub IsDamagedAfter : ℕ → JournalFault → Type 0
+IsDamagedAfter count fault.Unknown = ⊥
+IsDamagedAfter count fault.Setup = ⊥
+IsDamagedAfter count (fault.Damaged place) = count ≤ place
+IsDamagedAfter count (fault.Refused place) = Unit {0}
+IsDamagedAfter count fault.NoMemory = Unit {0}
 
 -- the file is the journal of the texts up to the end that was recovered; what follows is nothing or
 -- a torn record
-pub record IsHeaded (digest bytes : List ℕ) (texts : List (List ℕ)) (recovered : Recovered) : Type 0 where
+pub record BeginsWithHead (digest bytes : List ℕ) (texts : List (List ℕ)) (recovered : Recovered) : Type 0 where
   pub file : take recovered.end bytes ≡ file_of digest texts
   pub within : recovered.end ≤ length bytes
   pub fit : AllFit texts
@@ -67,7 +67,7 @@ pub record IsBegun (digest bytes : List ℕ) (texts : List (List ℕ)) (recovere
   pub count_is : recovered.texts ≡ 0
 
 abbrev pub IsPlaced : List ℕ → List ℕ → List (List ℕ) → Recovered → Type 0
-IsPlaced digest bytes texts recovered = IsHeaded digest bytes texts recovered ⊎ IsBegun digest bytes texts recovered
+IsPlaced digest bytes texts recovered = BeginsWithHead digest bytes texts recovered ⊎ IsBegun digest bytes texts recovered
 
 -- the machine stands for what it stood for, and then a prefix of the texts, at least `least` of
 -- them; up to the end that was recovered, the file has these
@@ -94,14 +94,14 @@ pub record IsFoundAt (first bytes : List ℕ) (size place : ℕ) (found : Next) 
   pub found_is : next (last_link first texts) rest ≡ found
   pub place_is : place + length rest ≡ size
 
-abbrev pub IsRefusal : List ℕ → List ℕ → JournalFault → Type 0
-IsRefusal digest bytes fault.Unknown = heading digest bytes ≡ unknown
-IsRefusal digest bytes fault.Setup = heading digest bytes ≡ of_another
-IsRefusal digest bytes (fault.Damaged place) =
+abbrev pub IsJournalRefusal : List ℕ → List ℕ → JournalFault → Type 0
+IsJournalRefusal digest bytes fault.Unknown = heading digest bytes ≡ unknown
+IsJournalRefusal digest bytes fault.Setup = heading digest bytes ≡ of_another
+IsJournalRefusal digest bytes (fault.Damaged place) =
     (heading digest bytes ≡ headed (drop head_length bytes)) × IsFoundAt digest (drop head_length bytes) (length bytes) place damaged
-IsRefusal digest bytes (fault.Refused place) =
+IsJournalRefusal digest bytes (fault.Refused place) =
     (heading digest bytes ≡ headed (drop head_length bytes)) × ((text : List ℕ) × IsFoundAt digest (drop head_length bytes) (length bytes) place (whole text))
-IsRefusal digest bytes fault.NoMemory = Unit {0}
+IsJournalRefusal digest bytes fault.NoMemory = Unit {0}
 
 -- all before `place` reads as texts, and then comes one that the machine refuses after them,
 -- whatever it stood for

@@ -3,8 +3,8 @@
 ghost use Rattle.std.specs.Prelude.{◌≡◌, ◌∷◌, List, ℕ, Err, MatchResult, OnOk, drop, length};
 ghost use Rattle.clock_journal.specs.{Crash.{BeginsWithTexts, LeavesJournal}, Kept.{file_of}};
 ghost use Rattle.clock_journal.specs.{Entries.{Entry, texts_in}, Format.{head_length}};
-ghost use Rattle.clock_journal.specs.Recovering.{HasTaken, HasTakenFirst, IsBehind, IsRecovered};
-ghost use Rattle.clock_journal.specs.Recovering.{IsRefusal, IsRefusedRightly, IsUntaken};
+ghost use Rattle.clock_journal.specs.Recovering.{HasTaken, HasTakenFirst, IsDamagedAfter, IsRecovered};
+ghost use Rattle.clock_journal.specs.Recovering.{IsJournalRefusal, IsRefusedRightly, IsTakeFault};
 
 use crate::format::{
     BEFORE_TEXT, HEAD_LENGTH, KIND, KIND_LENGTH, Link, Next, head_of, next_record,
@@ -13,7 +13,7 @@ use crate::format::{
 /// Why a machine did not take a text: it would change nothing, or the machine is out of memory. Do
 /// not use the machine afterward.
 #[derive(Clone, Copy, Debug, PartialEq, Eq)]
-pub enum Untaken {
+pub enum TakeError {
     Refused,
     NoMemory,
 }
@@ -45,11 +45,11 @@ pub trait Machine {
     ghost refuses: { Self.Rules → List (List ℕ) → List ℕ → Type 0 };
 
     /// Takes the next text, whose record is `at`.
-    fn take(&mut self, text: &[u8], at: &Record) -> Result<(), Untaken>
+    fn take(&mut self, text: &[u8], at: &Record) -> Result<(), TakeError>
         ensures taken { OnOk result ((entries : List Entry) → stands_for self.old entries
             → stands_for self.new ((at.now, text.now) ∷ entries)) }
         ensures refused { (entries : List Entry)
-            → result ≡ Err Untaken.Refused → stands_for self.old entries
+            → result ≡ Err TakeError.Refused → stands_for self.old entries
             → refuses (rules self.old) (texts_in entries) text.now }
         ensures rules { rules self.new ≡ rules self.old };
 }
@@ -95,16 +95,16 @@ pub fn recover<M: Machine>(
 ) -> Result<Recovered, JournalFault>
     ensures read { MatchResult result
         (IsRecovered (M.stands_for machine.old) (M.stands_for machine.new) digest.now bytes.now)
-        (IsRefusal digest.now bytes.now) }
+        (IsJournalRefusal digest.now bytes.now) }
     ensures crash { (texts : List (List ℕ)) (least : ℕ)
         → LeavesJournal digest.now bytes.now texts least → MatchResult result
         (HasTaken (M.stands_for machine.old) (M.stands_for machine.new) digest.now bytes.now texts
         least)
-        IsUntaken }
+        IsTakeFault }
     ensures any_tail { (texts : List (List ℕ)) → BeginsWithTexts digest.now bytes.now texts
         → MatchResult result
         (HasTakenFirst (M.stands_for machine.old) (M.stands_for machine.new) digest.now texts)
-        (IsBehind (length (file_of digest.now texts))) }
+        (IsDamagedAfter (length (file_of digest.now texts))) }
     ensures refused { MatchResult result (λ _. Unit {0})
         (IsRefusedRightly (M.refuses (M.rules machine.old)) (M.stands_for machine.old) digest.now
         (drop head_length bytes.now) (length bytes.now)) }
@@ -148,8 +148,8 @@ pub fn recover<M: Machine>(
                         texts = number;
                         rest = &rest[BEFORE_TEXT + text.len()..];
                     }
-                    Err(Untaken::Refused) => return Err(JournalFault::Refused(end)),
-                    Err(Untaken::NoMemory) => return Err(JournalFault::NoMemory),
+                    Err(TakeError::Refused) => return Err(JournalFault::Refused(end)),
+                    Err(TakeError::NoMemory) => return Err(JournalFault::NoMemory),
                 }
             }
         }

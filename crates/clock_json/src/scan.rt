@@ -185,12 +185,12 @@ impl<'a> Scan<'a> {
         ensures shorter { OnOk result (length self.new < length self.old) }
     {
         let mut list = Vec::new(alloc);
-        self.numbers_behind(&mut list)?;
+        self.numbers_after(&mut list)?;
         Ok(Items::from_vec(list))
     }
 
     /// Like [`Scan::numbers`], but appends the numbers to `list`.
-    pub fn numbers_behind(&mut self, list: &mut Vec<u64>) -> Result<(), ScanStop>
+    pub fn numbers_after(&mut self, list: &mut Vec<u64>) -> Result<(), ScanStop>
         ensures value { OnOk result ((row : List ℕ) × (list.new.items ≡ list.old.items ++ row)
             × Reads 1 self.old (numbers row) self.new) }
         ensures shorter { OnOk result (length self.new < length self.old) }
@@ -233,7 +233,7 @@ impl<'a> Scan<'a> {
         let mut list = Vec::new(alloc);
         'items: while !self.closes(b']') {
             list.clear();
-            self.numbers_behind(&mut list)?;
+            self.numbers_after(&mut list)?;
             let (row, is_same) = short_row(alloc, list.as_slice())?;
             if !is_same {
                 return Err(ScanStop::Unusual);

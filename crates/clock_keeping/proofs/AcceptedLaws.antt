@@ -17,9 +17,9 @@ use Rattle.clock_journal.specs.declared.recovery.JournalFault.TheVariants as fau
 use Rattle.clock_journal.proofs.Fronts.{ends_stop}
 use Rattle.clock_journal.proofs.Tested.{bytes_eq_same, lt_true, not_less, same_where}
 use Rattle.clock_keeping.specs.Accepted.{AreAccepted, OwnStarts}
-use Rattle.clock_keeping.specs.Keeping.{IsAccepted, IsRefused, is_change, kept_after, kept_if}
-use Rattle.clock_keeping.specs.declared.taking.GoOnFault.{GoOnFault}
-use Rattle.clock_keeping.specs.declared.taking.GoOnFault.TheVariants.{Refused, Failed}
+use Rattle.clock_keeping.specs.Keeping.{IsAccepted, IsRefused, is_change, logged_after, logged_when}
+use Rattle.clock_keeping.specs.declared.taking.ResumeFault.{ResumeFault}
+use Rattle.clock_keeping.specs.declared.taking.ResumeFault.TheVariants.{Refused, Failed}
 
 -- ---- lists of accepted texts
 
@@ -45,12 +45,12 @@ accepted_push setup past (one ∷ texts) text accepted is =
 -- a text is logged only if it is accepted
 logged_if : (changes : Bool) (setup : SetupFields) (texts : List (List ℕ)) (text : List ℕ)
     → is_change (effect setup (onto texts []) text) ≡ changes → AreAccepted setup [] texts
-    → AreAccepted setup [] (kept_if changes texts text)
+    → AreAccepted setup [] (logged_when changes texts text)
 logged_if true setup texts text is accepted = accepted_push setup [] texts text accepted is
 logged_if false setup texts text is accepted = accepted
 
 pub accepted_after : (setup : SetupFields) (texts : List (List ℕ)) (text : List ℕ) → AreAccepted setup [] texts
-    → AreAccepted setup [] (kept_after setup texts text)
+    → AreAccepted setup [] (logged_after setup texts text)
 accepted_after setup texts text accepted =
     logged_if (is_change (effect setup (onto texts []) text)) setup texts text refl accepted
 

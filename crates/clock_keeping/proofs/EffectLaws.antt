@@ -7,11 +7,11 @@ use Rattle.clock_closing.specs.declared.closed_round.ClosedRound.{ClosedRound}
 use Rattle.clock_closing.specs.Closing.{closing}
 use Rattle.clock_house.specs.Command.{Command, put, close, other}
 use Rattle.clock_house.specs.History.{history, holding, round_to_close, standing}
-use Rattle.clock_house.specs.House.{HouseFields, StandsFor, StandsStill}
+use Rattle.clock_house.specs.House.{HouseFields, StandsFor, StandsForTheSame}
 use Rattle.clock_house.specs.Standing.{put_fault}
 use Rattle.clock_http.specs.declared.code.Code.TheVariants.{CutShort}
 use Rattle.clock_http.specs.Framing.{framing, incomplete, needs_more}
-use Rattle.clock_front.specs.Askers.{asker}
+use Rattle.clock_front.specs.Callers.{caller}
 use Rattle.clock_front.specs.Effects.{IsRightResponse, RespondsTo, close_effect, effect, effect_in, put_effect}
 use Rattle.clock_front.specs.Fronts.{AnswersText, StandsForTexts, commands_of, house_after, reply, text_command}
 use Rattle.clock_front.specs.Outcomes.{answer_of}
@@ -46,13 +46,13 @@ pub right_after : (texts : List (List ℕ)) (text : List ℕ) (response : Respon
     → StandsForTexts texts old → IsRightResponse text old new response → IsAfter old.setup texts text response new
 right_after texts text response old new stands right = record {
   replied = right.reply ∙ ap answer_of (outcome_after old (commands_of old.setup texts)
-      (asker old.setup (request_of text).token) (request_of text).ask stands);
+      (caller old.setup (request_of text).token) (request_of text).ask stands);
   changed = right.effect ∙ effect_after old (commands_of old.setup texts) (text_command old.setup text) stands;
   stands = subst (λ (setup : SetupFields). StandsFor (commands_of setup (text ∷ texts)) new) (sym right.followed.setup)
       (right.followed.stands (commands_of old.setup texts) stands);
 }
 
-pub stands_still : (texts : List (List ℕ)) (old new : HouseFields) → StandsForTexts texts old → StandsStill old new
+pub stands_still : (texts : List (List ℕ)) (old new : HouseFields) → StandsForTexts texts old → StandsForTheSame old new
     → StandsForTexts texts new
 stands_still texts old new stands still =
     subst (λ (setup : SetupFields). StandsFor (commands_of setup texts) new) (sym still.setup)
@@ -96,7 +96,7 @@ pub some_bytes : (text : List ℕ) (response : Response) (old new : HouseFields)
     → is_change response.effect ≡ true → 1 ≤ length text
 some_bytes [] response old new responds is =
     let right = right_where [] response old new responds is in
-    let none = away_command old.setup (asker old.setup (request_of []).token) [] incomplete CutShort
+    let none = away_command old.setup (caller old.setup (request_of []).token) [] incomplete CutShort
     (sym (needs_by_test [] nothing_needs_more)) refl in
     let no : true ≡ false = sym is ∙ ap is_change (right.effect ∙ ap (effect_in old) none) in
     absurd (let bad : ⊥ = cc in bad)

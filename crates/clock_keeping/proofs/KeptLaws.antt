@@ -6,7 +6,7 @@ use Rattle.clock_front.specs.Fronts.{StandsForTexts}
 use Rattle.clock_front.specs.declared.front.response.Response.{Response}
 use Rattle.clock_journal.specs.Kept.{JournalState, HasTexts}
 use Rattle.clock_journal.specs.Reading.{onto}
-use Rattle.clock_keeping.specs.Keeping.{IsInStep, IsKept, StandsForKept, is_change, kept_if}
+use Rattle.clock_keeping.specs.Keeping.{IsInStep, IsLogged, StandsForLogged, is_change, logged_when}
 use Rattle.clock_keeping.proofs.EffectLaws.{nothing_where, right_after, right_where, stands_still}
 
 onto-push : (texts : List (List ℕ)) (text : List ℕ) (past : List (List ℕ))
@@ -17,14 +17,14 @@ onto-push (one ∷ texts) text past = onto-push texts text (one ∷ past)
 -- a text that changed nothing is not logged
 pub passed_over : (digest : List ℕ) (past : List (List ℕ)) (text : List ℕ) (response : Response) (old new : HouseFields)
     (journal : JournalState) → IsInStep digest past journal old → RespondsTo text response old new
-    → is_change response.effect ≡ false → IsKept digest past text response.reply journal old new
+    → is_change response.effect ≡ false → IsLogged digest past text response.reply journal old new
 passed_over digest past text response old new journal in_step (inl right) none =
     let after = right_after (onto past []) text response old new in_step.stands right in
     record {
       texts = past;
       next = inl (
         after.replied,
-        sym (ap (λ (changes : Bool). kept_if changes past text)
+        sym (ap (λ (changes : Bool). logged_when changes past text)
             (sym (ap is_change after.changed) ∙ none)),
       );
       in_step = record {
@@ -40,9 +40,9 @@ passed_over digest past text response old new journal in_step (inr (struck, noth
 
 -- a text that changed the auction is logged
 pub kept : (digest : List ℕ) (past : List (List ℕ)) (text : List ℕ) (response : Response) (old new : HouseFields)
-    (journal : JournalState) → HasTexts digest (past ++ text ∷ []) journal → StandsForKept past old
+    (journal : JournalState) → HasTexts digest (past ++ text ∷ []) journal → StandsForLogged past old
     → RespondsTo text response old new → is_change response.effect ≡ true
-    → IsKept digest past text response.reply journal old new
+    → IsLogged digest past text response.reply journal old new
 kept digest past text response old new journal has stands responds change =
     let after = right_after (onto past []) text response old new stands
     (right_where text response old new responds change) in
@@ -50,7 +50,7 @@ kept digest past text response old new journal has stands responds change =
       texts = past ++ text ∷ [];
       next = inl (
         after.replied,
-        sym (ap (λ (changes : Bool). kept_if changes past text)
+        sym (ap (λ (changes : Bool). logged_when changes past text)
             (sym (ap is_change after.changed) ∙ change)),
       );
       in_step = record {

@@ -3,13 +3,13 @@ use Rattle.std.proofs.Common.{◌≡◌, ◌++◌, List, [], ℕ, take, Result, 
 use Rattle.clock_house.specs.House.{HouseFields}
 use Rattle.clock_front.specs.Fronts.{StandsForTexts}
 use Rattle.clock_journal.specs.Entries.{Entry, texts_in}
-use Rattle.clock_journal.specs.Recovering.{HasTaken, HasTakenFirst, IsBehind, IsRecovered, IsRefusal, IsRefusedRightly, IsUntaken}
+use Rattle.clock_journal.specs.Recovering.{HasTaken, HasTakenFirst, IsDamagedAfter, IsRecovered, IsJournalRefusal, IsRefusedRightly, IsTakeFault}
 use Rattle.clock_journal.specs.declared.recovery.JournalFault.{JournalFault}
 use Rattle.clock_journal.specs.declared.recovery.Recovered.{Recovered}
 use Rattle.clock_journal.specs.declared.recovery.JournalFault.TheVariants.{Unknown, Setup, Damaged, Refused, NoMemory}
 use Rattle.clock_journal.proofs.EntryLaws.{texts_in-onto}
-use Rattle.clock_keeping.specs.Keeping.{HasTakenUp, IsTakenUp}
-use Rattle.clock_keeping.specs.Starts.{HasTakenUpFirst}
+use Rattle.clock_keeping.specs.Keeping.{HasReplayedAtLeast, HasReplayedFile}
+use Rattle.clock_keeping.specs.Starts.{HasReplayedFirst}
 
 -- the auction stands for the texts of these entries
 abbrev pub IsAt : HouseFields → List Entry → Type 0
@@ -18,8 +18,8 @@ IsAt house entries = StandsForTexts (texts_in entries) house
 module _ (old : List Entry → Type 0) (begun : old []) where
   -- for what a crash left
   pub has_taken_up : (new : HouseFields) (digest bytes : List ℕ) (texts : List (List ℕ)) (least : ℕ) (result : Result Recovered JournalFault)
-      → MatchResult result (HasTaken old (IsAt new) digest bytes texts least) IsUntaken
-      → MatchResult result (HasTakenUp digest bytes texts least new) IsUntaken
+      → MatchResult result (HasTaken old (IsAt new) digest bytes texts least) IsTakeFault
+      → MatchResult result (HasReplayedAtLeast digest bytes texts least new) IsTakeFault
   has_taken_up new digest bytes texts least (Ok recovered) taken = record {
     count = taken.count;
     enough = taken.enough;
@@ -32,8 +32,8 @@ module _ (old : List Entry → Type 0) (begun : old []) where
 
   -- for a file that begins with some texts
   pub has_taken_up_first : (new : HouseFields) (digest : List ℕ) (texts : List (List ℕ)) (size : ℕ) (result : Result Recovered JournalFault)
-      → MatchResult result (HasTakenFirst old (IsAt new) digest texts) (IsBehind size)
-      → MatchResult result (HasTakenUpFirst digest texts new) (IsBehind size)
+      → MatchResult result (HasTakenFirst old (IsAt new) digest texts) (IsDamagedAfter size)
+      → MatchResult result (HasReplayedFirst digest texts new) (IsDamagedAfter size)
   has_taken_up_first new digest texts size (Ok recovered) taken = record {
     further = taken.further;
     stands = subst (λ (all : List (List ℕ)). StandsForTexts all new) (texts_in-onto digest [] (texts ++ taken.further) [])
@@ -44,8 +44,8 @@ module _ (old : List Entry → Type 0) (begun : old []) where
 
   -- for any file
   pub is_taken_up : (new : HouseFields) (digest bytes : List ℕ) (result : Result Recovered JournalFault)
-      → MatchResult result (IsRecovered old (IsAt new) digest bytes) (IsRefusal digest bytes)
-      → MatchResult result (λ recovered. IsTakenUp digest bytes recovered new) (IsRefusal digest bytes)
+      → MatchResult result (IsRecovered old (IsAt new) digest bytes) (IsJournalRefusal digest bytes)
+      → MatchResult result (λ recovered. HasReplayedFile digest bytes recovered new) (IsJournalRefusal digest bytes)
   is_taken_up new digest bytes (Ok recovered) taken = record {
     texts = taken.texts;
     placed = taken.placed;

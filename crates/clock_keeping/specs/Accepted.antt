@@ -12,9 +12,9 @@ use Rattle.clock_journal.specs.Disks.{MayBeLeft}
 use Rattle.clock_journal.specs.Kept.{JournalState}
 use Rattle.clock_journal.specs.declared.recovery.JournalFault.TheVariants.{NoMemory}
 use Rattle.clock_keeping.specs.Keeping.{IsAccepted}
-use Rattle.clock_keeping.specs.Starts.{IsNotGoingOn, IsOwn}
-use Rattle.clock_keeping.specs.declared.taking.GoOnFault.{GoOnFault}
-use Rattle.clock_keeping.specs.declared.taking.GoOnFault.TheVariants.{Refused, Failed}
+use Rattle.clock_keeping.specs.Starts.{IsNotResumed, IsOwn}
+use Rattle.clock_keeping.specs.declared.taking.ResumeFault.{ResumeFault}
+use Rattle.clock_keeping.specs.declared.taking.ResumeFault.TheVariants.{Refused, Failed}
 
 -- each of the texts, the oldest first, is accepted after `past`, the newest first, and the texts
 -- before it
@@ -32,7 +32,7 @@ pub record IsOwnFile (setup : SetupFields) (digest : List ℕ) (texts : List (Li
       → LeavesJournal digest left texts least
 
 -- memory ran out, or a call of the disk has failed
-abbrev pub IsNotRefused : GoOnFault → Type 0
+abbrev pub IsNotRefused : ResumeFault → Type 0
 IsNotRefused (Refused NoMemory) = Unit {0}
 IsNotRefused (Refused fault) = ⊥
 IsNotRefused Failed = Unit {0}
@@ -41,6 +41,6 @@ IsNotRefused Failed = Unit {0}
 -- of the disk
 abbrev pub OwnStarts : Type 0
 OwnStarts = (setup : SetupFields) (digest bytes : List ℕ) (texts : List (List ℕ)) (least : ℕ)
-    (house : HouseFields) (fault : GoOnFault) → AreAccepted setup [] texts
+    (house : HouseFields) (fault : ResumeFault) → AreAccepted setup [] texts
     → LeavesJournal digest bytes texts least → IsOwn fault
-    → IsNotGoingOn setup digest bytes house fault → IsNotRefused fault
+    → IsNotResumed setup digest bytes house fault → IsNotRefused fault

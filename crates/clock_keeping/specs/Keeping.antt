@@ -3,15 +3,15 @@
 --     is_change effect      a sheet or a closing was accepted
 --     IsAccepted setup texts text, IsRefused setup texts text      after these texts, a text
 --         changes the auction, or not
---     kept_after setup past text      the logged texts after one more text
---     IsNextKept setup past text answer texts      how a text is answered, and what is logged then
+--     logged_after setup past text      the logged texts after one more text
+--     IsNextLogged setup past text answer texts      how a text is answered, and what is logged then
 --     LeavesOneMore text old new      the file was only appended to, and a crash leaves the texts
 --         before, and at most this one more
 --     IsInStep digest texts journal house      the journal has these texts on its disk, and the
 --         house stands for them
---     IsKept digest past text answer journal old new      how a text is answered and logged
---     IsTakenUp digest bytes recovered house      the house stands for all texts of a file
---     HasTakenUp digest bytes texts least house recovered      it stands for a prefix of the texts,
+--     IsLogged digest past text answer journal old new      how a text is answered and logged
+--     HasReplayedFile digest bytes recovered house      the house stands for all texts of a file
+--     HasReplayedAtLeast digest bytes texts least house recovered      it stands for a prefix of the texts,
 --         at least `least` of them, and the file has these
 --     GrowsBy old new more      exactly these were appended, if contracts see the list
 --     no_journal      the journal of a server that logs nothing
@@ -21,7 +21,7 @@ use Rattle.clock_terms.specs.Limits.{SetupFields}
 use Rattle.clock_house.specs.House.{HouseFields}
 use Rattle.clock_http.specs.Replies.{Answer}
 use Rattle.clock_front.specs.Effects.{effect}
-use Rattle.clock_front.specs.Fronts.{reply, StandsForTexts, IsStruckOut}
+use Rattle.clock_front.specs.Fronts.{reply, StandsForTexts, IsOutOfMemoryReply}
 use Rattle.clock_front.specs.declared.front.response.Effect.{Effect}
 use Rattle.clock_front.specs.declared.front.response.Effect.TheVariants.{Nothing, Sheet, Closing}
 use Rattle.clock_journal.specs.Crash.{LeavesTexts}
@@ -46,22 +46,22 @@ abbrev pub IsRefused : SetupFields → List (List ℕ) → List ℕ → Type 0
 IsRefused setup texts text = is_change (effect setup texts text) ≡ false
 
 -- a text that changes the auction is appended to the logged ones, the oldest first
-abbrev pub kept_if : Bool → List (List ℕ) → List ℕ → List (List ℕ)
-kept_if changes past text = if changes then past ++ text ∷ [] else past
+abbrev pub logged_when : Bool → List (List ℕ) → List ℕ → List (List ℕ)
+logged_when changes past text = if changes then past ++ text ∷ [] else past
 
-abbrev pub kept_after : SetupFields → List (List ℕ) → List ℕ → List (List ℕ)
-kept_after setup past text = kept_if (is_change (effect setup (onto past []) text)) past text
+abbrev pub logged_after : SetupFields → List (List ℕ) → List ℕ → List (List ℕ)
+logged_after setup past text = logged_when (is_change (effect setup (onto past []) text)) past text
 
 -- the right reply after the logged texts, and what is logged then; or out of memory, and nothing
 -- changes
-abbrev pub IsNextKept : SetupFields → List (List ℕ) → List ℕ → Answer → List (List ℕ) → Type 0
-IsNextKept setup past text answer texts =
-    ((answer ≡ reply setup (onto past []) text) × (texts ≡ kept_after setup past text))
-    ⊎ (IsStruckOut text answer × (texts ≡ past))
+abbrev pub IsNextLogged : SetupFields → List (List ℕ) → List ℕ → Answer → List (List ℕ) → Type 0
+IsNextLogged setup past text answer texts =
+    ((answer ≡ reply setup (onto past []) text) × (texts ≡ logged_after setup past text))
+    ⊎ (IsOutOfMemoryReply text answer × (texts ≡ past))
 
 -- the house stands for the texts of a journal, the oldest first
-abbrev pub StandsForKept : List (List ℕ) → HouseFields → Type 0
-StandsForKept texts house = StandsForTexts (onto texts []) house
+abbrev pub StandsForLogged : List (List ℕ) → HouseFields → Type 0
+StandsForLogged texts house = StandsForTexts (onto texts []) house
 
 -- the file was only appended to; a crash at any moment since leaves the texts that it had, and at
 -- most this one more
@@ -73,29 +73,29 @@ pub record LeavesOneMore (text : List ℕ) (old new : JournalState) : Type 0 whe
 -- the journal has these texts, the oldest first, all on its disk, and the house stands for them
 pub record IsInStep (digest : List ℕ) (texts : List (List ℕ)) (journal : JournalState) (house : HouseFields) : Type 0 where
   pub has : HasTexts digest texts journal
-  pub stands : StandsForKept texts house
+  pub stands : StandsForLogged texts house
 
 -- the text is answered, and logged if it changes the auction; journal and house stay in step
-pub record IsKept (digest : List ℕ) (past : List (List ℕ)) (text : List ℕ) (answer : Answer) (journal : JournalState)
+pub record IsLogged (digest : List ℕ) (past : List (List ℕ)) (text : List ℕ) (answer : Answer) (journal : JournalState)
     (old new : HouseFields) : Type 0 where
   pub texts : List (List ℕ)
-  pub next : IsNextKept old.setup past text answer texts
+  pub next : IsNextLogged old.setup past text answer texts
   pub in_step : IsInStep digest texts journal new
 
 -- the house stands for all texts of the file, and the file has them as it was recovered
-pub record IsTakenUp (digest bytes : List ℕ) (recovered : Recovered) (house : HouseFields) : Type 0 where
+pub record HasReplayedFile (digest bytes : List ℕ) (recovered : Recovered) (house : HouseFields) : Type 0 where
   pub texts : List (List ℕ)
   pub placed : IsPlaced digest bytes texts recovered
-  pub stands : StandsForKept texts house
+  pub stands : StandsForLogged texts house
 
 -- the house stands for a prefix of the texts, at least `least` of them, and the file has these
-pub record HasTakenUp (digest bytes : List ℕ) (texts : List (List ℕ)) (least : ℕ) (house : HouseFields)
+pub record HasReplayedAtLeast (digest bytes : List ℕ) (texts : List (List ℕ)) (least : ℕ) (house : HouseFields)
     (recovered : Recovered) : Type 0 where
   pub count : ℕ
   pub enough : least ≤ count
   pub most : count ≤ length texts
   pub placed : IsPlaced digest bytes (take count texts) recovered
-  pub stands : StandsForKept (take count texts) house
+  pub stands : StandsForLogged (take count texts) house
 
 -- exactly these were appended, in order, if contracts see the list
 abbrev pub GrowsBy : {A : Type 0} → Option (List A) → Option (List A) → List A → Type 0

@@ -1,9 +1,9 @@
 -- How a server resumes a journal.
---     HasTakenUpFirst digest texts house recovered      the auction stands for these texts, and
+--     HasReplayedFirst digest texts house recovered      the auction stands for these texts, and
 --         perhaps further ones
---     IsGoingOn digest bytes journal house recovered      journal and auction have the texts of a
+--     IsResumed digest bytes journal house recovered      journal and auction have the texts of a
 --         file
---     IsNotGoingOn setup digest bytes house told      the file has this fault, or a call of the
+--     IsNotResumed setup digest bytes house told      the file has this fault, or a call of the
 --         disk failed after the replay
 --     HasResumed digest texts least journal house      journal and auction have a prefix of the
 --         texts, at least `least` of them
@@ -14,37 +14,37 @@ use Rattle.clock_terms.specs.Limits.{SetupFields}
 use Rattle.clock_house.specs.House.{HouseFields}
 use Rattle.clock_journal.specs.Format.{head_length}
 use Rattle.clock_journal.specs.Kept.{JournalState, file_of}
-use Rattle.clock_journal.specs.Recovering.{IsPlaced, IsRefusal, IsRefusedRightly, IsUntaken}
+use Rattle.clock_journal.specs.Recovering.{IsPlaced, IsJournalRefusal, IsRefusedRightly, IsTakeFault}
 use Rattle.clock_journal.specs.declared.recovery.Recovered.{Recovered}
-use Rattle.clock_keeping.specs.Keeping.{IsInStep, IsRefused, IsTakenUp, StandsForKept}
-use Rattle.clock_keeping.specs.declared.taking.GoOnFault.{GoOnFault}
-use Rattle.clock_keeping.specs.declared.taking.GoOnFault.TheVariants.{Refused, Failed}
+use Rattle.clock_keeping.specs.Keeping.{IsInStep, IsRefused, HasReplayedFile, StandsForLogged}
+use Rattle.clock_keeping.specs.declared.taking.ResumeFault.{ResumeFault}
+use Rattle.clock_keeping.specs.declared.taking.ResumeFault.TheVariants.{Refused, Failed}
 
 -- the auction stands for these texts, and perhaps further ones; the records of these are before the
 -- end
-pub record HasTakenUpFirst (digest : List ℕ) (texts : List (List ℕ)) (house : HouseFields) (recovered : Recovered) : Type 0 where
+pub record HasReplayedFirst (digest : List ℕ) (texts : List (List ℕ)) (house : HouseFields) (recovered : Recovered) : Type 0 where
   pub further : List (List ℕ)
-  pub stands : StandsForKept (texts ++ further) house
+  pub stands : StandsForLogged (texts ++ further) house
   pub behind : length (file_of digest texts) ≤ recovered.end
 
 -- the file is the journal of these texts, except for a torn tail; all are on the disk, and the
 -- auction stands for them
-pub record IsGoingOn (digest bytes : List ℕ) (journal : JournalState) (house : HouseFields) (recovered : Recovered) : Type 0 where
+pub record IsResumed (digest bytes : List ℕ) (journal : JournalState) (house : HouseFields) (recovered : Recovered) : Type 0 where
   pub texts : List (List ℕ)
   pub placed : IsPlaced digest bytes texts recovered
   pub in_step : IsInStep digest texts journal house
 
 -- the file has this fault or memory ran out, and a text that is reported as refused is refused
 -- after those before it. Or the auction stands for all texts, and a call of the disk failed
-abbrev pub IsNotGoingOn : SetupFields → List ℕ → List ℕ → HouseFields → GoOnFault → Type 0
-IsNotGoingOn setup digest bytes house (Refused fault) =
-    IsRefusal digest bytes fault
+abbrev pub IsNotResumed : SetupFields → List ℕ → List ℕ → HouseFields → ResumeFault → Type 0
+IsNotResumed setup digest bytes house (Refused fault) =
+    IsJournalRefusal digest bytes fault
     × IsRefusedRightly (IsRefused setup) (λ past. past ≡ []) digest (drop head_length bytes) (length bytes) fault
-IsNotGoingOn setup digest bytes house Failed = (recovered : Recovered) × IsTakenUp digest bytes recovered house
+IsNotResumed setup digest bytes house Failed = (recovered : Recovered) × HasReplayedFile digest bytes recovered house
 
 -- no call was made on a refused file: neither its bytes nor its moments have changed. Otherwise a
 -- call of the disk has failed
-abbrev pub IsLeftBy : JournalState → JournalState → GoOnFault → Type 0
+abbrev pub IsLeftBy : JournalState → JournalState → ResumeFault → Type 0
 IsLeftBy old new (Refused fault) = new ≡ old
 IsLeftBy old new Failed = new.has_failed ≡ true
 
@@ -57,6 +57,6 @@ pub record HasResumed (digest : List ℕ) (texts : List (List ℕ)) (least : ℕ
   pub in_step : IsInStep digest (take count texts) journal house
 
 -- a text is refused, memory ran out, or a call of the disk failed: the file itself is right
-abbrev pub IsOwn : GoOnFault → Type 0
-IsOwn (Refused fault) = IsUntaken fault
+abbrev pub IsOwn : ResumeFault → Type 0
+IsOwn (Refused fault) = IsTakeFault fault
 IsOwn Failed = Unit {0}

@@ -2,9 +2,9 @@ ghost use Rattle.std.specs.Prelude.{◌≡◌, ◌<◌, ◌⊎◌, [], ◌∷◌
 ghost use Rattle.std.specs.Prelude.{OnErr, length, true, false};
 ghost use Rattle.clock_http.specs.Shown.{Knows};
 ghost use Rattle.clock_front.specs.{Effects.{RespondsTo}, Private.{IsPrivateReply}};
-ghost use Rattle.clock_front.specs.Fronts.{AnswersText, IsStruckOut, StandsForTexts};
+ghost use Rattle.clock_front.specs.Fronts.{AnswersText, IsOutOfMemoryReply, StandsForTexts};
 ghost use Rattle.clock_journal.specs.{Format.{most_text}, Kept.{JournalState}};
-ghost use Rattle.clock_keeping.specs.Keeping.{GrowsBy, IsAccepted, IsInStep, IsKept, LeavesOneMore};
+ghost use Rattle.clock_keeping.specs.Keeping.{GrowsBy, IsAccepted, IsInStep, IsLogged, LeavesOneMore};
 ghost use Rattle.clock_keeping.specs.Keeping.{is_change as is_change_of, no_journal};
 
 use clock_device::Failed;
@@ -15,9 +15,9 @@ use clock_processor::Processor;
 
 /// What logs the accepted texts of a front before they get their reply.
 ///
-/// In contracts, a keeper is its journal, and the rounds that `round_closed` was called for, if it
+/// In contracts, a log is its journal, and the rounds that `round_closed` was called for, if it
 /// reveals them.
-pub trait Keeper {
+pub trait RequestLog {
     ghost journal: { Self → JournalState };
 
     ghost told: { Self → Option (List ℕ) };
@@ -29,7 +29,7 @@ pub trait Keeper {
     ///
     /// At `Err`, an accepted text could not be logged: a call of the disk failed, or the text is
     /// too long for a journal. All that was on the disk still is. Send no reply, and use neither
-    /// the front nor the keeper again.
+    /// the front nor the log again.
     fn answer<P: Processor>(
         &mut self,
         front: &mut Front<P>,
@@ -42,12 +42,12 @@ pub trait Keeper {
             (λ response. RespondsTo text.now response front.old front.new) }
         ensures answered { IfOk result
             (λ response. AnswersText text.now response.reply front.old front.new) }
-        ensures private { IfOk result (λ response. IsStruckOut text.now response.reply
+        ensures private { IfOk result (λ response. IsOutOfMemoryReply text.now response.reply
             ⊎ IsPrivateReply text.now front.old response.reply) }
         ensures setup { front.new.setup ≡ front.old.setup }
         ensures kept { (digest : List ℕ) (past : List (List ℕ))
             → IsInStep digest past (journal self.old) front.old → IfOk result (λ response.
-            IsKept digest past text.now response.reply (journal self.new) front.old front.new) }
+            IsLogged digest past text.now response.reply (journal self.new) front.old front.new) }
         ensures accepted { (texts : List (List ℕ)) → StandsForTexts texts front.old
             → OnErr result (IsAccepted front.old.setup texts text.now) }
         ensures moments { LeavesOneMore text.now (journal self.old) (journal self.new) }
@@ -63,7 +63,7 @@ pub trait Keeper {
         ensures told { GrowsBy (told self.old) (told self.new) (round ∷ []) };
 }
 
-impl<D: Durable> Keeper for Journal<D> {
+impl<D: Durable> RequestLog for Journal<D> {
     ghost journal = { λ journal. journal };
 
     ghost told = { λ journal. None };
@@ -90,12 +90,12 @@ impl<D: Durable> Keeper for Journal<D> {
 
 /// Logs nothing.
 #[derive(Drop)]
-pub struct Unkept;
+pub struct NoLog;
 
-impl Keeper for Unkept {
-    ghost journal = { λ unkept. no_journal };
+impl RequestLog for NoLog {
+    ghost journal = { λ log. no_journal };
 
-    ghost told = { λ unkept. None };
+    ghost told = { λ log. None };
 
     fn answer<P: Processor>(
         &mut self,

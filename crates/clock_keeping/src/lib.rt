@@ -1,13 +1,13 @@
 //! An auction that logs its accepted texts in a journal, and is resumed from it.
 //!
-//! A [`Keeper`], such as a journal or [`Unkept`], answers one text. [`take_up`] replays all texts
-//! of a file, and [`go_on`] also continues its journal.
+//! A [`RequestLog`], such as a journal or [`NoLog`], answers one text. [`replay_journal`] replays all texts
+//! of a file, and [`resume_auction`] also continues its journal.
 #![tactic(auto)]
 
 mod keeping;
 mod starts;
 mod taking;
 
-pub use keeping::{Keeper, Unkept};
+pub use keeping::{RequestLog, NoLog};
 pub use starts::law_of_starts;
-pub use taking::{Auction, GoOnFault, go_on, take_text, take_up};
+pub use taking::{ReplayedAuction, ResumeFault, resume_auction, take_text, replay_journal};

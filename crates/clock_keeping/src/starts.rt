@@ -4,7 +4,7 @@ ghost use Rattle.clock_keeping.specs.Accepted.{OwnStarts};
 /// A law, which does nothing when it runs: if each text of a journal was accepted when it was
 /// logged, no start on what a crash left of it is refused. A start fails only if memory runs out or
 /// a call of the disk fails. The last two premises are the clauses `resumed` and `err` of
-/// [`go_on`](crate::go_on).
+/// [`resume_auction`](crate::resume_auction).
 pub fn law_of_starts()
     ensures { OwnStarts }
 {}

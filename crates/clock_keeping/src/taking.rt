@@ -2,28 +2,28 @@ ghost use Rattle.std.specs.Prelude.{◌≡◌, [], ◌∷◌, List, ℕ, MatchRe
 ghost use Rattle.std.specs.Prelude.{IfErr, IfOk, OnOk, Some, false};
 ghost use Rattle.clock_journal.specs.{Entries.{texts_in}, Kept.{file_of}};
 ghost use Rattle.clock_journal.specs.Crash.{BeginsWithTexts, LeavesJournal, StaysSo};
-ghost use Rattle.clock_journal.specs.Recovering.{IsBehind, IsRefusal, IsRefusedRightly, IsUntaken};
+ghost use Rattle.clock_journal.specs.Recovering.{IsDamagedAfter, IsJournalRefusal, IsRefusedRightly, IsTakeFault};
 ghost use Rattle.clock_terms.specs.Limits.{SetupFields};
 ghost use Rattle.clock_front.specs.{Effects.{effect as effect_of}, Fronts.{StandsForTexts}};
-ghost use Rattle.clock_keeping.specs.Keeping.{HasTakenUp, IsRefused, IsTakenUp};
-ghost use Rattle.clock_keeping.specs.Starts.{HasResumed, HasTakenUpFirst, IsGoingOn, IsNotGoingOn};
+ghost use Rattle.clock_keeping.specs.Keeping.{HasReplayedAtLeast, IsRefused, HasReplayedFile};
+ghost use Rattle.clock_keeping.specs.Starts.{HasResumed, HasReplayedFirst, IsResumed, IsNotResumed};
 ghost use Rattle.clock_keeping.specs.Starts.{IsLeftBy, IsOwn};
 ghost use Rattle.clock_keeping.specs.inside.Taken.{taken_as};
 
 use clock_front::{Effect, Front};
 use clock_http::{Code, frame};
 use clock_journal::{
-    Durable, Journal, JournalFault, Link, Machine, Record, Recovered, Untaken, recover,
+    Durable, Journal, JournalFault, Link, Machine, Record, Recovered, TakeError, recover,
 };
 use clock_processor::Processor;
 
 /// A front that takes the texts of a journal.
 #[derive(Drop)]
-pub struct Auction<P> {
+pub struct ReplayedAuction<P> {
     pub front: Front<P>,
 }
 
-impl<P: Processor> Machine for Auction<P> {
+impl<P: Processor> Machine for ReplayedAuction<P> {
     ghost Rules = { SetupFields };
 
     ghost rules = { λ auction. auction.front.setup };
@@ -32,7 +32,7 @@ impl<P: Processor> Machine for Auction<P> {
 
     ghost refuses = { λ setup texts text. IsRefused setup texts text };
 
-    fn take(&mut self, text: &[u8], _at: &Record) -> Result<(), Untaken> {
+    fn take(&mut self, text: &[u8], _at: &Record) -> Result<(), TakeError> {
         take_text(&mut self.front, text)?;
         Ok(())
     }
@@ -40,12 +40,12 @@ impl<P: Processor> Machine for Auction<P> {
 
 /// Gives a front the next text of its journal, and returns what the text changed. A text that
 /// changes nothing is refused: no server logged it.
-pub fn take_text<P: Processor>(front: &mut Front<P>, text: &[u8]) -> Result<Effect, Untaken>
+pub fn take_text<P: Processor>(front: &mut Front<P>, text: &[u8]) -> Result<Effect, TakeError>
     ensures taken { (texts : List (List ℕ)) → StandsForTexts texts front.old
         → IfOk result (λ effect. effect ≡ effect_of front.old.setup texts text.now) }
     ensures stands { (texts : List (List ℕ)) → StandsForTexts texts front.old
         → IfOk result (λ effect. StandsForTexts (text.now ∷ texts) front.new) }
-    ensures refused { (texts : List (List ℕ)) → result ≡ Err Untaken.Refused
+    ensures refused { (texts : List (List ℕ)) → result ≡ Err TakeError.Refused
         → StandsForTexts texts front.old → IsRefused front.old.setup texts text.now }
     ensures setup { front.new.setup ≡ front.old.setup }
 {
@@ -54,12 +54,12 @@ pub fn take_text<P: Processor>(front: &mut Front<P>, text: &[u8]) -> Result<Effe
 }
 
 /// How a text was taken, by what it changed and the code of its reply.
-fn taken(effect: Effect, code: Code) -> Result<Effect, Untaken>
+fn taken(effect: Effect, code: Code) -> Result<Effect, TakeError>
     ensures { result ≡ taken_as effect code }
 {
     match (effect, code) {
-        (Effect::Nothing, Code::Memory) => Err(Untaken::NoMemory),
-        (Effect::Nothing, _) => Err(Untaken::Refused),
+        (Effect::Nothing, Code::Memory) => Err(TakeError::NoMemory),
+        (Effect::Nothing, _) => Err(TakeError::Refused),
         (Effect::Sheet | Effect::Closing(_), _) => Ok(effect),
     }
 }
@@ -72,21 +72,21 @@ fn taken(effect: Effect, code: Code) -> Result<Effect, Untaken>
 ///
 /// Requires an auction without texts. Errors, in this order: as [`recover`]. Do not use the auction
 /// after an `Err`.
-pub fn take_up<P: Processor>(
-    auction: &mut Auction<P>,
+pub fn replay_journal<P: Processor>(
+    auction: &mut ReplayedAuction<P>,
     digest: &Link,
     bytes: &[u8],
 ) -> Result<Recovered, JournalFault>
     requires { StandsForTexts [] auction.old.front }
     ensures read { MatchResult result
-        (λ recovered. IsTakenUp digest.now bytes.now recovered auction.new.front)
-        (IsRefusal digest.now bytes.now) }
+        (λ recovered. HasReplayedFile digest.now bytes.now recovered auction.new.front)
+        (IsJournalRefusal digest.now bytes.now) }
     ensures crash { (texts : List (List ℕ)) (least : ℕ)
         → LeavesJournal digest.now bytes.now texts least → MatchResult result
-        (HasTakenUp digest.now bytes.now texts least auction.new.front) IsUntaken }
+        (HasReplayedAtLeast digest.now bytes.now texts least auction.new.front) IsTakeFault }
     ensures any_tail { (texts : List (List ℕ)) → BeginsWithTexts digest.now bytes.now texts
-        → MatchResult result (HasTakenUpFirst digest.now texts auction.new.front)
-        (IsBehind (length (file_of digest.now texts))) }
+        → MatchResult result (HasReplayedFirst digest.now texts auction.new.front)
+        (IsDamagedAfter (length (file_of digest.now texts))) }
     ensures refused { MatchResult result (λ _. Unit {0})
         (IsRefusedRightly (IsRefused auction.old.front.setup) (λ past. past ≡ []) digest.now
         (drop 56 bytes.now) (length bytes.now)) }
@@ -100,7 +100,7 @@ pub fn take_up<P: Processor>(
 /// - `Refused`: its file is faulty, the auction refuses a text, or it is out of memory.
 /// - `Failed`: a call of the disk failed, after all texts were replayed.
 #[derive(Clone, Copy)]
-pub enum GoOnFault {
+pub enum ResumeFault {
     Refused(JournalFault),
     Failed,
 }
@@ -116,18 +116,18 @@ pub enum GoOnFault {
 ///
 /// Requires an auction without texts, and a journal that has not failed. Errors, in this order:
 /// `Refused`, `Failed`. Do not use auction and journal after an `Err`.
-pub fn go_on<P: Processor, D: Durable, F: FnOnce(Recovered)>(
-    auction: &mut Auction<P>,
+pub fn resume_auction<P: Processor, D: Durable, F: FnOnce(Recovered)>(
+    auction: &mut ReplayedAuction<P>,
     journal: &mut Journal<D>,
     bytes: &[u8],
     tell: F,
-) -> Result<Recovered, GoOnFault>
+) -> Result<Recovered, ResumeFault>
     requires fresh { StandsForTexts [] auction.old.front }
     requires unfailed { journal.old.has_failed ≡ false }
     requires callable { F.IsAlwaysCallable tell }
     ensures in_step { journal.old.written ≡ Some bytes.now
-        → IfOk result (IsGoingOn journal.old.chain bytes.now journal.new auction.new.front) }
-    ensures err { IfErr result (IsNotGoingOn auction.old.front.setup journal.old.chain bytes.now
+        → IfOk result (IsResumed journal.old.chain bytes.now journal.new auction.new.front) }
+    ensures err { IfErr result (IsNotResumed auction.old.front.setup journal.old.chain bytes.now
         auction.new.front) }
     ensures resumed { (texts : List (List ℕ)) (least : ℕ) → journal.old.written ≡ Some bytes.now
         → LeavesJournal journal.old.chain bytes.now texts least → MatchResult result
@@ -144,8 +144,8 @@ pub fn go_on<P: Processor, D: Durable, F: FnOnce(Recovered)>(
     ensures setup { auction.new.front.setup ≡ auction.old.front.setup }
 {
     let digest = *journal.chain();
-    let recovered = take_up(auction, &digest, bytes).map_err(GoOnFault::Refused)?;
+    let recovered = replay_journal(auction, &digest, bytes).map_err(ResumeFault::Refused)?;
     tell(recovered);
-    journal.resume(recovered).or(Err(GoOnFault::Failed))?;
+    journal.resume(recovered).or(Err(ResumeFault::Failed))?;
     Ok(recovered)
 }

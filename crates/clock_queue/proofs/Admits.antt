@@ -16,7 +16,7 @@ use Rattle.clock_processor.specs.inside.UnderWay.{IsUnderWay}
 use Rattle.clock_processor.proofs.Cases.{set_cases}
 use Rattle.clock_queue.specs.declared.queue.Queue.{Queue}
 use Rattle.clock_queue.specs.inside.Lines.{line_by, HasLines, LineFields, empty_line, product_line, bidder_line, with_waiting}
-use Rattle.clock_queue.specs.inside.Queue.{IsKept, IsLine, IsInLine, IsBehind, IsTracking, after_test, line_at, line_in, cost_at, room_in}
+use Rattle.clock_queue.specs.inside.Queue.{HasSoundLines, IsLine, IsInLine, IsBehind, IsTracking, after_test, line_at, line_in, cost_at, room_in}
 use Rattle.clock_queue.proofs.Members.{Contains-cons_cases}
 
 line_within : (kind : Kind) (b p n : ℕ) → product_line p < n → bidder_line b < n → line_by kind b p < n
@@ -65,8 +65,8 @@ module _ (changes : List Change) where
       }) (tracked place within)
 
   -- the first ready request is removed
-  pub kept_popped : (queue : Queue) (first : ℕ) (ready : List ℕ) → IsKept changes queue → IsPermutation queue.ready (first ∷ ready) →
-      IsKept changes (record queue { ready = ready })
+  pub kept_popped : (queue : Queue) (first : ℕ) (ready : List ℕ) → HasSoundLines changes queue → IsPermutation queue.ready (first ∷ ready) →
+      HasSoundLines changes (record queue { ready = ready })
   kept_popped queue first ready is moved = record {
     under_way = is.under_way;
     lines = is.lines;
@@ -83,7 +83,7 @@ module _ (changes : List Change) where
       (tracked_more queue queue.ready (first ∷ ready) (λ place here. Contains-permutation queue.ready (first ∷ ready) place moved here) tracked)
 
   -- after one more test
-  pub kept_tested : (queue : Queue) → IsKept changes queue → IsKept changes (after_test queue)
+  pub kept_tested : (queue : Queue) → HasSoundLines changes queue → HasSoundLines changes (after_test queue)
   kept_tested queue is = record {
     under_way = record {
       admitted_within = is.under_way.admitted_within;
@@ -111,7 +111,7 @@ module _ (changes : List Change) where
         | inr at ↦ (let same : place ≡ queue.admitted = omega (arith, within, at) in inl (ap (room_in changes queue) same ∙ no_room))
       ])
 
-  module _ (queue : Queue) (is : IsKept changes queue) (more : queue.admitted < length changes) where
+  module _ (queue : Queue) (is : HasSoundLines changes queue) (more : queue.admitted < length changes) where
     under_way_next : IsUnderWay queue.board changes queue.left (queue.admitted + 1)
     under_way_next = record {
       admitted_within = omega (arith, more);
@@ -136,7 +136,7 @@ module _ (changes : List Change) where
     }
 
     -- if nothing of it is left, it does not wait
-    pub kept_used : get_or queue.left queue.admitted 0 ≡ 0 → IsKept changes (record queue { admitted = queue.admitted + 1 })
+    pub kept_used : get_or queue.left queue.admitted 0 ≡ 0 → HasSoundLines changes (record queue { admitted = queue.admitted + 1 })
     kept_used nothing = record {
       under_way = under_way_next;
       lines = is.lines;
@@ -237,7 +237,7 @@ module _ (changes : List Change) where
     now_in : Contains (get_or added own empty_line).places queue.admitted
     now_in = subst (λ (held : LineFields). Contains held.places queue.admitted) (sym at_own) (Contains-push (line_in queue own).places queue.admitted)
 
-    pub kept_added : IsKept changes (record queue { admitted = queue.admitted + 1; lines = added })
+    pub kept_added : HasSoundLines changes (record queue { admitted = queue.admitted + 1; lines = added })
     kept_added = record {
       under_way = under_way_next;
       lines = subst (λ n. All (HasLines n) changes) (sym (length-set queue.lines own longer)) is.lines;

@@ -17,7 +17,7 @@ use Rattle.clock_processor.proofs.Cases.{set_cases}
 use Rattle.clock_processor.proofs.Apply.{may_apply, sum_after, under_way_applied}
 use Rattle.clock_queue.specs.declared.queue.Queue.{Queue}
 use Rattle.clock_queue.specs.inside.Lines.{cost_by, line_by, product_line, bidder_line, HasLines}
-use Rattle.clock_queue.specs.inside.Queue.{IsKept, IsInLine, IsBehind, IsTracking, IsAppliedWhole, HasWoken, HasWokenProduct, CostsMore}
+use Rattle.clock_queue.specs.inside.Queue.{HasSoundLines, IsInLine, IsBehind, IsTracking, IsAppliedWhole, HasWoken, HasWokenProduct, CostsMore}
 use Rattle.clock_queue.specs.inside.Queue.{line_at, line_in, cost_at, room_in, progress, work}
 use Rattle.clock_queue.specs.Bound.{most_woken}
 use Rattle.clock_queue.proofs.Members.{Contains-cons_cases}
@@ -37,12 +37,12 @@ none_or_some : (n : ℕ) → (n ≡ 0) ⊎ (0 < n)
 none_or_some n = elim (cases_lt 0 n) as (λ _. (n ≡ 0) ⊎ (0 < n)) [ inl some ↦ inr some | inr none ↦ inl (omega (arith, none)) ]
 
 -- the indices in a line are those of requests
-pub places_within : (changes : List Change) (queue : Queue) → IsKept changes queue → (line : ℕ) → All (λ place. place < length queue.left) (line_in queue line).places
+pub places_within : (changes : List Change) (queue : Queue) → HasSoundLines changes queue → (line : ℕ) → All (λ place. place < length queue.left) (line_in queue line).places
 places_within changes queue is line k d lt =
     let member : IsInLine changes queue.admitted line (get_or (line_in queue line).places k 0) = (is.each line).members k lt in
     omega (arith, member.admitted_before, is.under_way.admitted_within, is.under_way.lengths, get_or_default (line_in queue line).places k d 0 lt)
 
-module _ (changes : List Change) (old : Queue) (first : ℕ) (is : IsKept changes old) (lt : first < length changes)
+module _ (changes : List Change) (old : Queue) (first : ℕ) (is : HasSoundLines changes old) (lt : first < length changes)
     (is_board : IsBoard old.board.products old.board.eligibilities old.board.grid) (some : 0 < room_in changes old first) where
   -- the request that is applied
   abbrev change : Change
@@ -100,7 +100,7 @@ module _ (changes : List Change) (old : Queue) (first : ℕ) (is : IsKept change
       (get_or (line_in old line).costs at 0 ≡ cost_at changes old.board.products (get_or (line_in old line).places at 0))
   costs_after line at within = ⊎_map (nothing_after (get_or (line_in old line).places at 0)) (λ cost. cost) ((is.each line).costs at within)
 
-  pub kept_after : IsKept changes after
+  pub kept_after : HasSoundLines changes after
   kept_after = record {
     under_way = under_way_applied old.board after.board changes old.left after.left first old.admitted lt is_board is.under_way some
         (refl, refl) refl refl refl;
@@ -174,11 +174,11 @@ module _ (changes : List Change) (old : Queue) (first : ℕ) (is : IsKept change
       )
 
   module _ (mid : Queue) (product_woken : HasWokenProduct change (get_or old.left first 0 - amount) after mid) where
-    kept_by : HasWokenProduct change (get_or old.left first 0 - amount) after mid → IsKept changes mid
+    kept_by : HasWokenProduct change (get_or old.left first 0 - amount) after mid → HasSoundLines changes mid
     kept_by (inl woken) = kept_woken changes (product_line change.product) 0 after mid kept_after lines_of.product woken
-    kept_by (inr passed) = subst (IsKept changes) (sym passed.same) kept_after
+    kept_by (inr passed) = subst (HasSoundLines changes) (sym passed.same) kept_after
 
-    pub kept_mid : IsKept changes mid
+    pub kept_mid : HasSoundLines changes mid
     kept_mid = kept_by product_woken
 
     -- only the lines and the ready requests have changed
@@ -221,7 +221,7 @@ module _ (changes : List Change) (old : Queue) (first : ℕ) (is : IsKept change
       new_as : new ≡ record after { ready = new.ready; lines = new.lines }
       new_as = bidder_woken.same ∙ ap (λ (queue : Queue). record queue { ready = new.ready; lines = new.lines }) mid_as
 
-      kept_new : IsKept changes new
+      kept_new : HasSoundLines changes new
       kept_new = kept_woken changes (bidder_line change.bidder) limit mid new kept_mid bidder_in bidder_woken
 
       ready_still : (place : ℕ) → Contains old.ready place → Contains new.ready place
@@ -378,7 +378,7 @@ module _ (changes : List Change) (old : Queue) (first : ℕ) (is : IsKept change
 
       pub applied_whole : IsTracking changes old (first ∷ old.ready) → IsAppliedWhole changes first old new
       applied_whole tracked = subst (IsAppliedWhole changes first old) (sym new_as) (record {
-        kept = subst (IsKept changes) new_as kept_new;
+        kept = subst (HasSoundLines changes) new_as kept_new;
         tracked = λ place within. ⊎_map (λ none. none) (λ (behind : IsBehind changes after new.ready place). record {
           at = behind.at;
           is_ready = behind.is_ready;

@@ -9,7 +9,7 @@ use Rattle.clock_processor.specs.inside.UnderWay.{progress_of}
 use Rattle.clock_processor.proofs.Apply.{settlement_reached}
 use Rattle.clock_processor.proofs.ProperEnd.{proper_end, held_at_end}
 use Rattle.clock_queue.specs.declared.queue.Queue.{Queue}
-use Rattle.clock_queue.specs.inside.Queue.{IsKept, IsTracking, StaysWithinTests, progress}
+use Rattle.clock_queue.specs.inside.Queue.{HasSoundLines, IsTracking, StaysWithinTests, progress}
 use Rattle.clock_queue.specs.Bound.{IsWithinTests}
 use Rattle.clock_queue.proofs.Steps.{ends}
 
@@ -19,7 +19,7 @@ handed_on queue = record { grid = queue.board.grid; left = queue.left; applied =
 
 -- what holds of a queue when every request is admitted
 pub record IsDone (board : BoardFields) (changes : List Change) (queue : Queue) : Type 0 where
-  pub kept : IsKept changes queue
+  pub kept : HasSoundLines changes queue
   pub tracked : IsTracking changes queue queue.ready
   pub counts : StaysWithinTests changes queue
   pub none : queue.ready ≡ []

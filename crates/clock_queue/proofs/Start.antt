@@ -9,7 +9,7 @@ use Rattle.clock_processor.specs.Requests.{CanSettle}
 use Rattle.clock_processor.proofs.Apply.{under_way_start}
 use Rattle.clock_queue.specs.declared.queue.Queue.{Queue}
 use Rattle.clock_queue.specs.inside.Lines.{HasLines, LineFields, empty_line}
-use Rattle.clock_queue.specs.inside.Queue.{IsKept, IsLine, IsTracking}
+use Rattle.clock_queue.specs.inside.Queue.{HasSoundLines, IsLine, IsTracking}
 
 -- every line is empty
 nobody : (n line : ℕ) → get_or (replicate n empty_line) line empty_line ≡ empty_line
@@ -26,7 +26,7 @@ empty changes products left line = record {
 }
 
 kept_at_start : (board : BoardFields) (changes : List Change) (n : ℕ) → CanSettle board changes → All (HasLines n) changes →
-    IsKept changes (record { board = board; left = map (λ change. change.amount) changes; admitted = 0; ready = []; lines = replicate n empty_line })
+    HasSoundLines changes (record { board = board; left = map (λ change. change.amount) changes; admitted = 0; ready = []; lines = replicate n empty_line })
 kept_at_start board changes n can lines = record {
   under_way = under_way_start board changes can;
   lines = subst (λ count. All (HasLines count) changes) (sym (length-replicate n empty_line)) lines;
@@ -40,7 +40,7 @@ kept_at_start board changes n can lines = record {
 pub started : (board : BoardFields) (changes : List Change) (n : ℕ) (left ready : List ℕ) (lines : List LineFields) → CanSettle board changes →
     All (HasLines n) changes →
     left ≡ map (λ change. change.amount) changes → ready ≡ [] → lines ≡ replicate n empty_line →
-    IsKept changes (record { board = board; left = left; admitted = 0; ready = ready; lines = lines })
+    HasSoundLines changes (record { board = board; left = left; admitted = 0; ready = ready; lines = lines })
 started board changes n left ready lines can enough left_is ready_is lines_are =
     let same : ◌≡◌ {A = Queue} (record {
       board = board;
@@ -50,7 +50,7 @@ started board changes n left ready lines can enough left_is ready_is lines_are =
       lines = replicate n empty_line;
     }) (record { board = board; left = left; admitted = 0; ready = ready; lines = lines }) =
     λ k. record { board = board; left = sym left_is k; admitted = 0; ready = sym ready_is k; lines = sym lines_are k } in
-    subst (IsKept changes) same (kept_at_start board changes n can enough)
+    subst (HasSoundLines changes) same (kept_at_start board changes n can enough)
 
 -- no request is admitted, so none has to be ready
 pub nothing_tracked : (changes : List Change) (queue : Queue) → queue.admitted ≡ 0 → IsTracking changes queue queue.ready

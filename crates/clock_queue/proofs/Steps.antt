@@ -9,7 +9,7 @@ use Rattle.clock_processor.specs.Settling.{Progress, Reaches, next, next_by, aft
 use Rattle.clock_processor.proofs.End.{step_reaches}
 use Rattle.clock_processor.proofs.FirstRoom.{first_has_room, none_has_room}
 use Rattle.clock_queue.specs.declared.queue.Queue.{Queue}
-use Rattle.clock_queue.specs.inside.Queue.{IsKept, IsTracking, HadRoom, HadNoRoom, SameTerms, GoesOn, progress, room_in, progress_with}
+use Rattle.clock_queue.specs.inside.Queue.{HasSoundLines, IsTracking, HadRoom, HadNoRoom, SameTerms, GoesOn, progress, room_in, progress_with}
 use Rattle.clock_queue.proofs.Members.{Contains-cons_cases, none_in_nil}
 
 module _ (changes : List Change) (queue : Queue) where
@@ -33,20 +33,20 @@ module _ (changes : List Change) (queue : Queue) where
   ]
 
   -- the next step applies an admitted request with room, if no earlier one has room
-  next_is : IsKept changes queue → (first : ℕ) → first < queue.admitted → ((place : ℕ) → place < first → room_in changes queue place ≡ 0) →
+  next_is : HasSoundLines changes queue → (first : ℕ) → first < queue.admitted → ((place : ℕ) → place < first → room_in changes queue place ≡ 0) →
       0 < room_in changes queue first → next queue.board.products queue.board.eligibilities changes (progress queue) ≡ Some
       (progress_with changes queue first)
   next_is is first admitted before some =
       ap (next_by queue.board.products queue.board.eligibilities changes (progress queue))
       (first_has_room queue.board changes queue.left queue.admitted is.under_way.admitted_within is.under_way.lengths first admitted before some)
 
-  none_ready : IsKept changes queue → IsTracking changes queue queue.ready → queue.ready ≡ [] →
+  none_ready : HasSoundLines changes queue → IsTracking changes queue queue.ready → queue.ready ≡ [] →
       first_with_room queue.board.products queue.board.eligibilities changes (progress queue) ≡ None
   none_ready is tracked none =
       none_has_room queue.board changes queue.left queue.admitted is.under_way.admitted_within is.under_way.lengths (none_elsewhere tracked none)
 
   -- if no request is ready, the next step admits a request
-  admission_is_next : IsKept changes queue → IsTracking changes queue queue.ready → queue.ready ≡ [] → queue.admitted < length changes →
+  admission_is_next : HasSoundLines changes queue → IsTracking changes queue queue.ready → queue.ready ≡ [] → queue.admitted < length changes →
       next queue.board.products queue.board.eligibilities changes (progress queue) ≡ Some
       (with_admission queue.board.products queue.board.eligibilities changes (progress queue))
   admission_is_next is tracked none more =
@@ -55,7 +55,7 @@ module _ (changes : List Change) (queue : Queue) where
       (lt-ltb queue.admitted (length changes) more)
 
   -- if all requests are admitted, bid processing has ended
-  pub ends : IsKept changes queue → IsTracking changes queue queue.ready → queue.ready ≡ [] → queue.admitted ≡ length changes →
+  pub ends : HasSoundLines changes queue → IsTracking changes queue queue.ready → queue.ready ≡ [] → queue.admitted ≡ length changes →
       HasEnded queue.board.products queue.board.eligibilities changes (progress queue)
   ends is tracked none all =
       ap (next_by queue.board.products queue.board.eligibilities changes (progress queue)) (none_ready is tracked none)
@@ -66,21 +66,21 @@ module _ (changes : List Change) (queue : Queue) where
   abbrev admitting : Queue
   admitting = record queue { admitted = queue.admitted + 1 }
 
-  admitting_kept : IsKept changes queue → queue.admitted < length changes → (place : ℕ) → place < queue.admitted + 1 →
+  admitting_kept : HasSoundLines changes queue → queue.admitted < length changes → (place : ℕ) → place < queue.admitted + 1 →
       ((before : ℕ) → before < place → room_in changes queue before ≡ 0) → 0 < room_in changes queue place →
       next queue.board.products queue.board.eligibilities changes (progress admitting) ≡ Some (progress_with changes admitting place)
   admitting_kept is more place within before some =
       ap (next_by queue.board.products queue.board.eligibilities changes (progress admitting))
       (first_has_room queue.board changes queue.left (queue.admitted + 1) (omega (arith, more)) is.under_way.lengths place within before some)
 
-  to_admitting : IsKept changes queue → IsTracking changes queue queue.ready → queue.ready ≡ [] → queue.admitted < length changes →
+  to_admitting : HasSoundLines changes queue → IsTracking changes queue queue.ready → queue.ready ≡ [] → queue.admitted < length changes →
       Reaches queue.board.products queue.board.eligibilities changes (progress queue) (progress admitting)
   to_admitting is tracked none more =
       step_reaches queue.board.products queue.board.eligibilities changes (progress queue) (progress queue) (progress admitting) (0, refl)
       (admission_is_next is tracked none more)
 
   -- the steps that a test and admission of the next request take
-  pub fresh_reaches : (new : Queue) → IsKept changes queue → IsTracking changes queue queue.ready → queue.ready ≡ [] → queue.admitted < length changes →
+  pub fresh_reaches : (new : Queue) → HasSoundLines changes queue → IsTracking changes queue queue.ready → queue.ready ≡ [] → queue.admitted < length changes →
       HadNoRoom changes queue.admitted queue new ⊎ HadRoom changes queue.admitted queue new →
       Reaches queue.board.products queue.board.eligibilities changes (progress queue) (progress (record new { admitted = queue.admitted + 1 }))
   fresh_reaches new is tracked none more (inl nothing) =
@@ -95,7 +95,7 @@ module _ (changes : List Change) (queue : Queue) where
       (admitting_kept is more queue.admitted (omega arith) (none_elsewhere tracked none) applied.some))
 
   -- the step that a test of the first ready request takes
-  pub popped_reaches : (new : Queue) (first : ℕ) (ready : List ℕ) → IsKept changes queue → IsTracking changes queue (first ∷ ready) →
+  pub popped_reaches : (new : Queue) (first : ℕ) (ready : List ℕ) → HasSoundLines changes queue → IsTracking changes queue (first ∷ ready) →
       All (λ other. first ≤ other) ready → first < queue.admitted → HadNoRoom changes first queue new ⊎ HadRoom changes first queue new →
       Reaches queue.board.products queue.board.eligibilities changes (progress queue) (progress new)
   popped_reaches new first ready is tracked least admitted (inl nothing) = (0, sym nothing.same)

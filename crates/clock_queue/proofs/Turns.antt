@@ -7,7 +7,7 @@ use Rattle.clock_terms.specs.declared.change.Change.{Change}
 use Rattle.clock_processor.specs.Settling.{Progress, Reaches}
 use Rattle.clock_queue.specs.declared.queue.Queue.{Queue}
 use Rattle.clock_queue.specs.inside.Lines.{LineFields}
-use Rattle.clock_queue.specs.inside.Queue.{GoesOn, HadNoRoom, HadRoom, IsKept, IsTested, IsTracking, StaysWithinTests, progress, room_in, work}
+use Rattle.clock_queue.specs.inside.Queue.{GoesOn, HadNoRoom, HadRoom, HasSoundLines, IsTested, IsTracking, StaysWithinTests, progress, room_in, work}
 use Rattle.clock_queue.proofs.Admits.{kept_popped, tracked_popped}
 use Rattle.clock_queue.proofs.Steps.{fresh_reaches, popped_reaches}
 
@@ -28,13 +28,13 @@ module _ (changes : List Change) where
   next_is_more old new more tested = omega (arith, more, admitted_same old.admitted old new tested)
 
   -- after the next request is tested and admitted
-  module _ (old between : Queue) (lines : List LineFields) (is : IsKept changes old) (tracked : IsTracking changes old old.ready)
+  module _ (old between : Queue) (lines : List LineFields) (is : HasSoundLines changes old) (tracked : IsTracking changes old old.ready)
       (counts : StaysWithinTests changes old) (none : old.ready ≡ []) (more : old.admitted < length changes)
       (tested : IsTested changes old.admitted old between) where
     same_admitted : between.admitted ≡ old.admitted
     same_admitted = admitted_same old.admitted old between tested
 
-    goes_on_admitted : IsKept changes (record between { admitted = between.admitted + 1; lines = lines }) →
+    goes_on_admitted : HasSoundLines changes (record between { admitted = between.admitted + 1; lines = lines }) →
         IsTracking changes (record between { admitted = between.admitted + 1; lines = lines }) between.ready →
         GoesOn changes old (record between { admitted = between.admitted + 1; lines = lines })
     goes_on_admitted kept tracked_new = record {
@@ -46,14 +46,14 @@ module _ (changes : List Change) where
           (sym same_admitted) (fresh_reaches changes old between is tracked none more tested.step);
     }
 
-    pub goes_on_first : (new : Queue) → new ≡ record between { admitted = between.admitted + 1; lines = lines } → IsKept changes new →
+    pub goes_on_first : (new : Queue) → new ≡ record between { admitted = between.admitted + 1; lines = lines } → HasSoundLines changes new →
         IsTracking changes new new.ready → GoesOn changes old new
     goes_on_first new same kept tracked_new = subst (GoesOn changes old) (sym same)
-        (goes_on_admitted (subst (IsKept changes) same kept)
+        (goes_on_admitted (subst (HasSoundLines changes) same kept)
         (subst (λ (queue : Queue). IsTracking changes queue queue.ready) same tracked_new))
 
   -- after the first ready request is removed
-  module _ (old : Queue) (first : ℕ) (ready : List ℕ) (is : IsKept changes old) (moved : IsPermutation old.ready (first ∷ ready)) where
+  module _ (old : Queue) (first : ℕ) (ready : List ℕ) (is : HasSoundLines changes old) (moved : IsPermutation old.ready (first ∷ ready)) where
     pub popped_before : first < old.admitted
     popped_before = All-head (λ place. place < old.admitted) first ready
         (All-permutation (λ place. place < old.admitted) old.ready (first ∷ ready) moved is.ready)

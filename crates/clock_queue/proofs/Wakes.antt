@@ -10,7 +10,7 @@ use Rattle.clock_terms.specs.declared.change.Change.{Change}
 use Rattle.clock_processor.proofs.Cases.{set_cases}
 use Rattle.clock_queue.specs.declared.queue.Queue.{Queue}
 use Rattle.clock_queue.specs.inside.Lines.{HasLines, LineFields, empty_line}
-use Rattle.clock_queue.specs.inside.Queue.{IsKept, IsLine, IsInLine, IsWaiting, HasWoken, IsMadeReady, IsLeft, line_at, cost_at, line_in}
+use Rattle.clock_queue.specs.inside.Queue.{HasSoundLines, IsLine, IsInLine, IsWaiting, HasWoken, IsMadeReady, IsLeft, line_at, cost_at, line_in}
 use Rattle.clock_queue.specs.inside.Ready.{IsAdded}
 use Rattle.clock_queue.proofs.Members.{added_there, added_kept, added_below}
 
@@ -31,7 +31,7 @@ pub record IsOneMore (changes : List Change) (line : ℕ) (old new : Queue) : Ty
   pub own_line : line_at changes at ≡ line
   pub longer : length new.ready ≡ length old.ready + 1
 
-module _ (changes : List Change) (line limit : ℕ) (old new : Queue) (is : IsKept changes old) (within : line < length old.lines)
+module _ (changes : List Change) (line limit : ℕ) (old new : Queue) (is : HasSoundLines changes old) (within : line < length old.lines)
     (woken : HasWoken line limit old new) where
   line_old : IsLine changes old.board.products old.left old.admitted line (line_in old line)
   line_old = is.each line
@@ -101,8 +101,8 @@ module _ (changes : List Change) (line limit : ℕ) (old new : Queue) (is : IsKe
   count_new : length new.lines ≡ length old.lines
   count_new = ap length woken.others ∙ length-set old.lines line (line_in new line)
 
-  pub kept_woken : IsKept changes new
-  kept_woken = subst (IsKept changes) (sym woken.same) (record {
+  pub kept_woken : HasSoundLines changes new
+  kept_woken = subst (HasSoundLines changes) (sym woken.same) (record {
     under_way = is.under_way;
     lines = subst (λ n. All (HasLines n) changes) (sym count_new) is.lines;
     ready = ready_new woken.woken;

@@ -6,7 +6,7 @@ use Rattle.serde_json.specs.Read.{read}
 use Rattle.clock_json.specs.Reading.{whole, numbers}
 use Rattle.clock_terms.specs.Faults.{first_fault, unless}
 use Rattle.clock_setup.specs.SetupData.{setup_data}
-use Rattle.clock_setup.specs.declared.setup_scan.HeldSetup.{HeldSetup}
+use Rattle.clock_setup.specs.declared.setup_scan.NestedSetup.{NestedSetup}
 use Rattle.clock_json.specs.Tree.{number_from, row_of}
 use Rattle.clock_json.proofs.JsonLaws.{json_value}
 use Rattle.clock_terms.specs.declared.increments.Increments.{Increments}
@@ -28,7 +28,7 @@ use Rattle.clock_replays.specs.ReplayChecks.{replay_checks}
 use Rattle.clock_replays.specs.ReplayDocument.{document_replay}
 use Rattle.clock_replays.proofs.DocumentLaws.{replay_at}
 
-abbrev pub all_of : HeldSetup × List Script × List Closing → ReplayFields
+abbrev pub all_of : NestedSetup × List Script × List Closing → ReplayFields
 all_of found = record { setup = found.0.setup; scripts = found.1; closings = found.2 }
 
 -- ---- what the values mean
@@ -65,7 +65,7 @@ parts_mean setup scripts closings =
     ) refl
 
 -- a document that is the value of a replay is decided by the checks after those of the set-up
-pub replay_read : (bytes : List ℕ) (found : HeldSetup × List Script × List Closing) → IsUtf8 bytes → read bytes ≡ Some (found_data found)
+pub replay_read : (bytes : List ℕ) (found : NestedSetup × List Script × List Closing) → IsUtf8 bytes → read bytes ≡ Some (found_data found)
     → document_replay bytes ≡ unless (first_fault (replay_checks (all_of found))) (all_of found)
 unfolding document_replay
 replay_read bytes found text is =

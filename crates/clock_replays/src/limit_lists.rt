@@ -181,7 +181,7 @@ pub(crate) fn limit_lists(alloc: Global, scan: &mut Scan<'_>) -> Result<LimitLis
     let mut row = Vec::new(alloc);
     'items: while !scan.closes(b']') {
         row.clear();
-        scan.numbers_behind(&mut row)?;
+        scan.numbers_after(&mut row)?;
         limits.push(row.as_slice())?;
         let empty = scan.empty_arrays();
         limits.push_empty(empty)?;

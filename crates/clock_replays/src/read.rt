@@ -17,7 +17,7 @@ use clock_json::tree::{
     RowReader, ValueReader, each_at, each_of, has_members, read_value, text_at,
 };
 use clock_json::{PartReader, Scan, ScanStop, ScannedMembers, is_key, scanned_parts, scanned_text};
-use clock_setup::{HeldSetup, SetupFault, setup_of};
+use clock_setup::{NestedSetup, SetupFault, setup_of};
 use clock_terms::{Product, Setup};
 use serde_json::Value;
 use std::alloc::Global;
@@ -176,11 +176,11 @@ impl<'v> ValueReader<'v> for ClosingReader {
 struct FoundReplay {
     closings: Option<Closings>,
     scripts: Option<Scripts>,
-    held: Option<HeldSetup>,
+    held: Option<NestedSetup>,
 }
 
 impl<'v> ScannedMembers<'v> for FoundReplay {
-    type Whole = (HeldSetup, Scripts, Closings);
+    type Whole = (NestedSetup, Scripts, Closings);
 
     ghost levels = { 5 };
 
@@ -200,13 +200,13 @@ impl<'v> ScannedMembers<'v> for FoundReplay {
             _ if is_key(key, "closings") => self.closings = Some(scanned_parts::<ClosingReader>(
                 alloc, scan, 0,
             )?),
-            _ if is_key(key, "setup") => self.held = Some(HeldSetup::part(alloc, scan)?),
+            _ if is_key(key, "setup") => self.held = Some(NestedSetup::part(alloc, scan)?),
             _ => return Err(ScanStop::Unusual),
         }
         Ok(())
     }
 
-    fn whole(self) -> Option<(HeldSetup, Scripts, Closings)> {
+    fn whole(self) -> Option<(NestedSetup, Scripts, Closings)> {
         Some((self.held?, self.scripts?, self.closings?))
     }
 }

@@ -11,7 +11,7 @@ use clock_posting::sheet_lines;
 use clock_processor::{Plain, Processor};
 use clock_queue::Woken;
 use clock_setup::{Amounts, read_setup};
-use clock_terms::{Increments, KeptRow};
+use clock_terms::{Increments, PackedRow};
 use std::alloc::Global;
 use std::process::Abort;
 
@@ -344,7 +344,7 @@ fn see_held<P: Processor>(
 }
 
 /// Whether a packed row has these numbers.
-fn is_kept(row: &KeptRow, numbers: &[u64]) -> bool {
+fn is_kept(row: &PackedRow, numbers: &[u64]) -> bool {
     if row.len() != numbers.len() {
         return false;
     }

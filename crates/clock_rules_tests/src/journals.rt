@@ -5,7 +5,7 @@ ghost use Rattle.std.specs.Prelude.{◌≡◌, IsTrue, false};
 use crate::comparing::{assert_is, assert_is_at};
 use clock_fixtures::MemoryDisk;
 use clock_journal::{
-    Durable, FileDisk, Journal, JournalFault, Link, Machine, Record, Untaken, recover,
+    Durable, FileDisk, Journal, JournalFault, Link, Machine, Record, TakeError, recover,
 };
 use std::alloc::Global;
 use std::fs::{self, File, OpenOptions};
@@ -23,7 +23,7 @@ impl Machine for Count {
 
     ghost refuses = { λ rules texts text. ⊥ };
 
-    fn take(&mut self, _text: &[u8], _at: &Record) -> Result<(), Untaken> {
+    fn take(&mut self, _text: &[u8], _at: &Record) -> Result<(), TakeError> {
         self.0 = self.0.saturating_add(1);
         Ok(())
     }

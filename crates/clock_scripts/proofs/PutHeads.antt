@@ -26,14 +26,14 @@ use Rattle.clock_http.specs.Scans.{head_length, line_ends, has_bare_line_feed, i
 use Rattle.clock_http.specs.Heads.{head_of}
 use Rattle.clock_http.specs.Decimals.{is_number}
 use Rattle.clock_http.specs.HeaderLines.{pairs_of, body_length, body_limit, length_from, within_limit}
-use Rattle.clock_http.specs.Framing.{head_limit, Head, kept, or_bad_head, ended_head, and_length, length_read, incomplete, whole, framed_at, framed_head, framing}
+use Rattle.clock_http.specs.Framing.{head_limit, Head, stored_head, or_bad_head, ended_head, and_length, length_read, incomplete, whole, framed_at, framed_head, framing}
 use Rattle.clock_http.specs.Framing.{is_incomplete, needs_more}
 use Rattle.clock_http.specs.FramingLaws.{IsHeadOfGrammar}
 use Rattle.clock_views.specs.inside.Values.{Adds}
 use Rattle.clock_scripts.specs.declared.requests.Written.{Written}
 use Rattle.clock_scripts.specs.RequestTexts.{request_head}
 use Rattle.clock_scripts.specs.Pieces.{AwaitsBody, is_awaited}
-use Rattle.clock_scripts.specs.inside.Heads.{IsHeaded}
+use Rattle.clock_scripts.specs.inside.Heads.{HasRequestHead}
 use Rattle.clock_scripts.proofs.WrittenLaws.{is_head, size}
 
 -- ---- bytes within a line
@@ -303,11 +303,11 @@ module _ (token : List ℕ) (is_token : IsToken token) (n : ℕ) (fits : n < 2 ^
           sym (ap (λ t. nat_le 1 n && t) no ∙ none (nat_le 1 n))
       by_length false is =
           let within : n ≤ body_limit = grind (arith, nat_tests) in
-          short_of (nat_lt (length text) (length text + n)) (kept head) (take n (drop (length text) text)) ∙ some_left (length text) n within
+          short_of (nat_lt (length text) (length text + n)) (stored_head head) (take n (drop (length text) text)) ∙ some_left (length text) n within
 
 -- so does the head of a request that was written
 pub put_awaits : IsHeadOfGrammar → (token : List ℕ) → IsToken token → (old pushed new body : List ℕ) (from : ℕ) (written : Written) → Adds body old pushed
-    → from ≡ length old → length pushed < 2 ^ 64 → IsHeaded (codes "PUT /v1/me/bids") token from pushed new written → AwaitsBody new written
+    → from ≡ length old → length pushed < 2 ^ 64 → HasRequestHead (codes "PUT /v1/me/bids") token from pushed new written → AwaitsBody new written
 put_awaits law token is_token old pushed new body from written added start few headed =
     let line = codes "PUT /v1/me/bids" in
     let fits : length pushed - from < 2 ^ 64 = omega (arith, few) in

@@ -15,7 +15,7 @@ use Rattle.clock_scripts.specs.declared.requests.Written.{Written}
 use Rattle.clock_scripts.specs.RequestTexts.{request_head, request_text, written_put, put_text, written_close, close_text}
 use Rattle.clock_scripts.specs.ScriptedRequests.{scripted_sheet, scripted_put, scripted_close}
 use Rattle.clock_scripts.specs.Pieces.{Writes, WritesIf, body_in, head_in}
-use Rattle.clock_scripts.specs.inside.Heads.{IsHeaded}
+use Rattle.clock_scripts.specs.inside.Heads.{HasRequestHead}
 
 -- what is between two parts of a text
 between : (first middle last whole : List ℕ) (from to : ℕ) → whole ≡ first ++ (middle ++ last) → from ≡ length first → to ≡ length first + length middle
@@ -28,7 +28,7 @@ between first middle last whole from to is start end =
 
 -- a request after what is in a text: its body was pushed, and then its head
 module _ (old pushed new line token body : List ℕ) (from : ℕ) (written : Written) (added : Adds body old pushed) (start : from ≡ length old)
-    (headed : IsHeaded line token from pushed new written) where
+    (headed : HasRequestHead line token from pushed new written) where
   long : length pushed ≡ length old + length body
   long = ap length added.is ∙ length-append old body
 
@@ -70,7 +70,7 @@ module _ (old pushed new line token body : List ℕ) (from : ℕ) (written : Wri
 pub closing_behind : (old pushed new : List ℕ) (setup : SetupFields) (closed : List ClosedRound) (closing : Closing) (token : List ℕ) (round from : ℕ)
     (result : Result Written NoMemory) → token ≡ setup.operator → round ≡ (standing setup.products closed).round
     → Adds (written_close round closing.increments closing.ties) old pushed → from ≡ length old
-    → IfOk result (IsHeaded (codes "POST /v1/close") token from pushed new) → IfOk result (Writes old new (scripted_close setup closed closing))
+    → IfOk result (HasRequestHead (codes "POST /v1/close") token from pushed new) → IfOk result (Writes old new (scripted_close setup closed closing))
 unfolding scripted_close
 closing_behind old pushed new setup closed closing token round from (Err fault) operator at added start headed = tt
 closing_behind old pushed new setup closed closing token round from (Ok written) operator at added start headed =
@@ -90,7 +90,7 @@ pub record AddsSheet (setup : SetupFields) (closed : List ClosedRound) (bidder :
 pub put_behind : (old pushed new : List ℕ) (setup : SetupFields) (closed : List ClosedRound) (bidder : ℕ) (script : Script) (token : List ℕ) (from : ℕ)
     (written : Written) → token ≡ (bidder_at setup bidder).token
     → AddsSheet setup closed bidder script old pushed → from ≡ length old
-    → IsHeaded (codes "PUT /v1/me/bids") token from pushed new written
+    → HasRequestHead (codes "PUT /v1/me/bids") token from pushed new written
     → WritesIf old new (scripted_put setup closed bidder script) (Some written)
 unfolding scripted_put
 put_behind old pushed new setup closed bidder script token from written own sheet start headed =

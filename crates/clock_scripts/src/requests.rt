@@ -4,7 +4,7 @@
 ghost use Rattle.std.specs.Prelude.{◌≡◌, ◌<◌, ◌≤◌, ◌-◌, false, length, IfOk, IfSome};
 ghost use Rattle.clock_house.specs.House.{standing_in};
 ghost use Rattle.clock_replays.specs.Replays.{IsScript};
-ghost use Rattle.clock_scripts.specs.{Pieces.{AwaitsBody, Writes, WritesIf, is_awaited}, inside.Heads.{IsHeaded}};
+ghost use Rattle.clock_scripts.specs.{Pieces.{AwaitsBody, Writes, WritesIf, is_awaited}, inside.Heads.{HasRequestHead}};
 ghost use Rattle.clock_scripts.specs.ScriptedRequests as rules;
 
 use crate::bodies::{push_closing, push_label, push_number, push_sheet};
@@ -43,7 +43,7 @@ fn push_head(
     token: &[u8],
 ) -> Result<Written, NoMemory>
     requires { body ≤ length text.old.items }
-    ensures { IfOk result (IsHeaded line.now token.now body text.old.items text.new.items) }
+    ensures { IfOk result (HasRequestHead line.now token.now body text.old.items text.new.items) }
 {
     let head = text.len();
     push_label(text, line)?;

@@ -5,7 +5,7 @@ use Rattle.clock_device.specs.Streams.{HasRead, HasWritten}
 use Rattle.clock_http.specs.Replies.{Answer}
 use Rattle.clock_serving.specs.Serving.{WritesReply}
 use Rattle.clock_serving.specs.Exchanges.{Exchange}
-use Rattle.clock_serving.specs.Laws.{ToldBytes}
+use Rattle.clock_serving.specs.Laws.{ReportedBytes}
 
 read_bytes : (before after : Option (List ℕ)) (text offered left : List ℕ) → HasRead before after text → before ≡ Some offered → after ≡ Some left
     → offered ≡ text ++ left
@@ -28,7 +28,7 @@ taken_bytes one answer taken (inr some) from to = (
   written_bytes one.writing.before.taken one.writing.after.taken (take some.bytes.0 answer.bytes) taken some.bytes.1 from to,
 )
 
-pub told_bytes : ToldBytes
+pub told_bytes : ReportedBytes
 told_bytes one text answer offered left taken replied from to before after =
     let arrived = replied.arrived in
     let written = taken_bytes one answer taken replied.written before after in (

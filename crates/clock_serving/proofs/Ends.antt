@@ -9,10 +9,10 @@ use Rattle.clock_journal.specs.Reading.{onto}
 use Rattle.clock_keeping.specs.Keeping.{IsAccepted, IsInStep, LeavesOneMore}
 use Rattle.clock_serving.specs.declared.serving.ServeFault.{ServeFault}
 use Rattle.clock_serving.specs.declared.serving.ServeFault.TheVariants.{Accept, Journal}
-use Rattle.clock_serving.specs.Exchanges.{Came, Exchange, HasClosed, bytes_given}
-use Rattle.clock_serving.specs.Closings.{TellsClosings}
-use Rattle.clock_serving.specs.Serving.{AreServed, EndsServing, EndsUnkept, HasKeptTold}
-use Rattle.clock_serving.specs.inside.Served.{EndsOne, IsUnkept}
+use Rattle.clock_serving.specs.Exchanges.{Came, Exchange, HasClosedConnections, bytes_given}
+use Rattle.clock_serving.specs.Closings.{ReportsClosings}
+use Rattle.clock_serving.specs.Serving.{AreServed, EndsServing, EndsUnlogged, HasLoggedReplied}
+use Rattle.clock_serving.specs.inside.Served.{EndsOne, IsUnlogged}
 use Rattle.clock_serving.proofs.Walking.{came_more, grown_more}
 use Rattle.clock_serving.proofs.Served.{served_more}
 
@@ -20,7 +20,7 @@ use Rattle.clock_serving.proofs.Served.{served_more}
 pub record HasServed (count : ℕ) (coming_old coming_new : Option (List (List ℕ))) (closed_old closed_new : Option (List Exchange)) (told_old told_new : Option (List ℕ))
     (journal_old journal_new : JournalState) (old new : HouseFields) : Type 0 where
   pub exchanges : List Exchange
-  pub closed : HasClosed closed_old closed_new exchanges
+  pub closed : HasClosedConnections closed_old closed_new exchanges
   pub came : Came coming_old coming_new (bytes_given exchanges)
   pub counted : length exchanges ≡ count
   pub served : AreServed exchanges told_old told_new journal_old journal_new old new
@@ -43,7 +43,7 @@ module _ (count : ℕ) (coming_old coming_mid coming_new : Option (List (List �
   told_are_kept : (text : List ℕ) (digest : List ℕ) (past : List (List ℕ)) → IsInStep digest past journal_old old
       → LeavesOneMore text journal_mid journal_new → journal_new.synced ≡ journal_mid.synced
       → ((texts : List (List ℕ)) → StandsForTexts texts now → IsAccepted now.setup texts text)
-      → HasKeptTold digest past before.exchanges text journal_old journal_new old
+      → HasLoggedReplied digest past before.exchanges text journal_old journal_new old
   told_are_kept text digest past in_step leaves on_disk accepted =
       let so_far = before.served.kept digest past in_step in
       record {
@@ -60,8 +60,8 @@ module _ (count : ℕ) (coming_old coming_mid coming_new : Option (List (List �
       }
 
   -- the text of one more could not be logged
-  ends_unkept : (one : Exchange) → IsUnkept one journal_mid journal_new now → told_new ≡ told_mid
-      → EndsUnkept before.exchanges one told_old told_new journal_old journal_new old
+  ends_unkept : (one : Exchange) → IsUnlogged one journal_mid journal_new now → told_new ≡ told_mid
+      → EndsUnlogged before.exchanges one told_old told_new journal_old journal_new old
   ends_unkept one unkept untold = record {
     text = unkept.0.text;
     arrived = unkept.0.arrived;
@@ -70,18 +70,18 @@ module _ (count : ℕ) (coming_old coming_mid coming_new : Option (List (List �
     added_to = unkept.0.moments.added_to ∙ before.served.added_to;
     replied = λ past stands.
         let so_far = before.served.replied past stands in
-        (so_far.end, so_far.walks, subst (λ (told : Option (List ℕ)). TellsClosings old.setup past so_far.end told_old told) (sym untold) so_far.tells);
+        (so_far.end, so_far.walks, subst (λ (told : Option (List ℕ)). ReportsClosings old.setup past so_far.end told_old told) (sym untold) so_far.tells);
     kept = λ digest past in_step.
         told_are_kept unkept.0.text digest past in_step unkept.0.moments unkept.0.on_disk unkept.0.accepted;
   }
 
   -- this ends the run
   pub ends_by : {U : Type 0} (result : Result U ServeFault) (most : ℕ) (fault : ServeFault) → count < most → EndsOne {U = U} coming_mid coming_new mid last told_mid told_new journal_mid journal_new now new (Err fault)
-      → (exchanges : List Exchange) × HasClosed first last exchanges × Came coming_old coming_new (bytes_given exchanges)
+      → (exchanges : List Exchange) × HasClosedConnections first last exchanges × Came coming_old coming_new (bytes_given exchanges)
       × EndsServing {U = U} most exchanges told_old told_new journal_old journal_new old new (Err fault)
   ends_by result most Accept below ends = (
     before.exchanges,
-    subst (λ (closed : Option (List Exchange)). HasClosed first closed before.exchanges) (sym ends.0) before.closed,
+    subst (λ (closed : Option (List Exchange)). HasClosedConnections first closed before.exchanges) (sym ends.0) before.closed,
     subst (λ (coming : Option (List (List ℕ))). Came coming_old coming (bytes_given before.exchanges)) (sym ends.1) before.came,
     (
       omega (arith, before.counted, below),

@@ -17,12 +17,12 @@ use Rattle.clock_serving.specs.Generations.{IsGeneration, LeftSince, MayLeave, S
 use Rattle.clock_serving.specs.declared.generation.GenerationFault.TheVariants.{Serve}
 use Rattle.clock_serving.specs.declared.serving.ServeFault.{ServeFault}
 use Rattle.clock_serving.specs.declared.serving.ServeFault.TheVariants as fault
-use Rattle.clock_serving.specs.Serving.{AreServed, EndsServing, HasKeptTold, KeepsText, KeptTexts, RepliesOver, Walks}
+use Rattle.clock_serving.specs.Serving.{AreServed, EndsServing, HasLoggedReplied, LogsText, LoggedTexts, RepliesOver, Walks}
 use Rattle.clock_serving.proofs.Served.{left_since}
 
 -- ---- logged texts were accepted
 
-accepted_step : (setup : SetupFields) (before : KeptTexts) (one : Exchange) (after : KeptTexts)
+accepted_step : (setup : SetupFields) (before : LoggedTexts) (one : Exchange) (after : LoggedTexts)
     → RepliesOver setup before one after → AreAccepted setup [] before.texts → AreAccepted setup [] after.texts
 accepted_step setup before one after (inl (text, answer, replied, inl (right, is), seen)) accepted =
     subst (λ (texts : List (List ℕ)). AreAccepted setup [] texts) (sym is)
@@ -30,13 +30,13 @@ accepted_step setup before one after (inl (text, answer, replied, inl (right, is
 accepted_step setup before one after (inl (text, answer, replied, inr (struck, is), seen)) accepted =
     subst (λ (texts : List (List ℕ)). AreAccepted setup [] texts) (sym is) accepted
 accepted_step setup before one after (inr (alone, is)) accepted =
-    subst (λ (logged : KeptTexts). AreAccepted setup [] logged.texts) (sym is) accepted
+    subst (λ (logged : LoggedTexts). AreAccepted setup [] logged.texts) (sym is) accepted
 
-accepted_walk : (digest : List ℕ) (setup : SetupFields) (first : KeptTexts) (exchanges : List Exchange)
-    (last : KeptTexts) → Walks (KeepsText digest setup) first exchanges last → AreAccepted setup [] first.texts
+accepted_walk : (digest : List ℕ) (setup : SetupFields) (first : LoggedTexts) (exchanges : List Exchange)
+    (last : LoggedTexts) → Walks (LogsText digest setup) first exchanges last → AreAccepted setup [] first.texts
     → AreAccepted setup [] last.texts
 accepted_walk digest setup first [] last walks accepted =
-    subst (λ (logged : KeptTexts). AreAccepted setup [] logged.texts) (sym walks) accepted
+    subst (λ (logged : LoggedTexts). AreAccepted setup [] logged.texts) (sym walks) accepted
 accepted_walk digest setup first (one ∷ others) last walks accepted =
     accepted_walk digest setup walks.0 others last walks.2
     (accepted_step setup first one walks.0 walks.1.replies accepted)
@@ -45,8 +45,8 @@ accepted_walk digest setup first (one ∷ others) last walks accepted =
 
 module _ (digest : List ℕ) (texts : List (List ℕ)) (least : ℕ) (first last : JournalState) (old : HouseFields)
     (accepted : AreAccepted old.setup [] texts) (resumed : HasResumed digest texts least first old) where
-  accepted_end : (exchanges : List Exchange) (end : KeptTexts)
-      → Walks (KeepsText digest old.setup) (record { texts = take resumed.count texts; journal = first }) exchanges end
+  accepted_end : (exchanges : List Exchange) (end : LoggedTexts)
+      → Walks (LogsText digest old.setup) (record { texts = take resumed.count texts; journal = first }) exchanges end
       → AreAccepted old.setup [] end.texts
   accepted_end exchanges end walks =
       accepted_walk digest old.setup (record { texts = take resumed.count texts; journal = first }) exchanges end walks
@@ -78,7 +78,7 @@ module _ (digest : List ℕ) (texts : List (List ℕ)) (least : ℕ) (first last
 
   -- the text of the last could not be logged
   pub serves_but : (some : List Exchange) (text : List ℕ)
-      → HasKeptTold digest (take resumed.count texts) some text first last old
+      → HasLoggedReplied digest (take resumed.count texts) some text first last old
       → ServesFrom old.setup digest texts least some last
   serves_but some text told = record {
     count = resumed.count;

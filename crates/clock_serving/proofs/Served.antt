@@ -3,7 +3,7 @@ use Rattle.std.proofs.Common.{◌≡◌, ◌≤◌, inl, inr, ℕ, List, [], ◌
 use Rattle.std.specs.Prelude.{◌||◌, Result, Ok, Err, false, is_err}
 use Rattle.std.proofs.Math.Seq.{take-append_seam}
 use Rattle.clock_device.specs.Streams.{WritesText}
-use Rattle.clock_device.specs.Told.{IsUnused, Reading, SinkTold, Writing}
+use Rattle.clock_device.specs.Told.{IsUnused, Reading, SinkReport, Writing}
 use Rattle.clock_device.specs.Writings.{WritesNothing}
 use Rattle.clock_device.proofs.Streams.{same_bytes}
 use Rattle.clock_terms.specs.Limits.{SetupFields, IsSetup}
@@ -22,11 +22,11 @@ use Rattle.clock_journal.specs.Disks.{MayBeLeft}
 use Rattle.clock_journal.specs.Kept.{HasTexts, JournalState, file_of}
 use Rattle.clock_journal.specs.Reading.{onto}
 use Rattle.clock_journal.proofs.Moments.{every_front}
-use Rattle.clock_keeping.specs.Keeping.{GrowsBy, IsInStep, IsKept, IsNextKept, kept_after}
+use Rattle.clock_keeping.specs.Keeping.{GrowsBy, IsInStep, IsLogged, IsNextLogged, logged_after}
 use Rattle.clock_keeping.proofs.EffectLaws.{right_after, stands_still}
 use Rattle.clock_serving.specs.Closings.{closed_by}
 use Rattle.clock_serving.specs.Exchanges.{Exchange}
-use Rattle.clock_serving.specs.Serving.{AreServed, IsKeptReply, KeepsText, KeptTexts, RepliesOver, RepliesTo, Walks}
+use Rattle.clock_serving.specs.Serving.{AreServed, IsLoggedReply, LogsText, LoggedTexts, RepliesOver, RepliesTo, Walks}
 use Rattle.clock_serving.specs.Serving.{WritesReply}
 use Rattle.clock_serving.specs.inside.Served.{IsAnswered, IsServed, round_closed}
 use Rattle.clock_front.proofs.RunLaws.{right}
@@ -41,7 +41,7 @@ reply_written writing answer (Ok done) bytes fresh failed = inl (record { bytes 
 reply_written writing answer (Err fault) bytes fresh failed = inr (record { bytes = bytes; failed = failed ∙ rw fresh refl })
 
 -- no write was made
-pub nothing_written : (told : SinkTold) → IsUnused told → WritesNothing (record { before = told; after = told })
+pub nothing_written : (told : SinkReport) → IsUnused told → WritesNothing (record { before = told; after = told })
 nothing_written told unused = record { unused = unused; bytes = same_bytes told.taken }
 
 -- what holds of a response holds of an equal one
@@ -76,7 +76,7 @@ pub record HasNext (setup : SetupFields) (past : List (List ℕ)) (one : Exchang
 pub record HasNextKept (digest : List ℕ) (setup : SetupFields) (past : List (List ℕ)) (one : Exchange)
     (journal_old journal_new : JournalState) (new : HouseFields) : Type 0 where
   pub next : List (List ℕ)
-  pub keeps : KeepsText digest setup (record { texts = past; journal = journal_old }) one
+  pub keeps : LogsText digest setup (record { texts = past; journal = journal_old }) one
       (record { texts = next; journal = journal_new })
   pub in_step : IsInStep digest next journal_new new
 
@@ -167,10 +167,10 @@ module _ (one : Exchange) (effect_is : Effect) (journal_old journal_new : Journa
   }
 
   kept_reply : (past : List (List ℕ)) (text : List ℕ) (answer : Answer) (next : List (List ℕ))
-      → IsNextKept old.setup past text answer next → IsKeptReply setup past text answer next
+      → IsNextLogged old.setup past text answer next → IsLoggedReply setup past text answer next
   kept_reply past text answer next (inl (is, kept)) = inl (
     right_here (onto past []) text answer is,
-    kept ∙ ap (λ (of_setup : SetupFields). kept_after of_setup past text) same,
+    kept ∙ ap (λ (of_setup : SetupFields). logged_after of_setup past text) same,
   )
   kept_reply past text answer next (inr struck) = inr struck
 
@@ -178,7 +178,7 @@ module _ (one : Exchange) (effect_is : Effect) (journal_old journal_new : Journa
   kept_one : (digest : List ℕ) (past : List (List ℕ)) → IsInStep digest past journal_old old
       → IsServed one effect_is journal_old journal_new old new → HasNextKept digest setup past one journal_old journal_new new
   kept_one digest past in_step (inl (response, inl told, written, is, seen)) =
-      let kept : IsKept digest past told.text response.reply journal_new old new = told.kept digest past in_step in
+      let kept : IsLogged digest past told.text response.reply journal_new old new = told.kept digest past in_step in
       let replies : RepliesOver setup (record { texts = past; journal = journal_old }) one
       (record { texts = kept.texts; journal = journal_new }) =
       inl (
@@ -246,10 +246,10 @@ served_more exchanges one changed told_old told_mid told_new journal_old journal
   kept = λ digest past in_step.
       let so_far = before.kept digest past in_step in
       let next = kept_one one changed journal_mid journal_new mid new old.setup limits same digest so_far.end so_far.in_step served in
-      let first : KeptTexts = record { texts = past; journal = journal_old } in
-      let last : KeptTexts = record { texts = next.next; journal = journal_new } in
-      let walks : Walks (KeepsText digest old.setup) first (exchanges ++ one ∷ []) last =
-      walks_on (KeepsText digest old.setup) first exchanges (record { texts = so_far.end; journal = journal_mid }) one last
+      let first : LoggedTexts = record { texts = past; journal = journal_old } in
+      let last : LoggedTexts = record { texts = next.next; journal = journal_new } in
+      let walks : Walks (LogsText digest old.setup) first (exchanges ++ one ∷ []) last =
+      walks_on (LogsText digest old.setup) first exchanges (record { texts = so_far.end; journal = journal_mid }) one last
       so_far.walks next.keeps in
       let behind = all_behind digest old.setup first (exchanges ++ one ∷ []) last walks in
       record {

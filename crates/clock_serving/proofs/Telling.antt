@@ -19,7 +19,7 @@ use Rattle.clock_front.specs.Fronts.{commands_of, house_after, text_command}
 use Rattle.clock_front.specs.declared.front.response.Effect.{Effect}
 use Rattle.clock_front.specs.declared.front.response.Effect.TheVariants.{Nothing, Sheet, Closing}
 use Rattle.clock_keeping.specs.Keeping.{GrowsBy}
-use Rattle.clock_serving.specs.Closings.{TellsClosings, closed_by, rounds_between}
+use Rattle.clock_serving.specs.Closings.{ReportsClosings, closed_by, rounds_between}
 use Rattle.clock_serving.specs.inside.Served.{round_closed}
 use Rattle.clock_serving.proofs.Walking.{grown_more, grown_none}
 
@@ -96,7 +96,7 @@ rounds_on (Closing number) first before after more counts =
 -- ---- the reported rounds
 
 -- none was closed yet
-pub tells_none : (setup : SetupFields) (past : List (List ℕ)) (told : Option (List ℕ)) → TellsClosings setup past past told told
+pub tells_none : (setup : SetupFields) (past : List (List ℕ)) (told : Option (List ℕ)) → ReportsClosings setup past past told told
 tells_none setup past told =
     let none : 0 ≡ closed_by setup past - closed_by setup past = omega arith in
     record {
@@ -106,8 +106,8 @@ tells_none setup past told =
 
 -- one more connection
 pub tells_on : (setup : SetupFields) (past end next : List (List ℕ)) (one : Effect) (told_old told_mid told_new : Option (List ℕ))
-    → TellsClosings setup past end told_old told_mid → CountsOn one (closed_by setup end) (closed_by setup next)
-    → GrowsBy told_mid told_new (round_closed one) → TellsClosings setup past next told_old told_new
+    → ReportsClosings setup past end told_old told_mid → CountsOn one (closed_by setup end) (closed_by setup next)
+    → GrowsBy told_mid told_new (round_closed one) → ReportsClosings setup past next told_old told_new
 tells_on setup past end next one told_old told_mid told_new before counts here =
     let after : closed_by setup end ≤ closed_by setup next =
     counts_more one (closed_by setup end) (closed_by setup next) counts in

@@ -1,4 +1,4 @@
--- How serving one connection ends, by what was reported to the keeper.
+-- How serving one connection ends, by what was reported to the log.
 use Rattle.std.proofs.Common.{◌≡◌, false, ℕ, List, [], ◌∷◌, Option, Result, Ok, Err, refl, sym, subst}
 use Rattle.std.specs.Prelude.{OnOk}
 use Rattle.clock_house.specs.House.{HouseFields}
@@ -8,12 +8,12 @@ use Rattle.clock_journal.specs.Kept.{JournalState}
 use Rattle.clock_keeping.specs.Keeping.{GrowsBy}
 use Rattle.clock_serving.specs.declared.serving.ServeFault.{ServeFault}
 use Rattle.clock_serving.specs.declared.serving.ServeFault.TheVariants.{Accept, Journal}
-use Rattle.clock_serving.specs.Exchanges.{Came, Exchange, HasClosed, bytes_given}
+use Rattle.clock_serving.specs.Exchanges.{Came, Exchange, HasClosedConnections, bytes_given}
 use Rattle.clock_serving.specs.Serving.{is_accept_fault}
-use Rattle.clock_serving.specs.inside.Served.{EndsOne, EndsTaken, IsServed, IsTold, IsToldAs, IsUnkept, round_closed}
+use Rattle.clock_serving.specs.inside.Served.{EndsOne, EndsTaken, IsServed, IsReported, IsReportedAs, IsUnlogged, round_closed}
 use Rattle.clock_serving.proofs.Walking.{grown_none}
 
-grows_by : (one : Effect) (told_old told_new : Option (List ℕ)) → IsTold told_old told_new one
+grows_by : (one : Effect) (told_old told_new : Option (List ℕ)) → IsReported told_old told_new one
     → GrowsBy told_old told_new (round_closed one)
 grows_by Nothing told_old told_new told =
     subst (λ (now : Option (List ℕ)). GrowsBy told_old now []) (sym told) (grown_none told_old)
@@ -25,9 +25,9 @@ module _ (coming_old coming_new : Option (List (List ℕ))) (closed_old closed_n
     (told_old told_new : Option (List ℕ)) (journal_old journal_mid journal_new : JournalState) (old new : HouseFields)
     (one : Exchange) where
   pub ends_one : {U E : Type 0} (served : Result Effect E) (result : Result U ServeFault)
-      → HasClosed closed_old closed_new (one ∷ []) → Came coming_old coming_new (bytes_given (one ∷ []))
+      → HasClosedConnections closed_old closed_new (one ∷ []) → Came coming_old coming_new (bytes_given (one ∷ []))
       → EndsTaken one journal_old journal_mid old new served → journal_new ≡ journal_mid
-      → IsToldAs told_old told_new served result
+      → IsReportedAs told_old told_new served result
       → EndsOne coming_old coming_new closed_old closed_new told_old told_new journal_old journal_new old new result
   ends_one (Ok effect) (Ok done) closed came ends kept told = (
     one,
@@ -46,13 +46,13 @@ module _ (coming_old coming_new : Option (List (List ℕ))) (closed_old closed_n
     one,
     closed,
     came,
-    subst (λ (journal : JournalState). IsUnkept one journal_old journal old) (sym kept) ends,
+    subst (λ (journal : JournalState). IsUnlogged one journal_old journal old) (sym kept) ends,
     told,
   )
 
 -- accepting the connection has not failed
 pub not_accept : {U E : Type 0} (told_old told_new : Option (List ℕ)) (served : Result Effect E) (result : Result U ServeFault)
-    → IsToldAs told_old told_new served result → false ≡ is_accept_fault result
+    → IsReportedAs told_old told_new served result → false ≡ is_accept_fault result
 not_accept told_old told_new (Ok effect) (Ok done) told = refl
 not_accept told_old told_new (Ok effect) (Err fault) told = absurd told
 not_accept told_old told_new (Err failed) (Ok done) told = absurd told
@@ -60,7 +60,7 @@ not_accept told_old told_new (Err failed) (Err Accept) told = absurd told
 not_accept told_old told_new (Err failed) (Err Journal) told = refl
 
 pub unfailed : {U E : Type 0} (told_old told_new : Option (List ℕ)) (served : Result Effect E) (result : Result U ServeFault)
-    (journal_mid journal_new : JournalState) → IsToldAs told_old told_new served result → journal_new ≡ journal_mid
+    (journal_mid journal_new : JournalState) → IsReportedAs told_old told_new served result → journal_new ≡ journal_mid
     → OnOk served (journal_mid.has_failed ≡ false) → OnOk result (journal_new.has_failed ≡ false)
 unfailed told_old told_new (Ok effect) (Ok done) journal_mid journal_new told kept fresh =
     subst (λ (journal : JournalState). journal.has_failed ≡ false) (sym kept) fresh

@@ -2,13 +2,13 @@
 use Rattle.std.proofs.Common.{◌≡◌, inl, inr, ℕ, Bool, true, false, List, [], ◌∷◌, ◌++◌, map, Option, Some, None}
 use Rattle.std.proofs.Common.{refl, sym, ap, ◌∙◌, subst, append_assoc, append-nil}
 use Rattle.clock_terms.specs.Limits.{SetupFields}
-use Rattle.clock_device.specs.Told.{SinkTold, SourceTold}
+use Rattle.clock_device.specs.Told.{SinkReport, SourceReport}
 use Rattle.std.proofs.lemmas.List.{map-append}
 use Rattle.clock_front.specs.Effects.{effect}
 use Rattle.clock_journal.specs.Reading.{onto}
-use Rattle.clock_keeping.specs.Keeping.{GrowsBy, is_change, kept_if}
-use Rattle.clock_serving.specs.Exchanges.{Came, Closes, Exchange, HasClosed, Offer, bytes_given}
-use Rattle.clock_serving.specs.Serving.{KeepsText, KeptTexts, RepliesOver, Walks}
+use Rattle.clock_keeping.specs.Keeping.{GrowsBy, is_change, logged_when}
+use Rattle.clock_serving.specs.Exchanges.{Came, Closes, Exchange, HasClosedConnections, Offer, bytes_given}
+use Rattle.clock_serving.specs.Serving.{LogsText, LoggedTexts, RepliesOver, Walks}
 
 -- nothing was appended
 pub grown_none : {A : Type 0} (list : Option (List A)) → GrowsBy list list []
@@ -49,7 +49,7 @@ pub came_one : (first mid last : Option (List (List ℕ))) (offer : Offer) (one 
     → last ≡ mid → offer.source ≡ one.reading.before → Came first last (bytes_given (one ∷ []))
 came_one first mid last offer one came still from =
     subst (λ (left : Option (List (List ℕ))). Came first left (one.reading.before.left ∷ [])) (sym still)
-    (subst (λ (told : SourceTold). Came first mid (told.left ∷ [])) from came)
+    (subst (λ (told : SourceReport). Came first mid (told.left ∷ [])) from came)
 
 -- one more connection
 pub walks_on : {A : Type 0} (step : A → Exchange → A → Type 0) (past : A) (exchanges : List Exchange) (end : A)
@@ -61,11 +61,11 @@ walks_on step past (first ∷ others) end one next walks steps =
 
 -- the logged texts are unchanged, and more come after them
 kept_if_behind : (changes : Bool) (past : List (List ℕ)) (text : List ℕ)
-    → (more : List (List ℕ)) × (kept_if changes past text ≡ past ++ more)
+    → (more : List (List ℕ)) × (logged_when changes past text ≡ past ++ more)
 kept_if_behind true past text = (text ∷ [], refl)
 kept_if_behind false past text = ([], sym (append-nil past))
 
-pub kept_behind : (digest : List ℕ) (setup : SetupFields) (before : KeptTexts) (one : Exchange) (after : KeptTexts)
+pub kept_behind : (digest : List ℕ) (setup : SetupFields) (before : LoggedTexts) (one : Exchange) (after : LoggedTexts)
     → RepliesOver setup before one after → (more : List (List ℕ)) × (after.texts ≡ before.texts ++ more)
 kept_behind digest setup before one after (inl (text, answer, replied, inl (right, is), seen)) =
     let behind = kept_if_behind (is_change (effect setup (onto before.texts []) text)) before.texts text in
@@ -73,12 +73,12 @@ kept_behind digest setup before one after (inl (text, answer, replied, inl (righ
 kept_behind digest setup before one after (inl (text, answer, replied, inr (struck, is), seen)) =
     ([], is ∙ sym (append-nil before.texts))
 kept_behind digest setup before one after (inr (alone, is)) =
-    ([], ap (λ (kept : KeptTexts). kept.texts) is ∙ sym (append-nil before.texts))
+    ([], ap (λ (kept : LoggedTexts). kept.texts) is ∙ sym (append-nil before.texts))
 
-pub all_behind : (digest : List ℕ) (setup : SetupFields) (past : KeptTexts) (exchanges : List Exchange) (end : KeptTexts)
-    → Walks (KeepsText digest setup) past exchanges end → (more : List (List ℕ)) × (end.texts ≡ past.texts ++ more)
+pub all_behind : (digest : List ℕ) (setup : SetupFields) (past : LoggedTexts) (exchanges : List Exchange) (end : LoggedTexts)
+    → Walks (LogsText digest setup) past exchanges end → (more : List (List ℕ)) × (end.texts ≡ past.texts ++ more)
 all_behind digest setup past [] end walks =
-    ([], ap (λ (kept : KeptTexts). kept.texts) walks ∙ sym (append-nil past.texts))
+    ([], ap (λ (kept : LoggedTexts). kept.texts) walks ∙ sym (append-nil past.texts))
 all_behind digest setup past (one ∷ others) end walks =
     let here = kept_behind digest setup past one walks.0 walks.1.replies in
     let later = all_behind digest setup walks.0 others end walks.2 in (
@@ -90,12 +90,12 @@ all_behind digest setup past (one ∷ others) end walks =
 pub closed_one : (first mid last : Option (List Exchange)) (offer : Offer) (one : Exchange) → mid ≡ first
     → offer.source ≡ one.reading.before → offer.sink ≡ one.writing.before
     → Closes mid last (record one.reading { before = offer.source }) (record one.writing { before = offer.sink }) one.kept
-    → HasClosed first last
+    → HasClosedConnections first last
     (record { reading = one.reading; writing = one.writing; kept = one.kept } ∷ [])
 closed_one first mid last offer one same from to closes =
     let reading = one.reading in
     let writing = one.writing in
     subst (λ (closed : Option (List Exchange)). Closes closed last reading writing one.kept) same
-    (subst (λ (told : SourceTold). Closes mid last (record reading { before = told }) writing one.kept) from
-    (subst (λ (told : SinkTold). Closes mid last (record reading { before = offer.source }) (record writing { before = told })
+    (subst (λ (told : SourceReport). Closes mid last (record reading { before = told }) writing one.kept) from
+    (subst (λ (told : SinkReport). Closes mid last (record reading { before = offer.source }) (record writing { before = told })
     one.kept) to closes))

@@ -1,7 +1,7 @@
 -- Which closed rounds the server reports, each by its number.
 --     closed_by setup texts      how many rounds these texts have closed
 --     rounds_between before after      the rounds after number `before`, up to number `after`
---     TellsClosings setup past end told_old told_new      exactly the rounds closed since `past`
+--     ReportsClosings setup past end told_old told_new      exactly the rounds closed since `past`
 --         were reported, in order
 use Rattle.std.specs.Prelude.{◌≤◌, ◌+◌, ◌-◌, ℕ, List, Option, length}
 use Rattle.std.specs.List.{range_with_len}
@@ -20,6 +20,6 @@ rounds_between before after = range_with_len (before + 1) (after - before)
 
 -- no closed round is open again; each round closed since then is appended to the reported ones,
 -- once and in order
-pub record TellsClosings (setup : SetupFields) (past end : List (List ℕ)) (told_old told_new : Option (List ℕ)) : Type 0 where
+pub record ReportsClosings (setup : SetupFields) (past end : List (List ℕ)) (told_old told_new : Option (List ℕ)) : Type 0 where
   pub more : closed_by setup past ≤ closed_by setup end
   pub told : GrowsBy told_old told_new (rounds_between (closed_by setup past) (closed_by setup end))

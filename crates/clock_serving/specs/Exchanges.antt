@@ -2,21 +2,21 @@
 -- contracts do not see it.
 --     Offer      what a connection has when it is accepted
 --     Exchange      what was read and written on a connection until it was closed
---     HasClosed old new exchanges      exactly these connections were closed, in order
+--     HasClosedConnections old new exchanges      exactly these connections were closed, in order
 --     Came old new given      connections with these bytes were accepted, in order; the others are
 --         still to come
 --     bytes_given exchanges      what the source of each had before it was read
 --     Closes old new reading writing kept      one connection was closed
 --     IsSeen seen journal      this was the journal, if contracts see it
 use Rattle.std.specs.Prelude.{◌≡◌, ◌++◌, ℕ, List, [], ◌∷◌, map, Option, Some, None}
-use Rattle.clock_device.specs.Told.{Reading, SinkTold, SourceTold, Writing}
+use Rattle.clock_device.specs.Told.{Reading, SinkReport, SourceReport, Writing}
 use Rattle.clock_journal.specs.Kept.{JournalState}
 use Rattle.clock_keeping.specs.Keeping.{GrowsBy}
 
 -- what contracts see of its source and its sink
 pub record Offer : Type 0 where
-  pub source : SourceTold
-  pub sink : SinkTold
+  pub source : SourceReport
+  pub sink : SinkReport
 
 -- all reads and writes on one connection, and the journal when the first byte was written, if
 -- contracts see it
@@ -26,8 +26,8 @@ pub record Exchange : Type 0 where
   pub kept : Option JournalState
 
 -- exactly these connections were closed, in order
-abbrev pub HasClosed : Option (List Exchange) → Option (List Exchange) → List Exchange → Type 0
-HasClosed old new exchanges = GrowsBy old new exchanges
+abbrev pub HasClosedConnections : Option (List Exchange) → Option (List Exchange) → List Exchange → Type 0
+HasClosedConnections old new exchanges = GrowsBy old new exchanges
 
 -- these were the first of the connections to come, in order; the rest is still to come
 abbrev pub Came : Option (List (List ℕ)) → Option (List (List ℕ)) → List (Option (List ℕ)) → Type 0
@@ -41,7 +41,7 @@ bytes_given exchanges = map (λ one. one.reading.before.left) exchanges
 -- one connection was closed
 abbrev pub Closes : Option (List Exchange) → Option (List Exchange) → Reading → Writing → Option JournalState → Type 0
 Closes old new reading writing kept =
-    HasClosed old new (record { reading = reading; writing = writing; kept = kept } ∷ [])
+    HasClosedConnections old new (record { reading = reading; writing = writing; kept = kept } ∷ [])
 
 -- this was the journal, if contracts see it
 abbrev pub IsSeen : Option JournalState → JournalState → Type 0

@@ -32,9 +32,9 @@ use Rattle.clock_journal.specs.Disks.{CouldBeLeft, LeaveOnly, MayBeLeft, Moment}
 use Rattle.clock_journal.specs.Kept.{JournalState}
 use Rattle.clock_keeping.specs.Accepted.{IsNotRefused, IsOwnFile}
 use Rattle.clock_keeping.specs.Starts.{IsLeftBy}
-use Rattle.clock_keeping.specs.declared.taking.GoOnFault.{GoOnFault}
+use Rattle.clock_keeping.specs.declared.taking.ResumeFault.{ResumeFault}
 use Rattle.clock_serving.specs.Exchanges.{Exchange}
-use Rattle.clock_serving.specs.Serving.{KeepsText, KeptTexts, Walks}
+use Rattle.clock_serving.specs.Serving.{LogsText, LoggedTexts, Walks}
 use Rattle.clock_serving.specs.declared.generation.GenerationFault.{GenerationFault}
 use Rattle.clock_serving.specs.declared.generation.GenerationFault.TheVariants.{Start, Serve}
 use Rattle.clock_serving.specs.declared.serving.ServeFault.TheVariants as fault
@@ -42,7 +42,7 @@ use Rattle.clock_serving.specs.declared.serving.ServeFault.TheVariants as fault
 -- a start that failed with this fault, or a start and then these connections. The first journal is
 -- the one before any call, the last one that at the end
 pub data Generation : Type 0 where
-  failed : JournalState → GoOnFault → JournalState → Generation
+  failed : JournalState → ResumeFault → JournalState → Generation
   served : JournalState → List Exchange → JournalState → Generation
 
 -- it resumes with the first `count` of these texts, and serves these connections. Then a crash
@@ -53,8 +53,8 @@ pub record ServesFrom (setup : SetupFields) (digest : List ℕ) (texts : List (L
   pub enough : least ≤ count
   pub most : count ≤ length texts
   pub resumed : JournalState
-  pub last : KeptTexts
-  pub walks : Walks (KeepsText digest setup)
+  pub last : LoggedTexts
+  pub walks : Walks (LogsText digest setup)
       (record { texts = take count texts; journal = resumed }) exchanges last
   pub more : List (List ℕ)
   pub few : length more ≤ 1

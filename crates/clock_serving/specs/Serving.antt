@@ -2,16 +2,16 @@
 -- the newest first, those of a journal the oldest first.
 --     WritesReply writing answer      the reply was written, or a prefix of it if a write failed
 --     IsReplied one text answer      the text was read, and the reply was written
---     EndsAlone one      no text was read that could be answered
+--     EndsUnanswered one      no text was read that could be answered
 --     Walks step past exchanges end      the step leads from `past` to `end`, connection by
 --         connection
 --     RepliesTo setup past one next      the reply is the right one after the texts before it
---     KeptTexts      the logged texts, and the journal that has them
---     KeepsText digest setup before one after      the reply is the right one after the logged
+--     LoggedTexts      the logged texts, and the journal that has them
+--     LogsText digest setup before one after      the reply is the right one after the logged
 --         texts, and a text that changes the auction is on the disk when the first byte of its
 --         reply is written
 --     AreServed exchanges ..      all of these connections were served
---     EndsUnkept served last ..      after these, the text of the last connection could not be
+--     EndsUnlogged served last ..      after these, the text of the last connection could not be
 --         logged
 --     is_accept_fault result      a connection could not be accepted
 --     EndsServing count exchanges .. result      how serving `count` connections ends
@@ -23,15 +23,15 @@ use Rattle.clock_device.specs.Told.{Writing}
 use Rattle.clock_device.specs.Writings.{WritesWhole, WritesFront, WritesNothing}
 use Rattle.clock_connections.specs.Arrivals.{HasArrived, HasNoRoom, IsNotRead}
 use Rattle.clock_front.specs.FixedReplies.{no_memory}
-use Rattle.clock_front.specs.Fronts.{IsStruckOut, StandsForTexts}
+use Rattle.clock_front.specs.Fronts.{IsOutOfMemoryReply, StandsForTexts}
 use Rattle.clock_front.specs.Headline.{IsRight}
 use Rattle.clock_journal.specs.Crash.{LeavesTexts}
 use Rattle.clock_journal.specs.Disks.{MayBeLeft}
 use Rattle.clock_journal.specs.Kept.{HasTexts, JournalState, file_of}
 use Rattle.clock_journal.specs.Reading.{onto}
-use Rattle.clock_keeping.specs.Keeping.{IsAccepted, IsInStep, kept_after}
+use Rattle.clock_keeping.specs.Keeping.{IsAccepted, IsInStep, logged_after}
 use Rattle.clock_serving.specs.Exchanges.{Exchange, IsSeen}
-use Rattle.clock_serving.specs.Closings.{TellsClosings}
+use Rattle.clock_serving.specs.Closings.{ReportsClosings}
 use Rattle.clock_serving.specs.declared.serving.ServeFault.{ServeFault}
 use Rattle.clock_serving.specs.declared.serving.ServeFault.TheVariants as fault
 
@@ -46,8 +46,8 @@ pub record IsReplied (one : Exchange) (text : List ℕ) (answer : Answer) : Type
 
 -- memory ran out for the bytes, and the reply says so; or no request could be read, and nothing was
 -- written
-abbrev pub EndsAlone : Exchange → Type 0
-EndsAlone one =
+abbrev pub EndsUnanswered : Exchange → Type 0
+EndsUnanswered one =
     (HasNoRoom one.reading × WritesReply one.writing no_memory)
     ⊎ (IsNotRead one.reading × WritesNothing one.writing)
 
@@ -59,37 +59,37 @@ Walks {A = A} step past (one ∷ others) end = (next : A) × step past one next 
 -- the right reply, and the text joins the others; or the out-of-memory reply, and it does not
 abbrev pub IsNextReply : SetupFields → List (List ℕ) → List ℕ → Answer → List (List ℕ) → Type 0
 IsNextReply setup past text answer next =
-    (IsRight setup past text answer × (next ≡ text ∷ past)) ⊎ (IsStruckOut text answer × (next ≡ past))
+    (IsRight setup past text answer × (next ≡ text ∷ past)) ⊎ (IsOutOfMemoryReply text answer × (next ≡ past))
 
 -- the request that was read got its reply; or none could be read
 abbrev pub RepliesTo : SetupFields → List (List ℕ) → Exchange → List (List ℕ) → Type 0
 RepliesTo setup past one next =
     ((text : List ℕ) × (answer : Answer) × IsReplied one text answer × IsNextReply setup past text answer next)
-    ⊎ (EndsAlone one × (next ≡ past))
+    ⊎ (EndsUnanswered one × (next ≡ past))
 
 -- the right reply after the logged texts, and the text is logged if it changes the auction; or out
 -- of memory
-abbrev pub IsKeptReply : SetupFields → List (List ℕ) → List ℕ → Answer → List (List ℕ) → Type 0
-IsKeptReply setup past text answer next =
-    (IsRight setup (onto past []) text answer × (next ≡ kept_after setup past text))
-    ⊎ (IsStruckOut text answer × (next ≡ past))
+abbrev pub IsLoggedReply : SetupFields → List (List ℕ) → List ℕ → Answer → List (List ℕ) → Type 0
+IsLoggedReply setup past text answer next =
+    (IsRight setup (onto past []) text answer × (next ≡ logged_after setup past text))
+    ⊎ (IsOutOfMemoryReply text answer × (next ≡ past))
 
 -- the logged texts, the oldest first, and the journal that has them
-pub record KeptTexts : Type 0 where
+pub record LoggedTexts : Type 0 where
   pub texts : List (List ℕ)
   pub journal : JournalState
 
 -- the request that was read got this reply, whose first byte was written when this was the journal;
 -- or none could be read, and nothing changed
-abbrev pub RepliesOver : SetupFields → KeptTexts → Exchange → KeptTexts → Type 0
+abbrev pub RepliesOver : SetupFields → LoggedTexts → Exchange → LoggedTexts → Type 0
 RepliesOver setup before one after =
     ((text : List ℕ) × (answer : Answer) × IsReplied one text answer
-    × IsKeptReply setup before.texts text answer after.texts × IsSeen one.kept after.journal)
-    ⊎ (EndsAlone one × (after ≡ before))
+    × IsLoggedReply setup before.texts text answer after.texts × IsSeen one.kept after.journal)
+    ⊎ (EndsUnanswered one × (after ≡ before))
 
 -- the reply is right, and then all logged texts are on the disk. A crash since the connection
 -- before leaves the texts logged before, and at most the one logged now
-pub record KeepsText (digest : List ℕ) (setup : SetupFields) (before : KeptTexts) (one : Exchange) (after : KeptTexts) : Type 0 where
+pub record LogsText (digest : List ℕ) (setup : SetupFields) (before : LoggedTexts) (one : Exchange) (after : LoggedTexts) : Type 0 where
   pub replies : RepliesOver setup before one after
   pub has : HasTexts digest after.texts after.journal
   pub moments : (left : List ℕ) → MayBeLeft before.journal.synced after.journal.written left
@@ -101,14 +101,14 @@ pub record HasReplied (past : List (List ℕ)) (exchanges : List Exchange) (told
   pub end : List (List ℕ)
   pub walks : Walks (RepliesTo old.setup) past exchanges end
   pub stands : StandsForTexts end new
-  pub tells : TellsClosings old.setup past end told_old told_new
+  pub tells : ReportsClosings old.setup past end told_old told_new
 
 -- what each connection made of the logged texts was on the disk, and still is; a crash at any moment
 -- since leaves a prefix of `end`, with all of `past`
-pub record HasKept (digest : List ℕ) (past : List (List ℕ)) (exchanges : List Exchange)
+pub record HasLogged (digest : List ℕ) (past : List (List ℕ)) (exchanges : List Exchange)
     (journal_old journal_new : JournalState) (old new : HouseFields) : Type 0 where
   pub end : List (List ℕ)
-  pub walks : Walks (KeepsText digest old.setup) (record { texts = past; journal = journal_old }) exchanges
+  pub walks : Walks (LogsText digest old.setup) (record { texts = past; journal = journal_old }) exchanges
       (record { texts = end; journal = journal_new })
   pub in_step : IsInStep digest end journal_new new
   pub moments : (left : List ℕ) → MayBeLeft journal_old.synced journal_new.written left → LeavesTexts digest left end (length past)
@@ -117,15 +117,15 @@ pub record HasKept (digest : List ℕ) (past : List (List ℕ)) (exchanges : Lis
 pub record AreServed (exchanges : List Exchange) (told_old told_new : Option (List ℕ)) (journal_old journal_new : JournalState) (old new : HouseFields) : Type 0 where
   pub added_to : journal_new.uncut ≡ journal_old.uncut
   pub replied : (past : List (List ℕ)) → StandsForTexts past old → HasReplied past exchanges told_old told_new old new
-  pub kept : (digest : List ℕ) (past : List (List ℕ)) → IsInStep digest past journal_old old → HasKept digest past exchanges journal_old journal_new old new
+  pub kept : (digest : List ℕ) (past : List (List ℕ)) → IsInStep digest past journal_old old → HasLogged digest past exchanges journal_old journal_new old new
 
 -- all texts with a reply are on the disk. A crash leaves these, and at most the one that could not
 -- be logged, which was accepted
-pub record HasKeptTold (digest : List ℕ) (past : List (List ℕ)) (served : List Exchange) (text : List ℕ)
+pub record HasLoggedReplied (digest : List ℕ) (past : List (List ℕ)) (served : List Exchange) (text : List ℕ)
     (journal_old journal : JournalState) (old : HouseFields) : Type 0 where
   pub end : List (List ℕ)
   pub before : JournalState
-  pub walks : Walks (KeepsText digest old.setup) (record { texts = past; journal = journal_old }) served
+  pub walks : Walks (LogsText digest old.setup) (record { texts = past; journal = journal_old }) served
       (record { texts = end; journal = before })
   pub accepted : IsAccepted old.setup (onto end []) text
   pub on_disk : journal.synced ≡ Some (file_of digest end)
@@ -133,14 +133,14 @@ pub record HasKeptTold (digest : List ℕ) (past : List (List ℕ)) (served : Li
 
 -- after these, the disk failed to log the last text: it got no reply, and no round that it closed
 -- was reported
-pub record EndsUnkept (served : List Exchange) (last : Exchange) (told_old told_new : Option (List ℕ)) (journal_old journal_new : JournalState) (old : HouseFields) : Type 0 where
+pub record EndsUnlogged (served : List Exchange) (last : Exchange) (told_old told_new : Option (List ℕ)) (journal_old journal_new : JournalState) (old : HouseFields) : Type 0 where
   pub text : List ℕ
   pub arrived : HasArrived last.reading text
   pub failed : journal_new.has_failed ≡ true
   pub silent : WritesNothing last.writing
   pub added_to : journal_new.uncut ≡ journal_old.uncut
-  pub replied : (past : List (List ℕ)) → StandsForTexts past old → (end : List (List ℕ)) × Walks (RepliesTo old.setup) past served end × TellsClosings old.setup past end told_old told_new
-  pub kept : (digest : List ℕ) (past : List (List ℕ)) → IsInStep digest past journal_old old → HasKeptTold digest past served text journal_old journal_new old
+  pub replied : (past : List (List ℕ)) → StandsForTexts past old → (end : List (List ℕ)) × Walks (RepliesTo old.setup) past served end × ReportsClosings old.setup past end told_old told_new
+  pub kept : (digest : List ℕ) (past : List (List ℕ)) → IsInStep digest past journal_old old → HasLoggedReplied digest past served text journal_old journal_new old
 
 -- a connection could not be accepted
 abbrev pub is_accept_fault : {U : Type 0} → Result U ServeFault → Bool
@@ -158,4 +158,4 @@ EndsServing count exchanges told_old told_new journal_old journal_new old new (E
     (length exchanges < count) × AreServed exchanges told_old told_new journal_old journal_new old new
 EndsServing count exchanges told_old told_new journal_old journal_new old new (Err fault.Journal) =
     (served : List Exchange) × (last : Exchange) × (exchanges ≡ served ++ last ∷ []) × (length exchanges ≤ count)
-    × EndsUnkept served last told_old told_new journal_old journal_new old
+    × EndsUnlogged served last told_old told_new journal_old journal_new old

@@ -64,20 +64,20 @@ pub trait Acceptor {
 
 /// The connections of a TCP port. In contracts, it shows no bytes, since sockets show none.
 #[derive(Drop)]
-pub struct Listening<'a> {
+pub struct PortAcceptor<'a> {
     listener: &'a TcpListener,
     is_open: bool,
     has_failed: bool,
 }
 
-impl<'a> Listening<'a> {
+impl<'a> PortAcceptor<'a> {
     /// Returns the port's connections, before the first is accepted.
-    pub fn new(listener: &'a TcpListener) -> Listening<'a>
-        ensures open { ⟦<Listening<'a> as Acceptor>⟧.is_open result ≡ false }
-        ensures closed { ⟦<Listening<'a> as Acceptor>⟧.closed result ≡ None }
-        ensures unfailed { ⟦<Listening<'a> as Acceptor>⟧.has_failed result ≡ false }
+    pub fn new(listener: &'a TcpListener) -> PortAcceptor<'a>
+        ensures open { ⟦<PortAcceptor<'a> as Acceptor>⟧.is_open result ≡ false }
+        ensures closed { ⟦<PortAcceptor<'a> as Acceptor>⟧.closed result ≡ None }
+        ensures unfailed { ⟦<PortAcceptor<'a> as Acceptor>⟧.has_failed result ≡ false }
     {
-        Listening {
+        PortAcceptor {
             listener,
             is_open: false,
             has_failed: false,
@@ -85,7 +85,7 @@ impl<'a> Listening<'a> {
     }
 }
 
-impl Acceptor for Listening<'_> {
+impl Acceptor for PortAcceptor<'_> {
     type Reader = FromReader<TcpStream>;
 
     type Writer = ToWriter<TcpStream>;

@@ -1,23 +1,23 @@
 ghost use Rattle.std.specs.Prelude.{◌≡◌, [], List, Err, true, false};
 ghost use Rattle.clock_front.specs.Fronts.{StandsForTexts};
-ghost use Rattle.clock_serving.specs.Exchanges.{Came, Exchange, HasClosed, bytes_given};
+ghost use Rattle.clock_serving.specs.Exchanges.{Came, Exchange, HasClosedConnections, bytes_given};
 ghost use Rattle.clock_serving.specs.Generations.{EndsGeneration, GenerationsContinue};
 
 use crate::acceptor::Acceptor;
 use crate::serving::{ServeFault, serve_all};
 use clock_journal::{Durable, Journal, Recovered};
-use clock_keeping::{Auction, GoOnFault, go_on};
+use clock_keeping::{ReplayedAuction, ResumeFault, resume_auction};
 use clock_processor::Processor;
 use std::alloc::Global;
 
 /// Why a server ended before it served all connections: its start failed, or the loop did.
 #[derive(Clone, Copy)]
 pub enum GenerationFault {
-    Start(GoOnFault),
+    Start(ResumeFault),
     Serve(ServeFault),
 }
 
-/// Runs one generation of a server: resumes the journal of a file with [`go_on`], and serves
+/// Runs one generation of a server: resumes the journal of a file with [`resume_auction`], and serves
 /// `count` connections with [`serve_all`]. The program makes these two calls itself.
 ///
 /// If the file is what a crash left of this auction's journal, the start is not refused, and each
@@ -28,7 +28,7 @@ pub enum GenerationFault {
 /// is open and none has failed. Errors, in this order: `Start`, `Serve`.
 pub fn serve_from<P: Processor, D: Durable, C: Acceptor, F: FnOnce(Recovered)>(
     alloc: Global,
-    auction: &mut Auction<P>,
+    auction: &mut ReplayedAuction<P>,
     journal: &mut Journal<D>,
     bytes: &[u8],
     tell: F,
@@ -41,7 +41,7 @@ pub fn serve_from<P: Processor, D: Durable, C: Acceptor, F: FnOnce(Recovered)>(
     requires closed { C.is_open connections.old ≡ false }
     requires taken { C.has_failed connections.old ≡ false }
     ensures generation { (exchanges : List Exchange)
-        × HasClosed (C.closed connections.old) (C.closed connections.new) exchanges
+        × HasClosedConnections (C.closed connections.old) (C.closed connections.new) exchanges
         × Came (C.coming connections.old) (C.coming connections.new) (bytes_given exchanges)
         × EndsGeneration auction.old.front.setup count exchanges bytes.now journal.old journal.new
         result }
@@ -49,7 +49,7 @@ pub fn serve_from<P: Processor, D: Durable, C: Acceptor, F: FnOnce(Recovered)>(
     ensures taken { result ≡ Err (GenerationFault.Serve ServeFault.Accept)
         → C.has_failed connections.new ≡ true }
 {
-    if let Err(fault) = go_on(auction, journal, bytes, tell) {
+    if let Err(fault) = resume_auction(auction, journal, bytes, tell) {
         return Err(GenerationFault::Start(fault));
     }
     match serve_all(alloc, &mut auction.front, journal, connections, count) {

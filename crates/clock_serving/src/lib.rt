@@ -1,8 +1,8 @@
 //! The server's loop: it accepts connections one after the other, and serves one request on each.
 //!
 //! [`serve_all`] serves the connections of an [`Acceptor`] with a front, and writes each reply to
-//! an [`Outlet`]. [`Listening`] is the acceptor of a port; clock_front_tests has one in memory. A
-//! `Keeper` logs the accepted texts: a journal, or `Unkept`, which logs nothing. [`serve_on`] is
+//! an [`Outlet`]. [`PortAcceptor`] is the acceptor of a port; clock_front_tests has one in memory. A
+//! `RequestLog` logs the accepted texts: a journal, or `NoLog`, which logs nothing. [`serve_on`] is
 //! this loop over a port without a journal.
 #![tactic(auto)]
 
@@ -11,7 +11,7 @@ mod generation;
 mod outlet;
 mod serving;
 
-pub use acceptor::{Acceptor, Connection, Listening};
+pub use acceptor::{Acceptor, Connection, PortAcceptor};
 pub use generation::{GenerationFault, law_of_generations, serve_from};
 pub use outlet::Outlet;
-pub use serving::{ServeFault, law_told_bytes, serve_all, serve_on};
+pub use serving::{ServeFault, law_reported_bytes, serve_all, serve_on};

@@ -1,29 +1,29 @@
 ghost use Rattle.std.specs.Prelude.{◌≡◌, ◌||◌, Option, is_err, None};
-ghost use Rattle.clock_device.specs.{Streams.{WritesText}, Told.{IsUnused, SinkTold}};
+ghost use Rattle.clock_device.specs.{Streams.{WritesText}, Told.{IsUnused, SinkReport}};
 ghost use Rattle.clock_journal.specs.Kept.{JournalState};
 ghost use Rattle.clock_serving.specs.Exchanges.{IsSeen};
 
 use clock_device::{Failed, Sink, write_all};
-use clock_keeping::Keeper;
+use clock_keeping::RequestLog;
 
 /// The receiver of the reply on one connection, written in a single call.
 ///
 /// In contracts, an outlet shows what was written, and the journal when the first byte was written,
 /// if it shows that.
 pub trait Outlet {
-    ghost told: { Self → SinkTold };
+    ghost told: { Self → SinkReport };
 
     ghost kept: { Self → Option JournalState };
 
-    /// Writes all of a reply, or a prefix of it if a write fails. `keeper` has what is logged at
+    /// Writes all of a reply, or a prefix of it if a write fails. `log` has what is logged at
     /// that time.
     ///
     /// Requires that nothing was written yet.
-    fn reply<K: Keeper>(&mut self, keeper: &K, bytes: &[u8]) -> Result<(), Failed>
+    fn reply<K: RequestLog>(&mut self, log: &K, bytes: &[u8]) -> Result<(), Failed>
         requires unused { IsUnused (told self.old) }
         ensures bytes { WritesText (told self.old).taken (told self.new).taken bytes.now result }
         ensures failed { (told self.new).has_failed ≡ ((told self.old).has_failed || is_err result) }
-        ensures kept { IsSeen (kept self.new) (K.journal keeper.now) };
+        ensures kept { IsSeen (kept self.new) (K.journal log.now) };
 }
 
 /// Any sink is an outlet, and does not show the journal.
@@ -32,7 +32,7 @@ impl<W: Sink> Outlet for W {
 
     ghost kept = { λ sink. None };
 
-    fn reply<K: Keeper>(&mut self, _keeper: &K, bytes: &[u8]) -> Result<(), Failed> {
+    fn reply<K: RequestLog>(&mut self, _keeper: &K, bytes: &[u8]) -> Result<(), Failed> {
         write_all(self, bytes)
     }
 }

@@ -1,15 +1,15 @@
 ghost use Rattle.std.specs.Prelude.{◌≡◌, List, OnOk, None, false};
 ghost use Rattle.clock_device.specs.Told.{IsUnread, IsUnused};
 ghost use Rattle.clock_keeping.specs.Keeping.{no_journal};
-ghost use Rattle.clock_serving.specs.Exchanges.{Came, Exchange, HasClosed, bytes_given};
-ghost use Rattle.clock_serving.specs.{Laws.{ToldBytes}, Serving.{EndsServing, is_accept_fault}, inside.Served.{EndsOne, EndsTaken, IsToldAs}};
+ghost use Rattle.clock_serving.specs.Exchanges.{Came, Exchange, HasClosedConnections, bytes_given};
+ghost use Rattle.clock_serving.specs.{Laws.{ReportedBytes}, Serving.{EndsServing, is_accept_fault}, inside.Served.{EndsOne, EndsTaken, IsReportedAs}};
 
-use crate::acceptor::{Acceptor, Listening};
+use crate::acceptor::{Acceptor, PortAcceptor};
 use crate::outlet::Outlet;
-use clock_connections::{Unread, read_request};
+use clock_connections::{RequestReadError, read_request};
 use clock_device::{Failed, Source};
 use clock_front::{Effect, Front, Response, no_memory_reply};
-use clock_keeping::{Keeper, Unkept};
+use clock_keeping::{RequestLog, NoLog};
 use clock_processor::Processor;
 use std::alloc::Global;
 use std::net::TcpListener;
@@ -19,7 +19,7 @@ use thiserror::Error;
 ///
 /// - `Accept`: a connection could not be accepted.
 /// - `Journal`: the text of the last connection could not be logged. That connection got no reply.
-///   Do not use the front and the keeper afterward.
+///   Do not use the front and the log afterward.
 #[derive(Clone, Copy, Debug, PartialEq, Eq, Error)]
 pub enum ServeFault {
     #[error("a connection could not be taken")]
@@ -30,52 +30,52 @@ pub enum ServeFault {
 
 /// Reads one request, answers it, logs it if it changed the auction, and then writes its reply.
 /// Returns what it changed.
-fn serve_one<P: Processor, K: Keeper, R: Source, W: Outlet>(
+fn serve_one<P: Processor, K: RequestLog, R: Source, W: Outlet>(
     alloc: Global,
     front: &mut Front<P>,
-    keeper: &mut K,
+    log: &mut K,
     source: &mut R,
     sink: &mut W,
 ) -> Result<Effect, Failed>
     requires unread { IsUnread (R.told source.old) }
     requires unused { IsUnused (W.told sink.old) }
-    requires unfailed { (K.journal keeper.old).has_failed ≡ false }
+    requires unfailed { (K.journal log.old).has_failed ≡ false }
     ensures served { EndsTaken (record {
       reading = record { before = R.told source.old; after = R.told source.new };
       writing = record { before = W.told sink.old; after = W.told sink.new };
       kept = W.kept sink.new;
-    }) (K.journal keeper.old) (K.journal keeper.new) front.old front.new result }
-    ensures unfailed { OnOk result ((K.journal keeper.new).has_failed ≡ false) }
-    ensures told { K.told keeper.new ≡ K.told keeper.old }
+    }) (K.journal log.old) (K.journal log.new) front.old front.new result }
+    ensures unfailed { OnOk result ((K.journal log.new).has_failed ≡ false) }
+    ensures told { K.told log.new ≡ K.told log.old }
     ensures setup { front.new.setup ≡ front.old.setup }
 {
     let response = match read_request(alloc, source) {
-        Ok(request) => keeper.answer(front, request.as_slice(), request.progress())?,
-        Err(Unread::Memory) => Response {
+        Ok(request) => log.answer(front, request.as_slice(), request.progress())?,
+        Err(RequestReadError::Memory) => Response {
             reply: no_memory_reply(),
             effect: Effect::Nothing,
         },
-        Err(Unread::Read) => return Ok(Effect::Nothing),
+        Err(RequestReadError::Read) => return Ok(Effect::Nothing),
     };
     // a failed write ends only this connection: the front still has what its request changed
-    let _fault = sink.reply(keeper, response.reply.bytes());
+    let _fault = sink.reply(log, response.reply.bytes());
     Ok(response.effect)
 }
 
 /// Accepts the next connection, serves it, and closes it.
-fn serve_next<P: Processor, K: Keeper, C: Acceptor>(
+fn serve_next<P: Processor, K: RequestLog, C: Acceptor>(
     alloc: Global,
     front: &mut Front<P>,
-    keeper: &mut K,
+    log: &mut K,
     connections: &mut C,
 ) -> Result<(), ServeFault>
-    requires unfailed { (K.journal keeper.old).has_failed ≡ false }
+    requires unfailed { (K.journal log.old).has_failed ≡ false }
     requires closed { C.is_open connections.old ≡ false }
     requires taken { C.has_failed connections.old ≡ false }
     ensures ends { EndsOne (C.coming connections.old) (C.coming connections.new) (C.closed connections.old)
-        (C.closed connections.new) (K.told keeper.old) (K.told keeper.new) (K.journal keeper.old)
-        (K.journal keeper.new) front.old front.new result }
-    ensures unfailed { OnOk result ((K.journal keeper.new).has_failed ≡ false) }
+        (C.closed connections.new) (K.told log.old) (K.told log.new) (K.journal log.old)
+        (K.journal log.new) front.old front.new result }
+    ensures unfailed { OnOk result ((K.journal log.new).has_failed ≡ false) }
     ensures closed { C.is_open connections.new ≡ false }
     ensures taken { C.has_failed connections.new ≡ is_accept_fault result }
     ensures setup { front.new.setup ≡ front.old.setup }
@@ -83,19 +83,19 @@ fn serve_next<P: Processor, K: Keeper, C: Acceptor>(
     let Ok(mut one) = connections.accept() else {
         return Err(ServeFault::Accept);
     };
-    let served = serve_one(alloc, front, keeper, &mut one.source, &mut one.sink);
+    let served = serve_one(alloc, front, log, &mut one.source, &mut one.sink);
     connections.close(one);
-    tell_closing(keeper, served)
+    tell_closing(log, served)
 }
 
-/// Reports the round that a request closed, if any, to the keeper.
-fn tell_closing<K: Keeper>(keeper: &mut K, served: Result<Effect, Failed>) -> Result<(), ServeFault>
-    ensures kept { K.journal keeper.new ≡ K.journal keeper.old }
-    ensures told { IsToldAs (K.told keeper.old) (K.told keeper.new) served result }
+/// Reports the round that a request closed, if any, to the log.
+fn tell_closing<K: RequestLog>(log: &mut K, served: Result<Effect, Failed>) -> Result<(), ServeFault>
+    ensures kept { K.journal log.new ≡ K.journal log.old }
+    ensures told { IsReportedAs (K.told log.old) (K.told log.new) served result }
 {
     match served {
         Ok(Effect::Closing(round)) => {
-            keeper.round_closed(round);
+            log.round_closed(round);
             Ok(())
         }
         Ok(Effect::Nothing | Effect::Sheet) => Ok(()),
@@ -106,33 +106,33 @@ fn tell_closing<K: Keeper>(keeper: &mut K, served: Result<Effect, Failed>) -> Re
 /// Serves `count` connections, one after the other, with one request each. If reading or writing
 /// fails, only that connection ends.
 ///
-/// Requires a keeper whose journal has not failed, and connections of which none is open and none
+/// Requires a log whose journal has not failed, and connections of which none is open and none
 /// has failed.
 ///
 /// Errors: [`ServeFault::Accept`] or [`ServeFault::Journal`], at the first connection with this
 /// fault. Waits for each connection, and for each client, without a limit.
-pub fn serve_all<P: Processor, K: Keeper, C: Acceptor>(
+pub fn serve_all<P: Processor, K: RequestLog, C: Acceptor>(
     alloc: Global,
     front: &mut Front<P>,
-    keeper: &mut K,
+    log: &mut K,
     connections: &mut C,
     count: u64,
 ) -> Result<(), ServeFault>
-    requires unfailed { (K.journal keeper.old).has_failed ≡ false }
+    requires unfailed { (K.journal log.old).has_failed ≡ false }
     requires closed { C.is_open connections.old ≡ false }
     requires taken { C.has_failed connections.old ≡ false }
     ensures served { (exchanges : List Exchange)
-        × HasClosed (C.closed connections.old) (C.closed connections.new) exchanges
+        × HasClosedConnections (C.closed connections.old) (C.closed connections.new) exchanges
         × Came (C.coming connections.old) (C.coming connections.new) (bytes_given exchanges)
-        × EndsServing count exchanges (K.told keeper.old) (K.told keeper.new) (K.journal keeper.old)
-        (K.journal keeper.new) front.old front.new result }
+        × EndsServing count exchanges (K.told log.old) (K.told log.new) (K.journal log.old)
+        (K.journal log.new) front.old front.new result }
     ensures closed { C.is_open connections.new ≡ false }
     ensures taken { C.has_failed connections.new ≡ is_accept_fault result }
     ensures setup { front.new.setup ≡ front.old.setup }
 {
     front.house().law_of_house();
     for _connection in 0..count {
-        serve_next(alloc, front, keeper, connections)?;
+        serve_next(alloc, front, log, connections)?;
     }
     Ok(())
 }
@@ -148,12 +148,12 @@ pub fn serve_on<P: Processor>(
         × EndsServing connections exchanges None None no_journal no_journal front.old front.new result }
     ensures setup { front.new.setup ≡ front.old.setup }
 {
-    let mut port = Listening::new(listener);
-    serve_all(alloc, front, &mut Unkept, &mut port, connections)
+    let mut port = PortAcceptor::new(listener);
+    serve_all(alloc, front, &mut NoLog, &mut port, connections)
 }
 
 /// A law, which does nothing when it runs: if contracts see a connection's bytes, its request was
 /// their beginning, and its client got the reply or a prefix of it.
-pub fn law_told_bytes()
-    ensures { ToldBytes }
+pub fn law_reported_bytes()
+    ensures { ReportedBytes }
 {}

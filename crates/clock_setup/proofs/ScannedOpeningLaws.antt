@@ -6,7 +6,7 @@ use Rattle.std.specs.Str.{IsUtf8}
 use Rattle.serde_json.specs.Data.{Data}
 use Rattle.serde_json.specs.Read.{read}
 use Rattle.clock_json.specs.Reading.{whole, numbers, items_of}
-use Rattle.clock_setup.specs.declared.setup_scan.HeldSetup.{HeldSetup}
+use Rattle.clock_setup.specs.declared.setup_scan.NestedSetup.{NestedSetup}
 use Rattle.clock_setup.specs.SetupData.{setup_data}
 use Rattle.clock_json.specs.Tree.{number_from, each, row_of}
 use Rattle.clock_setup.specs.OpeningShape.{parts_of}
@@ -33,7 +33,7 @@ unfolding parts_of
 parts_are setup demands increment = rw (rows_are demands) refl
 
 -- a document with the value of an opening is decided by the checks after the set-up
-pub opening_read : (bytes : List ℕ) (found : HeldSetup × List (List ℕ) × ℕ) → IsUtf8 bytes → read bytes ≡ Some (scanned_data found)
+pub opening_read : (bytes : List ℕ) (found : NestedSetup × List (List ℕ) × ℕ) → IsUtf8 bytes → read bytes ≡ Some (scanned_data found)
     → document_opening bytes ≡ opening_with found.0.setup found.1 found.2
 unfolding document_opening
 opening_read bytes found text is =

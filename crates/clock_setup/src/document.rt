@@ -6,7 +6,7 @@ ghost use Rattle.clock_json.specs.Tree.{number_at};
 ghost use Rattle.clock_setup.specs.{SetupShape.{fields_of}, inside.SetupDocument.{distinct_checks}};
 ghost use Rattle.clock_setup.specs.SetupDocument as document;
 
-use crate::entries::{SetupEntries, entries_of};
+use crate::setup_tree::{SetupEntries, entries_of};
 use crate::fault::{Place, SetupFault};
 use crate::setup_checks::{check, each_within, has_distinct_names, has_distinct_tokens, is_token};
 use crate::setup_scan::FoundSetup;

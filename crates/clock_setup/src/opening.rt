@@ -9,7 +9,7 @@ ghost use Rattle.clock_setup.specs.declared.opening.OpeningFault.TheVariants as 
 
 use crate::document::setup_of;
 use crate::fault::SetupFault;
-use crate::setup_scan::HeldSetup;
+use crate::setup_scan::NestedSetup;
 use clock_device::NoMemory;
 use clock_json::tree::{RowReader, each_at, has_members, number_at, read_value};
 use clock_json::{
@@ -149,7 +149,7 @@ fn opening_grid(
 
 /// Returns the opening with this set-up, or the first fault of the checks after the set-up. May
 /// return `NoMemory`, which then replaces any other result.
-fn compared(
+fn judged(
     alloc: Global,
     setup: Setup,
     demands: ShortRows,
@@ -202,7 +202,7 @@ fn opening_in(alloc: Global, value: &Value) -> Result<Opening, OpeningFault>
     drop(rows);
     let demands = demands?;
     match setup_of(alloc, setup) {
-        Ok(setup) => compared(alloc, setup, demands, increment),
+        Ok(setup) => judged(alloc, setup, demands, increment),
         Err(SetupFault::NoMemory) => Err(OpeningFault::NoMemory),
         Err(fault) => Err(OpeningFault::Setup(fault)),
     }
@@ -224,7 +224,7 @@ pub fn read_opening(alloc: Global, bytes: &[u8]) -> Result<Opening, OpeningFault
     ensures held { IfErr result (λ fault. fault ≢ OpeningFault.Setup SetupFault.NoMemory) }
 {
     if let Some((held, demands, increment)) = scanned_text::<FoundOpening>(alloc, bytes)? {
-        return compared(alloc, held.setup, demands, increment);
+        return judged(alloc, held.setup, demands, increment);
     }
     let value = read_value(alloc, bytes)?.ok_or(OpeningFault::NotJson)?;
     opening_in(alloc, &value)
@@ -235,12 +235,12 @@ pub fn read_opening(alloc: Global, bytes: &[u8]) -> Result<Opening, OpeningFault
 #[derive(Default, Drop)]
 struct FoundOpening {
     demands: Option<ShortRows>,
-    held: Option<HeldSetup>,
+    held: Option<NestedSetup>,
     increment: Option<u64>,
 }
 
 impl<'v> ScannedMembers<'v> for FoundOpening {
-    type Whole = (HeldSetup, ShortRows, u64);
+    type Whole = (NestedSetup, ShortRows, u64);
 
     ghost levels = { 3 };
 
@@ -255,14 +255,14 @@ impl<'v> ScannedMembers<'v> for FoundOpening {
     fn read(&mut self, alloc: Global, key: &[u8], scan: &mut Scan<'v>) -> Result<(), ScanStop> {
         match key {
             _ if is_key(key, "demands") => self.demands = Some(scan.short_rows(alloc)?),
-            _ if is_key(key, "setup") => self.held = Some(HeldSetup::part(alloc, scan)?),
+            _ if is_key(key, "setup") => self.held = Some(NestedSetup::part(alloc, scan)?),
             _ if is_key(key, "increment") => self.increment = Some(scan.number()?),
             _ => return Err(ScanStop::Unusual),
         }
         Ok(())
     }
 
-    fn whole(self) -> Option<(HeldSetup, ShortRows, u64)> {
+    fn whole(self) -> Option<(NestedSetup, ShortRows, u64)> {
         Some((self.held?, self.demands?, self.increment?))
     }
 }

@@ -4,7 +4,7 @@ ghost use Rattle.clock_terms.specs.Faults.{IsFirstFault, first_fault};
 ghost use Rattle.clock_setup.specs.{declared.fault.SetupFault.{SetupFault}, SetupDocument.{product_checks, bidder_checks}};
 ghost use Rattle.clock_setup.specs.inside.SetupDocument.{counted_checks};
 
-use crate::entries::{BidderEntry, ProductEntry};
+use crate::setup_tree::{BidderEntry, ProductEntry};
 use crate::fault::{Place, SetupFault};
 use clock_device::{Items, NoMemory, Text};
 use clock_money::{MOST_GRANULE, Price};

@@ -6,7 +6,7 @@ ghost use Rattle.clock_setup.specs.{SetupData.{product_data, products_data, bidd
 ghost use Rattle.clock_setup.specs.{inside.FoundEntries.{found_product, found_bidder}, inside.FoundSetup.{found_setup}};
 
 use crate::document::within_limits;
-use crate::entries::{
+use crate::setup_tree::{
     BidderEntry, ProductEntry, ScannedSetup, SetupEntries, VersionedProduct, VersionedProducts,
 };
 use crate::fault::SetupFault;
@@ -192,7 +192,7 @@ impl<'v> ScannedMembers<'v> for FoundSetup<'v> {
 
 /// A set-up inside another document, read by bytes and accepted.
 #[derive(Drop)]
-pub struct HeldSetup {
+pub struct NestedSetup {
     /// The set-up, within its limits.
     pub setup: Setup,
     ghost accepted: { setup_of (setup_data setup) ≡ Ok setup },
@@ -200,17 +200,17 @@ pub struct HeldSetup {
 
 /// Reads a set-up that is within its limits, with no escape in a text and only digits in each
 /// number. Declines any other with `Unusual`; then the reader by tree decides what it means.
-impl<'v> PartReader<'v> for HeldSetup {
-    type Part = HeldSetup;
+impl<'v> PartReader<'v> for NestedSetup {
+    type Part = NestedSetup;
 
     ghost levels = { 3 };
 
     ghost shown = { λ held. setup_data held.setup };
 
-    fn part(alloc: Global, scan: &mut Scan<'v>) -> Result<HeldSetup, ScanStop> {
+    fn part(alloc: Global, scan: &mut Scan<'v>) -> Result<NestedSetup, ScanStop> {
         let scanned = FoundSetup::part(alloc, scan)?;
         match within_limits(alloc, &scanned.entries) {
-            Ok(setup) => Ok(HeldSetup { setup }),
+            Ok(setup) => Ok(NestedSetup { setup }),
             Err(SetupFault::NoMemory) => Err(ScanStop::NoMemory),
             Err(_) => Err(ScanStop::Unusual),
         }

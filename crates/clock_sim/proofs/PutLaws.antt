@@ -17,12 +17,12 @@ use Rattle.clock_front.specs.Requests as asked
 use Rattle.clock_bodies.specs.Bodies.{put_body}
 use Rattle.clock_http.specs.Routes.{page_of, has_method}
 use Rattle.clock_front.specs.Outcomes.{command_of}
-use Rattle.clock_front.specs.Askers.{asker}
+use Rattle.clock_front.specs.Callers.{caller}
 use Rattle.clock_front.specs.Fronts.{commands_of}
 use Rattle.clock_http.specs.declared.routes.Page.{Page}
 use Rattle.clock_http.specs.declared.routes.Page.TheVariants.{Status, Products, Sheet, Account, Bids, Slip, Close, Results}
-use Rattle.clock_front.specs.declared.front.askers.Asker.{Asker}
-use Rattle.clock_front.specs.declared.front.askers.Asker.TheVariants.{Nobody, Operator, Bidder}
+use Rattle.clock_front.specs.declared.front.callers.Caller.{Caller}
+use Rattle.clock_front.specs.declared.front.callers.Caller.TheVariants.{Nobody, Operator, Bidder}
 use Rattle.clock_replays.specs.declared.replay.Script.{Script}
 use Rattle.clock_sim.specs.inside.Groups.{ClosesNoRound}
 use Rattle.clock_scripts.specs.RequestTexts.{put_text}
@@ -102,7 +102,7 @@ IsNoClosing _ = Unit {0}
 abbrev Leaves : SetupFields → Command → Type 0
 Leaves setup command = (auction : Auction) → (after_command setup auction command).closed ≡ auction.closed
 
-leaves : (setup : SetupFields) (sender : Asker) (ask : Ask) → IsNoClosing ask → Leaves setup (command_of setup sender ask)
+leaves : (setup : SetupFields) (sender : Caller) (ask : Ask) → IsNoClosing ask → Leaves setup (command_of setup sender ask)
 leaves setup Nobody ask free = λ auction. refl
 leaves setup (Bidder b) (asked.turned_away code) free = λ auction. refl
 leaves setup (Bidder b) (asked.no_method page) free = λ auction. refl
@@ -161,7 +161,7 @@ of_framing (framed_as.whole head body) put = by_route (page_of head.path) head b
 begun_closes_none : (rest : List ℕ) → ClosesNoRound (begun rest)
 unfolding request_of
 begun_closes_none rest setup texts =
-    leaves setup (asker setup (request_of (begun rest)).token) (ask_of (framing (begun rest))) (of_framing (framing (begun rest)) (begun_framing rest))
+    leaves setup (caller setup (request_of (begun rest)).token) (ask_of (framing (begun rest))) (of_framing (framing (begun rest)) (begun_framing rest))
     (history setup (commands_of setup texts))
 
 -- ---- scripted sheets

@@ -2,10 +2,10 @@
 use Rattle.std.proofs.Common.{◌≡◌, ℕ, false, List, ◌∷◌, ◌++◌, Option, ◌⊎◌, inl, inr, sym, ◌∙◌, ap, subst}
 use Rattle.std.specs.Prelude.{option_and_then}
 use Rattle.clock_house.specs.House.{HouseFields, StandsFor}
-use Rattle.clock_front.specs.Askers.{asker}
+use Rattle.clock_front.specs.Callers.{caller}
 use Rattle.clock_http.specs.Framing.{Framing, Head, framing, head_in, needs_more, IsDecided}
 use Rattle.clock_http.specs.FramingLaws.{IsDecidedOnce, HasOneHead}
-use Rattle.clock_front.specs.Fronts.{AnswersText, IsStruckOut, house_after, commands_of}
+use Rattle.clock_front.specs.Fronts.{AnswersText, IsOutOfMemoryReply, house_after, commands_of}
 use Rattle.clock_front.specs.Outcomes.{answer_of, outcome, command_of}
 use Rattle.clock_front.specs.Private.{IsPrivateReply}
 use Rattle.clock_http.specs.Replies.{Answer}
@@ -25,7 +25,7 @@ ended_after old mid new conn text reply fed answered = record {
     next = answered.gone.next ∙ fed.1.next;
   };
   answered = subst (λ (house : HouseFields). AnswersText text reply house new.house) fed.2 answered.answered;
-  private = subst (λ (house : HouseFields). IsStruckOut text reply ⊎ IsPrivateReply text house reply) fed.2 answered.private;
+  private = subst (λ (house : HouseFields). IsOutOfMemoryReply text reply ⊎ IsPrivateReply text house reply) fed.2 answered.private;
   setup = answered.setup ∙ ap (λ (house : HouseFields). house.setup) fed.2;
 }
 
@@ -46,8 +46,8 @@ answered_early once one_head head body answer old new less answered texts stands
     elim (answered texts stands) [
       | inl told ↦ inl (subst
           (λ (request : Request).
-          (answer ≡ answer_of (outcome (house_after old.setup (commands_of old.setup texts)) (asker old.setup request.token) request.ask))
-          × StandsFor (command_of new.setup (asker new.setup request.token) request.ask ∷ commands_of new.setup texts) new)
+          (answer ≡ answer_of (outcome (house_after old.setup (commands_of old.setup texts)) (caller old.setup request.token) request.ask))
+          × StandsFor (command_of new.setup (caller new.setup request.token) request.ask ∷ commands_of new.setup texts) new)
           (sym (same_request once one_head head body less)) told)
       | inr none ↦ inr (
         record {

@@ -20,7 +20,7 @@ use Rattle.clock_reports.specs.FinalReport.{report_of}
 use Rattle.clock_replays.specs.declared.replay.Script.{Script}
 use Rattle.clock_replays.specs.declared.replay.Closing.{Closing}
 use Rattle.clock_scripts.specs.ScriptedRequests.{scripted_close}
-use Rattle.clock_sim.specs.inside.Steps.{IsGoing, IsTold, ComesTo, MakesStep, IsLeft, replay_of}
+use Rattle.clock_sim.specs.inside.Steps.{IsGoing, IsResultByCode, ComesTo, MakesStep, IsLeft, replay_of}
 
 abbrev pub Texts : Type 0
 Texts = List (List ℕ)
@@ -66,7 +66,7 @@ request_refused text answer old new sender round answered not_good not_memory te
     ]
 
 sent_by : {T : Type 0} (text : List ℕ) (answer : Answer) (old new : HouseFields) (sender : Option ℕ) (round : ℕ) (result : Result T SimFault)
-    → AnswersText text answer old new → IsTold answer.code (refused_by sender round answer.code) result → (texts : Texts) → StandsForTexts texts old
+    → AnswersText text answer old new → IsResultByCode answer.code (refused_by sender round answer.code) result → (texts : Texts) → StandsForTexts texts old
     → MatchResult result (λ _. ComesTo (after_request old.setup texts sender round text) new)
     (IsRefusal NoMemory (after_request old.setup texts sender round text))
 sent_by text answer old new sender round (Ok done) answered told texts stands = request_done text answer old new sender round answered told texts stands
@@ -76,11 +76,11 @@ sent_by text answer old new sender round (Err fault) answered told texts stands 
 
 -- a request is sent
 pub sent : {T : Type 0} (text : List ℕ) (answer : Answer) (code : Code) (old new : HouseFields) (sender : Option ℕ) (round : ℕ) (result : Result T SimFault)
-    → AnswersText text answer old new → new.setup ≡ old.setup → code ≡ answer.code → IsTold code (refused_by sender round code) result
+    → AnswersText text answer old new → new.setup ≡ old.setup → code ≡ answer.code → IsResultByCode code (refused_by sender round code) result
     → MakesStep (λ texts. after_request old.setup texts sender round text) old new result
 sent text answer code old new sender round result answered same is told = record {
   setup = same;
-  comes = sent_by text answer old new sender round result answered (subst (λ one. IsTold one (refused_by sender round one) result) is told);
+  comes = sent_by text answer old new sender round result answered (subst (λ one. IsResultByCode one (refused_by sender round one) result) is told);
 }
 
 -- out of memory, nothing is claimed

@@ -26,7 +26,7 @@ use Rattle.clock_connections.specs.Connections.{IsConnected}
 use Rattle.clock_scripts.specs.declared.requests.Written.{Written}
 use Rattle.clock_scripts.specs.Pieces.{IsWrittenIn, WritesIf, head_in, text_at}
 use Rattle.clock_scripts.specs.ScriptedRequests.{scripted_put}
-use Rattle.clock_sim.specs.inside.Groups.{Request, ClosesNoRound, ComesUnderWay, IsGroup, IsNext, IsUnderWay, StillWait, text_in, after_group, request_in, requests_in}
+use Rattle.clock_sim.specs.inside.Groups.{GroupRequest, ClosesNoRound, ComesUnderWay, IsGroup, IsNext, IsGroupUnderWay, StillWait, text_in, after_group, request_in, requests_in}
 use Rattle.clock_sim.specs.inside.Groups.{with_put, with_request, with_turn}
 use Rattle.clock_sim.specs.inside.Steps.{IsGoing, ComesTo, MakesStep, IsLeft, MakesWay}
 use Rattle.clock_sim.proofs.StepLaws.{Texts, Step, IsOnWay, and_then, left_as, next_at}
@@ -69,7 +69,7 @@ way_then {T = T} whole left last old mid new done result one two = record {
       subst P way.same (two.comes way.texts way.stands);
 }
 
-none_left : (setup : SetupFields) (group : List Request) (texts : Texts) → length group ≡ 0 → after_group setup group texts ≡ Ok texts
+none_left : (setup : SetupFields) (group : List GroupRequest) (texts : Texts) → length group ≡ 0 → after_group setup group texts ≡ Ok texts
 none_left setup [] texts none = refl
 none_left setup (one ∷ group) texts none = absurd (omega (arith, none))
 
@@ -78,7 +78,7 @@ on_ok P (Ok done) is = is
 on_ok P (Err fault) is = tt
 
 -- one more request waits
-pub one_waits : {T : Type 0} (group waiting : List Request) (one : Request) (text : List ℕ) (old new : HouseFields) (done : T) → new ≡ old
+pub one_waits : {T : Type 0} (group waiting : List GroupRequest) (one : GroupRequest) (text : List ℕ) (old new : HouseFields) (done : T) → new ≡ old
     → waiting ≡ group ++ one ∷ [] → text_in one ≡ text
     → MakesWay (with_request old.setup group one.bidder one.round text) (after_group old.setup waiting) old new (Ok done)
 one_waits group waiting one text old new done same is reads = record {
@@ -87,7 +87,7 @@ one_waits group waiting one text old new done same is reads = record {
     texts = texts;
     stands = subst (StandsForTexts texts) (sym same) stands;
     same =
-        ap (λ (list : List Request). after_group old.setup list texts) is ∙ with_one old.setup group one texts
+        ap (λ (list : List GroupRequest). after_group old.setup list texts) is ∙ with_one old.setup group one texts
         ∙ ap (λ (bytes : List ℕ). with_request old.setup group one.bidder one.round bytes texts) reads;
   };
 }
@@ -108,12 +108,12 @@ parted (Ok next) second end is = (next, refl, is)
 parted (Err fault) second end is = absurd (cc)
 
 -- the requests of a group close no round
-group_closes_none : (setup : SetupFields) (group : List Request) (texts end : Texts) → All (λ one. ClosesNoRound (text_in one)) group
+group_closes_none : (setup : SetupFields) (group : List GroupRequest) (texts end : Texts) → All (λ one. ClosesNoRound (text_in one)) group
     → after_group setup group texts ≡ Ok end → rounds_after setup end ≡ rounds_after setup texts
 group_closes_none setup [] texts end close is = let same : texts ≡ end = cc in ap (rounds_after setup) (sym same)
 group_closes_none setup (one ∷ group) texts end close is =
     let parts = parted (one_step setup one texts) (after_group setup group) end is in
-    group_closes_none setup group parts.0 end (All-tail (λ (w : Request). ClosesNoRound (text_in w)) one group close) parts.2
+    group_closes_none setup group parts.0 end (All-tail (λ (w : GroupRequest). ClosesNoRound (text_in w)) one group close) parts.2
     ∙ ap (rounds_after setup) (sent_text setup texts parts.0 (Some one.bidder) one.round (text_in one) parts.1)
     ∙ close 0 one (omega arith) setup texts
 
@@ -131,7 +131,7 @@ still_going step old new done before made none =
       stands = end.stands;
     }
 
-pub going_after_group : {T : Type 0} (group : List Request) (old new : HouseFields) (result : Result T SimFault)
+pub going_after_group : {T : Type 0} (group : List GroupRequest) (old new : HouseFields) (result : Result T SimFault)
     → All (λ one. ClosesNoRound (text_in one)) group → IsGoing old → MakesStep (after_group old.setup group) old new result → OnOk result (IsGoing new)
 going_after_group group old new (Ok done) close before made =
     still_going (after_group old.setup group) old new done before made (λ texts end is. group_closes_none old.setup group texts end close is)
@@ -147,7 +147,7 @@ going_after_one bidder round text old new (Err fault) closes before made = tt
 -- ---- a group is sent
 
 -- a request is written after the waiting ones
-still_under_way : (hub : HubFields) (group next : Group) → IsUnderWay hub group → StillWait group next → IsUnderWay hub next
+still_under_way : (hub : HubFields) (group next : Group) → IsGroupUnderWay hub group → StillWait group next → IsGroupUnderWay hub next
 still_under_way hub group next before keeps =
     let kept = keeps before.waits.written in record {
       waits = record { requests = subst (IsGroup hub.connections) (sym kept.0) before.waits.requests; written = kept.1 };
@@ -185,7 +185,7 @@ all_sent steps next old new (Err fault) made none going = record {
 
 -- the waiting requests were sent, and then one more of a bidder by itself
 pub sent_alone : {U T : Type 0} (group next : Group) (bidder round : ℕ) (text : List ℕ) (old mid new : HubFields) (done : U) (result : Result T SimFault)
-    → IsUnderWay old group → ClosesNoRound text → MakesStep (after_group old.house.setup (requests_in group)) old.house mid.house (Ok done)
+    → IsGroupUnderWay old group → ClosesNoRound text → MakesStep (after_group old.house.setup (requests_in group)) old.house mid.house (Ok done)
     → requests_in next ≡ [] → MakesStep (λ texts. after_request mid.house.setup texts (Some bidder) round text) mid.house new.house result
     → ComesUnderWay (with_request old.house.setup (requests_in group) bidder round text) old new next result
 sent_alone {T = T} group next bidder round text old mid new done result before closes made none sent =
@@ -247,7 +247,7 @@ sent_full {T = T} done steps old mid new group next result one made none =
     }
 
 -- the script gives the same sheet before and after the requests of the group
-module _ (old : HouseFields) (group : List Request) (bidder : ℕ) (script : Script) (close : All (λ one. ClosesNoRound (text_in one)) group) where
+module _ (old : HouseFields) (group : List GroupRequest) (bidder : ℕ) (script : Script) (close : All (λ one. ClosesNoRound (text_in one)) group) where
   abbrev given : List ClosedRound → Texts → Option (List ℕ) → Result Texts SimFault
   given closed texts put = after_request_if old.setup texts (Some bidder) (standing old.setup.products closed).round put
 
@@ -293,7 +293,7 @@ module _ (old : HouseFields) (group : List Request) (bidder : ℕ) (script : Scr
 -- ---- a bidder's turn, with capacity for its request
 
 module _ (hub : HubFields) (group room : Group) (text : Vec ℕ Global) (house : HouseFields) (bidder : ℕ) (script : Script) (written : Option Written)
-    (before : IsUnderWay hub group) (has_room : StillWait group room) (same : house ≡ hub.house)
+    (before : IsGroupUnderWay hub group) (has_room : StillWait group room) (same : house ≡ hub.house)
     (writes : WritesIf room.text.items text.items (scripted_put house.setup house.closed bidder script) written) where
   -- the group with what was written
   abbrev pub grown : Group
@@ -326,7 +326,7 @@ module _ (hub : HubFields) (group room : Group) (text : Vec ℕ Global) (house :
         under_way = made.under_way;
         way = put_waits hub.house (requests_in group) bidder script before.waits.requests.close new.house rest (text_at text.items one) round result
             (puts ∙ ap (option_map (text_at text.items)) is) at
-            (subst (λ (requests : List Request). MakesWay (with_request hub.house.setup requests bidder round (text_at text.items one)) rest hub.house new.house result)
+            (subst (λ (requests : List GroupRequest). MakesWay (with_request hub.house.setup requests bidder round (text_at text.items one)) rest hub.house new.house result)
             (still before.waits.written).0 made.way);
       }
 
@@ -335,7 +335,7 @@ module _ (hub : HubFields) (group room : Group) (text : Vec ℕ Global) (house :
   turn_passed done is = record {
     under_way = still_under_way hub group grown before still;
     way = subst
-        (λ (requests : List Request). MakesWay (with_put hub.house.setup (requests_in group) bidder script) (after_group hub.house.setup requests) hub.house hub.house
+        (λ (requests : List GroupRequest). MakesWay (with_put hub.house.setup (requests_in group) bidder script) (after_group hub.house.setup requests) hub.house hub.house
         (Ok done))
         (sym (still before.waits.written).0)
         (none_put hub.house (requests_in group) bidder script before.waits.requests.close done (puts ∙ ap (option_map (text_at text.items)) is));
@@ -344,7 +344,7 @@ module _ (hub : HubFields) (group room : Group) (text : Vec ℕ Global) (house :
 -- ---- bidder after bidder
 
 -- the waiting requests, and then the sheets of the bidders from this one on
-abbrev pub then_puts : SetupFields → List Request → ℕ → List Script → Step
+abbrev pub then_puts : SetupFields → List GroupRequest → ℕ → List Script → Step
 then_puts setup group i scripts texts = after_group setup group texts >>= after_puts setup i scripts
 
 in_turn : (setup : SetupFields) (i : ℕ) (script : Script) (rest : List Script) (answer : Result Texts SimFault)
@@ -352,7 +352,7 @@ in_turn : (setup : SetupFields) (i : ℕ) (script : Script) (rest : List Script)
 in_turn setup i script rest (Ok texts) = refl
 in_turn setup i script rest (Err fault) = refl
 
-module _ (whole : Step) (scripts : List Script) (group waiting : List Request) (i : ℕ) (script : Script) (initial now next : HouseFields)
+module _ (whole : Step) (scripts : List Script) (group waiting : List GroupRequest) (i : ℕ) (script : Script) (initial now next : HouseFields)
     (below : i < length scripts) (is : script ≡ get_or scripts i script)
     (before : IsOnWay whole (then_puts initial.setup group i (drop i scripts)) initial now) where
   -- the turn, and those after it
@@ -386,7 +386,7 @@ module _ (whole : Step) (scripts : List Script) (group waiting : List Request) (
       (subst (λ (setup : SetupFields). MakesWay {T = U} (turn setup) (after_group setup waiting) now next (Err fault)) before.setup made)
 
 -- no request waits before the first turn
-pub first_turn : (setup : SetupFields) (group : List Request) (scripts : List Script) (initial : HouseFields) → initial.setup ≡ setup → length group ≡ 0
+pub first_turn : (setup : SetupFields) (group : List GroupRequest) (scripts : List Script) (initial : HouseFields) → initial.setup ≡ setup → length group ≡ 0
     → IsOnWay (after_puts setup 0 scripts) (then_puts setup group 0 scripts) initial initial
 first_turn setup group scripts initial same none = record {
   setup = refl;
@@ -398,7 +398,7 @@ first_turn setup group scripts initial same none = record {
 }
 
 -- after the last turn the waiting requests are sent
-pub last_sent : {T : Type 0} (whole : Step) (scripts : List Script) (group : List Request) (i : ℕ) (initial now new : HouseFields) (result : Result T SimFault)
+pub last_sent : {T : Type 0} (whole : Step) (scripts : List Script) (group : List GroupRequest) (i : ℕ) (initial now new : HouseFields) (result : Result T SimFault)
     → length scripts ≤ i → IsOnWay whole (then_puts initial.setup group i (drop i scripts)) initial now
     → MakesStep (after_group now.setup group) now new result → MakesStep whole initial new result
 last_sent {T = T} whole scripts group i initial now new result past before made = record {

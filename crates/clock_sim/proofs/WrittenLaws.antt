@@ -6,7 +6,7 @@ use Rattle.std.specs.declared.alloc.Global.{Global}
 use Rattle.std.proofs.lemmas.List.{length-map, get_or-map, map-append, length-append, length-drop, drop-append-le, take-append-le}
 use Rattle.std.proofs.lemmas.List.Elements.{All-tail}
 use Rattle.clock_house.specs.House.{HouseFields}
-use Rattle.clock_connections.specs.Connections.{ConnectionFields, text_of, KeepsOthers}
+use Rattle.clock_connections.specs.Connections.{ConnectionFields, text_of, LeavesOthers}
 use Rattle.clock_front.specs.Hubs.{HubFields}
 use Rattle.clock_scripts.specs.declared.requests.Written.{Written}
 use Rattle.clock_scripts.specs.Pieces.{Grows, IsWrittenIn, WritesIf, body_in, text_at}
@@ -14,7 +14,7 @@ use Rattle.clock_sim.specs.declared.rounds.Waiting.{Waiting}
 use Rattle.clock_sim.specs.declared.rounds.Group.{Group}
 use Rattle.clock_sim.specs.declared.simulation.SimFault.{SimFault}
 use Rattle.clock_sim.specs.Rehearsal.{after_request}
-use Rattle.clock_sim.specs.inside.Groups.{Request, request_in, requests_in, after_group, AreApart, StandFrom, StillWait, Waits}
+use Rattle.clock_sim.specs.inside.Groups.{GroupRequest, request_in, requests_in, after_group, AreApart, HaveTextsFrom, StillWait, AreWaiting}
 use Rattle.clock_sim.specs.inside.Steps.{MakesStep}
 use Rattle.clock_sim.proofs.GroupLaws.{body_done, body_refused, empty_group, head_at, heads_kept, one_step}
 use Rattle.clock_sim.proofs.StepLaws.{IsOnWay, Step}
@@ -39,7 +39,7 @@ module _ (old new : List ℕ) (grows : Grows old new) where
       ap₂ (λ (head body : List ℕ). record { bidder = one.bidder; round = one.round; conn = one.conn; head = head; body = body })
       (kept old new grows.more at.head at.end grows.is here.head here.end)
       (kept old new grows.more at.body at.head grows.is here.body (omega (arith, here.head, here.end))) in
-      ap₂ (λ (request : Request) (others : List Request). request ∷ others) first
+      ap₂ (λ (request : GroupRequest) (others : List GroupRequest). request ∷ others) first
       (requests_kept waiting (All-tail (λ (w : Waiting). IsWrittenIn old w.written) one waiting all))
 
 -- so the waiting requests are unchanged
@@ -86,12 +86,12 @@ pub one_more : (text : List ℕ) (waiting next : List Waiting) (one : Waiting) �
 one_more text waiting next one is = ap (λ (list : List Waiting). map (request_in text) list) is ∙ map-append (request_in text) waiting (one ∷ [])
 
 -- no request waits
-pub none_wait : (connections : ConnectionFields) (group : Group) → requests_in group ≡ [] → Waits connections group
+pub none_wait : (connections : ConnectionFields) (group : Group) → requests_in group ≡ [] → AreWaiting connections group
 none_wait connections group none =
     let count = length-map group.waiting.items (request_in group.text.items) in
     record {
       requests = empty_group connections (requests_in group) (ap length none);
-      written = λ k other below. absurd (omega (arith, below, count, ap (λ (list : List Request). length list) none));
+      written = λ k other below. absurd (omega (arith, below, count, ap (λ (list : List GroupRequest). length list) none));
     }
 
 -- ---- the request at an index
@@ -131,8 +131,8 @@ module _ (whole : Step) (group : Group) (i : ℕ) (waiting : List Waiting) (body
     (same : waiting ≡ group.waiting.items) (here : i < length waiting)
     (is : body ≡ body_in group.text.items (waiting_at waiting i).written)
     (before : IsOnWay whole (after_group initial.setup (drop i (requests_in group))) initial old.house)
-    (stand : StandFrom i old.connections (requests_in group) (λ k one. one.head)) where
-  abbrev this : Request
+    (stand : HaveTextsFrom i old.connections (requests_in group) (λ k one. one.head)) where
+  abbrev this : GroupRequest
   this = request_in group.text.items (waiting_at group.waiting.items i)
 
   placed : (i < length (requests_in group)) × (this ≡ get_or (requests_in group) i this)
@@ -150,13 +150,13 @@ module _ (whole : Step) (group : Group) (i : ℕ) (waiting : List Waiting) (body
   -- the request is done, and those after it are left
   pub sent_in_turn : {U : Type 0} (done : U) → IsMade i old new (Ok done) waiting body → AreApart (requests_in group)
       → ((head : List ℕ) → text_of old.connections (waiting_at waiting i).conn ≡ Some head
-      → KeepsOthers old.connections new.connections (waiting_at waiting i).conn)
+      → LeavesOthers old.connections new.connections (waiting_at waiting i).conn)
       → IsOnWay whole (after_group initial.setup (drop (i + 1) (requests_in group))) initial new.house
-      × StandFrom (i + 1) new.connections (requests_in group) (λ k one. one.head)
+      × HaveTextsFrom (i + 1) new.connections (requests_in group) (λ k one. one.head)
   sent_in_turn done made apart keeps =
       let KeepsThem : List Waiting → Type 0 =
       λ list. (head : List ℕ) → text_of old.connections (waiting_at list i).conn ≡ Some head
-      → KeepsOthers old.connections new.connections (waiting_at list i).conn in (
+      → LeavesOthers old.connections new.connections (waiting_at list i).conn in (
         body_done whole (requests_in group) i this initial old.house new.house placed.0 placed.1 before done (made_at (Ok done) made),
         heads_kept old.connections new.connections (requests_in group) i this apart placed.0 placed.1 stand
             (subst KeepsThem same keeps this.head headed),

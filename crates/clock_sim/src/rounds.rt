@@ -5,12 +5,12 @@
 //! body.
 
 ghost use Rattle.std.specs.Prelude.{◌≡◌, ◌<◌, [], ◌++◌, Some, ℕ, List, length, true, IfErr, OnOk};
-ghost use Rattle.clock_connections.specs.Connections.{text_of, KeepsOthers};
+ghost use Rattle.clock_connections.specs.Connections.{text_of, LeavesOthers};
 ghost use Rattle.clock_house.specs.House.{standing_in};
 ghost use Rattle.clock_replays.specs.Replays.{IsScript};
 ghost use Rattle.clock_sim.specs.Rehearsal as rules;
-ghost use Rattle.clock_sim.specs.inside.Groups.{AreApart, AreWritten, ComesUnderWay, IsUnderWay, StandFrom, Waits, after_group, requests_in, with_put};
-ghost use Rattle.clock_sim.specs.inside.Steps.{AreScriptsOf, IsGoing, IsTold, MakesStep};
+ghost use Rattle.clock_sim.specs.inside.Groups.{AreApart, AreWritten, ComesUnderWay, IsGroupUnderWay, HaveTextsFrom, AreWaiting, after_group, requests_in, with_put};
+ghost use Rattle.clock_sim.specs.inside.Steps.{AreScriptsOf, IsGoing, IsResultByCode, MakesStep};
 
 use crate::simulation::SimFault;
 use clock_connections::{Conn, HubFault};
@@ -46,9 +46,9 @@ impl Group {
     /// Sends the heads of the waiting requests, in order. Requires that nothing was sent on their
     /// connections.
     fn feed_heads<P: Processor>(&self, hub: &mut Hub<P>) -> Result<(), HubFault>
-        requires { Waits hub.old.connections self.now }
+        requires { AreWaiting hub.old.connections self.now }
         ensures house { hub.new.house ≡ hub.old.house }
-        ensures heads { OnOk result (StandFrom 0 hub.new.connections (requests_in self.now) (λ k one. one.head)) }
+        ensures heads { OnOk result (HaveTextsFrom 0 hub.new.connections (requests_in self.now) (λ k one. one.head)) }
     {
         for one in &self.waiting {
             hub.feed(one.conn, &self.text[one.written.head..one.written.end])?;
@@ -59,7 +59,7 @@ impl Group {
     /// Sends the bodies of the waiting requests, in order, and reads the replies. Requires that
     /// their heads were sent. Stops at the first reply that is not `done`.
     fn send_bodies<P: Processor>(&self, hub: &mut Hub<P>) -> Result<(), SimFault>
-        requires heads { StandFrom 0 hub.old.connections (requests_in self.now) (λ k one. one.head) }
+        requires heads { HaveTextsFrom 0 hub.old.connections (requests_in self.now) (λ k one. one.head) }
         requires apart { AreApart (requests_in self.now) }
         requires within { AreWritten self.now }
         ensures step { MakesStep (after_group hub.old.house.setup (requests_in self.now)) hub.old.house
@@ -76,7 +76,7 @@ impl Group {
     /// Sends the waiting requests. After that none waits; their text stays. Stops at the first
     /// reply that is not `done`.
     fn send_all<P: Processor>(&mut self, hub: &mut Hub<P>) -> Result<(), SimFault>
-        requires { Waits hub.old.connections self.old }
+        requires { AreWaiting hub.old.connections self.old }
         ensures step { MakesStep (after_group hub.old.house.setup (requests_in self.old)) hub.old.house
             hub.new.house result }
         ensures held { IfErr result rules.HasRefusalCode }
@@ -93,7 +93,7 @@ impl Group {
 /// Returns the result of a request with this reply: `Ok` if it is done, `NoMemory` if it is out of
 /// memory, otherwise the refusal of the bidder `sender`, or without one of the operator.
 fn told(code: Code, sender: Option<u64>, round: u64) -> Result<(), SimFault>
-    ensures step { IsTold code (rules.refused_by sender round code) result }
+    ensures step { IsResultByCode code (rules.refused_by sender round code) result }
     ensures held { IfErr result rules.HasRefusalCode }
 {
     match (code, sender) {
@@ -118,7 +118,7 @@ fn send_body<P: Processor>(
         hub.old.house hub.new.house result }
     ensures held { IfErr result rules.HasRefusalCode }
     ensures others { (head : List ℕ) → text_of hub.old.connections conn ≡ Some head
-        → OnOk result (KeepsOthers hub.old.connections hub.new.connections conn) }
+        → OnOk result (LeavesOthers hub.old.connections hub.new.connections conn) }
 {
     let reply = match hub.feed(conn, body)? {
         Fed::Reply(reply) => reply,
@@ -160,7 +160,7 @@ fn put_scripted<P: Processor>(
 ) -> Result<(), SimFault>
     requires known { bidder < length hub.old.house.setup.bidders }
     requires script { IsScript hub.old.house.setup.products script.now }
-    requires under_way { IsUnderWay hub.old group.old }
+    requires under_way { IsGroupUnderWay hub.old group.old }
     ensures step { ComesUnderWay (with_put hub.old.house.setup (requests_in group.old) bidder script.now) hub.old
         hub.new group.new result }
     ensures held { IfErr result rules.HasRefusalCode }

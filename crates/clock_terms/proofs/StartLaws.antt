@@ -5,47 +5,47 @@ use Rattle.std.proofs.lemmas.Bool.{cases_lt, cases_eq}
 use Rattle.std.proofs.lemmas.List.{get_or_default, get_or-replicate, length-replicate}
 use Rattle.std.proofs.lemmas.List.Edits.{length-insert, length-remove, get_or-insert_at, get_or-insert_below, get_or-insert_above}
 use Rattle.std.proofs.lemmas.List.Edits.{get_or-remove_below, get_or-remove_above}
-use Rattle.clock_terms.specs.declared.held_list.HeldDemand.{HeldDemand}
+use Rattle.clock_terms.specs.declared.held_list.PositiveDemand.{PositiveDemand}
 use Rattle.clock_terms.specs.HeldDemands.{demands_of}
-use Rattle.clock_terms.specs.inside.Rows.{AreHeld, AreStarts, IsFirstFrom, IsKeptRow, IsStart, StandsAt, WouldStandAt, group_size}
+use Rattle.clock_terms.specs.inside.Rows.{ArePositiveDemands, AreStarts, IsFirstFrom, IsPackedRow, IsStart, IsAtIndex, BelongsAtIndex, group_size}
 use Rattle.clock_terms.proofs.HeldLaws.{below_count, rising}
 
 -- without entries each group starts at index 0
-pub starts_none : (held : List HeldDemand) (starts : List ℕ) (count : ℕ) → held ≡ [] → starts ≡ replicate count 0 → AreStarts held starts
+pub starts_none : (held : List PositiveDemand) (starts : List ℕ) (count : ℕ) → held ≡ [] → starts ≡ replicate count 0 → AreStarts held starts
 starts_none held starts count empty zeros = λ group within.
     let none : get_or starts group 0 ≡ 0 =
     ap (λ (list : List ℕ). get_or list group 0) zeros
     ∙ get_or-replicate count group 0 0 (omega (arith, within, ap (λ (list : List ℕ). length list) zeros, length-replicate {A = ℕ} count 0)) in (
       (omega (arith, none), λ k d low high. absurd (omega (arith, high, none))),
-      λ d inside. absurd (omega (arith, inside, ap (λ (list : List HeldDemand). length list) empty)),
+      λ d inside. absurd (omega (arith, inside, ap (λ (list : List PositiveDemand). length list) empty)),
     )
 
 -- the start of a product's group, as it is read from the row, is a start for the product
-pub start_read : (count : ℕ) (held seen : List HeldDemand) (starts : List ℕ) (capacity : ℕ) (row : List ℕ) (product start : ℕ)
-    → IsKeptRow count held starts capacity → demands_of count held ≡ row → product < length row → seen ≡ held
+pub start_read : (count : ℕ) (held seen : List PositiveDemand) (starts : List ℕ) (capacity : ℕ) (row : List ℕ) (product start : ℕ)
+    → IsPackedRow count held starts capacity → demands_of count held ≡ row → product < length row → seen ≡ held
     → start ≡ get_or starts (product / group_size) start → IsStart seen product start
 start_read count held seen starts capacity row product start kept is within same read =
     let group = product / group_size in
     let known : group < length starts = omega (arith, kept.searched, below_count count held row product is within) in
     let first = kept.starts group known in
     let whole : start ≡ get_or starts group 0 = read ∙ get_or_default starts group start 0 known in
-    subst (λ (list : List HeldDemand). IsStart list product start) (sym same)
+    subst (λ (list : List PositiveDemand). IsStart list product start) (sym same)
     (omega (arith, whole, first.0.0), λ k d low high. omega (arith, first.0.1 k d low (omega (arith, whole, high))))
 
 -- ---- an entry is inserted
 
 -- entries after index `place` move up by one
-behind_insert : (held : List HeldDemand) (one d : HeldDemand) (place k : ℕ) → place ≤ length held → place < k
+behind_insert : (held : List PositiveDemand) (one d : PositiveDemand) (place k : ℕ) → place ≤ length held → place < k
     → get_or (insert held place one) k d ≡ get_or held (k - 1) d
 behind_insert held one d place k within above =
     let next : k ≡ (k - 1) + 1 = omega (arith, above) in
     ap (λ (n : ℕ). get_or (insert held place one) n d) next ∙ get_or-insert_above held place one d (k - 1) (omega (arith, above)) within
 
 -- the entries before a later start are still for lower products, with the new one among them
-smaller_insert : (held : List HeldDemand) (one : HeldDemand) (place product start k : ℕ) (d : HeldDemand) → place ≤ length held → one.product < product
+smaller_insert : (held : List PositiveDemand) (one : PositiveDemand) (place product start k : ℕ) (d : PositiveDemand) → place ≤ length held → one.product < product
     → IsStart held product start → k < start + 1 → place ≤ start → (get_or (insert held place one) k d).product < product
 smaller_insert held one place product start k d within smaller is high before =
-    let IsSmaller : HeldDemand → Type 0 = λ o. o.product < product in
+    let IsSmaller : PositiveDemand → Type 0 = λ o. o.product < product in
     ⊎_elim
     (λ (ahead : k < place). subst IsSmaller (sym (get_or-insert_below held place one d k ahead within)) (is.1 k d (omega arith) (omega (arith, ahead, before))))
     (λ (rest : place ≤ k).
@@ -59,7 +59,7 @@ smaller_insert held one place product start k d within smaller is high before =
     (cases_lt k place)
 
 -- inserting an entry moves the start of a later group up by one
-pub start_moved : (held : List HeldDemand) (one : HeldDemand) (place product start : ℕ) → WouldStandAt held one.product place → one.product < product
+pub start_moved : (held : List PositiveDemand) (one : PositiveDemand) (place product start : ℕ) → BelongsAtIndex held one.product place → one.product < product
     → IsFirstFrom held product start → IsFirstFrom (insert held place one) product (start + 1)
 start_moved held one place product start would smaller first =
     let within = would.0.0 in
@@ -71,11 +71,11 @@ start_moved held one place product start would smaller first =
     let size = length-insert held place one within in (
       (omega (arith, size, first.0.0), λ k d low high. smaller_insert held one place product start k d within smaller first.0 high before),
       λ d inside.
-          subst (λ (o : HeldDemand). product ≤ o.product) (sym (get_or-insert_above held place one d start before within)) (first.1 d (omega (arith, inside, size))),
+          subst (λ (o : PositiveDemand). product ≤ o.product) (sym (get_or-insert_above held place one d start before within)) (first.1 d (omega (arith, inside, size))),
     )
 
 -- and leaves the start of its own group and of earlier ones
-pub start_stays : (held : List HeldDemand) (one : HeldDemand) (place product start : ℕ) → WouldStandAt held one.product place → product ≤ one.product
+pub start_stays : (held : List PositiveDemand) (one : PositiveDemand) (place product start : ℕ) → BelongsAtIndex held one.product place → product ≤ one.product
     → IsFirstFrom held product start → IsFirstFrom (insert held place one) product start
 start_stays held one place product start would smaller first =
     let within = would.0.0 in
@@ -86,10 +86,10 @@ start_stays held one place product start would smaller first =
     (λ (is : start ≤ place). is)
     (cases_lt place start) in
     let size = length-insert held place one within in
-    let IsFrom : HeldDemand → Type 0 = λ o. product ≤ o.product in (
+    let IsFrom : PositiveDemand → Type 0 = λ o. product ≤ o.product in (
       (
         omega (arith, size, first.0.0),
-        λ k d low high. subst (λ (o : HeldDemand). o.product < product) (sym (get_or-insert_below held place one d k (omega (arith, high, before)) within))
+        λ k d low high. subst (λ (o : PositiveDemand). o.product < product) (sym (get_or-insert_below held place one d k (omega (arith, high, before)) within))
             (first.0.1 k d low high),
       ),
       λ d inside.
@@ -104,10 +104,10 @@ start_stays held one place product start would smaller first =
 -- ---- an entry is removed
 
 -- a later group starts after the removed entry
-pub start_behind : (held : List HeldDemand) (place product taken start : ℕ) → StandsAt held taken place → taken < product
+pub start_behind : (held : List PositiveDemand) (place product taken start : ℕ) → IsAtIndex held taken place → taken < product
     → IsFirstFrom held product start → place < start
 start_behind held place product taken start stands smaller first =
-    let none : HeldDemand = record { product = 0; demand = 0 } in
+    let none : PositiveDemand = record { product = 0; demand = 0 } in
     ⊎_elim
     (λ (is : place < start). is)
     (λ (later : start ≤ place).
@@ -120,14 +120,14 @@ start_behind held place product taken start stands smaller first =
     (cases_lt place start)
 
 -- so its start moves down by one
-pub start_moved_back : (held : List HeldDemand) (place product taken start : ℕ) → StandsAt held taken place → taken < product
+pub start_moved_back : (held : List PositiveDemand) (place product taken start : ℕ) → IsAtIndex held taken place → taken < product
     → IsFirstFrom held product start → IsFirstFrom (remove held place) product (start - 1)
 start_moved_back held place product taken start stands smaller first =
     let within = stands.1 in
     let behind = start_behind held place product taken start stands smaller first in
     let size = length-remove held place within in
     let last : (start - 1) + 1 ≡ start = omega (arith, behind) in
-    let IsSmaller : HeldDemand → Type 0 = λ o. o.product < product in (
+    let IsSmaller : PositiveDemand → Type 0 = λ o. o.product < product in (
       (
         omega (arith, size, first.0.0),
         λ k d low high.
@@ -141,14 +141,14 @@ start_moved_back held place product taken start stands smaller first =
       λ d inside.
           let moved : get_or (remove held place) (start - 1) d ≡ get_or held start d =
           get_or-remove_above held place d (start - 1) (omega (arith, behind)) within ∙ ap (λ (n : ℕ). get_or held n d) last in
-          subst (λ (o : HeldDemand). product ≤ o.product) (sym moved) (first.1 d (omega (arith, inside, size, behind))),
+          subst (λ (o : PositiveDemand). product ≤ o.product) (sym moved) (first.1 d (omega (arith, inside, size, behind))),
     )
 
 -- the start of its own group and of earlier ones does not move
-pub start_stays_behind : (held : List HeldDemand) (count place product taken start : ℕ) → AreHeld 0 held count → StandsAt held taken place → product ≤ taken
+pub start_stays_behind : (held : List PositiveDemand) (count place product taken start : ℕ) → ArePositiveDemands 0 held count → IsAtIndex held taken place → product ≤ taken
     → IsFirstFrom held product start → IsFirstFrom (remove held place) product start
 start_stays_behind held count place product taken start are stands smaller first =
-    let none : HeldDemand = record { product = 0; demand = 0 } in
+    let none : PositiveDemand = record { product = 0; demand = 0 } in
     let within = stands.1 in
     let size = length-remove held place within in
     let before : start ≤ place =
@@ -156,10 +156,10 @@ start_stays_behind held count place product taken start are stands smaller first
     (λ (later : place < start). absurd (omega (arith, first.0.1 place none (omega arith) later, stands.2 none, smaller)))
     (λ (is : start ≤ place). is)
     (cases_lt place start) in
-    let IsFrom : HeldDemand → Type 0 = λ o. product ≤ o.product in (
+    let IsFrom : PositiveDemand → Type 0 = λ o. product ≤ o.product in (
       (
         omega (arith, size, before, within),
-        λ k d low high. subst (λ (o : HeldDemand). o.product < product) (sym (get_or-remove_below held place d k (omega (arith, high, before)) within))
+        λ k d low high. subst (λ (o : PositiveDemand). o.product < product) (sym (get_or-remove_below held place d k (omega (arith, high, before)) within))
             (first.0.1 k d low high),
       ),
       λ d inside.
@@ -175,15 +175,15 @@ start_stays_behind held count place product taken start are stands smaller first
 -- ---- the starts of all groups
 
 -- after an entry is inserted, the starts of all later groups are moved
-pub starts_put : (held after : List HeldDemand) (one : HeldDemand) (place : ℕ) (starts moved : List ℕ) → after ≡ insert held place one
-    → WouldStandAt held one.product place → AreStarts held starts → length moved ≡ length starts
+pub starts_put : (held after : List PositiveDemand) (one : PositiveDemand) (place : ℕ) (starts moved : List ℕ) → after ≡ insert held place one
+    → BelongsAtIndex held one.product place → AreStarts held starts → length moved ≡ length starts
     → ((group : ℕ) → group < one.product / group_size + 1 → get_or moved group 0 ≡ get_or starts group 0)
     → ((group : ℕ) → one.product / group_size + 1 ≤ group → group < length moved → get_or moved group 0 ≡ get_or starts group 0 + 1)
     → AreStarts after moved
 starts_put held after one place starts moved put would are each stay move group within =
     let first = are group (omega (arith, within, each)) in
     let IsFirst : ℕ → Type 0 = IsFirstFrom (insert held place one) (group * group_size) in
-    subst (λ (list : List HeldDemand). IsFirstFrom list (group * group_size) (get_or moved group 0)) (sym put)
+    subst (λ (list : List PositiveDemand). IsFirstFrom list (group * group_size) (get_or moved group 0)) (sym put)
     (⊎_elim
     (λ (own : group < one.product / group_size + 1).
     subst IsFirst (sym (stay group own)) (start_stays held one place (group * group_size) (get_or starts group 0) would (omega (arith, own)) first))
@@ -193,21 +193,21 @@ starts_put held after one place starts moved put would are each stay move group 
     (cases_lt group (one.product / group_size + 1)))
 
 -- the start of a later group than the removed entry's is at least 1
-pub some_before : (held : List HeldDemand) (place taken : ℕ) (starts : List ℕ) (group : ℕ) → StandsAt held taken place → AreStarts held starts
+pub some_before : (held : List PositiveDemand) (place taken : ℕ) (starts : List ℕ) (group : ℕ) → IsAtIndex held taken place → AreStarts held starts
     → group < length starts → taken / group_size + 1 ≤ group → 1 ≤ get_or starts group 0
 some_before held place taken starts group stands are within behind =
     omega (arith, start_behind held place (group * group_size) taken (get_or starts group 0) stands (omega (arith, behind)) (are group within))
 
 -- after an entry is removed, the starts of all later groups are moved
-pub starts_taken : (held after : List HeldDemand) (count place taken : ℕ) (starts moved : List ℕ) → after ≡ remove held place → AreHeld 0 held count
-    → StandsAt held taken place → AreStarts held starts → length moved ≡ length starts
+pub starts_taken : (held after : List PositiveDemand) (count place taken : ℕ) (starts moved : List ℕ) → after ≡ remove held place → ArePositiveDemands 0 held count
+    → IsAtIndex held taken place → AreStarts held starts → length moved ≡ length starts
     → ((group : ℕ) → group < taken / group_size + 1 → get_or moved group 0 ≡ get_or starts group 0)
     → ((group : ℕ) → taken / group_size + 1 ≤ group → group < length moved → get_or moved group 0 ≡ get_or starts group 0 - 1)
     → AreStarts after moved
 starts_taken held after count place taken starts moved took order stands are each stay move group within =
     let first = are group (omega (arith, within, each)) in
     let IsFirst : ℕ → Type 0 = IsFirstFrom (remove held place) (group * group_size) in
-    subst (λ (list : List HeldDemand). IsFirstFrom list (group * group_size) (get_or moved group 0)) (sym took)
+    subst (λ (list : List PositiveDemand). IsFirstFrom list (group * group_size) (get_or moved group 0)) (sym took)
     (⊎_elim
     (λ (own : group < taken / group_size + 1).
     subst IsFirst (sym (stay group own))

@@ -4,7 +4,7 @@
 --     asked_of kind bidder product changes      the blocks of a bidder's requests of one kind for a
 --         product, added up
 --     IsChangeOf products prices bidder change      one request of the bidder is within the limits
---     StandsBefore, AreApart, GoOneWay      relations of two requests: order, identity, direction
+--     IsBefore, AreApart, GoOneWay      relations of two requests: order, identity, direction
 --     KeepWithinCap      a bidder's requests for one product lead to no demand below 0 or above the
 --         cap
 --     AreChangesOf products prices demands bidder changes      all of this, for the requests of a
@@ -48,8 +48,8 @@ pub record IsChangeOf (products : List Product) (prices : List PricePair) (owner
   pub point : change.point ≡ price_point (prices_at prices change.product).start change.price (prices_at prices change.product).clock
 
 -- request a comes before request b: by product, and for one product by its place in the chain
-abbrev pub StandsBefore : Change → Change → Type 0
-StandsBefore a b = (a.product < b.product) ⊎ ((a.product ≡ b.product) × (a.place < b.place))
+abbrev pub IsBefore : Change → Change → Type 0
+IsBefore a b = (a.product < b.product) ⊎ ((a.product ≡ b.product) × (a.place < b.place))
 
 -- the two requests do not have the same bidder, product, and place
 abbrev pub AreApart : Change → Change → Type 0
@@ -71,7 +71,7 @@ pub record KeepWithinCap (products : List Product) (demands : List ℕ) (bidder 
 pub record AreChangesOf (products : List Product) (prices : List PricePair) (demands : List ℕ) (bidder : ℕ) (changes : List Change) : Type 0 where
   pub count : length changes ≤ most_bids + most_products
   pub all : All (IsChangeOf products prices bidder) changes
-  pub sorted : AllPairs StandsBefore changes
+  pub sorted : AllPairs IsBefore changes
   pub apart : AllPairs AreApart changes
   pub one_way : AllPairs GoOneWay changes
   pub capped : (product : ℕ) → product < length products → KeepWithinCap products demands bidder changes product

@@ -1,6 +1,6 @@
 ghost use Rattle.std.specs.Prelude.{◌≡◌, ℕ, ◌≤◌, ◌<◌, slice_index_or, length, take, All, IfOk, IfErr, insert, remove, vec_capacity, IsTrue};
 ghost use Rattle.clock_terms.specs.{HeldDemands.{demand_for, demands_of}, Limits.{most_products, most_supply}};
-ghost use Rattle.clock_terms.specs.inside.Rows.{AreHeld, AreStarts, IsStart, IsStored, StandsAt, WouldStandAt};
+ghost use Rattle.clock_terms.specs.inside.Rows.{ArePositiveDemands, AreStarts, IsStart, IsStored, IsAtIndex, BelongsAtIndex};
 
 /// The number of products in a group. A search for a product starts at the first entry of its
 /// group.
@@ -8,7 +8,7 @@ pub(crate) const GROUP_SIZE: usize = 16;
 
 /// An entry of a row: a product, and a positive demand for it in blocks.
 #[derive(Clone, Copy, Default)]
-pub(crate) struct HeldDemand {
+pub(crate) struct PositiveDemand {
     pub(crate) product: u16,
     pub(crate) demand: u16,
 }
@@ -16,10 +16,10 @@ pub(crate) struct HeldDemand {
 /// Returns the index of the first entry at or after `from` whose product is at least `product`, or
 /// the number of entries if there is none. Requires that all entries before `from` are for lower
 /// products.
-fn first_from(held: &[HeldDemand], from: usize, product: usize) -> usize
+fn first_from(held: &[PositiveDemand], from: usize, product: usize) -> usize
     requires { IsStart held.now product from }
     ensures start { IsStart held.now product result }
-    ensures first { (d : HeldDemand) → result < length held.now → product ≤ (slice_index_or held.now result d).product }
+    ensures first { (d : PositiveDemand) → result < length held.now → product ≤ (slice_index_or held.now result d).product }
 {
     for place in from..held.len() {
         if held[place].product as usize >= product {
@@ -31,9 +31,9 @@ fn first_from(held: &[HeldDemand], from: usize, product: usize) -> usize
 
 /// Whether the entry at index `place` is there and is for `product`.
 #[inline(always)]
-pub(crate) fn is_at(held: &[HeldDemand], place: usize, product: usize) -> bool
+pub(crate) fn is_at(held: &[PositiveDemand], place: usize, product: usize) -> bool
     ensures { IsTrue result → (place < length held.now)
-        × ((d : HeldDemand) → (slice_index_or held.now place d).product ≡ product) }
+        × ((d : PositiveDemand) → (slice_index_or held.now place d).product ≡ product) }
 {
     held.get(place)
         .is_some_and(|one| one.product as usize == product)
@@ -47,14 +47,14 @@ pub(crate) fn is_at(held: &[HeldDemand], place: usize, product: usize) -> bool
 /// products of the group have entries, the index is `start` plus the product's position in its
 /// group.
 pub(crate) fn place_in_group(
-    held: &[HeldDemand],
+    held: &[PositiveDemand],
     start: usize,
     product: usize,
 ) -> Result<usize, usize>
-    requires order { (count : ℕ) × AreHeld 0 held.now count }
+    requires order { (count : ℕ) × ArePositiveDemands 0 held.now count }
     requires start { IsStart held.now product start }
-    ensures stands { IfOk result (λ place. StandsAt held.now product place) }
-    ensures lacks { IfErr result (λ place. WouldStandAt held.now product place) }
+    ensures stands { IfOk result (λ place. IsAtIndex held.now product place) }
+    ensures lacks { IfErr result (λ place. BelongsAtIndex held.now product place) }
 {
     let likely = start.wrapping_add(product % GROUP_SIZE);
     if is_at(held, likely, product) {
@@ -69,10 +69,10 @@ pub(crate) fn place_in_group(
 }
 
 /// Returns the demand for `product`, in blocks, whose entry was searched with the result `place`.
-pub(crate) fn demand_at(held: &[HeldDemand], place: Result<usize, usize>, product: usize) -> u64
-    requires held { (count : ℕ) × AreHeld 0 held.now count }
-    requires stands { IfOk place (λ place. StandsAt held.now product place) }
-    requires lacks { IfErr place (λ place. WouldStandAt held.now product place) }
+pub(crate) fn demand_at(held: &[PositiveDemand], place: Result<usize, usize>, product: usize) -> u64
+    requires held { (count : ℕ) × ArePositiveDemands 0 held.now count }
+    requires stands { IfOk place (λ place. IsAtIndex held.now product place) }
+    requires lacks { IfErr place (λ place. BelongsAtIndex held.now product place) }
     ensures is { result ≡ demand_for held.now product }
     ensures small { result ≤ most_supply }
 {
@@ -84,8 +84,8 @@ pub(crate) fn demand_at(held: &[HeldDemand], place: Result<usize, usize>, produc
 
 /// Inserts an entry at index `place`, and moves the starts of all later groups up by one. Requires
 /// that `place` is where its product would be, and capacity for one more entry. Allocates nothing.
-fn put_in(held: &mut Vec<HeldDemand>, starts: &mut Vec<u16>, place: usize, one: HeldDemand)
-    requires place { WouldStandAt held.old.items one.product place }
+fn put_in(held: &mut Vec<PositiveDemand>, starts: &mut Vec<u16>, place: usize, one: PositiveDemand)
+    requires place { BelongsAtIndex held.old.items one.product place }
     requires starts { AreStarts held.old.items starts.old.items }
     requires few { length held.old.items < most_products }
     requires room { length held.old.items < vec_capacity held.old }
@@ -103,9 +103,9 @@ fn put_in(held: &mut Vec<HeldDemand>, starts: &mut Vec<u16>, place: usize, one: 
 
 /// Removes the entry for `product` at index `place`, and moves the starts of all later groups down
 /// by one.
-fn take_out(held: &mut Vec<HeldDemand>, starts: &mut Vec<u16>, place: usize, product: usize)
-    requires order { (count : ℕ) × AreHeld 0 held.old.items count }
-    requires place { StandsAt held.old.items product place }
+fn take_out(held: &mut Vec<PositiveDemand>, starts: &mut Vec<u16>, place: usize, product: usize)
+    requires order { (count : ℕ) × ArePositiveDemands 0 held.old.items count }
+    requires place { IsAtIndex held.old.items product place }
     requires starts { AreStarts held.old.items starts.old.items }
     ensures taken { held.new.items ≡ remove held.old.items place }
     ensures room { vec_capacity held.old ≤ vec_capacity held.new }
@@ -122,18 +122,18 @@ fn take_out(held: &mut Vec<HeldDemand>, starts: &mut Vec<u16>, place: usize, pro
 /// Stores a demand whose product was searched with the result `place`: replaces, inserts, or
 /// removes an entry. A demand of 0 has no entry. Allocates nothing.
 pub(crate) fn store(
-    held: &mut Vec<HeldDemand>,
+    held: &mut Vec<PositiveDemand>,
     starts: &mut Vec<u16>,
     place: Result<usize, usize>,
-    one: HeldDemand,
+    one: PositiveDemand,
 )
-    requires stands { IfOk place (λ place. StandsAt held.old.items one.product place) }
-    requires lacks { IfErr place (λ place. WouldStandAt held.old.items one.product place) }
+    requires stands { IfOk place (λ place. IsAtIndex held.old.items one.product place) }
+    requires lacks { IfErr place (λ place. BelongsAtIndex held.old.items one.product place) }
     requires starts { AreStarts held.old.items starts.old.items }
-    requires room { (count : ℕ) × AreHeld 0 held.old.items count × (one.product < count) × (count ≤ most_products)
+    requires room { (count : ℕ) × ArePositiveDemands 0 held.old.items count × (one.product < count) × (count ≤ most_products)
         × (count ≤ vec_capacity held.old) }
     requires small { one.demand ≤ most_supply }
-    ensures order { (count : ℕ) → AreHeld 0 held.old.items count → one.product < count → AreHeld 0 held.new.items count }
+    ensures order { (count : ℕ) → ArePositiveDemands 0 held.old.items count → one.product < count → ArePositiveDemands 0 held.new.items count }
     ensures stored { IsStored held.old.items held.new.items one.product one.demand }
     ensures room { vec_capacity held.old ≤ vec_capacity held.new }
     ensures starts { AreStarts held.new.items starts.new.items }
@@ -152,18 +152,18 @@ pub(crate) fn store(
 ///
 /// Writes every demand to the next index, and advances only past positive ones: a branch around the
 /// write would often be mispredicted.
-pub(crate) fn write_held(room: &mut [HeldDemand], demands: &[u64]) -> usize
+pub(crate) fn write_held(room: &mut [PositiveDemand], demands: &[u64]) -> usize
     requires room { length room.old ≡ length demands.now }
     requires few { length demands.now ≤ most_products }
     requires small { All (λ demand. demand ≤ most_supply) demands.now }
     ensures length { length room.new ≡ length room.old }
     ensures count { result ≤ length demands.now }
-    ensures order { AreHeld 0 (take result room.new) (length demands.now) }
+    ensures order { ArePositiveDemands 0 (take result room.new) (length demands.now) }
     ensures demands { demands_of (length demands.now) (take result room.new) ≡ demands.now }
 {
     let mut kept = 0;
     for (product, demand) in demands.iter().enumerate() {
-        room[kept] = HeldDemand {
+        room[kept] = PositiveDemand {
             product: product as u16,
             demand: *demand as u16,
         };
@@ -175,8 +175,8 @@ pub(crate) fn write_held(room: &mut [HeldDemand], demands: &[u64]) -> usize
 }
 
 /// Finds for each group the index at which its entries start.
-pub(crate) fn find_starts(starts: &mut Vec<u16>, held: &[HeldDemand])
-    requires order { (count : ℕ) × AreHeld 0 held.now count × (count ≤ most_products) }
+pub(crate) fn find_starts(starts: &mut Vec<u16>, held: &[PositiveDemand])
+    requires order { (count : ℕ) × ArePositiveDemands 0 held.now count × (count ≤ most_products) }
     requires few { length starts.old.items ≤ most_products }
     ensures starts { AreStarts held.now starts.new.items }
     ensures groups { length starts.new.items ≡ length starts.old.items }

@@ -1,12 +1,12 @@
 ghost use Rattle.std.specs.Prelude.{◌≡◌, ◌≤◌, ◌<◌, ◌+◌, ℕ, List, length, replicate, IfOk, slice_index, slice_set, vec_capacity, drop, unwrap_or, option_map, IfSome};
 ghost use Rattle.std.specs.List.{AllWithin};
 ghost use Rattle.clock_terms.specs.{Demands.{changed_demand}, HeldDemands.{demands_of, next_of}};
-ghost use Rattle.clock_terms.specs.{inside.Rows.{IsKeptRow, AreHeld, IsKeptWalk}, Limits.{IsRow, most_products, most_supply}};
+ghost use Rattle.clock_terms.specs.{inside.Rows.{IsPackedRow, ArePositiveDemands, IsKeptWalk}, Limits.{IsRow, most_products, most_supply}};
 ghost use Rattle.clock_terms.specs.Walks.{Walk};
 
 use crate::change::Kind;
 use crate::held_list::{
-    GROUP_SIZE, HeldDemand, demand_at, find_starts, is_at, place_in_group, store, write_held,
+    GROUP_SIZE, PositiveDemand, demand_at, find_starts, is_at, place_in_group, store, write_held,
 };
 use crate::setup::Setup;
 use clock_device::NoMemory;
@@ -22,7 +22,7 @@ use std::marker::Model;
 #[derive(Drop)]
 pub struct Row {
     count: usize,
-    held: Vec<HeldDemand>,
+    held: Vec<PositiveDemand>,
     starts: Vec<u16>,
 }
 
@@ -31,7 +31,7 @@ impl Model for Row {
 
     ghost view = { λ r. demands_of r.count r.held.items };
 
-    ghost invariant = { λ r. IsKeptRow r.count r.held.items r.starts.items (vec_capacity r.held) };
+    ghost invariant = { λ r. IsPackedRow r.count r.held.items r.starts.items (vec_capacity r.held) };
 }
 
 impl Row {
@@ -55,7 +55,7 @@ impl Row {
         ensures { IfOk result (λ row. row ≡ demands.now) }
     {
         let count = setup.products.len();
-        let mut room = vec![in alloc; HeldDemand::default(); count]?;
+        let mut room = vec![in alloc; PositiveDemand::default(); count]?;
         let kept = write_held(&mut room, demands);
         // A second allocation with the capacity of all products: what is never written is never
         // touched.
@@ -155,7 +155,7 @@ impl Row {
         let start = self.starts[product / GROUP_SIZE] as usize;
         let place = place_in_group(self.held.as_slice(), start, product);
         let before = demand_at(self.held.as_slice(), place, product);
-        let one = HeldDemand {
+        let one = PositiveDemand {
             product: product as u16,
             demand: kind.after(before, amount) as u16,
         };
@@ -164,10 +164,10 @@ impl Row {
     }
 
     /// Returns a packed copy of the demands, for a closed round. May return `NoMemory`.
-    pub fn kept(&self, alloc: Global) -> Result<KeptRow, NoMemory>
+    pub fn kept(&self, alloc: Global) -> Result<PackedRow, NoMemory>
         ensures { IfOk result (λ kept. kept ≡ self.now) }
     {
-        Ok(KeptRow {
+        Ok(PackedRow {
             count: self.count,
             held: Vec::from_slice(alloc, self.held.as_slice())?,
         })
@@ -175,11 +175,11 @@ impl Row {
 
     /// Returns an iterator over the products with positive demand.
     #[inline(always)]
-    pub fn held(&self) -> HeldProducts<'_>
+    pub fn held(&self) -> PositiveDemands<'_>
         ensures row { result.demands ≡ self.now }
         ensures passed { AllWithin (λ demand. demand ≡ 0) self.now 0 result.from }
     {
-        HeldProducts::of(self.count, self.held.as_slice())
+        PositiveDemands::of(self.count, self.held.as_slice())
     }
 }
 
@@ -187,20 +187,20 @@ impl Row {
 /// only for the positive ones. In contracts, a packed row is the list of its demands, one for each
 /// product.
 #[derive(Drop)]
-pub struct KeptRow {
+pub struct PackedRow {
     count: usize,
-    held: Vec<HeldDemand>,
+    held: Vec<PositiveDemand>,
 }
 
-impl Model for KeptRow {
+impl Model for PackedRow {
     ghost Value = { List ℕ };
 
     ghost view = { λ r. demands_of r.count r.held.items };
 
-    ghost invariant = { λ r. AreHeld 0 r.held.items r.count × (r.count ≤ most_products) };
+    ghost invariant = { λ r. ArePositiveDemands 0 r.held.items r.count × (r.count ≤ most_products) };
 }
 
-impl KeptRow {
+impl PackedRow {
     /// Returns the number of demands, one for each product.
     pub fn len(&self) -> usize
         ensures is { result ≡ length self.now }
@@ -210,7 +210,7 @@ impl KeptRow {
     }
 
     /// Returns the demand for a product, in blocks. Requires a product of the row. Searches from
-    /// the start of the row; to read many demands, use [`KeptRow::held`].
+    /// the start of the row; to read many demands, use [`PackedRow::held`].
     pub fn get(&self, product: usize) -> u64
         requires { product < length self.now }
         ensures { result ≡ slice_index self.now product }
@@ -221,11 +221,11 @@ impl KeptRow {
 
     /// Returns an iterator over the products with positive demand.
     #[inline(always)]
-    pub fn held(&self) -> HeldProducts<'_>
+    pub fn held(&self) -> PositiveDemands<'_>
         ensures row { result.demands ≡ self.now }
         ensures passed { AllWithin (λ demand. demand ≡ 0) self.now 0 result.from }
     {
-        HeldProducts::of(self.count, self.held.as_slice())
+        PositiveDemands::of(self.count, self.held.as_slice())
     }
 }
 
@@ -241,13 +241,13 @@ pub struct Held {
 /// An iterator over the positive demands of a row, by rising product. In contracts, it is the row's
 /// demands and a product: the demands from this product on are still to be visited.
 #[derive(Drop)]
-pub struct HeldProducts<'a> {
+pub struct PositiveDemands<'a> {
     count: usize,
-    held: &'a [HeldDemand],
+    held: &'a [PositiveDemand],
     given: usize,
 }
 
-impl<'a> Model for HeldProducts<'a> {
+impl<'a> Model for PositiveDemands<'a> {
     ghost Value = { Walk };
 
     ghost view = { λ h. record {
@@ -258,15 +258,15 @@ impl<'a> Model for HeldProducts<'a> {
     ghost invariant = { λ h. IsKeptWalk h.count h.held.now h.given };
 }
 
-impl<'a> HeldProducts<'a> {
+impl<'a> PositiveDemands<'a> {
     /// Starts an iterator over the entries `held` of a row with `count` products. Requires entries
     /// by rising product.
     #[inline(always)]
-    fn of(count: usize, held: &'a [HeldDemand]) -> HeldProducts<'a>
+    fn of(count: usize, held: &'a [PositiveDemand]) -> PositiveDemands<'a>
         requires { IsKeptWalk count held.now 0 }
         ensures { result ≡ record { demands = demands_of count held.now; from = next_of count held.now } }
     {
-        HeldProducts {
+        PositiveDemands {
             count,
             held,
             given: 0,

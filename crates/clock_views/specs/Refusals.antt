@@ -3,7 +3,7 @@
 --     is_refusal code      the request was refused
 --     Shown      the code of a page, and its place or round if it has one
 --     IsShown shown      a page can show these together
---     alone code, at_place code place, wrong_round current      a page with neither, or with one
+--     bare code, at_place code place, wrong_round current      a page with neither, or with one
 --     shown_bid fault, shown_tie fault, shown_put fault, shown_close fault      the page of a fault
 use Rattle.std.specs.Prelude.{◌≡◌, ℕ, Bool, true, false, Option, Some, None, is_some, IsTrue}
 use Rattle.clock_bids.specs.declared.sheet.BidFault.{BidFault}
@@ -51,8 +51,8 @@ pub record IsShown (shown : Shown) : Type 0 where
   pub placed : is_some shown.place ≡ has_place shown.code
   pub timed : is_some shown.round ≡ has_round shown.code
 
-abbrev pub alone : Code → Shown
-alone code = record { code = code; place = None; round = None }
+abbrev pub bare : Code → Shown
+bare code = record { code = code; place = None; round = None }
 
 abbrev pub at_place : Code → ℕ → Shown
 at_place code place = record { code = code; place = Some place; round = None }
@@ -63,33 +63,33 @@ wrong_round current = record { code = reply.WrongRound; place = None; round = So
 
 -- a fault of the bids, with the index of the bid
 abbrev pub shown_bid : BidFault → Shown
-shown_bid bid.TooMany = alone reply.TooMany
+shown_bid bid.TooMany = bare reply.TooMany
 shown_bid (bid.UnknownProduct i) = at_place reply.UnknownProduct i
 shown_bid (bid.PriceRange i) = at_place reply.PriceRange i
 shown_bid (bid.OverCap i) = at_place reply.OverCap i
 shown_bid (bid.PriceOrder i) = at_place reply.PriceOrder i
 shown_bid (bid.MixedDirection i) = at_place reply.MixedDirection i
 shown_bid (bid.KeepPrice i) = at_place reply.KeepPrice i
-shown_bid bid.OverActivity = alone reply.OverActivity
-shown_bid bid.NoMemory = alone reply.Memory
+shown_bid bid.OverActivity = bare reply.OverActivity
+shown_bid bid.NoMemory = bare reply.Memory
 
 -- a fault of the tie-breaking numbers, with the index of the entry
 abbrev pub shown_tie : TieFault → Shown
 shown_tie (tie.Range i) = at_place reply.TieRange i
 shown_tie (tie.Repeated i) = at_place reply.TieRepeated i
-shown_tie tie.TooMany = alone reply.TooManyTies
-shown_tie tie.NoMemory = alone reply.Memory
+shown_tie tie.TooMany = bare reply.TooManyTies
+shown_tie tie.NoMemory = bare reply.Memory
 
 abbrev pub shown_put : PutFault → Shown
-shown_put put.Ended = alone reply.Ended
+shown_put put.Ended = bare reply.Ended
 shown_put (put.WrongRound current) = wrong_round current
 shown_put (put.Bid fault) = shown_bid fault
-shown_put put.NoMemory = alone reply.Memory
+shown_put put.NoMemory = bare reply.Memory
 
 abbrev pub shown_close : CloseFault → Shown
-shown_close close.Ended = alone reply.Ended
+shown_close close.Ended = bare reply.Ended
 shown_close (close.WrongRound current) = wrong_round current
-shown_close close.Increment = alone reply.Increment
+shown_close close.Increment = bare reply.Increment
 shown_close (close.Tie fault) = shown_tie fault
 shown_close (close.PriceLimit product) = at_place reply.PriceLimit product
-shown_close close.NoMemory = alone reply.Memory
+shown_close close.NoMemory = bare reply.Memory

@@ -10,7 +10,7 @@ ghost use Rattle.clock_views.specs.inside.Values.{rest_text, Adds};
 
 use clock_device::{Bounded, Text};
 use clock_http::NoRoom;
-use clock_terms::HeldProducts;
+use clock_terms::PositiveDemands;
 
 /// A head and the page after it, or the size of the page for which an allocation failed.
 pub type Headed = Result<Text, NoRoom>;
@@ -100,7 +100,7 @@ fn push_zeros(text: &mut Bounded<u8>, from: usize, until: usize)
 }
 
 /// Appends a label and the array of a row's demands. The loop visits only demands above 0.
-pub(crate) fn push_demands(text: &mut Bounded<u8>, label: &[u8], mut held: HeldProducts<'_>)
+pub(crate) fn push_demands(text: &mut Bounded<u8>, label: &[u8], mut held: PositiveDemands<'_>)
     requires first { AllWithin (λ demand. demand ≡ 0) held.demands 0 held.from }
     requires room { length label.now + room_of_array room_of_item (length held.demands) ≤ text.old.room }
     ensures adds { Adds (label.now ++ compact_text (list_of whole held.entry.demands)) text.old.items text.new.items }

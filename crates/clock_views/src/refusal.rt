@@ -3,7 +3,7 @@
 ghost use Rattle.std.specs.Prelude.{◌≡◌, ◌++◌, IsTrue, IfOk, IfErr, not};
 ghost use Rattle.serde_json.specs.Written.{compact_text};
 ghost use Rattle.clock_views.specs.RefusalPage.{refusal_value, refusal_bytes};
-ghost use Rattle.clock_views.specs.Refusals.{Shown, IsShown, has_place, has_round, is_refusal, shown_bid, shown_tie, shown_put, shown_close, alone as code_alone};
+ghost use Rattle.clock_views.specs.Refusals.{Shown, IsShown, has_place, has_round, is_refusal, shown_bid, shown_tie, shown_put, shown_close, bare as code_alone};
 ghost use Rattle.clock_views.specs.Values.{IsPage};
 
 use crate::capacities::REFUSAL;
@@ -41,7 +41,7 @@ impl Model for Refusal {
 
 impl Refusal {
     /// Makes a refusal with only a code. Requires a code without an index and a round.
-    pub fn alone(code: Code) -> Refusal
+    pub fn bare(code: Code) -> Refusal
         requires refused { IsTrue (is_refusal code) }
         requires placeless { IsTrue (not (has_place code)) }
         requires timeless { IsTrue (not (has_round code)) }
@@ -64,15 +64,15 @@ impl From<BidFault> for Refusal {
 
     fn from(fault: BidFault) -> Refusal {
         match fault {
-            BidFault::TooMany => Refusal::alone(Code::TooMany),
+            BidFault::TooMany => Refusal::bare(Code::TooMany),
             BidFault::UnknownProduct(i) => Refusal::with(Code::UnknownProduct, Some(i), None),
             BidFault::PriceRange(i) => Refusal::with(Code::PriceRange, Some(i), None),
             BidFault::OverCap(i) => Refusal::with(Code::OverCap, Some(i), None),
             BidFault::PriceOrder(i) => Refusal::with(Code::PriceOrder, Some(i), None),
             BidFault::MixedDirection(i) => Refusal::with(Code::MixedDirection, Some(i), None),
             BidFault::KeepPrice(i) => Refusal::with(Code::KeepPrice, Some(i), None),
-            BidFault::OverActivity => Refusal::alone(Code::OverActivity),
-            BidFault::NoMemory => Refusal::alone(Code::Memory),
+            BidFault::OverActivity => Refusal::bare(Code::OverActivity),
+            BidFault::NoMemory => Refusal::bare(Code::Memory),
         }
     }
 }
@@ -84,8 +84,8 @@ impl From<TieFault> for Refusal {
         match fault {
             TieFault::Range(i) => Refusal::with(Code::TieRange, Some(i), None),
             TieFault::Repeated(i) => Refusal::with(Code::TieRepeated, Some(i), None),
-            TieFault::TooMany => Refusal::alone(Code::TooManyTies),
-            TieFault::NoMemory => Refusal::alone(Code::Memory),
+            TieFault::TooMany => Refusal::bare(Code::TooManyTies),
+            TieFault::NoMemory => Refusal::bare(Code::Memory),
         }
     }
 }
@@ -95,10 +95,10 @@ impl From<PutFault> for Refusal {
 
     fn from(fault: PutFault) -> Refusal {
         match fault {
-            PutFault::Ended => Refusal::alone(Code::Ended),
+            PutFault::Ended => Refusal::bare(Code::Ended),
             PutFault::WrongRound(current) => Refusal::with(Code::WrongRound, None, Some(current)),
             PutFault::Bid(fault) => Refusal::from(fault),
-            PutFault::NoMemory => Refusal::alone(Code::Memory),
+            PutFault::NoMemory => Refusal::bare(Code::Memory),
         }
     }
 }
@@ -108,12 +108,12 @@ impl From<CloseFault> for Refusal {
 
     fn from(fault: CloseFault) -> Refusal {
         match fault {
-            CloseFault::Ended => Refusal::alone(Code::Ended),
+            CloseFault::Ended => Refusal::bare(Code::Ended),
             CloseFault::WrongRound(current) => Refusal::with(Code::WrongRound, None, Some(current)),
-            CloseFault::Increment => Refusal::alone(Code::Increment),
+            CloseFault::Increment => Refusal::bare(Code::Increment),
             CloseFault::Tie(fault) => Refusal::from(fault),
             CloseFault::PriceLimit(product) => Refusal::with(Code::PriceLimit, Some(product), None),
-            CloseFault::NoMemory => Refusal::alone(Code::Memory),
+            CloseFault::NoMemory => Refusal::bare(Code::Memory),
         }
     }
 }

@@ -16,7 +16,7 @@ use Rattle.clock_terms.specs.Increments.{IsIncrement}
 use Rattle.clock_terms.specs.Limits.{least_increment, most_increment}
 use Rattle.clock_words.specs.declared.words.Job.{Job}
 use Rattle.clock_words.specs.declared.words.Serving.{Serving}
-use Rattle.clock_words.specs.declared.words.Files.{Files}
+use Rattle.clock_words.specs.declared.words.NamedFiles.{NamedFiles}
 use Rattle.clock_words.specs.declared.words.Asked.{Asked}
 use Rattle.clock_words.specs.declared.words.Asked.TheVariants as case
 use Rattle.clock_words.specs.declared.words.Job.TheVariants.{Prices, Opening, Replay}
@@ -67,14 +67,14 @@ abbrev pub asks_for_a_command : Shape → Shape
 asks_for_a_command shape = record shape { no_binary_name = true; subcommand_required = true; has_version = true }
 
 -- the program without its commands
-abbrev pub program_alone_grammar : App
-program_alone_grammar = on_top asks_for_a_command (new_app (codes "clock_auction"))
+abbrev pub program_only_grammar : App
+program_only_grammar = on_top asks_for_a_command (new_app (codes "clock_auction"))
 
 -- the program, with its commands
 abbrev pub grammar : App
 grammar =
     with_subcommand (with_subcommand (with_subcommand (with_subcommand (with_subcommand (with_subcommand
-    program_alone_grammar prices_grammar.top)
+    program_only_grammar prices_grammar.top)
     (new_app (codes "opening")).top) (new_app (codes "replay")).top) serve_grammar.top)
     (files_grammar (codes "journal")).top) (files_grammar (codes "audit")).top
 
@@ -93,39 +93,39 @@ abbrev pub number_of : Text → ℕ → ℕ → List Row → Option ℕ
 number_of name least most options = option_and_then (number_from least most) (one_of name options)
 
 -- the arguments of `serve`: set-up file, port, number of connections, journal file if any
-pub record ServingTold : Type 0 where
+pub record ServingFields : Type 0 where
   pub setup : Text
   pub port : ℕ
   pub connections : ℕ
   pub journal : Option Text
 
 -- the arguments of `journal` and `audit`: set-up file and journal file
-pub record FilesTold : Type 0 where
+pub record FilesFields : Type 0 where
   pub setup : Text
   pub journal : Text
 
 -- what a run is asked for: a job, or a command on files
-pub data AskedTold : Type 0 where
-  job : Job → AskedTold
-  serve : ServingTold → AskedTold
-  journal : FilesTold → AskedTold
-  audit : FilesTold → AskedTold
+pub data AskedFields : Type 0 where
+  job : Job → AskedFields
+  serve : ServingFields → AskedFields
+  journal : FilesFields → AskedFields
+  audit : FilesFields → AskedFields
 
 -- the arguments of `serve`, from its options
-abbrev pub serving_from : List Row → Option ServingTold
+abbrev pub serving_from : List Row → Option ServingFields
 serving_from options =
     option_and_then (λ setup. option_and_then (λ port. option_map (λ connections.
     record { setup = setup; port = port; connections = connections; journal = first_of (codes "journal") options })
     (number_of (codes "connections") 1 most_served options)) (number_of (codes "port") 1 most_port options)) (first_of (codes "setup") options)
 
 -- the arguments of `journal` or `audit`, from its options
-abbrev pub files_from : List Row → Option FilesTold
+abbrev pub files_from : List Row → Option FilesFields
 files_from options =
     option_and_then (λ setup. option_map (λ file. record { setup = setup; journal = file }) (first_of (codes "journal") options))
     (first_of (codes "setup") options)
 
 -- what a command with these options asks for
-abbrev pub asked_named : Text → List Row → Option AskedTold
+abbrev pub asked_named : Text → List Row → Option AskedFields
 asked_named name options =
     if bytes_eq name (codes "prices")
     then option_map (λ increment. job (Prices increment)) (number_of (codes "increment") least_increment most_increment options)
@@ -135,27 +135,27 @@ asked_named name options =
     else (if bytes_eq name (codes "audit") then option_map audit (files_from options) else None)))))
 
 -- what the parsed command asks for
-abbrev pub asked_met : Option (Text × List Row) → Option AskedTold
+abbrev pub asked_met : Option (Text × List Row) → Option AskedFields
 asked_met None = None
 asked_met (Some met) = asked_named met.0 met.1
 
 -- the arguments of `serve`, as the code has them
-abbrev pub serving_told : Serving → ServingTold
-serving_told serving = record {
+abbrev pub serving_fields : Serving → ServingFields
+serving_fields serving = record {
   setup = serving.setup.now;
   port = serving.port;
   connections = serving.connections;
   journal = option_map (λ text. text.now) serving.journal;
 }
 
-abbrev pub files_told : Files → FilesTold
-files_told files = record { setup = files.setup.now; journal = files.journal.now }
+abbrev pub files_fields : NamedFiles → FilesFields
+files_fields files = record { setup = files.setup.now; journal = files.journal.now }
 
-abbrev pub asked_told : Asked → AskedTold
-asked_told (case.Job one) = job one
-asked_told (case.Serve serving) = serve (serving_told serving)
-asked_told (case.Journal files) = journal (files_told files)
-asked_told (case.Audit files) = audit (files_told files)
+abbrev pub asked_fields : Asked → AskedFields
+asked_fields (case.Job one) = job one
+asked_fields (case.Serve serving) = serve (serving_fields serving)
+asked_fields (case.Journal files) = journal (files_fields files)
+asked_fields (case.Audit files) = audit (files_fields files)
 
 -- the value, or none if there is a reason to refuse
 abbrev pub unless_refused : {A : Type 0} → Kinds → Option A → Option A
@@ -163,15 +163,15 @@ unless_refused [] meant = meant
 unless_refused (kind ∷ kinds) meant = None
 
 -- what words ask for, or nothing if clap refuses them
-abbrev pub asked_meant : List Text → Option AskedTold
+abbrev pub asked_meant : List Text → Option AskedFields
 asked_meant words = unless_refused (fault_of grammar words) (asked_met (subcommand_of grammar words))
 
 -- what the program's arguments ask for
-abbrev pub asked_by : List Text → Option AskedTold
+abbrev pub asked_by : List Text → Option AskedFields
 asked_by words = asked_meant (given words)
 
 -- the job that is asked for, if it is one
-abbrev pub job_in : AskedTold → Option Job
+abbrev pub job_in : AskedFields → Option Job
 job_in (job one) = Some one
 job_in (serve serving) = None
 job_in (journal files) = None

@@ -1,7 +1,7 @@
 //! The commands and options of the program, as clap's builder defines them.
 ghost use Rattle.std.specs.Prelude.{IfOk};
 ghost use Rattle.clap.specs.Words.{App, new_app, with_subcommand};
-ghost use Rattle.clock_words.specs.Words.{files_grammar, grammar, needed_rule, number_rule, option_rule, prices_grammar, program_alone_grammar, serve_grammar};
+ghost use Rattle.clock_words.specs.Words.{files_grammar, grammar, needed_rule, number_rule, option_rule, prices_grammar, program_only_grammar, serve_grammar};
 ghost use Rattle.clock_words.specs.inside.Commands.{IsCommand, IsOption};
 
 use crate::help::{
@@ -108,8 +108,8 @@ fn files_command<'a>(
 }
 
 /// Makes the program without its commands.
-fn program_alone<'a>(alloc: Global) -> Result<Command<'a>, AllocError>
-    ensures { IfOk result (IsCommand program_alone_grammar) }
+fn program_only<'a>(alloc: Global) -> Result<Command<'a>, AllocError>
+    ensures { IfOk result (IsCommand program_only_grammar) }
 {
     let about = "The bidding system of an ascending clock auction";
     named(alloc, "clock_auction", about, PROGRAM_HELP)
@@ -129,7 +129,7 @@ pub fn program<'a>(alloc: Global) -> Result<Command<'a>, AllocError>
     let won = "Recount an auction from its set-up and journal";
     let journal = files_command(alloc, "journal", kept, JOURNAL_HELP);
     let audit = files_command(alloc, "audit", won, AUDIT_HELP);
-    let program = with_command(program_alone(alloc), prices_command(alloc));
+    let program = with_command(program_only(alloc), prices_command(alloc));
     let program = with_command(program, Ok(named(alloc, "opening", opening, OPENING_HELP)));
     let program = with_command(program, Ok(named(alloc, "replay", replay, REPLAY_HELP)));
     let program = with_command(program, serve_command(alloc));

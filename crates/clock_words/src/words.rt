@@ -2,7 +2,7 @@
 ghost use Rattle.std.specs.Prelude.{◌≡◌, ◌≢◌, None, map, option_map, IfSome, IfOk, IfErr};
 ghost use Rattle.clock_terms.specs.Limits.{IsWithin};
 ghost use Rattle.clap.specs.Words.{first_of, found_of, kind_of, rows_of, subcommand_rows_of};
-ghost use Rattle.clock_words.specs.Words.{IsAsked, asked_by, asked_met, asked_told, files_from, files_told, given, number_of, serving_from, serving_told};
+ghost use Rattle.clock_words.specs.Words.{IsAsked, asked_by, asked_met, asked_fields, files_from, files_fields, given, number_of, serving_from, serving_fields};
 
 use crate::commands::{MOST_PORT, MOST_SERVED, program};
 use clap::error::ErrorKind;
@@ -37,7 +37,7 @@ pub struct Serving<'a> {
 
 /// The arguments of `journal` and `audit`.
 #[derive(Clone, Copy)]
-pub struct Files<'a> {
+pub struct NamedFiles<'a> {
     /// The file of the set-up document.
     pub setup: &'a str,
     /// The file of the journal.
@@ -52,9 +52,9 @@ pub enum Asked<'a> {
     /// Serve an auction.
     Serve(Serving<'a>),
     /// Print the requests in a journal.
-    Journal(Files<'a>),
+    Journal(NamedFiles<'a>),
     /// Recount an auction from its journal.
-    Audit(Files<'a>),
+    Audit(NamedFiles<'a>),
 }
 
 /// The arguments that replace an empty list.
@@ -91,7 +91,7 @@ fn text_in<'a>(options: &ArgMatches<'a>, name: &str) -> Option<&'a str>
 
 /// Returns the arguments of `serve`, from its options.
 fn serving_with<'a>(options: &ArgMatches<'a>) -> Option<Serving<'a>>
-    ensures { option_map serving_told result ≡ serving_from (rows_of (found_of options.now)) }
+    ensures { option_map serving_fields result ≡ serving_from (rows_of (found_of options.now)) }
 {
     let setup = text_in(options, "setup")?;
     let port = number_in(options, "port", 1, MOST_PORT)?;
@@ -105,17 +105,17 @@ fn serving_with<'a>(options: &ArgMatches<'a>) -> Option<Serving<'a>>
 }
 
 /// Returns the arguments of `journal` or `audit`, from its options.
-fn files_with<'a>(options: &ArgMatches<'a>) -> Option<Files<'a>>
-    ensures { option_map files_told result ≡ files_from (rows_of (found_of options.now)) }
+fn files_with<'a>(options: &ArgMatches<'a>) -> Option<NamedFiles<'a>>
+    ensures { option_map files_fields result ≡ files_from (rows_of (found_of options.now)) }
 {
     let setup = text_in(options, "setup")?;
     let journal = text_in(options, "journal")?;
-    Some(Files { setup, journal })
+    Some(NamedFiles { setup, journal })
 }
 
 /// Returns what parsed arguments ask for, if anything.
 fn asked_in<'a>(matches: &ArgMatches<'a>) -> Option<Asked<'a>>
-    ensures met { option_map asked_told result ≡ asked_met (subcommand_rows_of matches.now) }
+    ensures met { option_map asked_fields result ≡ asked_met (subcommand_rows_of matches.now) }
     ensures limits { IfSome result IsAsked }
 {
     let (name, options) = matches.subcommand()?;
@@ -137,7 +137,7 @@ fn asked_in<'a>(matches: &ArgMatches<'a>) -> Option<Asked<'a>>
 /// returns `None` or an error. The error's text says what is wrong with them, or is the help or the
 /// version that they ask for. An error of the kind `OutOfMemory` replaces any other result.
 pub fn read_words<'a>(alloc: Global, words: &'a [&'a str]) -> Result<Option<Asked<'a>>, Error>
-    ensures ok { IfOk result (λ asked. option_map asked_told asked ≡ asked_by (map (λ word. word.now) words.entry.now)) }
+    ensures ok { IfOk result (λ asked. option_map asked_fields asked ≡ asked_by (map (λ word. word.now) words.entry.now)) }
     ensures limits { IfOk result (λ asked. IfSome asked IsAsked) }
     ensures err { IfErr result (λ error. kind_of error ≢ ErrorKind.OutOfMemory
         → asked_by (map (λ word. word.now) words.entry.now) ≡ None) }

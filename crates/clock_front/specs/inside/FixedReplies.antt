@@ -2,7 +2,7 @@
 --     refusal_of code      the reply that refuses a request with only a code
 --     is_fixed code      a refusal for the head or the length of a request, or out of memory
 use Rattle.std.specs.Prelude.{Bool, true, false}
-use Rattle.clock_views.specs.Refusals.{alone}
+use Rattle.clock_views.specs.Refusals.{bare}
 use Rattle.clock_http.specs.Replies.{Answer}
 use Rattle.clock_http.specs.declared.code.Code.{Code}
 use Rattle.clock_http.specs.declared.code.Code.TheVariants.{BadHead, BadLength, LongBody, LongHead, Coding, Memory}
@@ -10,7 +10,7 @@ use Rattle.clock_front.specs.Outcomes.{refused, answer_of}
 
 -- The reply that refuses a request with only a code, and no details.
 abbrev pub refusal_of : Code → Answer
-refusal_of code = answer_of (refused (alone code))
+refusal_of code = answer_of (refused (bare code))
 
 -- The replies with these codes have constant bytes, and need no memory.
 abbrev pub is_fixed : Code → Bool

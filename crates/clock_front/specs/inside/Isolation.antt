@@ -4,7 +4,7 @@
 use Rattle.std.specs.Prelude.{◌≡◌, ◌<◌, ℕ, true, List, length}
 use Rattle.clock_terms.specs.Limits.{SetupFields, public_setup}
 use Rattle.clock_house.specs.History.{bidder_at}
-use Rattle.clock_front.specs.Askers.{HasOwnTokens}
+use Rattle.clock_front.specs.Callers.{HasOwnTokens}
 use Rattle.clock_front.specs.Fronts.{reply}
 use Rattle.clock_front.specs.Views.{is_own, text_view, answer}
 use Rattle.clock_front.specs.Headline.{SeesTheSame}

@@ -12,7 +12,7 @@ use Rattle.clock_closing.specs.declared.closed_round.Slip.{Slip}
 use Rattle.clock_house.specs.Standing.{Standing, put_fault}
 use Rattle.clock_house.specs.View.{Seen, seen_standing, seen_holding, seen_in_force, seen_round}
 use Rattle.clock_http.specs.declared.code.Code.TheVariants as code
-use Rattle.clock_views.specs.Refusals.{alone}
+use Rattle.clock_views.specs.Refusals.{bare}
 use Rattle.clock_views.specs.PublicPages.{status_value, products_value, sheet_value}
 use Rattle.clock_views.specs.BidderPages.{account_value, bids_value, slip_value}
 use Rattle.clock_http.specs.Decimals.{plain_number}
@@ -44,7 +44,7 @@ known_round known segment = option_and_then known.rounds (plain_number segment)
 -- The reply to a bidder, from what it knows: the pages for everyone, its own pages, and the replies
 -- to its sheets. The operator's pages are refused.
 unfoldable pub known_outcome : PublicSetup → Bidder → Knowledge → Ask → Outcome
-known_outcome setup row known (asked.turned_away why) = refused (alone why)
+known_outcome setup row known (asked.turned_away why) = refused (bare why)
 known_outcome setup row known (asked.no_method page) = not_allowed page
 known_outcome setup row known asked.status = done (status_value setup known.standing.round known.standing.ended)
 known_outcome setup row known asked.products = done (products_value setup)
@@ -53,10 +53,10 @@ known_outcome setup row known (asked.sheet segment) =
 known_outcome setup row known asked.account =
     done (account_value setup.products row.name known.standing.round known.holding known.standing.ended)
 known_outcome setup row known asked.bids = done (bids_value known.standing.round known.in_force)
-known_outcome setup row known (asked.put (Err fault)) = refused (alone (body_code fault))
+known_outcome setup row known (asked.put (Err fault)) = refused (bare (body_code fault))
 known_outcome setup row known (asked.put (Ok body)) =
     put_outcome body (put_fault setup known.standing known.holding body.round body.bids)
 known_outcome setup row known (asked.slip segment) =
     page_or_no_round (option_map (λ seen. slip_value seen.1) (known_round known segment))
-known_outcome setup row known (asked.close body) = refused (alone code.Role)
-known_outcome setup row known asked.results = refused (alone code.Role)
+known_outcome setup row known (asked.close body) = refused (bare code.Role)
+known_outcome setup row known asked.results = refused (bare code.Role)

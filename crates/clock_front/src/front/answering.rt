@@ -3,19 +3,19 @@
 
 ghost use Rattle.std.specs.Prelude.{◌≡◌, ◌≢◌, ◌<◌, Ok, Err, length, IfOk, IfErr, OnOk, OnErr};
 ghost use Rattle.clock_http.specs.{Routes.{page_of}, Shown.{shown_head}};
-ghost use Rattle.clock_house.specs.House.{StandsStill};
-ghost use Rattle.clock_views.specs.Refusals.{alone};
+ghost use Rattle.clock_house.specs.House.{StandsForTheSame};
+ghost use Rattle.clock_views.specs.Refusals.{bare};
 ghost use Rattle.clock_bodies.specs.{Bodies.{put_body}, CloseBodies.{close_body, in_version}};
-ghost use Rattle.clock_front.specs.declared.front.askers.Asker.TheVariants as who;
+ghost use Rattle.clock_front.specs.declared.front.callers.Caller.TheVariants as who;
 ghost use Rattle.clock_front.specs.{Effects.{IsRightFor}, Outcomes.{answer_of, body_code, outcome, refused}};
-ghost use Rattle.clock_front.specs.Rooms.{WantsRoom};
+ghost use Rattle.clock_front.specs.Rooms.{NeedsRoom};
 ghost use Rattle.clock_front.specs.Requests as asked;
-ghost use Rattle.clock_front.specs.inside.{Askers.{IsKnown}, KeptPage.{IsProductsPage}};
+ghost use Rattle.clock_front.specs.inside.{Callers.{IsKnown}, KeptPage.{IsProductsPage}};
 
-use crate::front::Kept;
-use crate::front::askers::Asker;
+use crate::front::FixedParts;
+use crate::front::callers::Caller;
 use crate::front::replies::{
-    Unanswered, account, bids, products, refusal, results, sheet, slip, status,
+    AnswerError, account, bids, products, refusal, results, sheet, slip, status,
 };
 use crate::front::response::{Effect, Response, unchanged};
 use clock_bodies::{BodyFault, CloseBody, is_of_version, read_close, read_put};
@@ -31,14 +31,14 @@ use std::alloc::Global;
 /// Refuses a body for its fault. If the fault is `NoMemory`, this is an error.
 fn refused_body(alloc: Global, fault: BodyFault) -> Result<Response, NoMemory>
     ensures response { IfOk result (λ response. response ≡ record {
-      reply = answer_of (refused (alone (body_code fault)));
+      reply = answer_of (refused (bare (body_code fault)));
       effect = Effect.Nothing;
     }) }
     ensures known { OnOk result (fault ≢ BodyFault.NoMemory) }
 {
     match fault {
-        BodyFault::NotJson => Ok(unchanged(refusal(alloc, Refusal::alone(Code::BadJson), None)?)),
-        BodyFault::Shape => Ok(unchanged(refusal(alloc, Refusal::alone(Code::Shape), None)?)),
+        BodyFault::NotJson => Ok(unchanged(refusal(alloc, Refusal::bare(Code::BadJson), None)?)),
+        BodyFault::Shape => Ok(unchanged(refusal(alloc, Refusal::bare(Code::Shape), None)?)),
         BodyFault::NoMemory => Err(NoMemory),
     }
 }
@@ -52,7 +52,7 @@ fn put_sheet<P: Processor>(
 ) -> Result<Response, NoMemory>
     requires { bidder < length house.old.setup.bidders }
     ensures done { IfOk result (IsRightFor (who.Bidder bidder) (asked.put (put_body body.now)) house.old house.new) }
-    ensures still { OnErr result (StandsStill house.old house.new) }
+    ensures still { OnErr result (StandsForTheSame house.old house.new) }
 {
     let sheet = match read_put(alloc, body) {
         Ok(sheet) => sheet,
@@ -95,7 +95,7 @@ fn close_round<P: Processor>(
     body: &[u8],
 ) -> Result<Response, NoMemory>
     ensures done { IfOk result (IsRightFor who.Operator (asked.close (close_body body.now)) house.old house.new) }
-    ensures still { OnErr result (StandsStill house.old house.new) }
+    ensures still { OnErr result (StandsForTheSame house.old house.new) }
 {
     let closing = match closing_of(alloc, house.setup(), body) {
         Ok(closing) => closing,
@@ -124,44 +124,44 @@ fn close_round<P: Processor>(
 pub(crate) fn answer_request<P: Processor>(
     alloc: Global,
     house: &mut House<P>,
-    kept: &Kept,
-    asker: Asker,
+    kept: &FixedParts,
+    caller: Caller,
     head: &Head<'_>,
     body: &[u8],
-) -> Result<Response, Unanswered>
+) -> Result<Response, AnswerError>
     requires page { IsProductsPage house.old.setup kept.now.products }
-    requires known { IsKnown (length house.old.setup.bidders) asker }
-    ensures done { IfOk result (IsRightFor asker (asked.ask_by_route (page_of head.now.path.now) (shown_head head.now)
+    requires known { IsKnown (length house.old.setup.bidders) caller }
+    ensures done { IfOk result (IsRightFor caller (asked.ask_by_route (page_of head.now.path.now) (shown_head head.now)
         body.now) house.old house.new) }
-    ensures wanted { IfErr result (WantsRoom asker (asked.ask_by_route (page_of head.now.path.now) (shown_head head.now)
-        body.now) (outcome house.old asker (asked.ask_by_route (page_of head.now.path.now) (shown_head head.now)
+    ensures wanted { IfErr result (NeedsRoom caller (asked.ask_by_route (page_of head.now.path.now) (shown_head head.now)
+        body.now) (outcome house.old caller (asked.ask_by_route (page_of head.now.path.now) (shown_head head.now)
         body.now))) }
-    ensures still { OnErr result (StandsStill house.old house.new) }
+    ensures still { OnErr result (StandsForTheSame house.old house.new) }
 {
     let Some(page) = kept.routes.page_of(head.path) else {
-        return Ok(unchanged(refusal(alloc, Refusal::alone(Code::NoPage), None)?));
+        return Ok(unchanged(refusal(alloc, Refusal::bare(Code::NoPage), None)?));
     };
     if !page.has_method(head.method) {
-        return Ok(unchanged(refusal(alloc, Refusal::alone(Code::Method), Some(page))?));
+        return Ok(unchanged(refusal(alloc, Refusal::bare(Code::Method), Some(page))?));
     }
-    match (page, asker) {
+    match (page, caller) {
         (Page::Status, _) => Ok(unchanged(status(alloc, house)?)),
         (Page::Products, _) => Ok(unchanged(products(alloc, kept.products.as_slice())?)),
         (Page::Sheet, _) => Ok(unchanged(sheet(alloc, house, last_segment(head.path))?)),
-        (Page::Account, Asker::Bidder(bidder)) => Ok(unchanged(account(alloc, house, bidder)?)),
-        (Page::Bids, Asker::Bidder(bidder)) if head.is_put() => Ok(put_sheet(
+        (Page::Account, Caller::Bidder(bidder)) => Ok(unchanged(account(alloc, house, bidder)?)),
+        (Page::Bids, Caller::Bidder(bidder)) if head.is_put() => Ok(put_sheet(
             alloc, house, bidder, body,
         )?),
-        (Page::Bids, Asker::Bidder(bidder)) => Ok(unchanged(bids(alloc, house, bidder)?)),
-        (Page::Slip, Asker::Bidder(bidder)) => Ok(unchanged(slip(
+        (Page::Bids, Caller::Bidder(bidder)) => Ok(unchanged(bids(alloc, house, bidder)?)),
+        (Page::Slip, Caller::Bidder(bidder)) => Ok(unchanged(slip(
             alloc,
             house,
             bidder,
             last_segment(head.path),
         )?)),
-        (Page::Close, Asker::Operator) => Ok(close_round(alloc, house, body)?),
-        (Page::Results, Asker::Operator) => Ok(unchanged(results(alloc, house)?)),
-        (_, Asker::Nobody) => Ok(unchanged(refusal(alloc, Refusal::alone(Code::Token), None)?)),
-        (_, _) => Ok(unchanged(refusal(alloc, Refusal::alone(Code::Role), None)?)),
+        (Page::Close, Caller::Operator) => Ok(close_round(alloc, house, body)?),
+        (Page::Results, Caller::Operator) => Ok(unchanged(results(alloc, house)?)),
+        (_, Caller::Nobody) => Ok(unchanged(refusal(alloc, Refusal::bare(Code::Token), None)?)),
+        (_, _) => Ok(unchanged(refusal(alloc, Refusal::bare(Code::Role), None)?)),
     }
 }

@@ -4,11 +4,11 @@
 ghost use Rattle.std.specs.Prelude.{◌≡◌, ◌<◌, length, IfOk, IfErr, IsTrue};
 ghost use Rattle.clock_terms.specs.Limits.{SetupFields, public_setup};
 ghost use Rattle.clock_views.specs.{PublicPages.{products_value}, RefusalPage.{refusal_value}};
-ghost use Rattle.clock_front.specs.declared.front.askers.Asker.TheVariants as who;
-ghost use Rattle.clock_front.specs.declared.front.replies.Unanswered.TheVariants as unanswered;
+ghost use Rattle.clock_front.specs.declared.front.callers.Caller.TheVariants as who;
+ghost use Rattle.clock_front.specs.declared.front.replies.AnswerError.TheVariants as unanswered;
 ghost use Rattle.clock_front.specs.{FixedReplies.{no_memory}, Outcomes.{answer_of, done, with_page}, Rooms.{refusal_room}};
 ghost use Rattle.clock_front.specs.inside.{FixedReplies.{is_fixed, refusal_of}, KeptPage.{IsProductsPage}};
-ghost use Rattle.clock_front.specs.inside.Replies.{IsPageIn, IsTold};
+ghost use Rattle.clock_front.specs.inside.Replies.{IsPageIn, IsReplyOrFailure};
 ghost use Rattle.clock_front.specs.Requests as asked;
 
 use clock_device::NoMemory;
@@ -22,26 +22,26 @@ use std::alloc::Global;
 
 /// Why a request is answered out of memory.
 #[derive(Debug, Drop)]
-pub enum Unanswered {
+pub enum AnswerError {
     /// It asks for no change, and the page of its reply could not be allocated.
     Room(NoRoom),
     /// It asks for a change, and an allocation failed before that.
     Change,
 }
 
-impl From<NoRoom> for Unanswered {
+impl From<NoRoom> for AnswerError {
     ghost from_gives = { λ refused why. why ≡ unanswered.Room refused };
 
-    fn from(refused: NoRoom) -> Unanswered {
-        Unanswered::Room(refused)
+    fn from(refused: NoRoom) -> AnswerError {
+        AnswerError::Room(refused)
     }
 }
 
-impl From<NoMemory> for Unanswered {
+impl From<NoMemory> for AnswerError {
     ghost from_gives = { λ _ why. why ≡ unanswered.Change };
 
-    fn from(_refused: NoMemory) -> Unanswered {
-        Unanswered::Change
+    fn from(_refused: NoMemory) -> AnswerError {
+        AnswerError::Change
     }
 }
 
@@ -85,7 +85,7 @@ pub(crate) fn refusal(alloc: Global, why: Refusal, page: Option<Page>) -> Result
 
 /// The page of the auction's status, for everyone.
 pub(crate) fn status<P>(alloc: Global, house: &House<P>) -> Result<Reply, NoRoom>
-    ensures { IsTold house.now who.Nobody asked.status result }
+    ensures { IsReplyOrFailure house.now who.Nobody asked.status result }
 {
     let text = headed_status(alloc, HEADROOM, house.setup(), house.round(), house.ended())?;
     Ok(Reply::written(Code::Done, None, text))
@@ -105,13 +105,13 @@ pub(crate) fn products(alloc: Global, page: &[u8]) -> Result<Reply, NoRoom>
 /// The round results of the round whose number `segment` is, for everyone. If it is not closed, a
 /// refusal.
 pub(crate) fn sheet<P>(alloc: Global, house: &House<P>, segment: &[u8]) -> Result<Reply, NoRoom>
-    ensures { IsTold house.now who.Nobody (asked.sheet segment.now) result }
+    ensures { IsReplyOrFailure house.now who.Nobody (asked.sheet segment.now) result }
 {
     let Some(round) = plain_number(segment) else {
-        return refusal(alloc, Refusal::alone(Code::NoRound), None);
+        return refusal(alloc, Refusal::bare(Code::NoRound), None);
     };
     let Some(sheet) = house.sheet(round) else {
-        return refusal(alloc, Refusal::alone(Code::NoRound), None);
+        return refusal(alloc, Refusal::bare(Code::NoRound), None);
     };
     let text = headed_sheet(alloc, HEADROOM, house.setup(), sheet)?;
     Ok(Reply::written(Code::Done, None, text))
@@ -120,7 +120,7 @@ pub(crate) fn sheet<P>(alloc: Global, house: &House<P>, segment: &[u8]) -> Resul
 /// A bidder's account. Requires a bidder of the set-up.
 pub(crate) fn account<P>(alloc: Global, house: &House<P>, bidder: u32) -> Result<Reply, NoRoom>
     requires { bidder < length house.now.setup.bidders }
-    ensures { IsTold house.now (who.Bidder bidder) asked.account result }
+    ensures { IsReplyOrFailure house.now (who.Bidder bidder) asked.account result }
 {
     let own = house.own(bidder);
     let text = headed_account(alloc, HEADROOM, house.setup(), bidder, own, house.ended())?;
@@ -130,7 +130,7 @@ pub(crate) fn account<P>(alloc: Global, house: &House<P>, bidder: u32) -> Result
 /// A bidder's sheet in force. Requires a bidder of the set-up.
 pub(crate) fn bids<P>(alloc: Global, house: &House<P>, bidder: u32) -> Result<Reply, NoRoom>
     requires { bidder < length house.now.setup.bidders }
-    ensures { IsTold house.now (who.Bidder bidder) asked.bids result }
+    ensures { IsReplyOrFailure house.now (who.Bidder bidder) asked.bids result }
 {
     let text = headed_bids(alloc, HEADROOM, house.round(), house.bids(bidder))?;
     Ok(Reply::written(Code::Done, None, text))
@@ -145,13 +145,13 @@ pub(crate) fn slip<P>(
     segment: &[u8],
 ) -> Result<Reply, NoRoom>
     requires { bidder < length house.now.setup.bidders }
-    ensures { IsTold house.now (who.Bidder bidder) (asked.slip segment.now) result }
+    ensures { IsReplyOrFailure house.now (who.Bidder bidder) (asked.slip segment.now) result }
 {
     let Some(round) = plain_number(segment) else {
-        return refusal(alloc, Refusal::alone(Code::NoRound), None);
+        return refusal(alloc, Refusal::bare(Code::NoRound), None);
     };
     let Some(slip) = house.slip(bidder, round) else {
-        return refusal(alloc, Refusal::alone(Code::NoRound), None);
+        return refusal(alloc, Refusal::bare(Code::NoRound), None);
     };
     let text = headed_slip(alloc, HEADROOM, slip)?;
     Ok(Reply::written(Code::Done, None, text))
@@ -160,7 +160,7 @@ pub(crate) fn slip<P>(
 /// Each bidder's eligibility and processed demands, for the operator.
 #[tactic(auto, unfolding(clock_views::specs::OperatorPages::results_value))]
 pub(crate) fn results<P>(alloc: Global, house: &House<P>) -> Result<Reply, NoRoom>
-    ensures { IsTold house.now who.Operator asked.results result }
+    ensures { IsReplyOrFailure house.now who.Operator asked.results result }
 {
     let text = headed_results(alloc, HEADROOM, house)?;
     Ok(Reply::written(Code::Done, None, text))

@@ -5,12 +5,12 @@ ghost use Rattle.std.specs.Prelude.{◌≡◌, false};
 use super::texts::{ACCEPTED, CUT_SHORT, FIRST_ROUND, PUT, STATUS};
 use crate::comparing::{assert_is, assert_is_at, assert_reads_at};
 use crate::front::example::on_one_product;
-use crate::listed::{Client, Closed, Listed};
+use crate::memory_acceptor::{Client, Closed, MemoryAcceptor};
 use clock_device::Stop;
 use clock_fixtures::MemoryDisk;
 use clock_front::Front;
 use clock_journal::Journal;
-use clock_keeping::{Keeper, Unkept};
+use clock_keeping::{RequestLog, NoLog};
 use clock_processor::Plain;
 use clock_serving::{ServeFault, serve_all};
 use std::alloc::Global;
@@ -53,19 +53,19 @@ fn assert_written(rt: &impl Abort, connections: &[Closed<'_>], written: &[&str])
 }
 
 /// Serves clients. Compares the result, and what is written on each connection that was accepted.
-fn compare<K: Keeper>(
+fn compare<K: RequestLog>(
     rt: &impl Abort,
     alloc: Global,
     front: &mut Front<Plain>,
-    keeper: &mut K,
+    log: &mut K,
     ended: Result<(), ServeFault>,
     written: &[&str],
 ) -> Option<()>
-    requires { (K.journal keeper.old).has_failed ≡ false }
+    requires { (K.journal log.old).has_failed ≡ false }
 {
     let clients = clients();
-    let mut listed = Listed::new(alloc, &clients).ok()?;
-    let end = serve_all(alloc, front, keeper, &mut listed, 5);
+    let mut listed = MemoryAcceptor::new(alloc, &clients).ok()?;
+    let end = serve_all(alloc, front, log, &mut listed, 5);
     assert_is(rt, end, ended);
     assert_written(rt, listed.closed(), written);
     Some(())
@@ -102,7 +102,7 @@ fn compare_either(
     written: &[&str],
 ) -> Option<()> {
     match syncs {
-        None => compare(rt, alloc, front, &mut Unkept, ended, written),
+        None => compare(rt, alloc, front, &mut NoLog, ended, written),
         Some(syncs) => compare_kept(rt, alloc, front, syncs, ended, written),
     }
 }

@@ -4,7 +4,7 @@
 --     SameTerms old new      products and eligibilities are unchanged
 --     LeadsTo changes old new      bid processing by definition gets from one state to the other
 --     progress_with changes queue place      the state after a request is applied
---     IsKept changes queue      the invariant of the lines
+--     HasSoundLines changes queue      the invariant of the lines
 --     IsTracking changes queue ready      for each admitted request with room, an earlier or equal
 --         one of its line is ready and has room
 --     HasWoken line limit old new      the first request in a line within the limit is ready now
@@ -121,7 +121,7 @@ module _ (changes : List Change) where
 
   -- Bid processing is under way, ready requests are admitted, and each admitted request with blocks
   -- left is in its line.
-  pub record IsKept (queue : Queue) : Type 0 where
+  pub record HasSoundLines (queue : Queue) : Type 0 where
     pub under_way : IsUnderWay queue.board changes queue.left queue.admitted
     pub lines : All (HasLines (length queue.lines)) changes
     pub ready : All (λ place. place < queue.admitted) queue.ready
@@ -155,7 +155,7 @@ module _ (changes : List Change) where
   -- The invariants hold again, products and eligibilities are unchanged, and bid processing by the
   -- rescanned list gets from the old state to the new one, within the bound.
   pub record GoesOn (old new : Queue) : Type 0 where
-    pub kept : IsKept new
+    pub kept : HasSoundLines new
     pub tracked : IsTracking new new.ready
     pub counts : StaysWithinTests new
     pub terms : SameTerms old new
@@ -163,7 +163,7 @@ module _ (changes : List Change) where
 
   -- the request with an index was applied by its whole room, and has no room left
   pub record IsAppliedWhole (place : ℕ) (old new : Queue) : Type 0 where
-    pub kept : IsKept new
+    pub kept : HasSoundLines new
     pub tracked : IsTracking new new.ready
     pub terms : SameTerms old new
     pub applied : progress new ≡ progress_with old place
@@ -183,7 +183,7 @@ module _ (changes : List Change) where
 
   -- the request with an index was tested, and applied by its whole room: it has no room left
   pub record IsTested (place : ℕ) (old new : Queue) : Type 0 where
-    pub kept : IsKept new
+    pub kept : HasSoundLines new
     pub tracked : IsTracking new new.ready
     pub terms : SameTerms old new
     pub step : HadNoRoom place old new ⊎ HadRoom place old new

@@ -3,7 +3,7 @@ use Rattle.std.specs.Prelude.{List, [], ◌∷◌, map, Option, Some, option_map
 use Rattle.serde_json.specs.Data.{Data, object, array}
 use Rattle.clock_json.specs.Reading.{items_of, Fields, members_of}
 use Rattle.clock_setup.specs.SetupData.{setup_data}
-use Rattle.clock_setup.specs.declared.setup_scan.HeldSetup.{HeldSetup}
+use Rattle.clock_setup.specs.declared.setup_scan.NestedSetup.{NestedSetup}
 use Rattle.clock_replays.specs.declared.replay.Script.{Script}
 use Rattle.clock_replays.specs.declared.replay.Closing.{Closing}
 use Rattle.clock_replays.specs.declared.read.FoundReplay.{FoundReplay}
@@ -26,5 +26,5 @@ abbrev pub replay_data : Data → List Script → List Closing → Data
 replay_data setup scripts closings = object (members_of (replay_fields (Some closings) (Some scripts) (Some setup)))
 
 -- what was read of a replay document, as a value
-abbrev pub found_data : HeldSetup × List Script × List Closing → Data
+abbrev pub found_data : NestedSetup × List Script × List Closing → Data
 found_data found = replay_data (setup_data found.0.setup) found.1 found.2

@@ -1,13 +1,13 @@
 -- How one connection is served.
---     IsLeftAlone reading ..      no request could be read, and nothing changed
---     AnswersAndKeeps reading response ..      the text is answered, and logged if it changes the
+--     HasNoRequest reading ..      no request could be read, and nothing changed
+--     AnswersAndLogs reading response ..      the text is answered, and logged if it changes the
 --         auction
 --     IsAnswered reading response ..      this, or the out-of-memory reply
 --     IsServed one effect ..      one connection was served, with this effect
---     IsUnkept one ..      its text could not be logged
+--     IsUnlogged one ..      its text could not be logged
 --     EndsTaken one .. result      how serving an accepted connection ends
 --     EndsOne coming_old coming_new .. result      how accepting and serving one ends
---     IsToldAs old new served result      the closed round, if any, was reported
+--     IsReportedAs old new served result      the closed round, if any, was reported
 --     round_closed effect      the closed round, if any
 use Rattle.std.specs.Prelude.{◌≡◌, ◌⊎◌, ℕ, true, List, [], ◌∷◌, Option, Result, Ok, Err}
 use Rattle.clock_device.specs.Told.{Reading}
@@ -22,30 +22,30 @@ use Rattle.clock_front.specs.declared.front.response.Effect.{Effect}
 use Rattle.clock_front.specs.declared.front.response.Effect.TheVariants.{Nothing, Sheet, Closing}
 use Rattle.clock_front.specs.declared.front.response.Response.{Response}
 use Rattle.clock_journal.specs.Kept.{JournalState}
-use Rattle.clock_keeping.specs.Keeping.{GrowsBy, IsAccepted, IsInStep, IsKept, LeavesOneMore}
+use Rattle.clock_keeping.specs.Keeping.{GrowsBy, IsAccepted, IsInStep, IsLogged, LeavesOneMore}
 use Rattle.clock_serving.specs.Serving.{WritesReply}
-use Rattle.clock_serving.specs.Exchanges.{Came, Exchange, HasClosed, IsSeen, bytes_given}
+use Rattle.clock_serving.specs.Exchanges.{Came, Exchange, HasClosedConnections, IsSeen, bytes_given}
 use Rattle.clock_serving.specs.declared.serving.ServeFault.{ServeFault}
 use Rattle.clock_serving.specs.declared.serving.ServeFault.TheVariants as fault
 
 -- no request could be read; front and journal are unchanged
-abbrev pub IsLeftAlone : Reading → JournalState → JournalState → HouseFields → HouseFields → Type 0
-IsLeftAlone reading journal_old journal_new old new = IsLeftUnread reading old new × (journal_new ≡ journal_old)
+abbrev pub HasNoRequest : Reading → JournalState → JournalState → HouseFields → HouseFields → Type 0
+HasNoRequest reading journal_old journal_new old new = IsLeftUnread reading old new × (journal_new ≡ journal_old)
 
 -- the text that was read is answered, and logged if it changes the auction
-pub record AnswersAndKeeps (reading : Reading) (response : Response) (journal_old journal_new : JournalState)
+pub record AnswersAndLogs (reading : Reading) (response : Response) (journal_old journal_new : JournalState)
     (old new : HouseFields) : Type 0 where
   pub text : List ℕ
   pub arrived : HasArrived reading text
   pub responds : RespondsTo text response old new
   pub kept : (digest : List ℕ) (past : List (List ℕ)) → IsInStep digest past journal_old old
-      → IsKept digest past text response.reply journal_new old new
+      → IsLogged digest past text response.reply journal_new old new
   pub added_to : journal_new.uncut ≡ journal_old.uncut
 
 -- this; or memory ran out for the text, the reply says so, and nothing changed
 abbrev pub IsAnswered : Reading → Response → JournalState → JournalState → HouseFields → HouseFields → Type 0
 IsAnswered reading response journal_old journal_new old new =
-    AnswersAndKeeps reading response journal_old journal_new old new
+    AnswersAndLogs reading response journal_old journal_new old new
     ⊎ (HasNoRoom reading × (response ≡ record { reply = no_memory; effect = Nothing }) × (new ≡ old)
     × (journal_new ≡ journal_old))
 
@@ -54,11 +54,11 @@ abbrev pub IsServed : Exchange → Effect → JournalState → JournalState → 
 IsServed one effect journal_old journal_new old new =
     ((response : Response) × IsAnswered one.reading response journal_old journal_new old new
     × WritesReply one.writing response.reply × (effect ≡ response.effect) × IsSeen one.kept journal_new)
-    ⊎ (IsLeftAlone one.reading journal_old journal_new old new × WritesNothing one.writing × (effect ≡ Nothing))
+    ⊎ (HasNoRequest one.reading journal_old journal_new old new × WritesNothing one.writing × (effect ≡ Nothing))
 
 -- an accepted text could not be logged: the disk has what it had, and a crash leaves the texts
 -- before it, and at most this one more
-pub record FailsToKeep (reading : Reading) (journal_old journal_new : JournalState) (old : HouseFields) : Type 0 where
+pub record FailsToLog (reading : Reading) (journal_old journal_new : JournalState) (old : HouseFields) : Type 0 where
   pub text : List ℕ
   pub arrived : HasArrived reading text
   pub accepted : (texts : List (List ℕ)) → StandsForTexts texts old → IsAccepted old.setup texts text
@@ -67,28 +67,28 @@ pub record FailsToKeep (reading : Reading) (journal_old journal_new : JournalSta
   pub on_disk : journal_new.synced ≡ journal_old.synced
 
 -- this, and nothing was written
-abbrev pub IsUnkept : Exchange → JournalState → JournalState → HouseFields → Type 0
-IsUnkept one journal_old journal_new old = FailsToKeep one.reading journal_old journal_new old × WritesNothing one.writing
+abbrev pub IsUnlogged : Exchange → JournalState → JournalState → HouseFields → Type 0
+IsUnlogged one journal_old journal_new old = FailsToLog one.reading journal_old journal_new old × WritesNothing one.writing
 
 -- an accepted connection was served, or its text could not be logged
 abbrev pub EndsTaken : {E : Type 0} → Exchange → JournalState → JournalState → HouseFields → HouseFields
     → Result Effect E → Type 0
 EndsTaken one journal_old journal_new old new (Ok effect) = IsServed one effect journal_old journal_new old new
-EndsTaken one journal_old journal_new old new (Err failed) = IsUnkept one journal_old journal_new old
+EndsTaken one journal_old journal_new old new (Err failed) = IsUnlogged one journal_old journal_new old
 
 -- the closed round, if any, was reported
-abbrev pub IsTold : Option (List ℕ) → Option (List ℕ) → Effect → Type 0
-IsTold told_old told_new Nothing = told_new ≡ told_old
-IsTold told_old told_new Sheet = told_new ≡ told_old
-IsTold told_old told_new (Closing round) = GrowsBy told_old told_new (round ∷ [])
+abbrev pub IsReported : Option (List ℕ) → Option (List ℕ) → Effect → Type 0
+IsReported told_old told_new Nothing = told_new ≡ told_old
+IsReported told_old told_new Sheet = told_new ≡ told_old
+IsReported told_old told_new (Closing round) = GrowsBy told_old told_new (round ∷ [])
 
 -- this; or the text could not be logged, and the fault says so
-abbrev pub IsToldAs : {U E : Type 0} → Option (List ℕ) → Option (List ℕ) → Result Effect E → Result U ServeFault → Type 0
-IsToldAs told_old told_new (Ok effect) (Ok done) = IsTold told_old told_new effect
-IsToldAs told_old told_new (Err failed) (Err fault.Journal) = told_new ≡ told_old
-IsToldAs told_old told_new (Ok effect) (Err fault) = ⊥
-IsToldAs told_old told_new (Err failed) (Ok done) = ⊥
-IsToldAs told_old told_new (Err failed) (Err fault.Accept) = ⊥
+abbrev pub IsReportedAs : {U E : Type 0} → Option (List ℕ) → Option (List ℕ) → Result Effect E → Result U ServeFault → Type 0
+IsReportedAs told_old told_new (Ok effect) (Ok done) = IsReported told_old told_new effect
+IsReportedAs told_old told_new (Err failed) (Err fault.Journal) = told_new ≡ told_old
+IsReportedAs told_old told_new (Ok effect) (Err fault) = ⊥
+IsReportedAs told_old told_new (Err failed) (Ok done) = ⊥
+IsReportedAs told_old told_new (Err failed) (Err fault.Accept) = ⊥
 
 -- the closed round, if any
 abbrev pub round_closed : Effect → List ℕ
@@ -101,11 +101,11 @@ round_closed (Closing round) = round ∷ []
 abbrev pub EndsOne : {U : Type 0} → Option (List (List ℕ)) → Option (List (List ℕ)) → Option (List Exchange) → Option (List Exchange)
     → Option (List ℕ) → Option (List ℕ) → JournalState → JournalState → HouseFields → HouseFields → Result U ServeFault → Type 0
 EndsOne coming_old coming_new closed_old closed_new told_old told_new journal_old journal_new old new (Ok done) =
-    (one : Exchange) × HasClosed closed_old closed_new (one ∷ []) × Came coming_old coming_new (bytes_given (one ∷ []))
+    (one : Exchange) × HasClosedConnections closed_old closed_new (one ∷ []) × Came coming_old coming_new (bytes_given (one ∷ []))
     × ((effect : Effect) × IsServed one effect journal_old journal_new old new
     × GrowsBy told_old told_new (round_closed effect))
 EndsOne coming_old coming_new closed_old closed_new told_old told_new journal_old journal_new old new (Err fault.Accept) =
     (closed_new ≡ closed_old) × (coming_new ≡ coming_old) × (journal_new ≡ journal_old) × (new ≡ old) × (told_new ≡ told_old)
 EndsOne coming_old coming_new closed_old closed_new told_old told_new journal_old journal_new old new (Err fault.Journal) =
-    (one : Exchange) × HasClosed closed_old closed_new (one ∷ []) × Came coming_old coming_new (bytes_given (one ∷ []))
-    × IsUnkept one journal_old journal_new old × (told_new ≡ told_old)
+    (one : Exchange) × HasClosedConnections closed_old closed_new (one ∷ []) × Came coming_old coming_new (bytes_given (one ∷ []))
+    × IsUnlogged one journal_old journal_new old × (told_new ≡ told_old)

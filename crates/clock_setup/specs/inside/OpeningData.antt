@@ -9,7 +9,7 @@ use Rattle.serde_json.specs.Data.{Data, object}
 use Rattle.clock_json.specs.Tree.{items_at, row_of, each}
 use Rattle.clock_json.specs.Rows.{shortened}
 use Rattle.clock_json.specs.Reading.{whole, rows, Fields, members_of}
-use Rattle.clock_setup.specs.declared.setup_scan.HeldSetup.{HeldSetup}
+use Rattle.clock_setup.specs.declared.setup_scan.NestedSetup.{NestedSetup}
 use Rattle.clock_setup.specs.declared.opening.FoundOpening.{FoundOpening}
 use Rattle.clock_setup.specs.SetupData.{setup_data}
 
@@ -35,5 +35,5 @@ found_opening found =
     opening_fields (option_map rows found.demands) found.increment (option_map (λ held. setup_data held.setup) found.held)
 
 -- the JSON value of an opening that was read by bytes
-abbrev pub scanned_data : HeldSetup × List (List ℕ) × ℕ → Data
+abbrev pub scanned_data : NestedSetup × List (List ℕ) × ℕ → Data
 scanned_data found = opening_data (setup_data found.0.setup) found.1 found.2

@@ -3,7 +3,7 @@
 --         house
 --     AreScriptsOf setup scripts      there is a script for each bidder
 --     IsGoing house      the auction of a house has not ended
---     IsTold code fault result      the result of a request, by the code of its reply
+--     IsResultByCode code fault result      the result of a request, by the code of its reply
 --     ComesTo answer house      the step has texts, and the house stands for them
 --     MakesStep step old new result      from any texts, the step was made, or its fault is
 --         returned
@@ -44,9 +44,9 @@ pub record IsRefusedWith (code : Code) (fault told : SimFault) : Type 0 where
   pub not_done : code ≢ Done
   pub not_memory : code ≢ Memory
 
-abbrev pub IsTold : {T : Type 0} → Code → SimFault → Result T SimFault → Type 0
-IsTold code fault (Ok done) = code ≡ Done
-IsTold code fault (Err told) = told ≢ NoMemory → IsRefusedWith code fault told
+abbrev pub IsResultByCode : {T : Type 0} → Code → SimFault → Result T SimFault → Type 0
+IsResultByCode code fault (Ok done) = code ≡ Done
+IsResultByCode code fault (Err told) = told ≢ NoMemory → IsRefusedWith code fault told
 
 -- the step has these texts, and the house stands for them
 pub record ComesTo (answer : Result (List (List ℕ)) SimFault) (house : HouseFields) : Type 0 where

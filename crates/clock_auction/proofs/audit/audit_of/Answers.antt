@@ -4,7 +4,7 @@ use Rattle.clock_journal.specs.Entries.{Entry, entries_onto}
 use Rattle.clock_journal.specs.declared.recovery.JournalFault.TheVariants.{NoMemory}
 use Rattle.clock_keeping.specs.Keeping.{IsRefused}
 use Rattle.clock_keeping.proofs.TakenUp.{refused_first}
-use Rattle.clock_auction.specs.Audits.{IsRecounted, IsUnrecounted}
+use Rattle.clock_auction.specs.Audits.{IsRecounted, IsAuditFault}
 use Rattle.clock_auction.proofs.AuditLaws.{audit_is}
 use Rattle.clock_auction.proofs.audit.audit_of.Goals as goal
 
@@ -12,7 +12,7 @@ pub returns-in_err-recovered-clause-err : goal.returns-in_err-recovered-clause-e
 returns-in_err-recovered-clause-err c =
     let p = err_from_is_err_and c.from_residual.result c.from_residual.ensures.1 in
     let refused = c.in_err-recovered in
-    rw p.1 (subst (λ (bytes : List ℕ). IsUnrecounted c.args.front.setup c.args.first.now bytes p.0) c.as_slice.ensures.value (record {
+    rw p.1 (subst (λ (bytes : List ℕ). IsAuditFault c.args.front.setup c.args.first.now bytes p.0) c.as_slice.ensures.value (record {
       fault = refused.field-0.0;
       told_is = p.2;
       is = refused.ensures.read;

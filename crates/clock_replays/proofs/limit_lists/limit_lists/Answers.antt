@@ -19,13 +19,13 @@ pub items-preserved : goal.items-preserved
 items-preserved c =
     let l = c.items in
     let start = c.opens.new.self in
-    let here = c.numbers_behind.new.self in
+    let here = c.numbers_after.new.self in
     let new = c.empty_arrays-empty.new.self in
     let row = c.as_slice.result.now in
     let count = c.empty_arrays-empty.result in
     let before = kept_limits l.limits in
     let same : c.closes.new.self ≡ l.scan = grind arith in
-    let read = c.in_ok-numbers_behind.ensures.value in
+    let read = c.in_ok-numbers_after.ensures.value in
     let is : read.0 ≡ row = sym (c.as_slice.ensures.value ∙ read.1 ∙ ap (λ (old : List ℕ). old ++ read.0) c.clear.ensures.items) in
     let reads : Reads 1 l.scan (numbers row) here =
     subst (λ (ns : List ℕ). Reads 1 l.scan (numbers ns) here) is (subst (λ ts. Reads 1 ts (numbers read.0) here) same read.2) in
@@ -39,7 +39,7 @@ items-preserved c =
       shorter = omega (
         arith,
         l.invariant.shorter,
-        c.in_ok-numbers_behind.ensures.shorter,
+        c.in_ok-numbers_after.ensures.shorter,
         ap length same,
         all_shorter 1 here (replicate count (numbers [])) new c.empty_arrays-empty.ensures,
       );
@@ -47,12 +47,12 @@ items-preserved c =
 
 pub items-smaller : goal.items-smaller
 items-smaller c =
-    let here = c.numbers_behind.new.self in
+    let here = c.numbers_after.new.self in
     let count = c.empty_arrays-empty.result in
     let same : c.closes.new.self ≡ c.items.scan = grind arith in
     omega (
       arith,
-      c.in_ok-numbers_behind.ensures.shorter,
+      c.in_ok-numbers_after.ensures.shorter,
       ap length same,
       all_shorter 1 here (replicate count (numbers [])) c.empty_arrays-empty.new.self c.empty_arrays-empty.ensures,
     )

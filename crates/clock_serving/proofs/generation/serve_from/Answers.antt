@@ -9,7 +9,7 @@ returns-in-Err-clause-generation g c =
     let found = c.args.journal.now in
     let bytes = c.args.bytes.now in
     let setup = c.args.auction.now.front.setup in
-    let auction = c.go_on.new.auction in
+    let auction = c.resume_auction.new.auction in
     let now = c.in-Err.ensures in (
       [],
       grown_none (g.C.Acceptor.closed c.args.connections.now),
@@ -35,8 +35,8 @@ returns-in-Ok-clause-generation g c =
       ends.2,
       (
         ends.3.0,
-        served_all c.args.auction.now.front.setup c.args.journal.now c.go_on.new.journal c.serve_all.new.keeper
-            c.args.bytes.now c.go_on.new.auction.front started.setup started.resumed ends.0 _ _ c.serve_all.new.front
+        served_all c.args.auction.now.front.setup c.args.journal.now c.resume_auction.new.journal c.serve_all.new.log
+            c.args.bytes.now c.resume_auction.new.auction.front started.setup started.resumed ends.0 _ _ c.serve_all.new.front
             ends.3.1,
       ),
     )
@@ -48,7 +48,7 @@ returns-in-Err-serve_all-clause-generation g c =
       ends.0,
       ends.1,
       ends.2,
-      ends_by_fault c.args.auction.now.front.setup c.args.journal.now c.go_on.new.journal c.serve_all.new.keeper
-          c.args.bytes.now c.go_on.new.auction.front started.setup started.resumed (Unit {0}) c.args.count ends.0 _ _
+      ends_by_fault c.args.auction.now.front.setup c.args.journal.now c.resume_auction.new.journal c.serve_all.new.log
+          c.args.bytes.now c.resume_auction.new.auction.front started.setup started.resumed (Unit {0}) c.args.count ends.0 _ _
           c.serve_all.new.front c.in-Err-serve_all.fault ends.3,
     )

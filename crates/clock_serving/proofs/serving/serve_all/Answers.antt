@@ -18,7 +18,7 @@ loop-connection-init g c = record {
     closed = grown_none (g.C.Acceptor.closed c.args.connections.now);
     came = came_none (g.C.Acceptor.coming c.args.connections.now);
     counted = refl;
-    served = served_none (g.K.Keeper.told c.args.keeper.now) (g.K.Keeper.journal c.args.keeper.now) c.args.front.now;
+    served = served_none (g.K.RequestLog.told c.args.log.now) (g.K.RequestLog.journal c.args.log.now) c.args.front.now;
   };
   unfailed = c.requires.unfailed;
   closed = c.requires.closed;
@@ -30,13 +30,13 @@ pub returns-in_err-serve_next-clause-served : goal.returns-in_err-serve_next-cla
 returns-in_err-serve_next-clause-served g c =
     let coming = g.C.Acceptor.coming in
     let closed = g.C.Acceptor.closed in
-    let journal = g.K.Keeper.journal in
-    let told = g.K.Keeper.told in
+    let journal = g.K.RequestLog.journal in
+    let told = g.K.RequestLog.told in
     let loop = c.loop-connection in
     let fault = err_from_is_err_and c.from_residual.result c.from_residual.ensures.1 in
     rw (fault.1, fault.2)
     (ends_by loop._connection (coming c.args.connections.now) (coming loop.connections) (coming c.serve_next.new.connections) (closed c.args.connections.now) (closed loop.connections) (closed c.serve_next.new.connections)
-    (told c.args.keeper.now) (told loop.keeper) (told c.serve_next.new.keeper) (journal c.args.keeper.now) (journal loop.keeper) (journal c.serve_next.new.keeper) c.args.front.now loop.front c.serve_next.new.front
+    (told c.args.log.now) (told loop.log) (told c.serve_next.new.log) (journal c.args.log.now) (journal loop.log) (journal c.serve_next.new.log) c.args.front.now loop.front c.serve_next.new.front
     (limits_of c.house.result.now c.args.front.now c.house.ensures c.law_of_house.ensures.limits) loop.invariant.setup loop.invariant.served
     c.serve_next.result c.args.count c.in_err-serve_next.field-0.0 c.loop-connection-test.true c.in_err-serve_next.ensures.ends)
 
@@ -44,12 +44,12 @@ pub loop-connection-preserved : goal.loop-connection-preserved
 loop-connection-preserved g c =
     let coming = g.C.Acceptor.coming in
     let closed = g.C.Acceptor.closed in
-    let journal = g.K.Keeper.journal in
-    let told = g.K.Keeper.told in
+    let journal = g.K.RequestLog.journal in
+    let told = g.K.RequestLog.told in
     let loop = c.loop-connection in
     record {
       served = one_more loop._connection (coming c.args.connections.now) (coming loop.connections) (coming c.serve_next.new.connections) (closed c.args.connections.now) (closed loop.connections) (closed c.serve_next.new.connections)
-          (told c.args.keeper.now) (told loop.keeper) (told c.serve_next.new.keeper) (journal c.args.keeper.now) (journal loop.keeper) (journal c.serve_next.new.keeper) c.args.front.now loop.front c.serve_next.new.front
+          (told c.args.log.now) (told loop.log) (told c.serve_next.new.log) (journal c.args.log.now) (journal loop.log) (journal c.serve_next.new.log) c.args.front.now loop.front c.serve_next.new.front
           (limits_of c.house.result.now c.args.front.now c.house.ensures c.law_of_house.ensures.limits) loop.invariant.setup loop.invariant.served
           c.in_ok-serve_next.field-0 c.in_ok-serve_next.ensures.ends;
       unfailed = c.in_ok-serve_next.ensures.unfailed;

@@ -6,8 +6,8 @@ use Rattle.clock_serving.proofs.serving.serve_all.Given as goal
 abbrev pub invariant-loop-connection : goal.invariant-loop-connection
 invariant-loop-connection g l = record {
   served : HasServed l._connection (g.C.Acceptor.coming l.initial.connections) (g.C.Acceptor.coming l.connections) (g.C.Acceptor.closed l.initial.connections) (g.C.Acceptor.closed l.connections)
-      (g.K.Keeper.told l.initial.keeper) (g.K.Keeper.told l.keeper) (g.K.Keeper.journal l.initial.keeper) (g.K.Keeper.journal l.keeper) l.initial.front l.front;
-  unfailed : (g.K.Keeper.journal l.keeper).has_failed ≡ false;
+      (g.K.RequestLog.told l.initial.log) (g.K.RequestLog.told l.log) (g.K.RequestLog.journal l.initial.log) (g.K.RequestLog.journal l.log) l.initial.front l.front;
+  unfailed : (g.K.RequestLog.journal l.log).has_failed ≡ false;
   closed : g.C.Acceptor.is_open l.connections ≡ false;
   taken : g.C.Acceptor.has_failed l.connections ≡ false;
   setup : l.front.setup ≡ l.initial.front.setup;

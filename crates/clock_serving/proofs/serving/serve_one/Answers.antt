@@ -40,12 +40,12 @@ returns-in_err-response-in-Ok-clause-served g c =
 
 pub returns-clause-served : goal.returns-clause-served
 returns-clause-served g c =
-    let journal = g.K.Keeper.journal in
+    let journal = g.K.RequestLog.journal in
     let join = c.match-read_request in
     let reading : Reading = record { before = g.R.Source.told c.args.source.now; after = g.R.Source.told c.read_request.new.source } in
-    let answered : IsAnswered reading join.response (journal c.args.keeper.now) (journal join.keeper) c.args.front.now join.front = elim join.branch [
-      | in-Ok+in_ok-response-in-Ok w ↦ answered_as reading _ join.response (journal c.args.keeper.now) (journal w.answer.new.self)
-          (journal join.keeper) c.args.front.now w.answer.new.front join.front w.response-is (ap journal w.keeper-is) w.front-is
+    let answered : IsAnswered reading join.response (journal c.args.log.now) (journal join.log) c.args.front.now join.front = elim join.branch [
+      | in-Ok+in_ok-response-in-Ok w ↦ answered_as reading _ join.response (journal c.args.log.now) (journal w.answer.new.self)
+          (journal join.log) c.args.front.now w.answer.new.front join.front w.response-is (ap journal w.log-is) w.front-is
           (inl (record {
             text = w.as_slice.result.now;
             arrived = arrived _ w.in-Ok.request w.as_slice.result.now w.as_slice.ensures w.in-Ok.ensures.arrival;
@@ -54,8 +54,8 @@ returns-clause-served g c =
             added_to = w.in_ok-response-in-Ok.ensures.moments.added_to;
           }))
       | in-Err-Memory w ↦ answered_as reading (record { reply = w.no_memory_reply.result; effect = Nothing }) join.response
-          (journal c.args.keeper.now) (journal c.args.keeper.now) (journal join.keeper) c.args.front.now c.args.front.now
-          join.front w.response-is (ap journal w.keeper-is) w.front-is
+          (journal c.args.log.now) (journal c.args.log.now) (journal join.log) c.args.front.now c.args.front.now
+          join.front w.response-is (ap journal w.log-is) w.front-is
           (inr (
             rw w.in-Err-Memory.field-0-is at w.in-Err-Memory.ensures.arrival,
             ap (λ (reply : Answer). record { reply = reply; effect = Nothing }) w.no_memory_reply.ensures,

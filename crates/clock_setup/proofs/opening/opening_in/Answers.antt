@@ -22,8 +22,8 @@ returns-in-Ok-clause-ok c =
     ap (option_map (map (map shortened))) (sym c.in_ok-each_at.ensures ∙ c.in_ok-rows.ensures.ok_part)
     ∙ ap Some (sym (c.in_ok-demands.ensures ∙ ap (map (map shortened)) c.as_slice.ensures)) in
     let whole : has_members 3 value ≡ true = sym c.has_members.ensures ∙ c.if-not-has_members.false in
-    subst (λ answer. IfOk c.compared.result (λ opening. answer ≡ Ok opening))
-    (sym (opening_means value _ _ _ (Ok c.in-Ok.setup) held rows increment whole (ap in_opening c.in-Ok.ensures.ok) c.compared.ensures.limits)) c.compared.ensures.ok
+    subst (λ answer. IfOk c.judged.result (λ opening. answer ≡ Ok opening))
+    (sym (opening_means value _ _ _ (Ok c.in-Ok.setup) held rows increment whole (ap in_opening c.in-Ok.ensures.ok) c.judged.ensures.limits)) c.judged.ensures.ok
 
 pub returns-in-Ok-clause-err : goal.returns-in-Ok-clause-err
 returns-in-Ok-clause-err c =
@@ -34,8 +34,8 @@ returns-in-Ok-clause-err c =
     ap (option_map (map (map shortened))) (sym c.in_ok-each_at.ensures ∙ c.in_ok-rows.ensures.ok_part)
     ∙ ap Some (sym (c.in_ok-demands.ensures ∙ ap (map (map shortened)) c.as_slice.ensures)) in
     let whole : has_members 3 value ≡ true = sym c.has_members.ensures ∙ c.if-not-has_members.false in
-    subst (λ answer. IfErr c.compared.result (IsRefusal NoMemory answer))
-    (sym (opening_means value _ _ _ (Ok c.in-Ok.setup) held rows increment whole (ap in_opening c.in-Ok.ensures.ok) c.compared.ensures.limits)) c.compared.ensures.err
+    subst (λ answer. IfErr c.judged.result (IsRefusal NoMemory answer))
+    (sym (opening_means value _ _ _ (Ok c.in-Ok.setup) held rows increment whole (ap in_opening c.in-Ok.ensures.ok) c.judged.ensures.limits)) c.judged.ensures.err
 
 pub returns-clause-err : goal.returns-clause-err
 returns-clause-err c = λ known.

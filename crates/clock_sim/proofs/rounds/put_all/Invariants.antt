@@ -1,5 +1,5 @@
 use Rattle.std.proofs.Common.{drop}
-use Rattle.clock_sim.specs.inside.Groups.{IsUnderWay, requests_in}
+use Rattle.clock_sim.specs.inside.Groups.{IsGroupUnderWay, requests_in}
 use Rattle.clock_sim.specs.Rehearsal.{after_puts}
 use Rattle.clock_sim.proofs.StepLaws.{IsOnWay}
 use Rattle.clock_sim.proofs.TurnLaws.{then_puts}
@@ -10,4 +10,4 @@ abbrev pub invariant-loop-bidder : goal.invariant-loop-bidder
 invariant-loop-bidder g l =
     IsOnWay (after_puts l.initial.hub.house.setup 0 l.scripts)
     (then_puts l.initial.hub.house.setup (requests_in l.group) l.bidder (drop l.bidder l.scripts))
-    l.initial.hub.house l.hub.house × IsUnderWay l.hub l.group
+    l.initial.hub.house l.hub.house × IsGroupUnderWay l.hub l.group

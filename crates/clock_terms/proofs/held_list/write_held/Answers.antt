@@ -2,51 +2,51 @@
 use Rattle.std.proofs.Common.{◌≡◌, ℕ, ◌+◌, ◌<◌, ◌≤◌, ◌∙◌, List, length, take, set, get_or, refl, sym, ap, subst, ⊎_elim, arith}
 use Rattle.std.proofs.lemmas.Bool.{cases_lt}
 use Rattle.std.proofs.lemmas.List.{ext_get_or, length-set, take-set, take_more_set}
-use Rattle.clock_terms.specs.declared.held_list.HeldDemand.{HeldDemand}
+use Rattle.clock_terms.specs.declared.held_list.PositiveDemand.{PositiveDemand}
 use Rattle.clock_terms.specs.HeldDemands.{demand_for, demands_of}
 use Rattle.clock_terms.specs.Limits.{most_supply}
-use Rattle.clock_terms.specs.inside.Rows.{AreHeld}
+use Rattle.clock_terms.specs.inside.Rows.{ArePositiveDemands}
 use Rattle.clock_terms.proofs.HeldLaws.{held_more, held_push, length-demands, none_behind, order_none, push_here, push_other, shown}
 use Rattle.clock_terms.proofs.held_list.write_held.Goals as goal
 use Rattle.clock_terms.proofs.held_list.write_held.Goals.{then-demand-gt0, else-demand-gt0}
 
 -- after a demand was written to index `kept`: the first `next` entries are in order, and have this demand and those
 -- before
-record IsWritten (room : List HeldDemand) (kept product demand next : ℕ) : Type 0 where
+record IsWritten (room : List PositiveDemand) (kept product demand next : ℕ) : Type 0 where
   count : next ≤ kept + 1
-  order : AreHeld 0 (take next (set room kept (record { product = product; demand = demand }))) (product + 1)
+  order : ArePositiveDemands 0 (take next (set room kept (record { product = product; demand = demand }))) (product + 1)
   here : demand_for (take next (set room kept (record { product = product; demand = demand }))) product ≡ demand
   others : (other : ℕ) → other < product
       → demand_for (take next (set room kept (record { product = product; demand = demand }))) other ≡ demand_for (take kept room) other
 
 -- a positive demand is one more entry
-some : (room : List HeldDemand) (kept product demand : ℕ) → kept < length room → AreHeld 0 (take kept room) product → 0 < demand
+some : (room : List PositiveDemand) (kept product demand : ℕ) → kept < length room → ArePositiveDemands 0 (take kept room) product → 0 < demand
     → demand ≤ most_supply → IsWritten room kept product demand (kept + 1)
 some room kept product demand within are more few =
-    let one : HeldDemand = record { product = product; demand = demand } in
+    let one : PositiveDemand = record { product = product; demand = demand } in
     let grown = take_more_set room kept one within in
     record {
       count = omega arith;
-      order = subst (λ (list : List HeldDemand). AreHeld 0 list (product + 1)) (sym grown)
+      order = subst (λ (list : List PositiveDemand). ArePositiveDemands 0 list (product + 1)) (sym grown)
           (held_push 0 (take kept room) product one are (omega arith) more few);
-      here = ap (λ (list : List HeldDemand). demand_for list product) grown ∙ push_here 0 (take kept room) product one are (omega arith);
+      here = ap (λ (list : List PositiveDemand). demand_for list product) grown ∙ push_here 0 (take kept room) product one are (omega arith);
       others = λ other below.
-          ap (λ (list : List HeldDemand). demand_for list other) grown ∙ push_other (take kept room) one other (λ same. omega (arith, same, below));
+          ap (λ (list : List PositiveDemand). demand_for list other) grown ∙ push_other (take kept room) one other (λ same. omega (arith, same, below));
     }
 
 -- a demand of 0 is no entry
-none : (room : List HeldDemand) (kept product demand : ℕ) → AreHeld 0 (take kept room) product → demand ≤ 0
+none : (room : List PositiveDemand) (kept product demand : ℕ) → ArePositiveDemands 0 (take kept room) product → demand ≤ 0
     → IsWritten room kept product demand kept
 none room kept product demand are nothing =
-    let one : HeldDemand = record { product = product; demand = demand } in
+    let one : PositiveDemand = record { product = product; demand = demand } in
     let same = take-set room kept one in
     record {
       count = omega arith;
-      order = subst (λ (list : List HeldDemand). AreHeld 0 list (product + 1)) (sym same)
+      order = subst (λ (list : List PositiveDemand). ArePositiveDemands 0 list (product + 1)) (sym same)
           (held_more 0 (take kept room) product (product + 1) are (omega arith));
-      here = ap (λ (list : List HeldDemand). demand_for list product) same
+      here = ap (λ (list : List PositiveDemand). demand_for list product) same
           ∙ none_behind 0 (take kept room) product product are (omega arith) ∙ omega (arith, nothing);
-      others = λ other below. ap (λ (list : List HeldDemand). demand_for list other) same;
+      others = λ other below. ap (λ (list : List PositiveDemand). demand_for list other) same;
     }
 
 pub loop-product-init : goal.loop-product-init

@@ -1,12 +1,12 @@
 -- Adding the commands one by one gives the grammar of the program.
 use Rattle.std.proofs.Common.{codes}
 use Rattle.clap.specs.Words.{new_app}
-use Rattle.clock_words.specs.Words.{files_grammar, prices_grammar, program_alone_grammar, serve_grammar}
+use Rattle.clock_words.specs.Words.{files_grammar, prices_grammar, program_only_grammar, serve_grammar}
 use Rattle.clock_words.proofs.commands.program.Goals as goal
 
 pub returns : goal.returns
 returns c =
-    let priced = c.with_command-program.ensures program_alone_grammar prices_grammar c.program_alone.ensures c.prices_command.ensures in
+    let priced = c.with_command-program.ensures program_only_grammar prices_grammar c.program_only.ensures c.prices_command.ensures in
     let opened = c.with_command-program-2.ensures _ (new_app (codes "opening")) priced c.named.ensures in
     let replayed = c.with_command-program-3.ensures _ (new_app (codes "replay")) opened c.named-2.ensures in
     let served = c.with_command-program-4.ensures _ serve_grammar replayed c.serve_command.ensures in

@@ -10,13 +10,13 @@ use Rattle.clock_http.specs.declared.code.Code.TheVariants.{CutShort}
 use Rattle.clock_http.specs.Framing.{incomplete, refusal}
 use Rattle.clock_http.specs.Routes.{page_of}
 use Rattle.clock_http.specs.Shown.{shown_framing, shown_head}
-use Rattle.clock_front.specs.Askers.{asker}
+use Rattle.clock_front.specs.Callers.{caller}
 use Rattle.clock_front.specs.Effects.{IsRightFor, IsRightResponse}
 use Rattle.clock_front.specs.Outcomes.{outcome, with_page}
 use Rattle.clock_front.specs.Requests.{ask_by_route, request_of}
-use Rattle.clock_front.specs.declared.front.replies.Unanswered.TheVariants.{Room}
+use Rattle.clock_front.specs.declared.front.replies.AnswerError.TheVariants.{Room}
 use Rattle.clock_front.specs.declared.front.response.Response.{Response}
-use Rattle.clock_front.specs.Rooms.{IsWantOf, WantsRoom, refusal_room}
+use Rattle.clock_front.specs.Rooms.{FailsByAllocation, NeedsRoom, refusal_room}
 use Rattle.clock_front.proofs.PrivateLaws.{cut_short_want, private_reply, if_private, if_private_want, want_as}
 use Rattle.clock_front.proofs.ReplyLaws.{unchanged_right}
 use Rattle.clock_front.proofs.FrontLaws.{refused_fixed, away_told, away_command, of_text}
@@ -28,11 +28,11 @@ fixed_reply-requires g c = refused_fixed c.requires.0 c.in-Refused.code (sym (ap
 pub returns-in_ok-reply-in-NeedMore-clause-response : goal.returns-in_ok-reply-in-NeedMore-clause-response
 returns-in_ok-reply-in-NeedMore-clause-response g c = λ text is.
     let house = c.args.self.now in
-    let who = asker house.setup (request_of text).token in
+    let who = caller house.setup (request_of text).token in
     let framed = ap shown_framing (sym c.in-NeedMore.is) ∙ is in
     unchanged_right who (request_of text).ask house c.unchanged.result
     (ap (λ (response : Response). response.reply) c.unchanged.ensures ∙ c.in_ok-reply-in-NeedMore.ensures
-    ∙ ap (λ (shown : Shown). with_page shown.code None (refusal_value shown)) c.alone.ensures
+    ∙ ap (λ (shown : Shown). with_page shown.code None (refusal_value shown)) c.bare.ensures
     ∙ away_told house who text incomplete CutShort framed refl)
     (ap (λ (response : Response). response.effect) c.unchanged.ensures)
     (away_command house.setup who text incomplete CutShort framed refl)
@@ -45,7 +45,7 @@ returns-in_ok-reply-in-NeedMore-clause-private g c = λ text is.
 pub returns-in_err-reply-in-NeedMore-clause-wanted : goal.returns-in_err-reply-in-NeedMore-clause-wanted
 returns-in_err-reply-in-NeedMore-clause-wanted g c = λ text is.
     let house = c.args.self.now in
-    want_as c.from_residual.result (λ why. why ≡ Room refusal_room) (IsWantOf text house)
+    want_as c.from_residual.result (λ why. why ≡ Room refusal_room) (FailsByAllocation text house)
     (λ why wants. cut_short_want house text why (ap shown_framing (sym c.in-NeedMore.is) ∙ is) wants) (search rules)
 
 pub returns-in_err-reply-in-NeedMore-clause-wanted_privately : goal.returns-in_err-reply-in-NeedMore-clause-wanted_privately
@@ -56,7 +56,7 @@ returns-in_err-reply-in-NeedMore-clause-wanted_privately g c = λ text is.
 pub returns-in-Refused-clause-response : goal.returns-in-Refused-clause-response
 returns-in-Refused-clause-response g c = λ text is.
     let house = c.args.self.now in
-    let who = asker house.setup (request_of text).token in
+    let who = caller house.setup (request_of text).token in
     let code = c.in-Refused.code in
     let framed = ap shown_framing (sym c.in-Refused.is) ∙ is in
     unchanged_right who (request_of text).ask house c.unchanged-in-Refused.result
@@ -71,7 +71,7 @@ returns-in-Refused-clause-private g c = λ text is.
     private_reply c.args.self.now text _ limits (returns-in-Refused-clause-response g c text is).reply
 
 pub answer_request-requires-clause-known : goal.answer_request-requires-clause-known
-answer_request-requires-clause-known g c = c.asker_of-asker.ensures.known c.self.inside.house.setup c.self.invariant.0
+answer_request-requires-clause-known g c = c.caller_of-caller.ensures.known c.self.inside.house.setup c.self.invariant.0
 
 pub returns-in-Whole-clause-still : goal.returns-in-Whole-clause-still
 returns-in-Whole-clause-still g c = rw (← c.self.view_is) c.answer_request.ensures.still
@@ -83,7 +83,7 @@ returns-in-Whole-clause-response g c = λ text is.
     let new = c.answer_request.new.house in
     subst (λ (h : HouseFields). IfOk told (IsRightResponse text h new)) c.self.view_is
     (of_text house.setup text (λ who ask. IfOk told (IsRightFor who ask house new)) _ _
-    (shown_head c.in-Whole.head) c.in-Whole.body.now (c.asker_of-asker.ensures.shown house.setup c.self.invariant.0) refl
+    (shown_head c.in-Whole.head) c.in-Whole.body.now (c.caller_of-caller.ensures.shown house.setup c.self.invariant.0) refl
     (ap shown_framing (sym c.in-Whole.is) ∙ is) c.answer_request.ensures.done)
 
 pub returns-in-Whole-clause-private : goal.returns-in-Whole-clause-private
@@ -95,9 +95,9 @@ pub returns-in-Whole-clause-wanted : goal.returns-in-Whole-clause-wanted
 returns-in-Whole-clause-wanted g c = λ text is.
     let house = c.self.inside.house in
     let told = c.answer_request.result in
-    subst (λ (h : HouseFields). IfErr told (IsWantOf text h)) c.self.view_is
-    (of_text house.setup text (λ who ask. IfErr told (WantsRoom who ask (outcome house who ask))) _ _
-    (shown_head c.in-Whole.head) c.in-Whole.body.now (c.asker_of-asker.ensures.shown house.setup c.self.invariant.0) refl
+    subst (λ (h : HouseFields). IfErr told (FailsByAllocation text h)) c.self.view_is
+    (of_text house.setup text (λ who ask. IfErr told (NeedsRoom who ask (outcome house who ask))) _ _
+    (shown_head c.in-Whole.head) c.in-Whole.body.now (c.caller_of-caller.ensures.shown house.setup c.self.invariant.0) refl
     (ap shown_framing (sym c.in-Whole.is) ∙ is) c.answer_request.ensures.wanted)
 
 pub returns-in-Whole-clause-wanted_privately : goal.returns-in-Whole-clause-wanted_privately

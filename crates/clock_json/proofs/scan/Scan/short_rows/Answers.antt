@@ -14,16 +14,16 @@ pub items-preserved : goal.items-preserved
 items-preserved c =
     let l = c.items in
     let same : c.closes.new.self ≡ l.self = grind arith in
-    let read = c.in_ok-numbers_behind.ensures.value in
+    let read = c.in_ok-numbers_after.ensures.value in
     let row : List ℕ = read.0 in
-    let reads : Reads 1 l.self (numbers row) c.numbers_behind.new.self =
-    subst (λ ts. Reads 1 ts (numbers row) c.numbers_behind.new.self) same read.2 in
-    let held : c.numbers_behind.new.list.items ≡ row = read.1 ∙ ap (λ known. known ++ row) c.clear.ensures.items in
+    let reads : Reads 1 l.self (numbers row) c.numbers_after.new.self =
+    subst (λ ts. Reads 1 ts (numbers row) c.numbers_after.new.self) same read.2 in
+    let held : c.numbers_after.new.list.items ≡ row = read.1 ∙ ap (λ known. known ++ row) c.clear.ensures.items in
     let kept : c.in_ok-row.row ≡ row = c.in_ok-row.ensures.row ∙ c.in_ok-row.ensures.same (search rules) ∙ c.as_slice.ensures.value ∙ held in
     let pushed : c.push.new.self ≡ l.rows ++ row ∷ [] = c.in_ok-push.ensures.ok ∙ ap (λ (last : List ℕ). l.rows ++ last ∷ []) kept in (
-      subst (λ list. HasItems 1 c.opens.new.self (map numbers list) c.numbers_behind.new.self) (sym pushed)
-          (items_push_next 1 numbers c.opens.new.self l.self c.numbers_behind.new.self l.rows row l.invariant.0 reads),
-      omega (arith, l.invariant.1, c.in_ok-numbers_behind.ensures.shorter, ap length same),
+      subst (λ list. HasItems 1 c.opens.new.self (map numbers list) c.numbers_after.new.self) (sym pushed)
+          (items_push_next 1 numbers c.opens.new.self l.self c.numbers_after.new.self l.rows row l.invariant.0 reads),
+      omega (arith, l.invariant.1, c.in_ok-numbers_after.ensures.shorter, ap length same),
     )
 
 pub returns-clause-value : goal.returns-clause-value

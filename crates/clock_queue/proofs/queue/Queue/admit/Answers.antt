@@ -5,14 +5,14 @@ use Rattle.clock_terms.specs.declared.change.Change.{Change}
 use Rattle.clock_processor.specs.Settling.{no_change}
 use Rattle.clock_queue.specs.declared.queue.Queue.{Queue}
 use Rattle.clock_queue.specs.inside.Lines.{LineFields, line_of, cost_of, with_waiting}
-use Rattle.clock_queue.specs.inside.Queue.{IsKept, line_at, line_in, cost_at}
+use Rattle.clock_queue.specs.inside.Queue.{HasSoundLines, line_at, line_in, cost_at}
 use Rattle.clock_queue.proofs.Admits.{added, kept_added, kept_used, own_in, tracked_next}
 use Rattle.clock_queue.proofs.queue.Queue.admit.Goals as goal
 
-waits : (changes : List Change) (queue : Queue) (lines : List LineFields) (line cost : ℕ) (one : Change) (is : IsKept changes queue)
+waits : (changes : List Change) (queue : Queue) (lines : List LineFields) (line cost : ℕ) (one : Change) (is : HasSoundLines changes queue)
     (more : queue.admitted < length changes) → one ≡ get_or changes queue.admitted one → line ≡ line_of one → cost ≡ cost_of queue.board.products one →
     lines ≡ set queue.lines line (with_waiting (line_in queue line) queue.admitted cost) →
-    IsKept changes (record queue { admitted = queue.admitted + 1; lines = lines })
+    HasSoundLines changes (record queue { admitted = queue.admitted + 1; lines = lines })
 waits changes queue lines line cost one is more one_is line_is cost_is lines_are =
     let read : one ≡ get_or changes queue.admitted no_change = get_or_read changes queue.admitted one more one_is no_change in
     let of_line : line ≡ line_at changes queue.admitted = line_is ∙ ap line_of read in
@@ -20,7 +20,7 @@ waits changes queue lines line cost one is more one_is line_is cost_is lines_are
     let all : lines ≡ added changes queue is more =
     lines_are ∙ ap (λ l. set queue.lines l (with_waiting (line_in queue l) queue.admitted cost)) of_line
     ∙ ap (λ n. set queue.lines (line_at changes queue.admitted) (with_waiting (line_in queue (line_at changes queue.admitted)) queue.admitted n)) of_cost in
-    subst (λ (list : List LineFields). IsKept changes (record queue { admitted = queue.admitted + 1; lines = list })) (sym all)
+    subst (λ (list : List LineFields). HasSoundLines changes (record queue { admitted = queue.admitted + 1; lines = list })) (sym all)
     (kept_added changes queue is more)
 
 pub add-requires : goal.add-requires

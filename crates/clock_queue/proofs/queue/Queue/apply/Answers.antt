@@ -8,7 +8,7 @@ use Rattle.clock_processor.specs.Board.{BoardFields, IsBoard, MayApply, applied_
 use Rattle.clock_processor.specs.Settling.{no_change}
 use Rattle.clock_queue.specs.declared.queue.Queue.{Queue}
 use Rattle.clock_queue.specs.inside.Lines.{product_line, bidder_line}
-use Rattle.clock_queue.specs.inside.Queue.{HasWoken, HasWokenProduct, IsAppliedWhole, IsKept, IsTracking, line_in, room_in}
+use Rattle.clock_queue.specs.inside.Queue.{HasWoken, HasWokenProduct, IsAppliedWhole, HasSoundLines, IsTracking, line_in, room_in}
 use Rattle.clock_queue.proofs.Applies.{after, applied_whole, kept_mid, may_apply_first, places_within}
 use Rattle.clock_queue.proofs.queue.Queue.apply.Goals as goal
 
@@ -17,7 +17,7 @@ some_room room r same some = subst (λ n. 0 < n) same some
 
 -- the new fields, as one application of the request
 module _ (changes : List Change) (first room : ℕ) (old mid new : Queue) (one : Change) (board : BoardFields) (read left : List ℕ) (unused rest other limit : ℕ)
-    (is : IsKept changes old) (lt : first < length changes) (is_board : IsBoard old.board.products old.board.eligibilities old.board.grid)
+    (is : HasSoundLines changes old) (lt : first < length changes) (is_board : IsBoard old.board.products old.board.eligibilities old.board.grid)
     (room_is : room ≡ room_in changes old first) (positive : 0 < room) (one_is : one ≡ get_or changes first one)
     (board_is : board ≡ applied_to old.board one room) (read_is : read ≡ old.left) (left_is : left ≡ set old.left first (get_or read first 0 - room))
     (rest_is : rest ≡ get_or read first 0 - room) (woken : HasWokenProduct one rest (record old { board = board; left = left }) mid) where

@@ -1,12 +1,12 @@
 -- A test changes only the count. An application is the next step.
 use Rattle.std.proofs.Common.{◌≡◌, ◌∷◌, ◌∙◌, sym, subst, arith, inl, refl}
 use Rattle.clock_queue.specs.declared.queue.Queue.{Queue}
-use Rattle.clock_queue.specs.inside.Queue.{IsKept, IsTested, IsTracking, room_in}
+use Rattle.clock_queue.specs.inside.Queue.{HasSoundLines, IsTested, IsTracking, room_in}
 use Rattle.clock_queue.proofs.Admits.{kept_tested, tracked_tested, tracked_rest}
 use Rattle.clock_queue.proofs.queue.Queue.test.Goals as goal
 
 pub apply-requires-clause-kept : goal.apply-requires-clause-kept
-apply-requires-clause-kept c = subst (IsKept c.args.changes.now) (sym c.room-room.ensures.counted) (kept_tested c.args.changes.now c.args.self.now c.requires.kept)
+apply-requires-clause-kept c = subst (HasSoundLines c.args.changes.now) (sym c.room-room.ensures.counted) (kept_tested c.args.changes.now c.args.self.now c.requires.kept)
 
 pub apply-requires-clause-tracked : goal.apply-requires-clause-tracked
 apply-requires-clause-tracked c = subst (λ (queue : Queue). IsTracking c.args.changes.now queue (c.args.place ∷ queue.ready)) (sym c.room-room.ensures.counted)

@@ -2,13 +2,13 @@ use Rattle.std.proofs.Common.{◌≡◌, [], map}
 use Rattle.clock_terms.specs.declared.change.Change.{Change}
 use Rattle.clock_processor.specs.Settling.{Reaches}
 use Rattle.clock_processor.specs.inside.UnderWay.{progress_of}
-use Rattle.clock_queue.specs.inside.Queue.{IsKept, IsTracking, StaysWithinTests, progress}
+use Rattle.clock_queue.specs.inside.Queue.{HasSoundLines, IsTracking, StaysWithinTests, progress}
 use Rattle.clock_queue.proofs.queue.WokenProcessor.settle.Given as goal
 
 -- the requests so far are admitted, none is ready, and the steps so far reach this state
 abbrev pub invariant-loop-place : goal.invariant-loop-place
 invariant-loop-place l = record {
-  kept : IsKept l.requests l.queue;
+  kept : HasSoundLines l.requests l.queue;
   tracked : IsTracking l.requests l.queue l.queue.ready;
   counts : StaysWithinTests l.requests l.queue;
   none : l.queue.ready ≡ [];

@@ -1,7 +1,7 @@
 -- Without entries each demand is 0 and each group starts at index 0.
 use Rattle.std.proofs.Common.{◌≡◌, ◌+◌, ◌/◌, ℕ, List, length, replicate, ap, ◌∙◌, arith, rules}
 use Rattle.std.proofs.lemmas.List.{length-replicate}
-use Rattle.clock_terms.specs.declared.held_list.HeldDemand.{HeldDemand}
+use Rattle.clock_terms.specs.declared.held_list.PositiveDemand.{PositiveDemand}
 use Rattle.clock_terms.specs.HeldDemands.{demands_of}
 use Rattle.clock_terms.specs.inside.Rows.{group_size}
 use Rattle.clock_terms.proofs.HeldLaws.{none_held, order_none}
@@ -24,4 +24,4 @@ invariant_of-result c =
     }
 
 pub returns : goal.returns
-returns c = ap (λ (held : List HeldDemand). demands_of c.args.products held) c.in_ok-with_capacity.ensures.items ∙ none_held c.args.products
+returns c = ap (λ (held : List PositiveDemand). demands_of c.args.products held) c.in_ok-with_capacity.ensures.items ∙ none_held c.args.products

@@ -1,0 +1,162 @@
+ghost use Rattle.std.specs.Prelude.{◌≡◌, ◌≤◌, ◌+◌, [], drop, length, map, IfOk, MatchBool, None, Some, true, false};
+ghost use Rattle.clock_device.specs.{Told.{unread, unused}, SourceState.{source_report}, SinkState.{sink_report}};
+ghost use Rattle.clock_serving.specs.Exchanges.{Closes, Exchange};
+ghost use Rattle.clock_front_tests.specs.MemoryAcceptor.{MemoryAcceptorState};
+
+use clock_device::{Bounded, Failed, Items, ListSink, ListSource, NoMemory, Stop};
+use clock_serving::{Acceptor, Connection};
+use std::alloc::Global;
+use std::marker::Model;
+
+/// A client of a connection in memory: what it sends, and what it takes.
+///
+/// It sends its bytes, one read gives at most a number of them, and at one read they stop. It takes
+/// a number of bytes in all, one write at most a number of them, and one write fails. A read and a
+/// write are of one byte at least, and are counted from 0.
+#[derive(Clone, Copy)]
+pub struct Client<'a> {
+    pub bytes: &'a [u8],
+    pub read: usize,
+    pub read_stop: Option<(u64, Stop)>,
+    pub room: usize,
+    pub write: usize,
+    pub write_stop: Option<u64>,
+}
+
+/// A connection in memory that was closed. Contracts see the bytes that were read and written on
+/// it.
+#[derive(Drop)]
+pub struct Closed<'a> {
+    offered: &'a [u8],
+    source: ListSource<'a>,
+    sink: ListSink,
+}
+
+impl<'a> Model for Closed<'a> {
+    ghost Value = { Exchange };
+
+    ghost view = { λ c. record {
+      reading = record { before = unread (Some c.offered.now); after = source_report c.source };
+      writing = record { before = unused (Some []); after = sink_report c.sink };
+      kept = None;
+    } };
+}
+
+impl<'a> Closed<'a> {
+    /// The bytes that were written on it.
+    pub fn written(&self) -> &[u8]
+        ensures { Some result.now ≡ self.now.writing.after.taken }
+    {
+        self.sink.bytes()
+    }
+}
+
+/// Connections in memory: one for each of these clients, in order. If none is left, accepting one
+/// fails. Contracts see the bytes of the clients that are still to come.
+#[derive(Drop)]
+pub struct MemoryAcceptor<'a> {
+    alloc: Global,
+    clients: &'a [Client<'a>],
+    next: usize,
+    is_open: bool,
+    offered: &'a [u8],
+    closed: Bounded<Closed<'a>>,
+    has_failed: bool,
+}
+
+impl<'a> Model for MemoryAcceptor<'a> {
+    ghost Value = { MemoryAcceptorState };
+
+    ghost view = { λ l. record {
+      coming = map (λ client. client.bytes.now) (drop l.next l.clients.now);
+      is_open = l.is_open;
+      offered = l.offered.now;
+      closed = l.closed.items;
+      has_failed = l.has_failed;
+    } };
+
+    ghost invariant = { λ l. (l.next ≤ length l.clients.now) × (length l.clients.now ≤ l.next + l.closed.room)
+        × MatchBool l.is_open (length l.clients.now + 1 ≤ l.next + l.closed.room) (Unit {0}) };
+}
+
+impl<'a> MemoryAcceptor<'a> {
+    /// Makes the connections of these clients, of which none has been accepted.
+    pub fn new(alloc: Global, clients: &'a [Client<'a>]) -> Result<MemoryAcceptor<'a>, NoMemory>
+        ensures { IfOk result (λ listed. listed ≡ record {
+          coming = map (λ client. client.bytes.now) clients.now;
+          is_open = false;
+          offered = [];
+          closed = [];
+          has_failed = false;
+        }) }
+    {
+        Ok(MemoryAcceptor {
+            alloc,
+            clients,
+            next: 0,
+            is_open: false,
+            offered: &[],
+            closed: Items::with_capacity(alloc, clients.len())?,
+            has_failed: false,
+        })
+    }
+
+    /// The connections that were closed, in order.
+    pub fn closed(&self) -> &[Closed<'a>]
+        ensures { result.now ≡ self.now.closed }
+    {
+        self.closed.as_slice()
+    }
+}
+
+impl<'a> Acceptor for MemoryAcceptor<'a> {
+    type Reader = ListSource<'a>;
+
+    type Writer = ListSink;
+
+    ghost coming = { λ listed. Some listed.coming };
+
+    ghost is_open = { λ listed. listed.is_open };
+
+    ghost offer = { λ listed. record { source = unread (Some listed.offered); sink = unused (Some []) } };
+
+    ghost closed = { λ listed. Some listed.closed };
+
+    ghost has_failed = { λ listed. listed.has_failed };
+
+    fn accept(&mut self) -> Result<Connection<ListSource<'a>, ListSink>, Failed> {
+        let Some(client) = self.clients.get(self.next) else {
+            self.has_failed = true;
+            return Err(Failed);
+        };
+        let write = client.write.max(1);
+        let Ok(sink) = ListSink::new(self.alloc, client.room, write, client.write_stop) else {
+            self.has_failed = true;
+            return Err(Failed);
+        };
+        self.next += 1;
+        self.is_open = true;
+        self.offered = client.bytes;
+        Ok(Connection {
+            source: ListSource::new(client.bytes, client.read.max(1), client.read_stop),
+            sink,
+        })
+    }
+
+    fn close(&mut self, connection: Connection<ListSource<'a>, ListSink>)
+        requires { self.old.is_open ≡ true }
+        ensures open { self.new.is_open ≡ false }
+        ensures coming { Some self.new.coming ≡ Some self.old.coming }
+        ensures failed { self.new.has_failed ≡ self.old.has_failed }
+        ensures closed { Closes (Some self.old.closed) (Some self.new.closed)
+            (record { before = unread (Some self.old.offered); after = source_report connection.entry.source })
+            (record { before = unused (Some []); after = sink_report connection.entry.sink }) None }
+    {
+        self.is_open = false;
+        self.closed.push(Closed {
+            offered: self.offered,
+            source: connection.source,
+            sink: connection.sink,
+        });
+    }
+}

@@ -1,0 +1,62 @@
+use Rattle.std.proofs.Common.{arith, sym, ◌∙◌}
+use Rattle.std.proofs.lemmas.Result.{err_from_is_err_and}
+use Rattle.clock_keeping.proofs.EffectLaws.{accepted_where, answers, some_bytes}
+use Rattle.clock_keeping.proofs.KeptLaws.{kept, passed_over}
+use Rattle.clock_keeping.proofs.Untouched.{untouched}
+use Rattle.clock_keeping.proofs.keeping.JournalRequestLog.answer.Goals as goal
+
+pub returns-then-not-is_change-clause-answered : goal.returns-then-not-is_change-clause-answered
+returns-then-not-is_change-clause-answered g c =
+    answers c.args.text.now c.respond-response.result c.args.front.now c.respond-response.new.self
+    (c.respond-response.ensures.response c.args.text.now c.framing.ensures)
+
+pub returns-then-not-is_change-clause-kept : goal.returns-then-not-is_change-clause-kept
+returns-then-not-is_change-clause-kept g c digest past in_step =
+    passed_over digest past c.args.text.now c.respond-response.result c.args.front.now c.respond-response.new.self _ in_step
+    (c.respond-response.ensures.response c.args.text.now c.framing.ensures)
+    (sym c.is_change.ensures ∙ c.if-not-is_change.true)
+
+pub returns-then-not-is_change-clause-accepted : goal.returns-then-not-is_change-clause-accepted
+returns-then-not-is_change-clause-accepted g c texts stands = tt
+
+pub returns-then-not-is_change-clause-moments : goal.returns-then-not-is_change-clause-moments
+returns-then-not-is_change-clause-moments g c = untouched c.args.text.now c.args.self.now
+
+pub returns-then-text-gt-MOST_TEXT-clause-accepted : goal.returns-then-text-gt-MOST_TEXT-clause-accepted
+returns-then-text-gt-MOST_TEXT-clause-accepted g c texts stands =
+    accepted_where texts c.args.text.now c.respond-response.result c.args.front.now c.respond-response.new.self stands
+    (c.respond-response.ensures.response c.args.text.now c.framing.ensures)
+    (sym c.is_change.ensures ∙ c.if-not-is_change.false)
+
+pub returns-then-text-gt-MOST_TEXT-clause-moments : goal.returns-then-text-gt-MOST_TEXT-clause-moments
+returns-then-text-gt-MOST_TEXT-clause-moments g c = untouched c.args.text.now c.args.self.now
+
+pub append-requires-clause-fits : goal.append-requires-clause-fits
+append-requires-clause-fits g c = record {
+  least = some_bytes c.args.text.now c.respond-response.result c.args.front.now c.respond-response.new.self
+      (c.respond-response.ensures.response c.args.text.now c.framing.ensures)
+      (sym c.is_change.ensures ∙ c.if-not-is_change.false);
+  most = omega arith;
+}
+
+pub returns-in_err-append-clause-accepted : goal.returns-in_err-append-clause-accepted
+returns-in_err-append-clause-accepted g c texts stands =
+    let p = err_from_is_err_and c.from_residual.result c.from_residual.ensures.1 in
+    rw p.1 (accepted_where texts c.args.text.now c.respond-response.result c.args.front.now c.respond-response.new.self
+    stands (c.respond-response.ensures.response c.args.text.now c.framing.ensures)
+    (sym c.is_change.ensures ∙ c.if-not-is_change.false))
+
+pub returns-clause-answered : goal.returns-clause-answered
+returns-clause-answered g c =
+    answers c.args.text.now c.respond-response.result c.args.front.now c.respond-response.new.self
+    (c.respond-response.ensures.response c.args.text.now c.framing.ensures)
+
+pub returns-clause-kept : goal.returns-clause-kept
+returns-clause-kept g c digest past in_step =
+    kept digest past c.args.text.now c.respond-response.result c.args.front.now c.respond-response.new.self _
+    (c.in_ok-append.ensures.kept digest past in_step.has) in_step.stands
+    (c.respond-response.ensures.response c.args.text.now c.framing.ensures)
+    (sym c.is_change.ensures ∙ c.if-not-is_change.false)
+
+pub returns-clause-accepted : goal.returns-clause-accepted
+returns-clause-accepted g c texts stands = tt

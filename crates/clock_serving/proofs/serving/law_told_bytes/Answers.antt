@@ -1,5 +1,0 @@
-use Rattle.clock_serving.proofs.Bytes.{told_bytes}
-use Rattle.clock_serving.proofs.serving.law_told_bytes.Goals as goal
-
-pub returns : goal.returns
-returns c = told_bytes
