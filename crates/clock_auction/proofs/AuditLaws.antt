@@ -37,15 +37,14 @@ enough_digests setup (entry ∷ past) =
 
 enough_for : (entries : List Entry) (house : HouseFields) (digests : List (List ℕ)) → IsRecounted entries house digests
     → length house.closed ≤ length digests
-enough_for entries house digests is =
-    subst (λ (all : List (List ℕ)). length house.closed ≤ length all) (sym is.digests_are)
-    (subst (λ (closed : List ClosedRound). length closed ≤ length (closing_digests house.setup entries)) (sym is.stands.closed)
-    (enough_digests house.setup entries))
+enough_for entries house digests is = subst (λ (all : List (List ℕ)). length house.closed ≤ length all)
+    (sym is.digests_are) (subst (λ (closed : List ClosedRound). length closed
+    ≤ length (closing_digests house.setup entries)) (sym is.stands.closed) (enough_digests house.setup entries))
 
 -- a digest for each sheet of the report
-pub enough_for_report : (entries : List Entry) (house : HouseFields) (digests given : List (List ℕ)) (report : ReportFields)
-    → IsRecounted entries house digests → report ≡ report_of house.setup house.closed → given ≡ digests
-    → length report.sheets ≤ length given
+pub enough_for_report : (entries : List Entry) (house : HouseFields) (digests given : List (List ℕ))
+    (report : ReportFields) → IsRecounted entries house digests → report ≡ report_of house.setup house.closed
+    → given ≡ digests → length report.sheets ≤ length given
 enough_for_report entries house digests given report recounted is same =
     let many = length-map (reverse house.closed) (λ (closed : ClosedRound). closed.sheet) in
     omega (
@@ -58,8 +57,8 @@ enough_for_report entries house digests given report recounted is same =
     )
 
 -- what is printed for an auction that stands for all texts of a file
-pub audit_is : (setup setup_new : SetupFields) (first bytes given shown : List ℕ) (texts : List (List ℕ)) (recovered : Recovered)
-    → given ≡ bytes → setup_new ≡ setup → IsPlaced first given texts recovered
+pub audit_is : (setup setup_new : SetupFields) (first bytes given shown : List ℕ) (texts : List (List ℕ))
+    (recovered : Recovered) → given ≡ bytes → setup_new ≡ setup → IsPlaced first given texts recovered
     → shown ≡ audited setup_new (entries_onto first [] texts []) → IsAuditOf setup first bytes shown recovered
 audit_is setup setup_new first bytes given shown texts recovered same same_setup placed is = record {
   texts = texts;

@@ -44,7 +44,8 @@ closing_digests setup (entry ∷ past) =
     with_digest (effect setup (texts_in past) entry.1) (closing_digests setup past) entry.0.digest
 
 -- the auction stands for the texts, and the digests are those of its closings
-pub record IsRecounted (entries : List Entry) (house : HouseFields) (digests : List (List ℕ)) : Type 0 where
+pub record IsRecounted (entries : List Entry) (house : HouseFields)
+    (digests : List (List ℕ)) : Type 0 where
   pub stands : StandsForTexts (texts_in entries) house
   pub digests_are : digests ≡ closing_digests house.setup entries
 
@@ -53,20 +54,24 @@ pub record IsAuditFault (setup : SetupFields) (first bytes : List ℕ) (told : F
   pub fault : JournalFault
   pub told_is : told ≡ of_journal fault
   pub is : IsJournalRefusal first bytes fault
-  pub rightly : IsRefusedRightly (IsRefused setup) (λ past. past ≡ []) first (drop head_length bytes) (length bytes) fault
+  pub rightly : IsRefusedRightly (IsRefused setup) (λ past. past ≡ []) first
+      (drop head_length bytes) (length bytes) fault
 
 -- the lines of the closed rounds, each with its closing's digest, and what each bidder won if the
 -- auction has ended
 abbrev pub text_of_rounds : SetupFields → List ClosedRound → List (List ℕ) → List ℕ
 text_of_rounds setup [] digests = []
-text_of_rounds setup (round ∷ closed) digests = audit_text (report_of setup (round ∷ closed)) digests
+text_of_rounds setup (round ∷ closed) digests =
+    audit_text (report_of setup (round ∷ closed)) digests
 
 abbrev pub audited : SetupFields → List Entry → List ℕ
-audited setup entries = text_of_rounds setup (closed_after setup (texts_in entries)) (closing_digests setup entries)
+audited setup entries =
+    text_of_rounds setup (closed_after setup (texts_in entries)) (closing_digests setup entries)
 
 -- the file is the journal of these texts, except for a torn tail, and the rounds of all of them are
 -- printed
-pub record IsAuditOf (setup : SetupFields) (first bytes shown : List ℕ) (recovered : Recovered) : Type 0 where
+pub record IsAuditOf (setup : SetupFields) (first bytes shown : List ℕ)
+    (recovered : Recovered) : Type 0 where
   pub texts : List (List ℕ)
   pub placed : IsPlaced first bytes texts recovered
   pub shown_is : shown ≡ audited setup (entries_onto first [] texts [])

@@ -25,8 +25,8 @@ digest_line digest = encode_lower digest ++ codes "\n"
 -- the word `text`, the number, place, and length, each with a space after it, the digest, and the
 -- text
 abbrev pub text_listed : Record → List ℕ → List ℕ
-text_listed at text =
-    codes "text " ++ spaced at.number ++ spaced at.place ++ spaced (length text) ++ digest_line at.digest ++ text ++ codes "\n"
+text_listed at text = codes "text " ++ spaced at.number ++ spaced at.place ++ spaced (length text)
+    ++ digest_line at.digest ++ text ++ codes "\n"
 
 -- the line of the set-up document, and then each text's lines, the oldest first
 abbrev pub listed : List ℕ → List Entry → List ℕ

@@ -12,7 +12,7 @@ use clock_device::{Failed, Text};
 use clock_front::{Front, Response};
 use clock_http::Progress;
 use clock_journal::{Durable, FileDisk, Journal, Link, Recovered, digest_of};
-use clock_keeping::{ReplayedAuction, ResumeFault, RequestLog, resume_auction};
+use clock_keeping::{ReplayedAuction, RequestLog, ResumeFault, resume_auction};
 use clock_processor::Processor;
 use clock_queue::Woken;
 use clock_serving::{PortAcceptor, serve_all, serve_on};

@@ -4,7 +4,8 @@ use Rattle.std.proofs.Common.{◌≡◌, ℕ, ◌<◌, ◌≤◌, List, [], ◌�
 use Rattle.std.proofs.Common.{◌||◌, not, cond, length, ◌==◌, inl, inr, refl, ap, sym, ◌∙◌, arith}
 use Rattle.std.specs.Prelude.{Option, Some, None, nat_lt}
 use Rattle.std.specs.List.{list_all}
-use Rattle.std.proofs.lemmas.Bool.{ltb-true, eqb-true, lt-ltb, le-ltb, cases_Bool, cases_order, eq-eqb, ne_eqb, and_right}
+use Rattle.std.proofs.lemmas.Bool.{ltb-true, eqb-true, lt-ltb, le-ltb, cases_Bool, cases_order, eq-eqb, ne_eqb}
+use Rattle.std.proofs.lemmas.Bool.{and_right}
 use Rattle.std.proofs.Math.Bool.{and-true}
 use Rattle.std.proofs.lemmas.List.Elements.{All-push}
 use Rattle.clock_terms.specs.declared.prices.PricePair.{PricePair}
@@ -14,10 +15,12 @@ use Rattle.clock_bids.specs.declared.sheet.BidFault.{BidFault}
 use Rattle.clock_bids.specs.declared.sheet.BidFault.TheVariants.{PriceOrder, MixedDirection, KeepPrice}
 use Rattle.clock_bids.specs.inside.Parts.{is_above_prices}
 use Rattle.clock_bids.specs.Sheet.{last_quantity, keeps_direction, is_maintained_at_clock}
-use Rattle.clock_bids.specs.inside.Chains.{Climbs, Falls, Moves, up, down, kept, RisesFrom, IsInRange, IsGoodChain, last_after, last_of, is_step_on, step_checks}
+use Rattle.clock_bids.specs.inside.Chains.{Climbs, Falls, Moves, up, down, kept, RisesFrom, IsInRange, IsGoodChain}
+use Rattle.clock_bids.specs.inside.Chains.{last_after, last_of, is_step_on, step_checks}
 
 -- the last bid has the last quantity
-pub last_quantity-after : (bid : Bid) (bids : List Bid) → last_quantity bid.quantity bids ≡ (last_after bid bids).quantity
+pub last_quantity-after : (bid : Bid) (bids : List Bid)
+    → last_quantity bid.quantity bids ≡ (last_after bid bids).quantity
 last_quantity-after bid [] = refl
 last_quantity-after bid (next ∷ rest) = last_quantity-after next rest
 
@@ -30,7 +33,8 @@ pub last_of-push : (chain : List Bid) (bid : Bid) → last_of (chain ++ bid ∷ 
 last_of-push [] bid = refl
 last_of-push (first ∷ rest) bid = ap Some (last_after-push first rest bid)
 
-pub last_quantity-push : (held : ℕ) (chain : List Bid) (bid : Bid) → last_quantity held (chain ++ bid ∷ []) ≡ bid.quantity
+pub last_quantity-push : (held : ℕ) (chain : List Bid) (bid : Bid)
+    → last_quantity held (chain ++ bid ∷ []) ≡ bid.quantity
 last_quantity-push held [] bid = refl
 last_quantity-push held (first ∷ rest) bid = last_quantity-push first.quantity rest bid
 
@@ -39,8 +43,8 @@ rises-le : (first : Bid) (bids : List Bid) → RisesFrom first.price bids → fi
 rises-le first [] rises = omega arith
 rises-le first (next ∷ rest) rises = omega (arith, rises.0, rises-le next rest rises.1)
 
-rises-push : (first : Bid) (bids : List Bid) (bid : Bid) → RisesFrom first.price bids → (last_after first bids).price < bid.price →
-    RisesFrom first.price (bids ++ bid ∷ [])
+rises-push : (first : Bid) (bids : List Bid) (bid : Bid) → RisesFrom first.price bids
+    → (last_after first bids).price < bid.price → RisesFrom first.price (bids ++ bid ∷ [])
 rises-push first [] bid rises above = (above, tt)
 rises-push first (next ∷ rest) bid rises above = (rises.0, rises-push next rest bid rises.1 above)
 
@@ -84,12 +88,10 @@ step_by held first last quantity same = ap (λ b. cond b (nat_lt last quantity) 
 
 same_side : (held clock : ℕ) (first : Bid) (bids : List Bid) → Moves held clock (first ∷ bids) →
     nat_lt held first.quantity ≡ nat_lt held (last_quantity first.quantity bids)
-same_side held clock first bids (up climbs) =
-    lt-ltb held first.quantity climbs.0
-    ∙ sym (lt-ltb held (last_quantity first.quantity bids) (omega (arith, climbs.0, climbs-le first.quantity bids climbs.1)))
-same_side held clock first bids (down falls) =
-    le-ltb held first.quantity (omega (arith, falls.0))
-    ∙ sym (le-ltb held (last_quantity first.quantity bids) (omega (arith, falls.0, falls-le first.quantity bids falls.1)))
+same_side held clock first bids (up climbs) = lt-ltb held first.quantity climbs.0 ∙ sym (lt-ltb held
+    (last_quantity first.quantity bids) (omega (arith, climbs.0, climbs-le first.quantity bids climbs.1)))
+same_side held clock first bids (down falls) = le-ltb held first.quantity (omega (arith, falls.0)) ∙ sym (le-ltb held
+    (last_quantity first.quantity bids) (omega (arith, falls.0, falls-le first.quantity bids falls.1)))
 same_side held clock first [] (kept bid is same at) = refl
 same_side held clock first (next ∷ rest) (kept bid is same at) = cc
 
@@ -100,24 +102,27 @@ direction_by_last held clock first bids bid moves =
     ∙ ap (λ last. is_step_on held last bid.quantity) (last_quantity-after first bids)
 
 -- if no check fails, the first one passes, and none of the others fails
-pub passes : {F : Type 0} (fault : F) (test : Bool) (others : Option F) → cond test others (Some fault) ≡ None → (test ≡ true) × (others ≡ None)
+pub passes : {F : Type 0} (fault : F) (test : Bool) (others : Option F) → cond test others (Some fault) ≡ None
+    → (test ≡ true) × (others ≡ None)
 passes fault true others e = (refl, e)
 passes fault false others e = cc
 
-at_clock : (held clock : ℕ) (bid : Bid) → bid.quantity ≡ held → (not (bid.quantity == held) || (bid.price == clock)) ≡ true → bid.price ≡ clock
+at_clock : (held clock : ℕ) (bid : Bid) → bid.quantity ≡ held
+    → (not (bid.quantity == held) || (bid.price == clock)) ≡ true → bid.price ≡ clock
 at_clock held clock bid same good =
     eqb-true bid.price clock (sym (ap (λ b. not b || (bid.price == clock)) (eq-eqb bid.quantity held same)) ∙ good)
 
 further_up : (held last quantity : ℕ) → held < last → is_step_on held last quantity ≡ true → last < quantity
-further_up held last quantity above good =
-    ltb-true last quantity (sym (ap (λ b. cond b (nat_lt last quantity) (nat_lt quantity last)) (lt-ltb held last above)) ∙ good)
+further_up held last quantity above good = ltb-true last quantity
+    (sym (ap (λ b. cond b (nat_lt last quantity) (nat_lt quantity last)) (lt-ltb held last above)) ∙ good)
 
 further_down : (held last quantity : ℕ) → last < held → is_step_on held last quantity ≡ true → quantity < last
-further_down held last quantity below good =
-    ltb-true quantity last (sym (ap (λ b. cond b (nat_lt last quantity) (nat_lt quantity last)) (le-ltb held last (omega (arith, below)))) ∙ good)
+further_down held last quantity below good = ltb-true quantity last (sym (ap (λ b. cond b (nat_lt last quantity)
+    (nat_lt quantity last)) (le-ltb held last (omega (arith, below)))) ∙ good)
 
 -- the first bid for a product, if it has no fault
-begins : (held clock : ℕ) (bid : Bid) → (not (bid.quantity == held) || (bid.price == clock)) ≡ true → Moves held clock (bid ∷ [])
+begins : (held clock : ℕ) (bid : Bid) → (not (bid.quantity == held) || (bid.price == clock)) ≡ true
+    → Moves held clock (bid ∷ [])
 begins held clock bid good = elim (cases_order held bid.quantity) as (λ _. Moves held clock (bid ∷ [])) [
   | inl same ↦ kept bid refl (sym same) (at_clock held clock bid (sym same) good)
   | inr (inl above) ↦ up (above, tt)
@@ -125,9 +130,9 @@ begins held clock bid good = elim (cases_order held bid.quantity) as (λ _. Move
 ]
 
 -- a further bid, if it has no fault
-goes_on : (held clock : ℕ) (first : Bid) (bids : List Bid) (bid : Bid) → Moves held clock (first ∷ bids) →
-    (last_after first bids).price < bid.price → bid.price ≤ clock → is_step_on held (last_after first bids).quantity bid.quantity ≡ true →
-    Moves held clock (first ∷ (bids ++ bid ∷ []))
+goes_on : (held clock : ℕ) (first : Bid) (bids : List Bid) (bid : Bid) → Moves held clock (first ∷ bids)
+    → (last_after first bids).price < bid.price → bid.price ≤ clock → is_step_on held
+    (last_after first bids).quantity bid.quantity ≡ true → Moves held clock (first ∷ (bids ++ bid ∷ []))
 goes_on held clock first bids bid (up climbs) rises most good =
     let last : ℕ = last_quantity first.quantity bids in
     let above : held < last = omega (arith, climbs.0, climbs-le first.quantity bids climbs.1) in
@@ -144,8 +149,9 @@ goes_on held clock first [] bid (kept one is same at) rises most good =
 goes_on held clock first (next ∷ rest) bid (kept one is same at) rises most good = cc
 
 -- a good chain stays good after a bid without a fault
-pub good_chain-push : (pair : PricePair) (cap held : ℕ) (chain : List Bid) (bid : Bid) (i : ℕ) → IsGoodChain pair cap held chain → IsInRange pair cap bid →
-    first_fault (step_checks (last_of chain) held pair.clock i bid) ≡ None → IsGoodChain pair cap held (chain ++ bid ∷ [])
+pub good_chain-push : (pair : PricePair) (cap held : ℕ) (chain : List Bid) (bid : Bid) (i : ℕ)
+    → IsGoodChain pair cap held chain → IsInRange pair cap bid → first_fault
+    (step_checks (last_of chain) held pair.clock i bid) ≡ None → IsGoodChain pair cap held (chain ++ bid ∷ [])
 good_chain-push pair cap held [] bid i good here none = record {
   in_range = All-push (IsInRange pair cap) [] bid good.in_range here;
   rising = tt;
@@ -170,15 +176,15 @@ chain_checks held clock chain i bid =
     ∷ []
 
 -- these checks give the same first fault as those by the last bid
-pub checks_by_last_of : (pair : PricePair) (cap held : ℕ) (chain : List Bid) (bid : Bid) (i : ℕ) → IsGoodChain pair cap held chain →
-    first_fault (chain_checks held pair.clock chain i bid) ≡ first_fault (step_checks (last_of chain) held pair.clock i bid)
+pub checks_by_last_of : (pair : PricePair) (cap held : ℕ) (chain : List Bid) (bid : Bid) (i : ℕ)
+    → IsGoodChain pair cap held chain → first_fault (chain_checks held pair.clock chain i bid)
+    ≡ first_fault (step_checks (last_of chain) held pair.clock i bid)
 checks_by_last_of pair cap held [] bid i good = refl
 checks_by_last_of pair cap held (first ∷ rest) bid i good =
     let not_first : (length (first ∷ rest) == 0) ≡ false = ne_eqb (length (first ∷ rest)) 0 (λ e. omega (arith, e)) in
-    ap (λ b. cond (is_above_prices (first ∷ rest) bid) (cond (keeps_direction held (first ∷ rest) bid)
-    (cond (not (b && (bid.quantity == held)) || (bid.price == pair.clock)) None (Some (KeepPrice i)))
-    (Some (MixedDirection i))) (Some (PriceOrder i))) not_first
-    ∙ ap (λ b. cond b (cond (keeps_direction held (first ∷ rest) bid) None (Some (MixedDirection i))) (Some (PriceOrder i)))
-    (all_prices first rest bid.price good.rising)
-    ∙ ap (λ b. cond (nat_lt (last_after first rest).price bid.price) (cond b None (Some (MixedDirection i))) (Some (PriceOrder i)))
-    (direction_by_last held pair.clock first rest bid good.moves)
+    ap (λ b. cond (is_above_prices (first ∷ rest) bid) (cond (keeps_direction held (first ∷ rest) bid) (cond (not (b
+    && (bid.quantity == held)) || (bid.price == pair.clock)) None (Some (KeepPrice i))) (Some (MixedDirection i)))
+    (Some (PriceOrder i))) not_first ∙ ap (λ b. cond b (cond (keeps_direction held (first ∷ rest) bid) None
+    (Some (MixedDirection i))) (Some (PriceOrder i))) (all_prices first rest bid.price good.rising)
+    ∙ ap (λ b. cond (nat_lt (last_after first rest).price bid.price) (cond b None (Some (MixedDirection i)))
+    (Some (PriceOrder i))) (direction_by_last held pair.clock first rest bid good.moves)

@@ -9,7 +9,8 @@ use Rattle.clock_terms.specs.Prices.{opening_prices}
 use Rattle.clock_bids.specs.declared.sheet.Bid.{Bid}
 use Rattle.clock_bids.specs.declared.sheet.BidFault.{BidFault}
 use Rattle.clock_terms.specs.declared.change.Kind.TheVariants.{Increase, Reduction}
-use Rattle.clock_bids.specs.declared.sheet.BidFault.TheVariants.{TooMany, UnknownProduct, PriceRange, OverCap, PriceOrder}
+use Rattle.clock_bids.specs.declared.sheet.BidFault.TheVariants.{TooMany, UnknownProduct, PriceRange, OverCap}
+use Rattle.clock_bids.specs.declared.sheet.BidFault.TheVariants.{PriceOrder}
 use Rattle.clock_bids.specs.declared.sheet.BidFault.TheVariants.{MixedDirection, KeepPrice, OverActivity}
 use Rattle.clock_bids.specs.Holding.{Holding, activity_limit as activity_limit_of}
 use Rattle.clock_bids.specs.Sheet.{most_bids, sheet_fault}
@@ -29,7 +30,8 @@ abbrev later : List Bid → Option BidFault
 later bids = sheet_fault (public_setup one_product) 2 prices (hold 3 (2 ∷ [])) bids
 
 abbrev first : SetupFields → ℕ → List ℕ → List Bid → Option BidFault
-first setup eligibility demands bids = sheet_fault (public_setup setup) 1 (opening_prices setup.products) (hold eligibility demands) bids
+first setup eligibility demands bids =
+    sheet_fault (public_setup setup) 1 (opening_prices setup.products) (hold eligibility demands) bids
 
 turning_chain : later (bid 0 1 103 ∷ bid 0 2 105 ∷ []) ≡ Some (MixedDirection 1)
 turning_chain = refl
@@ -61,7 +63,8 @@ over_activity = refl
 good_first_sheet : first one_product 10 (0 ∷ []) (bid 0 2 100 ∷ []) ≡ None
 good_first_sheet = refl
 
-reductions_in_a_chain : changes_of_sheet prices (2 ∷ []) 0 (bid 0 1 103 ∷ bid 0 0 107 ∷ []) ≡ request Reduction 0 0 0 1 103 ∷ request Reduction 0 0 1 1 107 ∷ []
+reductions_in_a_chain : changes_of_sheet prices (2 ∷ []) 0 (bid 0 1 103 ∷ bid 0 0 107 ∷ [])
+    ≡ request Reduction 0 0 0 1 103 ∷ request Reduction 0 0 1 1 107 ∷ []
 reductions_in_a_chain = refl
 
 kept_demand : changes_of_sheet prices (2 ∷ []) 0 (bid 0 2 110 ∷ []) ≡ []
@@ -70,7 +73,8 @@ kept_demand = refl
 missing_bid : changes_of_sheet prices (2 ∷ []) 0 [] ≡ request Reduction 0 0 0 2 100 ∷ []
 missing_bid = refl
 
-increases_in_a_chain : changes_of_sheet prices (0 ∷ []) 0 (bid 0 1 104 ∷ bid 0 2 110 ∷ []) ≡ request Increase 0 0 0 1 104 ∷ request Increase 0 0 1 1 110 ∷ []
+increases_in_a_chain : changes_of_sheet prices (0 ∷ []) 0 (bid 0 1 104 ∷ bid 0 2 110 ∷ [])
+    ≡ request Increase 0 0 0 1 104 ∷ request Increase 0 0 1 1 110 ∷ []
 increases_in_a_chain = refl
 
 -- an activity limit of 125 percent: with products of four blocks of two units, and of seven blocks of one unit
@@ -89,11 +93,13 @@ both = record { start = 100; clock = 110 } ∷ record { start = 100; clock = 110
 twelve_of_ten : sheet_fault limited_of_seven 2 both (hold 10 (7 ∷ 3 ∷ [])) (bid 0 7 110 ∷ bid 1 5 110 ∷ []) ≡ None
 twelve_of_ten = refl
 
-thirteen_of_ten : sheet_fault limited_of_seven 2 both (hold 10 (7 ∷ 3 ∷ [])) (bid 0 7 110 ∷ bid 1 6 110 ∷ []) ≡ Some OverActivity
+thirteen_of_ten : sheet_fault limited_of_seven 2 both (hold 10 (7 ∷ 3 ∷ []))
+    (bid 0 7 110 ∷ bid 1 6 110 ∷ []) ≡ Some OverActivity
 thirteen_of_ten = refl
 
 -- with an eligibility of 8, a sheet may request an activity of 8 in round 1, and of 10 later
-ten_in_the_first_round : sheet_fault limited 1 (opening_prices limited.products) (hold 8 (0 ∷ 0 ∷ [])) (bid 0 4 100 ∷ bid 1 1 100 ∷ []) ≡ Some OverActivity
+ten_in_the_first_round : sheet_fault limited 1 (opening_prices limited.products) (hold 8 (0 ∷ 0 ∷ []))
+    (bid 0 4 100 ∷ bid 1 1 100 ∷ []) ≡ Some OverActivity
 ten_in_the_first_round = refl
 
 twelve_of_eight : sheet_fault limited 2 both (hold 8 (4 ∷ 0 ∷ [])) (bid 0 3 104 ∷ bid 1 3 106 ∷ []) ≡ Some OverActivity
@@ -102,7 +108,8 @@ twelve_of_eight = refl
 ten_of_eight : sheet_fault limited 2 both (hold 8 (4 ∷ 0 ∷ [])) (bid 0 3 104 ∷ bid 1 2 106 ∷ []) ≡ None
 ten_of_eight = refl
 
-ten_of_eight_without_more : sheet_fault (record limited { limit = 100 }) 2 both (hold 8 (4 ∷ 0 ∷ [])) (bid 0 3 104 ∷ bid 1 2 106 ∷ []) ≡ Some OverActivity
+ten_of_eight_without_more : sheet_fault (record limited { limit = 100 }) 2 both (hold 8 (4 ∷ 0 ∷ []))
+    (bid 0 3 104 ∷ bid 1 2 106 ∷ []) ≡ Some OverActivity
 ten_of_eight_without_more = refl
 
 the_limit_is_rounded_down : activity_limit_of limited_of_seven 2 10 ≡ 12

@@ -18,24 +18,29 @@ use Rattle.clock_terms.specs.Eligibility.{activity}
 use Rattle.clock_terms.proofs.FaultLaws.{both_pass, passed, failed}
 use Rattle.clock_bids.specs.declared.sheet.Bid.{Bid}
 use Rattle.clock_bids.specs.declared.sheet.BidFault.{BidFault}
-use Rattle.clock_bids.specs.declared.sheet.BidFault.TheVariants.{TooMany, UnknownProduct, PriceRange, OverCap, OverActivity}
+use Rattle.clock_bids.specs.declared.sheet.BidFault.TheVariants.{TooMany, UnknownProduct, PriceRange, OverCap}
+use Rattle.clock_bids.specs.declared.sheet.BidFault.TheVariants.{OverActivity}
 use Rattle.clock_bids.specs.Holding.{Holding, activity_limit}
 use Rattle.clock_bids.specs.inside.Parts.{is_for_product, is_within_cap, is_in_prices, checks_of_bids}
 use Rattle.clock_bids.specs.Sheet.{chain_of, last_quantity, asked_demands, most_bids}
 use Rattle.clock_bids.specs.Sheet.{bid_checks, is_within_limit, sheet_fault, IsGoodSheet}
-use Rattle.clock_bids.specs.inside.Chains.{IsInRange, IsGoodChain, AreGoodChains, up, last_of, last_bids, step_checks, checks_by_last}
+use Rattle.clock_bids.specs.inside.Chains.{IsInRange, IsGoodChain, AreGoodChains, up, last_of, last_bids, step_checks}
+use Rattle.clock_bids.specs.inside.Chains.{checks_by_last}
 use Rattle.clock_bids.proofs.Chains.{passes, chain_checks, good_chain-push, checks_by_last_of}
 use Rattle.clock_bids.proofs.Tables.{no_bid, chain_of-own, chain_of-other, length-asked_demands}
 
 -- a sheet without bids
-pub good_chains-nil : (products : List Product) (prices : List PricePair) (demands : List ℕ) → AreGoodChains products prices demands []
+pub good_chains-nil : (products : List Product) (prices : List PricePair) (demands : List ℕ)
+    → AreGoodChains products prices demands []
 good_chains-nil products prices demands = record {
   known = λ k d within. absurd (omega (arith, within));
-  chains = λ product known. record { in_range = λ k d within. absurd (omega (arith, within)); rising = tt; moves = up tt };
+  chains =
+      λ product known. record { in_range = λ k d within. absurd (omega (arith, within)); rising = tt; moves = up tt };
 }
 
 -- if its first three checks pass, a bid is for a product of the set-up, and in range
-module _ (products : List Product) (prices : List PricePair) (demands : List ℕ) (earlier : List Bid) (i : ℕ) (bid : Bid) where
+module _ (products : List Product) (prices : List PricePair) (demands : List ℕ) (earlier : List Bid)
+    (i : ℕ) (bid : Bid) where
   abbrev pair : PricePair
   pair = prices_at prices bid.product
 
@@ -46,7 +51,8 @@ module _ (products : List Product) (prices : List PricePair) (demands : List ℕ
   chain = chain_of bid.product earlier
 
   abbrev IsGoodAt : ℕ → List Bid → Type 0
-  IsGoodAt product list = IsGoodChain (prices_at prices product) (cap_of products product) (slice_index demands product) list
+  IsGoodAt product list =
+      IsGoodChain (prices_at prices product) (cap_of products product) (slice_index demands product) list
 
   record IsSoFarGood : Type 0 where
     known : bid.product < length products
@@ -70,8 +76,8 @@ module _ (products : List Product) (prices : List PricePair) (demands : List ℕ
       }
 
   -- good chains stay good after a bid without a fault
-  pub good_chains-push : AreGoodChains products prices demands earlier → first_fault (bid_checks products prices demands earlier i bid) ≡ None →
-      AreGoodChains products prices demands (earlier ++ bid ∷ [])
+  pub good_chains-push : AreGoodChains products prices demands earlier → first_fault (bid_checks products prices demands
+      earlier i bid) ≡ None → AreGoodChains products prices demands (earlier ++ bid ∷ [])
   good_chains-push good none =
       let here : IsSoFarGood = so_far_good none in
       let was : IsGoodChain pair (cap_of products bid.product) held chain = good.chains bid.product here.known in
@@ -81,43 +87,44 @@ module _ (products : List Product) (prices : List PricePair) (demands : List ℕ
       good_chain-push pair (cap_of products bid.product) held chain bid i was here.in_range after in
       record {
         known = All-push (λ (b : Bid). b.product < length products) earlier bid good.known here.known;
-        chains = λ product known. elim (cases_eq bid.product product) as (λ _. IsGoodAt product (chain_of product (earlier ++ bid ∷ []))) [
-          | inl same ↦ subst (λ p. IsGoodAt p (chain_of p (earlier ++ bid ∷ []))) same
-              (subst (λ list. IsGoodAt bid.product list) (sym (chain_of-own bid.product earlier bid refl)) own)
-          | inr differ ↦ subst (λ list. IsGoodAt product list) (sym (chain_of-other product earlier bid differ)) (good.chains product known)
-        ];
+        chains = λ product known. elim (cases_eq bid.product product) as
+            (λ _. IsGoodAt product (chain_of product (earlier ++ bid ∷ []))) [
+              | inl same ↦ subst (λ p. IsGoodAt p (chain_of p (earlier ++ bid ∷ []))) same
+                  (subst (λ list. IsGoodAt bid.product list) (sym (chain_of-own bid.product earlier bid refl)) own)
+              | inr differ ↦ subst (λ list. IsGoodAt product list) (sym (chain_of-other product earlier bid differ))
+                  (good.chains product known)
+            ];
       }
 
   -- the last bid for each product is enough for the checks
   abbrev last_one : Option Bid
   last_one = get_or (last_bids (length products) earlier) bid.product None
 
-  pub bid_checks-by_last : AreGoodChains products prices demands earlier →
-      first_fault (bid_checks products prices demands earlier i bid) ≡ first_fault (checks_by_last products prices demands last_one i bid)
-  bid_checks-by_last good =
-      elim (cases_Bool (is_for_product products bid)) as (λ _. first_fault (bid_checks products prices demands earlier i bid) ≡ first_fault
-      (checks_by_last products prices demands last_one i bid)) [
+  pub bid_checks-by_last : AreGoodChains products prices demands earlier → first_fault (bid_checks products prices
+      demands earlier i bid) ≡ first_fault (checks_by_last products prices demands last_one i bid)
+  bid_checks-by_last good = elim (cases_Bool (is_for_product products bid)) as (λ _. first_fault (bid_checks products
+      prices demands earlier i bid) ≡ first_fault (checks_by_last products prices demands last_one i bid)) [
         | inl found ↦
             (let known : bid.product < length products = ltb-true bid.product (length products) found in
             let last = get_or-map-range_with_len (λ product. last_of (chain_of product earlier)) 0 (length products)
             bid.product bid.product None known (omega arith) in
-            let others = checks_by_last_of pair (cap_of products bid.product) held chain bid i (good.chains bid.product known) in
-            ap (λ rest. cond (is_for_product products bid)
-            (cond (is_in_prices prices bid) (cond (is_within_cap products bid) rest (Some (OverCap i))) (Some (PriceRange i)))
-            (Some (UnknownProduct i)))
+            let others =
+            checks_by_last_of pair (cap_of products bid.product) held chain bid i (good.chains bid.product known) in
+            ap (λ rest. cond (is_for_product products bid) (cond (is_in_prices prices bid) (cond
+            (is_within_cap products bid) rest (Some (OverCap i))) (Some (PriceRange i))) (Some (UnknownProduct i)))
             (others ∙ ap (λ one. first_fault (step_checks one held pair.clock i bid)) (sym last)))
         | inr unknown ↦ rw unknown
       ]
 
 -- if no item has a fault, the item at an index has none
-each_passes : {X F : Type 0} (checks : ℕ → X → List (F × Bool)) (i : ℕ) (items : List X) → first_fault (in_turn checks i items) ≡ None →
-    (k n : ℕ) (d : X) → n ≡ i + k → k < length items → first_fault (checks n (get_or items k d)) ≡ None
+each_passes : {X F : Type 0} (checks : ℕ → X → List (F × Bool)) (i : ℕ) (items : List X) → first_fault (in_turn checks i
+    items) ≡ None → (k n : ℕ) (d : X) → n ≡ i + k → k < length items → first_fault (checks n (get_or items k d)) ≡ None
 each_passes checks i [] none k n d at within = absurd (omega (arith, within))
 each_passes checks i (x ∷ xs) none zero n d at within =
     let same : i ≡ n = omega (arith, at) in
     subst (λ m. first_fault (checks m x) ≡ None) same (both_pass (checks i x) (in_turn checks (i + 1) xs) none).0
-each_passes checks i (x ∷ xs) none (suc k) n d at within =
-    each_passes checks (i + 1) xs (both_pass (checks i x) (in_turn checks (i + 1) xs) none).1 k n d (omega (arith, at)) (omega (arith, within))
+each_passes checks i (x ∷ xs) none (suc k) n d at within = each_passes checks (i + 1) xs
+    (both_pass (checks i x) (in_turn checks (i + 1) xs) none).1 k n d (omega (arith, at)) (omega (arith, within))
 
 module _ (setup : PublicSetup) (round : ℕ) (prices : List PricePair) (holding : Holding) (bids : List Bid) where
   -- the requested activity of the sheet
@@ -140,31 +147,35 @@ module _ (setup : PublicSetup) (round : ℕ) (prices : List PricePair) (holding 
       record {
         count = leb-true (length bids) most_bids few.0;
         passed = parts.0;
-        active = leb-true asked_activity (activity_limit setup round holding.eligibility) (passes OverActivity _ None parts.1).0;
+        active = leb-true asked_activity (activity_limit setup round holding.eligibility)
+            (passes OverActivity _ None parts.1).0;
       }
 
   -- the first fault of a sheet that has few enough bids
   module _ (few : length bids ≤ most_bids) where
-    of_few : sheet_fault setup round prices holding bids ≡ first_fault (checks_of_bids setup.products prices holding.demands bids ++ last_check)
-    of_few =
-        ap (λ b. cond b (first_fault (checks_of_bids setup.products prices holding.demands bids ++ last_check)) (Some TooMany))
-        (le-leb (length bids) most_bids few)
+    of_few : sheet_fault setup round prices holding bids
+        ≡ first_fault (checks_of_bids setup.products prices holding.demands bids ++ last_check)
+    of_few = ap (λ b. cond b (first_fault (checks_of_bids setup.products prices holding.demands bids ++ last_check))
+        (Some TooMany)) (le-leb (length bids) most_bids few)
 
-    pub sheet_fault-of_bid : (fault : BidFault) → first_fault (checks_of_bids setup.products prices holding.demands bids) ≡ Some fault →
-        sheet_fault setup round prices holding bids ≡ Some fault
-    sheet_fault-of_bid fault is = of_few ∙ failed (checks_of_bids setup.products prices holding.demands bids) last_check fault is
+    pub sheet_fault-of_bid : (fault : BidFault) → first_fault (checks_of_bids setup.products prices holding.demands
+        bids) ≡ Some fault → sheet_fault setup round prices holding bids ≡ Some fault
+    sheet_fault-of_bid fault is =
+        of_few ∙ failed (checks_of_bids setup.products prices holding.demands bids) last_check fault is
 
     module _ (none : first_fault (checks_of_bids setup.products prices holding.demands bids) ≡ None) where
       of_good_bids : sheet_fault setup round prices holding bids ≡ first_fault last_check
       of_good_bids = of_few ∙ passed (checks_of_bids setup.products prices holding.demands bids) last_check none
 
-      pub sheet_fault-over : activity_limit setup round holding.eligibility < asked_activity → sheet_fault setup round prices holding bids ≡ Some OverActivity
-      sheet_fault-over over =
-          of_good_bids ∙ ap (λ b. cond b None (Some OverActivity)) (lt-leb asked_activity (activity_limit setup round holding.eligibility) over)
+      pub sheet_fault-over : activity_limit setup round holding.eligibility < asked_activity
+          → sheet_fault setup round prices holding bids ≡ Some OverActivity
+      sheet_fault-over over = of_good_bids ∙ ap (λ b. cond b None (Some OverActivity))
+          (lt-leb asked_activity (activity_limit setup round holding.eligibility) over)
 
-      pub sheet_fault-none : asked_activity ≤ activity_limit setup round holding.eligibility → IsGoodSheet setup round prices holding bids
-      sheet_fault-none within =
-          of_good_bids ∙ ap (λ b. cond b None (Some OverActivity)) (le-leb asked_activity (activity_limit setup round holding.eligibility) within)
+      pub sheet_fault-none : asked_activity ≤ activity_limit setup round holding.eligibility
+          → IsGoodSheet setup round prices holding bids
+      sheet_fault-none within = of_good_bids ∙ ap (λ b. cond b None (Some OverActivity))
+          (le-leb asked_activity (activity_limit setup round holding.eligibility) within)
 
 module _ (products : List Product) (prices : List PricePair) (demands : List ℕ) (bids : List Bid) where
   -- if no bid has a fault, the first bids of the sheet are good chains
@@ -176,42 +187,45 @@ module _ (products : List Product) (prices : List PricePair) (demands : List ℕ
       let one : i + 1 ≡ suc i = omega arith in
       subst (λ part. AreGoodChains products prices demands part) (sym next ∙ ap (λ n. take n bids) one)
       (good_chains-push products prices demands (take i bids) i (get_or bids i no_bid)
-      (good_up_to none i (omega (arith, within)))
-      (each_passes (λ i bid. bid_checks products prices demands (take i bids) i bid) 0 bids none i i no_bid (omega arith) (omega (arith, within))))
+      (good_up_to none i (omega (arith, within))) (each_passes (λ i bid. bid_checks products prices demands
+      (take i bids) i bid) 0 bids none i i no_bid (omega arith) (omega (arith, within))))
 
-  pub good_bids_chains : first_fault (checks_of_bids products prices demands bids) ≡ None → AreGoodChains products prices demands bids
-  good_bids_chains none =
-      subst (λ part. AreGoodChains products prices demands part) (take_all (length bids) bids (omega arith)) (good_up_to none (length bids) (omega arith))
+  pub good_bids_chains : first_fault (checks_of_bids products prices demands bids) ≡ None
+      → AreGoodChains products prices demands bids
+  good_bids_chains none = subst (λ part. AreGoodChains products prices demands part)
+      (take_all (length bids) bids (omega arith)) (good_up_to none (length bids) (omega arith))
 
-pub good_sheet_chains : (setup : PublicSetup) (round : ℕ) (prices : List PricePair) (holding : Holding) (bids : List Bid) →
-    IsGoodSheet setup round prices holding bids →
-    AreGoodChains setup.products prices holding.demands bids
-good_sheet_chains setup round prices holding bids good =
-    good_bids_chains setup.products prices holding.demands bids (no_sheet_fault setup round prices holding bids good).passed
+pub good_sheet_chains : (setup : PublicSetup) (round : ℕ) (prices : List PricePair) (holding : Holding)
+    (bids : List Bid) → IsGoodSheet setup round prices holding bids
+    → AreGoodChains setup.products prices holding.demands bids
+good_sheet_chains setup round prices holding bids good = good_bids_chains setup.products prices holding.demands bids
+    (no_sheet_fault setup round prices holding bids good).passed
 
 -- the last quantity of a good chain is within the cap
-pub last_quantity-le : (prices : PricePair) (cap before : ℕ) (chain : List Bid) → before ≤ cap → All (IsInRange prices cap) chain →
-    last_quantity before chain ≤ cap
+pub last_quantity-le : (prices : PricePair) (cap before : ℕ) (chain : List Bid) → before ≤ cap
+    → All (IsInRange prices cap) chain → last_quantity before chain ≤ cap
 last_quantity-le prices cap before [] most good = most
 last_quantity-le prices cap before (bid ∷ bids) most good =
     let first : IsInRange prices cap bid = All-head (IsInRange prices cap) bid bids good in
     last_quantity-le prices cap bid.quantity bids first.capped (All-tail (IsInRange prices cap) bid bids good)
 
 -- requested demands of good chains are within the caps
-pub asked_row : (products : List Product) (prices : List PricePair) (demands : List ℕ) (bids : List Bid) → AreGoodChains products prices demands bids →
-    IsRow products (asked_demands (length products) bids)
+pub asked_row : (products : List Product) (prices : List PricePair) (demands : List ℕ) (bids : List Bid)
+    → AreGoodChains products prices demands bids → IsRow products (asked_demands (length products) bids)
 asked_row products prices demands bids good = record {
   each = length-asked_demands (length products) bids;
-  capped = λ product within. (let known : product < length products = omega (arith, within, length-asked_demands (length products) bids) in
-      let is = get_or-map-range_with_len (λ p. last_quantity 0 (chain_of p bids)) 0 (length products) product product 0 known (omega arith) in
-      let most = last_quantity-le (prices_at prices product) (cap_of products product) 0 (chain_of product bids) (omega arith)
-      (good.chains product known).in_range in
+  capped = λ product within.
+      (let known : product < length products = omega (arith, within, length-asked_demands (length products) bids) in
+      let is = get_or-map-range_with_len (λ p. last_quantity 0 (chain_of p bids)) 0
+      (length products) product product 0 known (omega arith) in
+      let most = last_quantity-le (prices_at prices product) (cap_of products product) 0 (chain_of product bids)
+      (omega arith) (good.chains product known).in_range in
       omega (arith, is, most));
 }
 
 -- what is known of the bid at an index: the last bid before it for its product, and its first fault
-pub record IsJudged (products : List Product) (prices : List PricePair) (demands : List ℕ) (bids : List Bid) (i : ℕ) (last : Option Bid)
-    (fault : Option BidFault) : Type 0 where
+pub record IsJudged (products : List Product) (prices : List PricePair) (demands : List ℕ) (bids : List Bid) (i : ℕ)
+    (last : Option Bid) (fault : Option BidFault) : Type 0 where
   pub last_is : last ≡ get_or (last_bids (length products) (take i bids)) (get_or bids i no_bid).product None
   pub fault_is : first_fault (bid_checks products prices demands (take i bids) i (get_or bids i no_bid)) ≡ fault
 
@@ -222,9 +236,9 @@ module _ (products : List Product) (prices : List PricePair) (demands : List ℕ
   here = get_or bids i no_bid
 
   -- the products may be read from another list that is equal
-  pub judged_by : (seen : List Product) (last : Option Bid) (fault : Option BidFault) → seen ≡ products →
-      last ≡ get_or (last_bids (length seen) (take i bids)) here.product None → fault ≡ first_fault (checks_by_last seen prices demands last i here) →
-      IsJudged products prices demands bids i last fault
+  pub judged_by : (seen : List Product) (last : Option Bid) (fault : Option BidFault) → seen ≡ products
+      → last ≡ get_or (last_bids (length seen) (take i bids)) here.product None → fault ≡ first_fault
+      (checks_by_last seen prices demands last i here) → IsJudged products prices demands bids i last fault
   judged_by seen last fault same before judged =
       let last_is : last ≡ get_or (last_bids (length products) (take i bids)) here.product None =
       before ∙ ap (λ (list : List Product). get_or (last_bids (length list) (take i bids)) here.product None) same in
@@ -248,9 +262,11 @@ module _ (products : List Product) (prices : List PricePair) (demands : List ℕ
 module _ (setup : PublicSetup) (round : ℕ) (prices : List PricePair) (holding : Holding) (bids : List Bid)
     (good : IsGoodSheet setup round prices holding bids) where
   pub good_sheet_row : IsRow setup.products (asked_demands (length setup.products) bids)
-  good_sheet_row = asked_row setup.products prices holding.demands bids (good_sheet_chains setup round prices holding bids good)
+  good_sheet_row =
+      asked_row setup.products prices holding.demands bids (good_sheet_chains setup round prices holding bids good)
 
-  pub good_sheet_activity : activity setup.products (asked_demands (length setup.products) bids) ≤ activity_limit setup round holding.eligibility
+  pub good_sheet_activity : activity setup.products (asked_demands (length setup.products) bids)
+      ≤ activity_limit setup round holding.eligibility
   good_sheet_activity = (no_sheet_fault setup round prices holding bids good).active
 
 -- a sheet without bids is good
@@ -258,10 +274,12 @@ pub no_activity : (products : List Product) (from n : ℕ) → activity products
 no_activity [] from n = refl
 no_activity (product ∷ products) from zero = refl
 no_activity (product ∷ products) from (suc n) =
-    let first = sum_by-cons (λ (line : Product × ℕ). line.0.units * line.1) (product, 0) (zip products (map (λ _. 0) (range_with_len (from + 1) n))) in
+    let first = sum_by-cons (λ (line : Product × ℕ). line.0.units * line.1) (product, 0)
+    (zip products (map (λ _. 0) (range_with_len (from + 1) n))) in
     omega (arith, first, no_activity products (from + 1) n)
 
-pub empty_sheet_good : (setup : PublicSetup) (round : ℕ) (prices : List PricePair) (holding : Holding) → IsGoodSheet setup round prices holding []
+pub empty_sheet_good : (setup : PublicSetup) (round : ℕ) (prices : List PricePair) (holding : Holding)
+    → IsGoodSheet setup round prices holding []
 empty_sheet_good setup round prices holding =
     let none = no_activity setup.products 0 (length setup.products) in
     sheet_fault-none setup round prices holding [] (omega arith) refl (omega (arith, none))

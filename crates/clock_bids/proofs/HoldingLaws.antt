@@ -4,7 +4,8 @@ use Rattle.clock_terms.specs.Limits.{PublicSetup}
 use Rattle.clock_bids.specs.Holding.{activity_limit}
 
 -- an activity limit of 100 percent is the eligibility, in every round
-pub activity_limit_of_100 : (setup : PublicSetup) (round eligibility : ℕ) → setup.limit ≡ 100 → activity_limit setup round eligibility ≡ eligibility
+pub activity_limit_of_100 : (setup : PublicSetup) (round eligibility : ℕ) → setup.limit ≡ 100
+    → activity_limit setup round eligibility ≡ eligibility
 activity_limit_of_100 setup round eligibility whole = by (round == 1)
   where
     by : (first : Bool) → (if first then eligibility else eligibility * setup.limit / 100) ≡ eligibility

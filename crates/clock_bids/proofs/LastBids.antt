@@ -1,9 +1,11 @@
 -- The last bid for a product among the first bids of a sheet, as the pass that checks a sheet finds it. Either there is
 -- none, or it is the bid directly before, or a table has its index.
-use Rattle.std.proofs.Common.{◌≡◌, ℕ, ◌+◌, ◌<◌, ◌≤◌, List, [], ◌==◌, false, map, length, replicate, take, inl, inr, ap, ap₂, sym, subst, ◌∙◌, arith, get_or, set, All}
+use Rattle.std.proofs.Common.{◌≡◌, ℕ, ◌+◌, ◌<◌, ◌≤◌, List, [], ◌==◌, false, map, length, replicate, take, inl, inr, ap}
+use Rattle.std.proofs.Common.{ap₂, sym, subst, ◌∙◌, arith, get_or, set, All}
 use Rattle.std.specs.Prelude.{Option, Some, None}
 use Rattle.std.proofs.lemmas.Bool.{cases_lt, ne_eqb}
-use Rattle.std.proofs.lemmas.List.{get_or-set_same, get_or-take, get_or_past, length-take-le, take_more, length-replicate, length-set, map-set}
+use Rattle.std.proofs.lemmas.List.{get_or-set_same, get_or-take, get_or_past, length-take-le, take_more}
+use Rattle.std.proofs.lemmas.List.{length-replicate, length-set, map-set}
 use Rattle.std.proofs.lemmas.List.Elements.{All-push, All-weaker}
 use Rattle.std.proofs.lemmas.List.FromFn.{get_or-map-range_with_len, length-map-range_with_len}
 use Rattle.clock_terms.specs.declared.setup.Product.{Product}
@@ -15,16 +17,19 @@ use Rattle.clock_bids.proofs.ByProduct.{filter_none}
 use Rattle.clock_bids.proofs.Tables.{no_bid, last_bids-nil, last_bids-more, none_at, bid_here}
 
 -- a product without bids has no last one, nor has a number that is no product's
-pub none_last : (products product : ℕ) (bids : List Bid) → chain_of product bids ≡ [] → None ≡ get_or (last_bids products bids) product None
-none_last products product bids empty = elim (cases_lt product products) as (λ _. None ≡ get_or (last_bids products bids) product None) [
-  | inl known ↦ sym (get_or-map-range_with_len (λ p. last_of (chain_of p bids)) 0 products product product None known (omega arith) ∙ ap last_of empty)
-  | inr unknown ↦ sym (get_or_past (last_bids products bids) product None
-      (omega (arith, unknown, length-map-range_with_len (λ p. last_of (chain_of p bids)) 0 products)))
-]
+pub none_last : (products product : ℕ) (bids : List Bid) → chain_of product bids ≡ []
+    → None ≡ get_or (last_bids products bids) product None
+none_last products product bids empty =
+    elim (cases_lt product products) as (λ _. None ≡ get_or (last_bids products bids) product None) [
+      | inl known ↦ sym (get_or-map-range_with_len
+          (λ p. last_of (chain_of p bids)) 0 products product product None known (omega arith) ∙ ap last_of empty)
+      | inr unknown ↦ sym (get_or_past (last_bids products bids) product None
+          (omega (arith, unknown, length-map-range_with_len (λ p. last_of (chain_of p bids)) 0 products)))
+    ]
 
 -- a product above those of all bids has none
-pub none_below : (products least product : ℕ) (bids : List Bid) → All (λ bid. bid.product < least) bids → least ≤ product →
-    None ≡ get_or (last_bids products bids) product None
+pub none_below : (products least product : ℕ) (bids : List Bid) → All (λ bid. bid.product < least) bids
+    → least ≤ product → None ≡ get_or (last_bids products bids) product None
 none_below products least product bids below high =
     none_last products product bids
     (filter_none (λ (bid : Bid). bid.product == product) bids
@@ -32,27 +37,30 @@ none_below products least product bids below high =
     (λ bid low. ne_eqb bid.product product (λ e. omega (arith, e, low, high))) bids below))
 
 -- bids for products of a list are for products of an equal list
-pub known_all : (products seen : List Product) (bids : List Bid) → seen ≡ products → All (λ bid. bid.product < length products) bids →
-    All (λ bid. bid.product < length seen) bids
-known_all products seen bids same known = subst (λ (list : List Product). All (λ bid. bid.product < length list) bids) (sym same) known
+pub known_all : (products seen : List Product) (bids : List Bid) → seen ≡ products
+    → All (λ bid. bid.product < length products) bids → All (λ bid. bid.product < length seen) bids
+known_all products seen bids same known =
+    subst (λ (list : List Product). All (λ bid. bid.product < length list) bids) (sym same) known
 
 -- each of the first `place` bids is for a product
-pub known_at : (products : ℕ) (bids : List Bid) (place i : ℕ) → place ≤ length bids → All (λ bid. bid.product < products) (take place bids) → i < place →
-    (get_or bids i no_bid).product < products
+pub known_at : (products : ℕ) (bids : List Bid) (place i : ℕ) → place ≤ length bids
+    → All (λ bid. bid.product < products) (take place bids) → i < place → (get_or bids i no_bid).product < products
 known_at products bids place i within known below =
     subst (λ (bid : Bid). bid.product < products) (get_or-take place bids i no_bid below)
     (known i no_bid (omega (arith, below, length-take-le place bids within)))
 
 -- in a table of zeros no product has a last bid
-pub no_places : (products : ℕ) (bids : List Bid) (places : List ℕ) → places ≡ replicate products 0 → AreLastPlaces products bids 0 places
+pub no_places : (products : ℕ) (bids : List Bid) (places : List ℕ) → places ≡ replicate products 0
+    → AreLastPlaces products bids 0 places
 no_places products bids places zeros = record {
   each = ap length zeros ∙ length-replicate products 0;
   table = ap (map (bid_at bids)) zeros ∙ none_at bids products ∙ sym (last_bids-nil products);
 }
 
 -- with one more bid, its index replaces that of its product
-pub last_places-more : (products : ℕ) (bids : List Bid) (i : ℕ) (places : List ℕ) → i < length bids → (get_or bids i no_bid).product < products →
-    AreLastPlaces products bids i places → AreLastPlaces products bids (i + 1) (set places (get_or bids i no_bid).product (i + 1))
+pub last_places-more : (products : ℕ) (bids : List Bid) (i : ℕ) (places : List ℕ) → i < length bids
+    → (get_or bids i no_bid).product < products → AreLastPlaces products bids i places
+    → AreLastPlaces products bids (i + 1) (set places (get_or bids i no_bid).product (i + 1))
 last_places-more products bids i places within known kept =
     let bid = get_or bids i no_bid in
     record {
@@ -64,29 +72,32 @@ last_places-more products bids i places within known kept =
     }
 
 -- the entry of a product leads to its last bid
-pub last_read : (products : ℕ) (bids : List Bid) (i : ℕ) (places slice : List ℕ) (product : ℕ) (last : Option Bid) → AreLastPlaces products bids i places →
-    slice ≡ places → last ≡ get_or (map (bid_at bids) slice) product None → last ≡ get_or (last_bids products (take i bids)) product None
-last_read products bids i places slice product last kept is read =
-    read ∙ ap (λ (xs : List ℕ). get_or (map (bid_at bids) xs) product None) is ∙ ap (λ entries. get_or entries product None) kept.table
+pub last_read : (products : ℕ) (bids : List Bid) (i : ℕ) (places slice : List ℕ) (product : ℕ) (last : Option Bid)
+    → AreLastPlaces products bids i places → slice ≡ places → last ≡ get_or (map (bid_at bids) slice) product None
+    → last ≡ get_or (last_bids products (take i bids)) product None
+last_read products bids i places slice product last kept is read = read ∙ ap (λ (xs : List ℕ).
+    get_or (map (bid_at bids) xs) product None) is ∙ ap (λ entries. get_or entries product None) kept.table
 
 -- with one more bid, all are for products below a number that is above the bid's
-pub below_more : (bids : List Bid) (i least next : ℕ) → i < length bids → least ≤ next → (get_or bids i no_bid).product < next →
-    All (λ bid. bid.product < least) (take i bids) → All (λ bid. bid.product < next) (take (i + 1) bids)
-below_more bids i least next within more high below =
-    subst (λ (list : List Bid). All (λ bid. bid.product < next) list) (sym (take_more bids i no_bid within))
-    (All-push (λ (bid : Bid). bid.product < next) (take i bids) (get_or bids i no_bid)
-    (All-weaker (λ (bid : Bid). bid.product < least) (λ (bid : Bid). bid.product < next) (λ bid low. omega (arith, low, more)) (take i bids) below) high)
+pub below_more : (bids : List Bid) (i least next : ℕ) → i < length bids → least ≤ next → (get_or bids i no_bid).product
+    < next → All (λ bid. bid.product < least) (take i bids) → All (λ bid. bid.product < next) (take (i + 1) bids)
+below_more bids i least next within more high below = subst (λ (list : List Bid). All (λ bid. bid.product < next) list)
+    (sym (take_more bids i no_bid within)) (All-push (λ (bid : Bid). bid.product < next) (take i bids)
+    (get_or bids i no_bid) (All-weaker (λ (bid : Bid). bid.product < least) (λ (bid : Bid). bid.product < next)
+    (λ bid low. omega (arith, low, more)) (take i bids) below) high)
 
 -- the bid directly before an index is the last one for its product
-pub last_before : (products product place i : ℕ) (bids : List Bid) (before : Bid) → place ≡ i + 1 → i < length bids → before ≡ get_or bids i no_bid →
-    before.product ≡ product → All (λ bid. bid.product < products) (take place bids)
+pub last_before : (products product place i : ℕ) (bids : List Bid) (before : Bid) → place ≡ i + 1 → i < length bids
+    → before ≡ get_or bids i no_bid → before.product ≡ product → All (λ bid. bid.product < products) (take place bids)
     → Some before ≡ get_or (last_bids products (take place bids)) product None
 last_before products product place i bids before from within is same all =
     let bid = get_or bids i no_bid in
     let here : bid.product ≡ product = ap (λ (b : Bid). b.product) (sym is) ∙ same in
-    let known : bid.product < products = known_at products bids place i (omega (arith, from, within)) all (omega (arith, from)) in
+    let known : bid.product < products =
+    known_at products bids place i (omega (arith, from, within)) all (omega (arith, from)) in
     let earlier = last_bids products (take i bids) in
-    let each : length earlier ≡ products = length-map-range_with_len (λ p. last_of (chain_of p (take i bids))) 0 products in
+    let each : length earlier ≡ products =
+    length-map-range_with_len (λ p. last_of (chain_of p (take i bids))) 0 products in
     ap Some is
     ∙ sym (ap (λ entries. get_or entries bid.product None) (last_bids-more products bids i within known)
     ∙ get_or-set_same earlier bid.product (Some bid) None (omega (arith, known, each)))

@@ -1,6 +1,8 @@
-ghost use Rattle.std.specs.Prelude.{◌≡◌, ◌<◌, ◌≤◌, ℕ, Some, None, length, map, take, slice_index_or, All, Err, OnOk, OnSome, IfOk, IfErr};
+ghost use Rattle.std.specs.Prelude.{◌≡◌, ◌<◌, ◌≤◌, ℕ, Some, None, length, map, take};
+ghost use Rattle.std.specs.Prelude.{slice_index_or, All, Err, OnOk, OnSome, IfOk, IfErr};
 ghost use Rattle.std.specs.Option.{option_copied};
-ghost use Rattle.clock_terms.specs.{Limits.{IsRow, public_setup}, Faults.{first_fault, IsFirstFault}};
+ghost use Rattle.clock_terms.specs.Limits.{IsRow, public_setup};
+ghost use Rattle.clock_terms.specs.Faults.{first_fault, IsFirstFault};
 ghost use Rattle.clock_terms.specs.Eligibility as eligibilities;
 ghost use Rattle.clock_bids.specs.{Holding.{holding_of}, inside.Parts.{checks_of_bids}};
 ghost use Rattle.clock_bids.specs.Sheet.{IsGoodSheet, asked_demands, most_bids, sheet_fault};
@@ -37,10 +39,10 @@ pub fn check_sheet(
     requires prices { length prices.now ≡ length setup.now.products }
     requires demands { IsRow setup.now.products own.demands.now }
     ensures bids { IfOk result (λ sheet. sheet ≡ bids.now) }
-    ensures good { OnOk result
-        (IsGoodSheet (public_setup setup.now) own.entry.round prices.now (holding_of own.entry) bids.now) }
-    ensures fault { IfErr result (IsFirstFault BidFault.NoMemory
-        (sheet_fault (public_setup setup.now) own.entry.round prices.now (holding_of own.entry) bids.now)) }
+    ensures good { OnOk result (IsGoodSheet (public_setup setup.now) own.entry.round prices.now
+        (holding_of own.entry) bids.now) }
+    ensures fault { IfErr result (IsFirstFault BidFault.NoMemory (sheet_fault
+        (public_setup setup.now) own.entry.round prices.now (holding_of own.entry) bids.now)) }
     ensures many { most_bids < length bids.now → result ≡ Err BidFault.TooMany }
 {
     if bids.len() > MOST_BIDS {
@@ -63,10 +65,10 @@ pub fn take_sheet(
     requires prices { length prices.now ≡ length setup.now.products }
     requires demands { IsRow setup.now.products own.demands.now }
     ensures bids { IfOk result (λ sheet. sheet ≡ bids) }
-    ensures good { OnOk result
-        (IsGoodSheet (public_setup setup.now) own.entry.round prices.now (holding_of own.entry) bids) }
-    ensures fault { IfErr result (IsFirstFault BidFault.NoMemory
-        (sheet_fault (public_setup setup.now) own.entry.round prices.now (holding_of own.entry) bids)) }
+    ensures good { OnOk result (IsGoodSheet (public_setup setup.now) own.entry.round prices.now
+        (holding_of own.entry) bids) }
+    ensures fault { IfErr result (IsFirstFault BidFault.NoMemory (sheet_fault
+        (public_setup setup.now) own.entry.round prices.now (holding_of own.entry) bids)) }
     ensures many { most_bids < length bids → result ≡ Err BidFault.TooMany }
 {
     let list = bids.as_slice();
@@ -101,7 +103,8 @@ fn judge(
     requires prices { length prices.now ≡ length setup.now.products }
     requires demands { IsRow setup.now.products demands.now }
     requires few { length bids.now ≤ most_bids }
-    ensures ok { OnOk result (first_fault (checks_of_bids setup.now.products prices.now demands.now bids.now) ≡ None) }
+    ensures ok { OnOk result
+        (first_fault (checks_of_bids setup.now.products prices.now demands.now bids.now) ≡ None) }
     ensures taken { IfOk result (λ taken. taken ≡ eligibilities.activity setup.now.products
         (asked_demands (length setup.now.products) bids.now)) }
     ensures fault { IfErr result (IsFirstFault BidFault.NoMemory
@@ -141,7 +144,8 @@ fn judge(
 /// before `place`.
 fn bid_before(bids: &[Bid], place: usize, product: u64) -> Option<&Bid>
     ensures { (products : ℕ) → All (λ bid. bid.product < products) (take place bids.now)
-        → OnSome result (option_copied result ≡ slice_index_or (last_bids products (take place bids.now)) product None) }
+        → OnSome result (option_copied result
+        ≡ slice_index_or (last_bids products (take place bids.now)) product None) }
 {
     let before = bids.get(place.checked_sub(1)?)?;
     (before.product == product).then_some(before)
@@ -179,7 +183,8 @@ fn last_places(
 
 /// Returns the last bid for a product from such a table, if there is one.
 fn last_bid<'a>(bids: &'a [Bid], places: &[u16], product: u64) -> Option<&'a Bid>
-    ensures { option_copied result ≡ slice_index_or (map (bid_at bids.entry.now) places.now) product None }
+    ensures { option_copied result
+        ≡ slice_index_or (map (bid_at bids.entry.now) places.now) product None }
 {
     let place = *places.get(product as usize)?;
     bids.get((place as usize).checked_sub(1)?)
@@ -198,7 +203,8 @@ fn bid_fault(
 ) -> Option<BidFault>
     requires prices { length prices.now ≡ length products.now }
     requires demands { IsRow products.now demands.now }
-    ensures { result ≡ first_fault (checks_by_last products.now prices.now demands.now (option_copied last.entry) place bid.now) }
+    ensures { result ≡ first_fault (checks_by_last products.now prices.now demands.now
+        (option_copied last.entry) place bid.now) }
 {
     if bid.product >= products.len() as u64 {
         return Some(BidFault::UnknownProduct(place));

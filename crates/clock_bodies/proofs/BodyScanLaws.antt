@@ -19,8 +19,9 @@ use Rattle.clock_bodies.specs.inside.QuickBodies.{put_data}
 use Rattle.clock_bodies.specs.QuickClosings.{close_data}
 
 -- a list of three numbers
-pub three_read : (first start after_first after_second after_third new : List Token) (a b c : ℕ) → first ≡ Token.begin_array ∷ start
-    → Reads 0 start (whole a) after_first → Reads 0 after_first (whole b) after_second → Reads 0 after_second (whole c) after_third
+pub three_read : (first start after_first after_second after_third new : List Token) (a b c : ℕ)
+    → first ≡ Token.begin_array ∷ start → Reads 0 start (whole a) after_first
+    → Reads 0 after_first (whole b) after_second → Reads 0 after_second (whole c) after_third
     → after_third ≡ Token.end_array ∷ new → Reads 1 first (numbers (a ∷ b ∷ c ∷ [])) new
 three_read first start after_first after_second after_third new a b c opened reads_a reads_b reads_c closed =
     let one = items_next 0 start start after_first [] (whole a) (items_start 0 start) reads_a in
@@ -40,8 +41,8 @@ tie_means tie = refl
 pub number_means : (n : ℕ) → number_from (whole n) ≡ Some n
 number_means n = refl
 
-pub each_means : {A : Type 0} (meaning : Data → Option A) (data_of : A → Data) → ((x : A) → meaning (data_of x) ≡ Some x)
-    → (xs : List A) → each meaning (items_of (map data_of xs)) ≡ Some xs
+pub each_means : {A : Type 0} (meaning : Data → Option A) (data_of : A → Data)
+    → ((x : A) → meaning (data_of x) ≡ Some x) → (xs : List A) → each meaning (items_of (map data_of xs)) ≡ Some xs
 each_means meaning data_of means [] = refl
 each_means meaning data_of means (x ∷ xs) =
     ap (λ o. o >>= λ first. (each meaning (items_of (map data_of xs)) >>= λ rest. Some (first ∷ rest))) (means x)
@@ -49,8 +50,8 @@ each_means meaning data_of means (x ∷ xs) =
 
 pub put_means : (body : PutBody) → put_of (put_data body) ≡ Some body
 unfolding put_of
-put_means body =
-    ap (λ o. o >>= λ bids. Some (record { round = body.round; bids = bids })) (each_means bid_of bid_data bid_means body.bids)
+put_means body = ap (λ o. o >>= λ bids. Some (record { round = body.round; bids = bids }))
+    (each_means bid_of bid_data bid_means body.bids)
 
 abbrev closing : ℕ → List Tie → Increments → CloseBody
 closing round ties increments = record { round = round; increments = increments; ties = ties }
@@ -61,6 +62,6 @@ unfolding close_of
 close_means round (Single increment) ties =
     ap (λ o. o >>= λ known. Some (closing round known (Single increment))) (each_means tie_of tie_data tie_means ties)
 close_means round (PerProduct increments) ties =
-    ap (λ o. option_map PerProduct o >>= λ listed. (each tie_of (items_of (map tie_data ties)) >>= λ known. Some (closing round known listed)))
-    (each_means number_from whole number_means increments)
-    ∙ ap (λ o. o >>= λ known. Some (closing round known (PerProduct increments))) (each_means tie_of tie_data tie_means ties)
+    ap (λ o. option_map PerProduct o >>= λ listed. (each tie_of (items_of (map tie_data ties))
+    >>= λ known. Some (closing round known listed))) (each_means number_from whole number_means increments) ∙ ap (λ o. o
+    >>= λ known. Some (closing round known (PerProduct increments))) (each_means tie_of tie_data tie_means ties)

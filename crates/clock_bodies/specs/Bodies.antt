@@ -3,7 +3,8 @@
 --     meant_by meaning value      what a value means, or the first fault of its bytes
 --     put_body bytes      the sheet that bytes mean, or their first fault
 -- An object must have exactly the keys shown: each is looked up, and the members are counted.
-use Rattle.std.specs.Prelude.{ℕ, List, Option, Some, None, option_and_then, Result, Err, if◌then◌else◌, codes}
+use Rattle.std.specs.Prelude.{ℕ, List, Option, Some, None, option_and_then, Result, Err}
+use Rattle.std.specs.Prelude.{if◌then◌else◌, codes}
 use Rattle.serde_json.specs.Data.{Data}
 use Rattle.clock_terms.specs.Faults.{or_fault}
 use Rattle.clock_json.specs.Tree.{number_at, items_at, has_members, each, json, ◌>>=◌}
@@ -18,7 +19,8 @@ bid_of value = do
   price ← number_at (codes "price") value
   product ← number_at (codes "product") value
   quantity ← number_at (codes "quantity") value
-  if has_members 3 value then Some (record { product = product; quantity = quantity; price = price }) else None
+  if has_members 3 value
+      then Some (record { product = product; quantity = quantity; price = price }) else None
 
 -- {"bids":[BID,..],"round":N}
 unfoldable pub put_of : Data → Option PutBody

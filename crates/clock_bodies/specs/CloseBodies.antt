@@ -4,7 +4,8 @@
 --     close_body bytes      the closing that bytes mean, or their first fault
 --     is_of_version version increments, in_version version body      a closing has the form of the
 --         set-up's version
-use Rattle.std.specs.Prelude.{ℕ, ◌==◌, not, Bool, List, Option, Some, None, option_and_then, option_map, Result, Ok, Err, if◌then◌else◌, codes}
+use Rattle.std.specs.Prelude.{ℕ, ◌==◌, not, Bool, List, Option, Some, None, option_and_then}
+use Rattle.std.specs.Prelude.{option_map, Result, Ok, Err, if◌then◌else◌, codes}
 use Rattle.serde_json.specs.Data.{Data, Items, no_items, item}
 use Rattle.serde_json.specs.Find.{as_array}
 use Rattle.clock_terms.specs.declared.increments.Increments.{Increments}
@@ -35,7 +36,8 @@ or_each None items = option_map PerProduct (option_and_then (each number_from) i
 
 -- "increment":N or "increments":[N,..]
 abbrev pub increments_of : Data → Option Increments
-increments_of value = or_each (number_at (codes "increment") value) (items_at (codes "increments") value)
+increments_of value =
+    or_each (number_at (codes "increment") value) (items_at (codes "increments") value)
 
 -- {"increment":N,"round":N,"ties":[TIE,..]}, or with increments; three members cannot have both
 unfoldable pub close_of : Data → Option CloseBody
@@ -43,7 +45,8 @@ close_of value = do
   round ← number_at (codes "round") value
   increments ← increments_of value
   ties ← option_and_then (each tie_of) (items_at (codes "ties") value)
-  if has_members 3 value then Some (record { round = round; increments = increments; ties = ties }) else None
+  if has_members 3 value
+      then Some (record { round = round; increments = increments; ties = ties }) else None
 
 unfoldable pub close_body : List ℕ → Result CloseBody BodyFault
 close_body bytes = meant_by close_of (json bytes)

@@ -21,7 +21,8 @@ bid_fields found =
 
 -- a bid as a value
 abbrev pub bid_data : Bid → Data
-bid_data bid = object (members_of (bid_fields (record { price = Some bid.price; product = Some bid.product; quantity = Some bid.quantity })))
+bid_data bid = object (members_of (bid_fields
+    (record { price = Some bid.price; product = Some bid.product; quantity = Some bid.quantity })))
 
 -- a tie-breaking number as a value
 abbrev pub tie_data : Tie → Data

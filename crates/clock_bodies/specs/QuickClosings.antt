@@ -33,7 +33,8 @@ close_fields found = close_members found.increment found.increments found.round 
 
 -- a closing as a value
 abbrev pub close_value : Increments → Option ℕ → List Tie → Data
-close_value increments round ties = object (members_of (close_members (single_of increments) (listed_of increments) round (Some ties)))
+close_value increments round ties = object
+    (members_of (close_members (single_of increments) (listed_of increments) round (Some ties)))
 
 -- what was read of a closing, as a value
 abbrev pub scanned_data : ScannedClose → Data

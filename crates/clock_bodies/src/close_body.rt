@@ -1,7 +1,8 @@
 ghost use Rattle.std.specs.Prelude.{◌≡◌, ◌≢◌, Ok, Err, IfOk, IfErr};
 ghost use Rattle.serde_json.specs.View.{view};
 ghost use Rattle.clock_bodies.specs.CloseBodies as bodies;
-ghost use Rattle.clock_bodies.specs.{QuickBodies.{tie_data}, QuickClosings.{close_data, close_fields, scanned_data}};
+ghost use Rattle.clock_bodies.specs.QuickBodies.{tie_data};
+ghost use Rattle.clock_bodies.specs.QuickClosings.{close_data, close_fields, scanned_data};
 
 use crate::body::{Body, BodyFault, read_body};
 use clock_device::{Items, NoMemory};
@@ -109,7 +110,8 @@ impl Body for CloseBody {
 #[tactic(auto, unfolding(crate::specs::CloseBodies::close_body))]
 pub fn read_close(alloc: Global, bytes: &[u8]) -> Result<CloseBody, BodyFault>
     ensures ok { IfOk result (λ body. bodies.close_body bytes.now ≡ Ok body) }
-    ensures err { IfErr result (λ fault. fault ≢ BodyFault.NoMemory → bodies.close_body bytes.now ≡ Err fault) }
+    ensures err { IfErr result (λ fault. fault ≢ BodyFault.NoMemory
+        → bodies.close_body bytes.now ≡ Err fault) }
 {
     read_body::<CloseBody>(alloc, bytes)
 }

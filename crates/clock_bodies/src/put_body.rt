@@ -1,7 +1,9 @@
-ghost use Rattle.std.specs.Prelude.{◌≡◌, ◌≢◌, ◌++◌, ◌<◌, Ok, Err, IfOk, IfErr, List, length, map, OnOk};
+ghost use Rattle.std.specs.Prelude.{◌≡◌, ◌≢◌, ◌++◌, ◌<◌, Ok, Err, IfOk, IfErr, List, length, map};
+ghost use Rattle.std.specs.Prelude.{OnOk};
 ghost use Rattle.clock_json.specs.Reading.{Reads, ReadsAll};
 ghost use Rattle.clock_bodies.specs.Bodies as bodies;
-ghost use Rattle.clock_bodies.specs.{QuickBodies.{bid_fields, bid_data}, inside.QuickBodies.{bids_data, put_fields, put_data}};
+ghost use Rattle.clock_bodies.specs.QuickBodies.{bid_fields, bid_data};
+ghost use Rattle.clock_bodies.specs.inside.QuickBodies.{bids_data, put_fields, put_data};
 
 use crate::body::{Body, BodyFault, read_body};
 use clock_bids::Bid;
@@ -75,7 +77,8 @@ impl Body for PutBody {
 #[tactic(auto, unfolding(crate::specs::Bodies::put_body))]
 pub fn read_put(alloc: Global, bytes: &[u8]) -> Result<PutBody, BodyFault>
     ensures ok { IfOk result (λ body. bodies.put_body bytes.now ≡ Ok body) }
-    ensures err { IfErr result (λ fault. fault ≢ BodyFault.NoMemory → bodies.put_body bytes.now ≡ Err fault) }
+    ensures err { IfErr result (λ fault. fault ≢ BodyFault.NoMemory
+        → bodies.put_body bytes.now ≡ Err fault) }
 {
     read_body::<FoundPut>(alloc, bytes)
 }

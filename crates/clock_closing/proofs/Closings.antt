@@ -17,12 +17,14 @@ use Rattle.clock_closing.specs.Closing.{ClosedRound, round_result, closed_round,
 
 -- The auction has not ended, the round is the current one, increments and tie-breaking numbers have no fault, no next
 -- clock price is too high, and the round added is the one of the rules.
-pub record IsClosing (setup : PublicSetup) (now : OpenRound) (round : ℕ) (increments : Increments) (ties : List Tie) (closed : ClosedRound) : Type 0 where
+pub record IsClosing (setup : PublicSetup) (now : OpenRound) (round : ℕ) (increments : Increments) (ties : List Tie)
+    (closed : ClosedRound) : Type 0 where
   pub going : now.standing.ended ≡ false
   pub current : (round == now.standing.round) ≡ true
   pub within : are_increments (length setup.products) increments ≡ true
   pub fair : tie_fault (length now.holdings) (length setup.products) ties ≡ None
-  pub possible : price_limit_fault setup.products (round_result setup.products now ties).grid (round_result setup.products now ties).posted increments ≡ None
+  pub possible : price_limit_fault setup.products (round_result setup.products now ties).grid
+      (round_result setup.products now ties).posted increments ≡ None
   pub made : closed ≡ closed_round setup now increments (round_result setup.products now ties)
 
 -- The checks of a closing, in order.
@@ -35,25 +37,30 @@ abbrev Passed : Bool → Bool → Bool → Option TieFault → Option ℕ → Cl
 Passed ended current within tied limit made closed =
     (ended ≡ false) × (current ≡ true) × (within ≡ true) × (tied ≡ None) × (limit ≡ None) × (closed ≡ made)
 
-passed : (ended current within : Bool) (round : ℕ) (tied : Option TieFault) (limit : Option ℕ) (made closed : ClosedRound) →
-    unless (first_fault (checks ended current within round tied limit)) made ≡ Ok closed → Passed ended current within tied limit made closed
+passed : (ended current within : Bool) (round : ℕ) (tied : Option TieFault) (limit : Option ℕ)
+    (made closed : ClosedRound) → unless (first_fault (checks ended current within round tied limit)) made ≡ Ok closed
+    → Passed ended current within tied limit made closed
 passed true current within round tied limit made closed e = let bad : Err close_faults.Ended ≡ Ok closed = e in cc
-passed false false within round tied limit made closed e = let bad : Err (close_faults.WrongRound round) ≡ Ok closed = e in cc
+passed false false within round tied limit made closed e =
+    let bad : Err (close_faults.WrongRound round) ≡ Ok closed = e in cc
 passed false true false round tied limit made closed e = let bad : Err close_faults.Increment ≡ Ok closed = e in cc
-passed false true true round (Some fault) limit made closed e = let bad : Err (close_faults.Tie fault) ≡ Ok closed = e in cc
-passed false true true round None (Some product) made closed e = let bad : Err (close_faults.PriceLimit product) ≡ Ok closed = e in cc
+passed false true true round (Some fault) limit made closed e =
+    let bad : Err (close_faults.Tie fault) ≡ Ok closed = e in cc
+passed false true true round None (Some product) made closed e =
+    let bad : Err (close_faults.PriceLimit product) ≡ Ok closed = e in cc
 passed false true true round None None made closed e = (refl, refl, refl, refl, refl, cc)
 
 -- An accepted closing has passed all checks.
-pub closing_passed : (setup : PublicSetup) (now : OpenRound) (round : ℕ) (increments : Increments) (ties : List Tie) (closed : ClosedRound) →
-    closing setup now round increments ties ≡ Ok closed → IsClosing setup now round increments ties closed
+pub closing_passed : (setup : PublicSetup) (now : OpenRound) (round : ℕ) (increments : Increments) (ties : List Tie)
+    (closed : ClosedRound) → closing setup now round increments ties ≡ Ok closed
+    → IsClosing setup now round increments ties closed
 closing_passed setup now round increments ties closed e =
-    let tests : Passed now.standing.ended (round == now.standing.round) (are_increments (length setup.products) increments)
-    (tie_fault (length now.holdings) (length setup.products) ties)
-    (price_limit_fault setup.products (round_result setup.products now ties).grid (round_result setup.products now ties).posted increments)
-    (closed_round setup now increments (round_result setup.products now ties)) closed
-    = passed now.standing.ended (round == now.standing.round) (are_increments (length setup.products) increments) now.standing.round
-    (tie_fault (length now.holdings) (length setup.products) ties)
-    (price_limit_fault setup.products (round_result setup.products now ties).grid (round_result setup.products now ties).posted increments)
+    let tests : Passed now.standing.ended (round == now.standing.round) (are_increments (length setup.products)
+    increments) (tie_fault (length now.holdings) (length setup.products) ties) (price_limit_fault setup.products
+    (round_result setup.products now ties).grid (round_result setup.products now ties).posted increments)
+    (closed_round setup now increments (round_result setup.products now ties)) closed =
+    passed now.standing.ended (round == now.standing.round) (are_increments (length setup.products) increments)
+    now.standing.round (tie_fault (length now.holdings) (length setup.products) ties) (price_limit_fault setup.products
+    (round_result setup.products now ties).grid (round_result setup.products now ties).posted increments)
     (closed_round setup now increments (round_result setup.products now ties)) closed e in
     record { going = tests.0; current = tests.1; within = tests.2; fair = tests.3; possible = tests.4; made = tests.5 }

@@ -13,7 +13,10 @@ at_least r over a some most =
 
 -- An activity is within the eligibility that it supports.
 supported : (a r : ℕ) → 1 ≤ r → r ≤ 100 → a ≤ supported_eligibility a r
-supported a r some most = at_least r (100 * a) a some (let h : a * r ≤ a * 100 = mul-le-mul_left a most in omega (arith, h))
+supported a r some most =
+    at_least r (100 * a) a some (let h : a * r ≤ a * 100 = mul-le-mul_left a most in omega (arith, h))
 
-pub next_eligibility_within : (held a r : ℕ) → a ≤ held → 1 ≤ r → r ≤ 100 → (a ≤ next_eligibility held a r) × (next_eligibility held a r ≤ held)
-next_eligibility_within held a r within some most = (let h : a ≤ supported_eligibility a r = supported a r some most in omega (arith, h, within), omega arith)
+pub next_eligibility_within : (held a r : ℕ) → a ≤ held → 1 ≤ r → r ≤ 100
+    → (a ≤ next_eligibility held a r) × (next_eligibility held a r ≤ held)
+next_eligibility_within held a r within some most =
+    (let h : a ≤ supported_eligibility a r = supported a r some most in omega (arith, h, within), omega arith)

@@ -36,9 +36,12 @@ held_many eligibilities demands many =
     ∙ length-map (holdings_of eligibilities demands) (λ (held : Holding). held.eligibility)
 
 -- A bidder's entry in the joined list is its entry in each.
-pub held_at : (eligibilities : List ℕ) (demands : List (List ℕ)) (bidder : ℕ) → length demands ≡ length eligibilities → bidder < length eligibilities →
-    record { eligibility = get_or eligibilities bidder 0; demands = row_of demands bidder } ≡ holding_at (holdings_of eligibilities demands) bidder
+pub held_at : (eligibilities : List ℕ) (demands : List (List ℕ)) (bidder : ℕ) → length demands ≡ length eligibilities
+    → bidder < length eligibilities
+    → record { eligibility = get_or eligibilities bidder 0; demands = row_of demands bidder }
+    ≡ holding_at (holdings_of eligibilities demands) bidder
 held_at [] demands bidder many lt = absurd (omega (arith, lt))
 held_at (own ∷ eligibilities) [] bidder many lt = absurd (omega (arith, many))
 held_at (own ∷ eligibilities) (row ∷ demands) zero many lt = refl
-held_at (own ∷ eligibilities) (row ∷ demands) (suc bidder) many lt = held_at eligibilities demands bidder (omega (arith, many)) (omega (arith, lt))
+held_at (own ∷ eligibilities) (row ∷ demands) (suc bidder) many lt =
+    held_at eligibilities demands bidder (omega (arith, many)) (omega (arith, lt))

@@ -39,8 +39,8 @@ use Rattle.std.proofs.lemmas.List.Sorted.{All-permutation}
 -- The result of round 1; below, that of a later round.
 pub result-first : (products : List Product) (now : OpenRound) (ties : List Tie) → now.standing.round ≡ 1 →
     round_result products now ties ≡ first_result products now
-result-first products now ties e =
-    ap (λ first. cond first (first_result products now) (later_result products now (requests now ties))) (eq-eqb now.standing.round 1 e)
+result-first products now ties e = ap (λ first. cond first (first_result products now)
+    (later_result products now (requests now ties))) (eq-eqb now.standing.round 1 e)
 
 pub result-later : (products : List Product) (now : OpenRound) (ties : List Tie) → 2 ≤ now.standing.round →
     round_result products now ties ≡ later_result products now (requests now ties)
@@ -55,39 +55,43 @@ first_or_later (suc zero) some = inl refl
 first_or_later (suc (suc n)) some = inr (omega arith)
 
 -- There is a posted price for each product, of one dollar at least, from start-of-round price to clock price.
-pub record ArePosted (products : List Product) (prices : List PricePair) (grid : List (List ℕ)) (posted : List ℕ) (increments : Increments) : Type 0 where
+pub record ArePosted (products : List Product) (prices : List PricePair) (grid : List (List ℕ)) (posted : List ℕ)
+    (increments : Increments) : Type 0 where
   pub lengths : length posted ≡ length products
   pub positive : All (λ price. 1 ≤ price) posted
   pub between : All IsBetween (lines_of_round products prices grid posted increments)
 
-module _ (setup : PublicSetup) (now : OpenRound) (sound : IsOpen setup now) (ties : List Tie) (first : 1 ≤ now.standing.round) where
+module _ (setup : PublicSetup) (now : OpenRound) (sound : IsOpen setup now) (ties : List Tie)
+    (first : 1 ≤ now.standing.round) where
   later_list : IsPermutation (all_requests setup now sound) (requests now ties)
   later_list = processing_permutes ties (all_requests setup now sound)
 
   -- Each bidder's demands are within its eligibility.
-  pub result_within : IsWithinEligibility setup.products (eligibilities_of now) (round_result setup.products now ties).grid
+  pub result_within : IsWithinEligibility setup.products (eligibilities_of now)
+      (round_result setup.products now ties).grid
   result_within = elim (first_or_later now.standing.round first)
       as (λ _. IsWithinEligibility setup.products (eligibilities_of now) (round_result setup.products now ties).grid) [
-        | inl one ↦ subst (λ (result : RoundResult). IsWithinEligibility setup.products (eligibilities_of now) result.grid)
-            (sym (result-first setup.products now ties one)) (asked_within setup now sound one)
-        | inr later ↦ subst (λ (result : RoundResult). IsWithinEligibility setup.products (eligibilities_of now) result.grid)
-            (sym (result-later setup.products now ties later)) (settled_within setup now sound later (requests now ties) later_list)
+        | inl one ↦ subst (λ (result : RoundResult). IsWithinEligibility setup.products (eligibilities_of now)
+            result.grid) (sym (result-first setup.products now ties one)) (asked_within setup now sound one)
+        | inr later ↦ subst (λ (result : RoundResult). IsWithinEligibility setup.products
+            (eligibilities_of now) result.grid) (sym (result-later setup.products now ties later))
+            (settled_within setup now sound later (requests now ties) later_list)
       ]
 
   priced_list : 2 ≤ now.standing.round → All (IsWithinPrices now.standing.prices) (requests now ties)
-  priced_list later = All-permutation (IsWithinPrices now.standing.prices) (all_requests setup now sound) (requests now ties) later_list
-      (priced_requests setup now sound later)
+  priced_list later = All-permutation (IsWithinPrices now.standing.prices) (all_requests setup now sound)
+      (requests now ties) later_list (priced_requests setup now sound later)
 
-  first_posted : (increments : Increments) → now.standing.prices ≡ opening_prices setup.products →
-      ArePosted setup.products now.standing.prices (first_result setup.products now).grid (first_result setup.products now).posted increments
+  first_posted : (increments : Increments) → now.standing.prices ≡ opening_prices setup.products
+      → ArePosted setup.products now.standing.prices (first_result setup.products now).grid
+      (first_result setup.products now).posted increments
   first_posted increments opening = record {
     lengths = length-map setup.products _;
     positive = opening_dollars setup.products sound.limits;
-    between =
-        subst (λ (prices : List PricePair). All IsBetween (lines_of_round setup.products prices (first_result setup.products now).grid
-        (opening_posted setup.products) increments)) (sym opening)
-        (lines_between setup.products (opening_prices setup.products) (first_result setup.products now).grid (opening_posted setup.products) increments
-        (opening_between setup.products (first_result setup.products now).grid increments));
+    between = subst (λ (prices : List PricePair). All IsBetween (lines_of_round setup.products prices
+        (first_result setup.products now).grid (opening_posted setup.products) increments)) (sym opening) (lines_between
+        setup.products (opening_prices setup.products) (first_result setup.products now).grid (opening_posted
+        setup.products) increments (opening_between setup.products (first_result setup.products now).grid increments));
   }
 
   later_posted : (increments : Increments) → 2 ≤ now.standing.round →
@@ -98,38 +102,42 @@ module _ (setup : PublicSetup) (now : OpenRound) (sound : IsOpen setup now) (tie
       let prices = now.standing.prices in
       record {
         lengths = length-posted_prices setup.products prices (requests now ties) end.left end.grid;
-        positive = posted_dollars setup.products prices (requests now ties) end.left end.grid sound.priced.pairs sound.priced.ordered
-            (priced_list later) sound.priced.positive;
-        between = lines_between setup.products prices end.grid (posted_prices setup.products prices (requests now ties) end.left end.grid) increments
-            (λ k lt. posted_between setup.products prices (requests now ties) end.left end.grid increments k sound.priced.pairs sound.priced.ordered
-            (priced_list later) lt);
+        positive = posted_dollars setup.products prices (requests now ties) end.left end.grid sound.priced.pairs
+            sound.priced.ordered (priced_list later) sound.priced.positive;
+        between = lines_between setup.products prices end.grid (posted_prices setup.products prices (requests now ties)
+            end.left end.grid) increments (λ k lt. posted_between setup.products prices (requests now ties) end.left
+            end.grid increments k sound.priced.pairs sound.priced.ordered (priced_list later) lt);
       }
 
   -- The posted prices are in order.
-  pub result_posted : (increments : Increments) → (now.standing.round ≡ 1 → now.standing.prices ≡ opening_prices setup.products) →
-      ArePosted setup.products now.standing.prices (round_result setup.products now ties).grid (round_result setup.products now ties).posted increments
-  result_posted increments opening = elim (first_or_later now.standing.round first)
-      as (λ _. ArePosted setup.products now.standing.prices (round_result setup.products now ties).grid (round_result setup.products now ties).posted increments) [
-        | inl one ↦ subst (λ (result : RoundResult). ArePosted setup.products now.standing.prices result.grid result.posted increments)
-            (sym (result-first setup.products now ties one)) (first_posted increments (opening one))
-        | inr later ↦ subst (λ (result : RoundResult). ArePosted setup.products now.standing.prices result.grid result.posted increments)
-            (sym (result-later setup.products now ties later)) (later_posted increments later)
+  pub result_posted : (increments : Increments) → (now.standing.round ≡ 1
+      → now.standing.prices ≡ opening_prices setup.products) → ArePosted setup.products now.standing.prices
+      (round_result setup.products now ties).grid (round_result setup.products now ties).posted increments
+  result_posted increments opening =
+      elim (first_or_later now.standing.round first) as (λ _. ArePosted setup.products now.standing.prices
+      (round_result setup.products now ties).grid (round_result setup.products now ties).posted increments) [
+        | inl one ↦
+            subst (λ (result : RoundResult). ArePosted setup.products now.standing.prices result.grid result.posted
+            increments) (sym (result-first setup.products now ties one)) (first_posted increments (opening one))
+        | inr later ↦ subst (λ (result : RoundResult). ArePosted setup.products now.standing.prices result.grid
+            result.posted increments) (sym (result-later setup.products now ties later)) (later_posted increments later)
       ]
 
   -- In a later round that does not end the auction, some price has risen to the clock price.
-  pub result_risen : (increments : Increments) → 2 ≤ now.standing.round → has_ended setup.products (round_result setup.products now ties).grid ≡ false →
-      Any IsAtClock (lines_of_round setup.products now.standing.prices (round_result setup.products now ties).grid
-      (round_result setup.products now ties).posted increments)
+  pub result_risen : (increments : Increments) → 2 ≤ now.standing.round → has_ended setup.products (round_result
+      setup.products now ties).grid ≡ false → Any IsAtClock (lines_of_round setup.products now.standing.prices
+      (round_result setup.products now ties).grid (round_result setup.products now ties).posted increments)
   result_risen increments later going =
       let end = settlement setup.products now (requests now ties) in
       let same = result-later setup.products now ties later in
-      subst (λ (result : RoundResult). Any IsAtClock (lines_of_round setup.products now.standing.prices result.grid result.posted increments)) (sym same)
+      subst (λ (result : RoundResult). Any IsAtClock
+      (lines_of_round setup.products now.standing.prices result.grid result.posted increments)) (sym same)
       (some_at_clock setup.products now.standing.prices (requests now ties) end.left end.grid increments
       (ap (λ (result : RoundResult). has_ended setup.products result.grid) (sym same) ∙ going))
 
   -- A product that was full before the round is full after it.
-  pub result_supplied : 2 ≤ now.standing.round → (product : ℕ) → supply_of setup.products product ≤ total_of (grid_of now) product →
-      supply_of setup.products product ≤ total_of (round_result setup.products now ties).grid product
+  pub result_supplied : 2 ≤ now.standing.round → (product : ℕ) → supply_of setup.products product ≤ total_of (grid_of
+      now) product → supply_of setup.products product ≤ total_of (round_result setup.products now ties).grid product
   result_supplied later product sold =
       omega (
         arith,
@@ -148,18 +156,19 @@ rising_range pair is = omega (arith, is)
 start_within : (pair : PricePair) → IsRising pair → pair.clock ≤ highest_price → pair.start ≤ highest_price
 start_within pair rises most = omega (arith, rises, most)
 
-first_bound : (next now long products sum : ℕ) → next ≡ now + 1 → now ≡ 1 → long ≡ products → long ≤ sum → next + products ≤ 2 + sum
+first_bound : (next now long products sum : ℕ) → next ≡ now + 1 → now ≡ 1 → long ≡ products → long ≤ sum
+    → next + products ≤ 2 + sum
 first_bound next now long products sum is one many most = omega (arith, is, one, many, most)
 
-later_bound : (next now products sum more posted : ℕ) → next ≡ now + 1 → now + products ≤ 2 + sum → more ≡ posted → sum < posted →
-    next + products ≤ 2 + more
+later_bound : (next now products sum more posted : ℕ) → next ≡ now + 1 → now + products ≤ 2 + sum → more ≡ posted
+    → sum < posted → next + products ≤ 2 + more
 later_bound next now products sum more posted is bound same rises = omega (arith, is, bound, same, rises)
 
 -- The next prices of a round that does not end the auction.
-module _ (products : List Product) (now : Standing) (priced : HasSoundPrices products now) (grid : List (List ℕ)) (posted : List ℕ)
-    (increments : Increments) (are : ArePosted products now.prices grid posted increments)
-    (limits : All IsProduct products) (rise : AreIncrements (length products) increments) (going : has_ended products grid ≡ false)
-    (possible : price_limit_fault products grid posted increments ≡ None)
+module _ (products : List Product) (now : Standing) (priced : HasSoundPrices products now) (grid : List (List ℕ))
+    (posted : List ℕ) (increments : Increments) (are : ArePosted products now.prices grid posted increments)
+    (limits : All IsProduct products) (rise : AreIncrements (length products) increments)
+    (going : has_ended products grid ≡ false) (possible : price_limit_fault products grid posted increments ≡ None)
     (risen : 2 ≤ now.round → Any IsAtClock (lines_of_round products now.prices grid posted increments)) where
   lines : List Line
   lines = lines_of_round products now.prices grid posted increments
@@ -172,27 +181,30 @@ module _ (products : List Product) (now : Standing) (priced : HasSoundPrices pro
   limit : first_at_limit products increments posted ≡ None
   limit = no_limit (has_ended products grid) going possible
 
-  shown : next_prices products increments posted ≡ map next_pair (lines_of_round products now.prices grid posted increments)
+  shown : next_prices products increments posted
+      ≡ map next_pair (lines_of_round products now.prices grid posted increments)
   shown = lines_show products now.prices grid posted increments going
 
   rising : All IsRising (map next_pair (lines_of_round products now.prices grid posted increments))
-  rising = subst (All IsRising) shown (next_rising products increments posted limit rise limits are.lengths are.positive)
+  rising =
+      subst (All IsRising) shown (next_rising products increments posted limit rise limits are.lengths are.positive)
 
   -- The sum of the start-of-round prices, from the lines of the round results.
   starts : sum_by (λ (line : Line). line.start) (lines_of_round products now.prices grid posted increments)
       ≡ sum_by (λ (pair : PricePair). pair.start) now.prices
-  starts =
-      sum_by-map (λ (line : Line). line.start) (sheet_line products now.prices grid posted increments) (range_with_len 0 (length products))
-      ∙ sym (sum_by-map (λ (pair : PricePair). pair.start) (prices_at now.prices) (range_with_len 0 (length products)))
-      ∙ ap (sum_by (λ (pair : PricePair). pair.start)) (map-get_or now.prices (length products) (record { start = 0; clock = 0 }) priced.pairs)
+  starts = sum_by-map (λ (line : Line). line.start) (sheet_line products now.prices grid posted increments)
+      (range_with_len 0 (length products)) ∙ sym (sum_by-map (λ (pair : PricePair). pair.start) (prices_at now.prices)
+      (range_with_len 0 (length products))) ∙ ap (sum_by (λ (pair : PricePair). pair.start))
+      (map-get_or now.prices (length products) (record { start = 0; clock = 0 }) priced.pairs)
 
-  above_start : 2 ≤ now.round → All (λ (line : Line). line.start < line.clock) (lines_of_round products now.prices grid posted increments)
-  above_start later =
-      all_in_range (λ (line : Line). line.start < line.clock) (sheet_line products now.prices grid posted increments) (length products)
+  above_start : 2 ≤ now.round
+      → All (λ (line : Line). line.start < line.clock) (lines_of_round products now.prices grid posted increments)
+  above_start later = all_in_range (λ (line : Line). line.start < line.clock)
+      (sheet_line products now.prices grid posted increments) (length products)
       (λ k lt. priced.rising later k (record { start = 0; clock = 0 }) (subst (λ n. k < n) (sym priced.pairs) lt))
 
-  sum_rises : 2 ≤ now.round → sum_by (λ (pair : PricePair). pair.start) now.prices < sum_by (λ (line : Line). line.posted)
-      (lines_of_round products now.prices grid posted increments)
+  sum_rises : 2 ≤ now.round → sum_by (λ (pair : PricePair). pair.start) now.prices
+      < sum_by (λ (line : Line). line.posted) (lines_of_round products now.prices grid posted increments)
   sum_rises later =
       let here = risen later in
       let long : here.0 < length (lines_of_round products now.prices grid posted increments) = here.2 in
@@ -204,31 +216,36 @@ module _ (products : List Product) (now : Standing) (priced : HasSoundPrices pro
       (All-weaker IsBetween (λ (line : Line). line.start ≤ line.posted) (λ line is. is.from_start)
       (lines_of_round products now.prices grid posted increments) are.between)
       (subst (λ n. line.start < n) (sym at) above) in
-      subst (λ n. n < sum_by (λ (line : Line). line.posted) (lines_of_round products now.prices grid posted increments)) starts less
+      subst (λ n. n
+      < sum_by (λ (line : Line). line.posted) (lines_of_round products now.prices grid posted increments)) starts less
 
   long_lines : length (map next_pair (lines_of_round products now.prices grid posted increments)) ≡ length products
   long_lines = length-map (lines_of_round products now.prices grid posted increments) next_pair
       ∙ length-map-range_with_len (sheet_line products now.prices grid posted increments) 0 (length products)
 
-  next_starts : sum_by (λ (pair : PricePair). pair.start) (map next_pair (lines_of_round products now.prices grid posted increments))
-      ≡ sum_by (λ (line : Line). line.posted) (lines_of_round products now.prices grid posted increments)
-  next_starts = sum_by-map (λ (pair : PricePair). pair.start) next_pair (lines_of_round products now.prices grid posted increments)
+  next_starts : sum_by (λ (pair : PricePair). pair.start) (map next_pair (lines_of_round products now.prices grid posted
+      increments)) ≡ sum_by (λ (line : Line). line.posted) (lines_of_round products now.prices grid posted increments)
+  next_starts = sum_by-map (λ (pair : PricePair). pair.start) next_pair
+      (lines_of_round products now.prices grid posted increments)
 
-  next_some : All (λ (pair : PricePair). 1 ≤ pair.start) (map next_pair (lines_of_round products now.prices grid posted increments))
+  next_some : All (λ (pair : PricePair). 1 ≤ pair.start)
+      (map next_pair (lines_of_round products now.prices grid posted increments))
   next_some = subst (All (λ (pair : PricePair). 1 ≤ pair.start)) shown
       (all_in_range (λ (pair : PricePair). 1 ≤ pair.start) (next_price products increments posted) (length products)
       (λ k lt. are.positive k 0 (subst (λ n. k < n) (sym are.lengths) lt)))
 
-  next_highest : All (λ (pair : PricePair). pair.start ≤ highest_price) (map next_pair (lines_of_round products now.prices grid posted increments))
+  next_highest : All (λ (pair : PricePair). pair.start ≤ highest_price)
+      (map next_pair (lines_of_round products now.prices grid posted increments))
   next_highest =
-      let clocks : All (λ (pair : PricePair). pair.clock ≤ highest_price) (map next_pair (lines_of_round products now.prices grid posted increments)) =
-      subst (All (λ (pair : PricePair). pair.clock ≤ highest_price)) shown (next_within products increments posted limit) in
+      let clocks : All (λ (pair : PricePair). pair.clock ≤ highest_price)
+      (map next_pair (lines_of_round products now.prices grid posted increments)) = subst
+      (All (λ (pair : PricePair). pair.clock ≤ highest_price)) shown (next_within products increments posted limit) in
       λ k d lt. start_within _ (rising k d lt) (clocks k d lt)
 
-  bounded_next : (next : ℕ) → next ≡ now.round + 1 → 1 ≤ now.round →
-      next + length products ≤ 2 + sum_by (λ (pair : PricePair). pair.start) (map next_pair (lines_of_round products now.prices grid posted increments))
-  bounded_next next is some = elim (first_or_later now.round some) as (λ _. next + length products
-      ≤ 2 + sum_by (λ (pair : PricePair). pair.start) (map next_pair (lines_of_round products now.prices grid posted increments))) [
+  bounded_next : (next : ℕ) → next ≡ now.round + 1 → 1 ≤ now.round → next + length products ≤ 2 + sum_by
+      (λ (pair : PricePair). pair.start) (map next_pair (lines_of_round products now.prices grid posted increments))
+  bounded_next next is some = elim (first_or_later now.round some) as (λ _. next + length products ≤ 2 + sum_by
+      (λ (pair : PricePair). pair.start) (map next_pair (lines_of_round products now.prices grid posted increments))) [
         | inl one ↦ first_bound next now.round _ _ _ is one long_lines
             (length-le-sum_by (λ (pair : PricePair). pair.start)
             (map next_pair (lines_of_round products now.prices grid posted increments)) next_some)
@@ -236,10 +253,11 @@ module _ (products : List Product) (now : Standing) (priced : HasSoundPrices pro
       ]
 
   -- The next prices are in order.
-  pub priced_next : (standing : Standing) → standing.round ≡ now.round + 1 →
-      standing.prices ≡ map next_pair (lines_of_round products now.prices grid posted increments) → 1 ≤ now.round → HasSoundPrices products standing
+  pub priced_next : (standing : Standing) → standing.round ≡ now.round + 1 → standing.prices ≡ map next_pair
+      (lines_of_round products now.prices grid posted increments) → 1 ≤ now.round → HasSoundPrices products standing
   priced_next standing number prices some =
-      let P = λ (list : List PricePair). HasSoundPrices products (record { ended = standing.ended; round = standing.round; prices = list }) in
+      let P = λ (list : List PricePair). HasSoundPrices products
+      (record { ended = standing.ended; round = standing.round; prices = list }) in
       subst P (sym prices)
       (record {
         numbered = from_one standing.round now.round number;

@@ -13,8 +13,6 @@ use Rattle.clock_closing.specs.Results.{demands_of}
 -- The demands in the bidder results are those of the round.
 pub slips_demands : (setup : PublicSetup) (now : OpenRound) (grid : List (List ℕ)) → length grid ≡ length now.holdings →
     grid ≡ demands_of (slips_after setup now grid)
-slips_demands setup now grid many =
-    fill_by_all (row_of grid) grid (length now.holdings) [] many (λ bidder lt. refl)
-    ∙ sym (map-map (λ (slip : Slip). slip.demands)
-    (λ (bidder : ℕ). slip_after setup now.standing.round (holding_at now.holdings bidder).eligibility (row_of grid bidder))
-    (range_with_len 0 (length now.holdings)))
+slips_demands setup now grid many = fill_by_all (row_of grid) grid (length now.holdings) [] many (λ bidder lt. refl)
+    ∙ sym (map-map (λ (slip : Slip). slip.demands) (λ (bidder : ℕ). slip_after setup now.standing.round
+    (holding_at now.holdings bidder).eligibility (row_of grid bidder)) (range_with_len 0 (length now.holdings)))

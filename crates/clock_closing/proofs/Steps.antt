@@ -30,20 +30,23 @@ module _ (round : OpenRoundFields) (is : IsOpenRound round) where
 
     -- Each bid in force is for a product of the set-up.
     pub known_bids : All (λ bid. bid.product < length round.setup.products) (bids_at round.before.sheets bidder)
-    known_bids =
-        (good_sheet_chains (public_setup round.setup) round.before.standing.round round.before.standing.prices
-        (holding_at round.before.holdings bidder) (bids_at round.before.sheets bidder) (is.sound.good bidder in_range)).known
+    known_bids = (good_sheet_chains (public_setup round.setup) round.before.standing.round round.before.standing.prices
+        (holding_at round.before.holdings bidder) (bids_at round.before.sheets bidder)
+        (is.sound.good bidder in_range)).known
 
     -- The requested demands of a sheet are a row: one for each product, within the caps.
-    pub asked_row : IsRow round.setup.products (asked_demands (length round.setup.products) (bids_at round.before.sheets bidder))
+    pub asked_row : IsRow round.setup.products
+        (asked_demands (length round.setup.products) (bids_at round.before.sheets bidder))
     asked_row = good_sheet_row (public_setup round.setup) round.before.standing.round round.before.standing.prices
         (holding_at round.before.holdings bidder) (bids_at round.before.sheets bidder) (is.sound.good bidder in_range)
 
   -- Demands within the eligibilities are a grid.
-  pub within_grid : (grid : List (List ℕ)) → IsWithinEligibility round.setup.products (eligibilities_of round.before) grid →
-      IsGrid (length round.setup.bidders) (length round.setup.products) grid
-  within_grid grid within =
-      (within.bidders ∙ length-map round.before.holdings (λ (held : Holding). held.eligibility) ∙ is.holdings, λ k d lt. (within.rows k d lt).each)
+  pub within_grid : (grid : List (List ℕ)) → IsWithinEligibility round.setup.products
+      (eligibilities_of round.before) grid → IsGrid (length round.setup.bidders) (length round.setup.products) grid
+  within_grid grid within = (
+    within.bidders ∙ length-map round.before.holdings (λ (held : Holding). held.eligibility) ∙ is.holdings,
+    λ k d lt. (within.rows k d lt).each,
+  )
 
   -- With allowed increments and tie-breaking numbers without a fault, the result of the closing is that of the posting.
   pub closes-good : (increments : Increments) (ties : List Tie) → round.before.standing.ended ≡ false →
@@ -56,12 +59,12 @@ module _ (round : OpenRoundFields) (is : IsOpenRound round) where
       (ap (λ (n : ℕ). tie_fault n (length round.setup.products) ties) is.holdings ∙ fair)
 
   -- So it is if the checks use equal parts of the set-up.
-  pub closes-tested : (setup : SetupFields) (listed : List Product) (increments : Increments) (ties : List Tie) →
-      round.before.standing.ended ≡ false → setup ≡ round.setup →
-      listed ≡ setup.products → are_increments (length listed) increments ≡ true → tie_fault (length setup.bidders) (length setup.products) ties ≡ None →
-      closing (public_setup round.setup) round.before round.before.standing.round increments ties
+  pub closes-tested : (setup : SetupFields) (listed : List Product) (increments : Increments) (ties : List Tie)
+      → round.before.standing.ended ≡ false → setup ≡ round.setup → listed ≡ setup.products
+      → are_increments (length listed) increments ≡ true → tie_fault (length setup.bidders) (length setup.products) ties
+      ≡ None → closing (public_setup round.setup) round.before round.before.standing.round increments ties
       ≡ posted_now round increments ties
   closes-tested setup listed increments ties going same read within fair =
-      closes-good increments ties going
-      (subst (λ (list : List Product). are_increments (length list) increments ≡ true) (read ∙ ap (λ (one : SetupFields). one.products) same) within)
+      closes-good increments ties going (subst (λ (list : List Product). are_increments (length list) increments ≡ true)
+      (read ∙ ap (λ (one : SetupFields). one.products) same) within)
       (subst (λ (one : SetupFields). tie_fault (length one.bidders) (length one.products) ties ≡ None) same fair)

@@ -5,7 +5,8 @@
 --     closed_round setup round increments result      the round results and bidder results
 --     closing setup round number increments ties      the round that it adds, or its first fault
 --     closing_now round increments ties      that for the current round
-use Rattle.std.specs.Prelude.{ℕ, List, ◌∷◌, ◌++◌, not, ◌==◌, if◌then◌else◌, Result, length, map, flat_map}
+use Rattle.std.specs.Prelude.{ℕ, List, ◌∷◌, ◌++◌, not, ◌==◌, if◌then◌else◌, Result, length, map}
+use Rattle.std.specs.Prelude.{flat_map}
 use Rattle.clock_terms.specs.declared.setup.Product.{Product}
 use Rattle.clock_terms.specs.declared.increments.Increments.{Increments}
 use Rattle.clock_terms.specs.Limits.{PublicSetup, public_setup}
@@ -27,7 +28,8 @@ pub use Rattle.clock_closing.specs.declared.closed_round.ClosedRound.{ClosedRoun
 use Rattle.clock_closing.specs.declared.fault.CloseFault.{CloseFault}
 use Rattle.clock_closing.specs.declared.fault.CloseFault.TheVariants as close_faults
 use Rattle.clock_closing.specs.Faults.{fault_check}
-use Rattle.clock_closing.specs.OpenRound.{OpenRound, OpenRoundFields, bidder_numbers, holding_at, bids_at}
+use Rattle.clock_closing.specs.OpenRound.{OpenRound, OpenRoundFields, bidder_numbers, holding_at}
+use Rattle.clock_closing.specs.OpenRound.{bids_at}
 
 -- The requested demands of all bidders, a row for each, from their sheets in force.
 abbrev pub asked_grid : List Product → OpenRound → List (List ℕ)
@@ -36,16 +38,16 @@ asked_grid products now =
 
 -- The requests that a bidder's sheet in force makes.
 abbrev pub requests_by : OpenRound → ℕ → List Change
-requests_by now bidder =
-    changes_of_sheet now.standing.prices (holding_at now.holdings bidder).demands bidder (bids_at now.sheets bidder)
+requests_by now bidder = changes_of_sheet now.standing.prices
+    (holding_at now.holdings bidder).demands bidder (bids_at now.sheets bidder)
 
 abbrev pub requests : OpenRound → List Tie → List Change
 requests now ties = processing_list ties (flat_map (requests_by now) (bidder_numbers now))
 
 -- Bid processing of these requests: the processed demands, and what is left of each request.
 abbrev pub settlement : List Product → OpenRound → List Change → Progress
-settlement products now changes =
-    settled products (map (λ holding. holding.eligibility) now.holdings) changes (map (λ holding. holding.demands) now.holdings)
+settlement products now changes = settled products (map (λ holding. holding.eligibility)
+    now.holdings) changes (map (λ holding. holding.demands) now.holdings)
 
 -- The processed demands of a round, a row for each bidder, and its posted prices.
 pub record RoundResult : Type 0 where
@@ -54,7 +56,8 @@ pub record RoundResult : Type 0 where
 
 -- Round 1: the quantities bid become the demands, and the posted prices are the opening prices.
 abbrev pub first_result : List Product → OpenRound → RoundResult
-first_result products now = record { grid = asked_grid products now; posted = opening_posted products }
+first_result products now =
+    record { grid = asked_grid products now; posted = opening_posted products }
 
 -- From round 2: the demands after bid processing, and the posted prices that follow from them.
 abbrev pub later_result : List Product → OpenRound → List Change → RoundResult
@@ -65,8 +68,8 @@ later_result products now changes = record {
 }
 
 abbrev pub round_result : List Product → OpenRound → List Tie → RoundResult
-round_result products now ties =
-    if now.standing.round == 1 then first_result products now else later_result products now (requests now ties)
+round_result products now ties = if now.standing.round == 1 then first_result products now
+    else later_result products now (requests now ties)
 
 -- A bidder's results of a round: its processed activity, next eligibility, and processed demands.
 abbrev pub slip_after : PublicSetup → ℕ → ℕ → List ℕ → Slip
@@ -84,20 +87,23 @@ slips_after setup now grid = map (λ bidder. slip_after setup now.standing.round
 -- The round results and bidder results of a round.
 abbrev pub closed_round : PublicSetup → OpenRound → Increments → RoundResult → ClosedRound
 closed_round setup now increments result = record {
-  sheet = round_sheet now.standing.round setup.products now.standing.prices result.grid result.posted increments;
+  sheet = round_sheet now.standing.round setup.products now.standing.prices result.grid
+      result.posted increments;
   slips = slips_after setup now result.grid;
 }
 
 -- The round that a closing adds, or its first fault. The order of the checks is our own.
-abbrev pub closing : PublicSetup → OpenRound → ℕ → Increments → List Tie → Result ClosedRound CloseFault
+abbrev pub closing : PublicSetup → OpenRound → ℕ → Increments → List Tie
+    → Result ClosedRound CloseFault
 closing setup now round increments ties = let result = round_result setup.products now ties in
     unless (first_fault ((close_faults.Ended, not now.standing.ended)
     ∷ (close_faults.WrongRound now.standing.round, round == now.standing.round)
     ∷ (close_faults.Increment, are_increments (length setup.products) increments)
     ∷ fault_check close_faults.Tie (tie_fault (length now.holdings) (length setup.products) ties)
-    ++ fault_check close_faults.PriceLimit (price_limit_fault setup.products result.grid result.posted increments)))
-    (closed_round setup now increments result)
+    ++ fault_check close_faults.PriceLimit (price_limit_fault setup.products result.grid
+    result.posted increments))) (closed_round setup now increments result)
 
 -- The round that a closing of the current round adds, or its first fault.
 abbrev pub closing_now : OpenRoundFields → Increments → List Tie → Result ClosedRound CloseFault
-closing_now round increments ties = closing (public_setup round.setup) round.before round.before.standing.round increments ties
+closing_now round increments ties =
+    closing (public_setup round.setup) round.before round.before.standing.round increments ties

@@ -9,7 +9,8 @@ use Rattle.clock_closing.specs.declared.closed_round.Slip.{Slip}
 
 -- Before round 1, a bidder has its initial eligibility, and processed demands of 0.
 abbrev pub first_holding : List Product → Bidder → Holding
-first_holding products row = record { eligibility = row.eligibility; demands = replicate (length products) 0 }
+first_holding products row =
+    record { eligibility = row.eligibility; demands = replicate (length products) 0 }
 
 -- After a round, a bidder has the next eligibility and the processed demands of its bidder results.
 abbrev pub holding_after : Slip → Holding
@@ -17,4 +18,5 @@ holding_after slip = record { eligibility = slip.eligibility; demands = slip.dem
 
 -- Each bidder has the eligibility and the row of demands at its index.
 abbrev pub holdings_of : List ℕ → List (List ℕ) → List Holding
-holdings_of eligibilities demands = map (λ own. record { eligibility = own.0; demands = own.1 }) (zip eligibilities demands)
+holdings_of eligibilities demands =
+    map (λ own. record { eligibility = own.0; demands = own.1 }) (zip eligibilities demands)

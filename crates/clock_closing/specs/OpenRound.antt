@@ -6,12 +6,14 @@
 --     IsOpen setup now      bidders within limits, prices in order, sheets that pass the checks
 --     OpenRoundFields, open_at setup round ..      what contracts see of an open round
 --     IsOpenRound round      the invariant of its type
-use Rattle.std.specs.Prelude.{◌≡◌, ℕ, ◌+◌, ◌<◌, ◌≤◌, List, [], false, Option, None, unwrap_or, length, sum_by, slice_index_or, All}
+use Rattle.std.specs.Prelude.{◌≡◌, ℕ, ◌+◌, ◌<◌, ◌≤◌, List, [], false, Option, None, unwrap_or}
+use Rattle.std.specs.Prelude.{length, sum_by, slice_index_or, All}
 use Rattle.std.specs.List.{range_with_len}
 use Rattle.clock_money.specs.Price.{highest_price}
 use Rattle.clock_terms.specs.declared.setup.Product.{Product}
 use Rattle.clock_terms.specs.declared.prices.PricePair.{PricePair}
-use Rattle.clock_terms.specs.Limits.{SetupFields, PublicSetup, public_setup, IsProduct, IsRow, most_products, most_bidders, most_eligibility}
+use Rattle.clock_terms.specs.Limits.{SetupFields, PublicSetup, public_setup, IsProduct, IsRow}
+use Rattle.clock_terms.specs.Limits.{most_products, most_bidders, most_eligibility}
 use Rattle.clock_terms.specs.Prices.{opening_prices}
 use Rattle.clock_terms.specs.Eligibility.{activity}
 use Rattle.clock_bids.specs.declared.sheet.Bid.{Bid}
@@ -29,7 +31,8 @@ abbrev pub bidder_numbers : OpenRound → List ℕ
 bidder_numbers now = range_with_len 0 (length now.holdings)
 
 abbrev pub holding_at : List Holding → ℕ → Holding
-holding_at holdings bidder = slice_index_or holdings bidder (record { eligibility = 0; demands = [] })
+holding_at holdings bidder =
+    slice_index_or holdings bidder (record { eligibility = 0; demands = [] })
 
 -- The bids of a bidder's sheet in force. No sheet counts as an empty one.
 abbrev pub bids_at : List (Option (List Bid)) → ℕ → List Bid
@@ -50,7 +53,8 @@ pub record HasSoundPrices (products : List Product) (now : Standing) : Type 0 wh
   pub positive : All (λ pair. 1 ≤ pair.start) now.prices
   pub highest : All (λ pair. pair.start ≤ highest_price) now.prices
   pub rising : 2 ≤ now.round → All IsRising now.prices
-  pub bounded : 2 ≤ now.round → now.round + length products ≤ 2 + sum_by (λ pair. pair.start) now.prices
+  pub bounded : 2 ≤ now.round
+      → now.round + length products ≤ 2 + sum_by (λ pair. pair.start) now.prices
 
 -- An open round is in order: the set-up is within its limits, each bidder is, the prices are in
 -- order, and each sheet in force passes the checks.
@@ -58,10 +62,11 @@ pub record IsOpen (setup : PublicSetup) (now : OpenRound) : Type 0 where
   pub limits : All IsProduct setup.products
   pub few_products : length setup.products ≤ most_products
   pub few_bidders : length now.holdings ≤ most_bidders
-  pub within : (bidder : ℕ) → bidder < length now.holdings → IsWithinLimits setup.products (holding_at now.holdings bidder)
+  pub within : (bidder : ℕ) → bidder < length now.holdings
+      → IsWithinLimits setup.products (holding_at now.holdings bidder)
   pub priced : HasSoundPrices setup.products now.standing
-  pub good : (bidder : ℕ) → bidder < length now.holdings →
-      IsGoodSheet setup now.standing.round now.standing.prices (holding_at now.holdings bidder) (bids_at now.sheets bidder)
+  pub good : (bidder : ℕ) → bidder < length now.holdings → IsGoodSheet setup now.standing.round
+      now.standing.prices (holding_at now.holdings bidder) (bids_at now.sheets bidder)
 
 -- In contracts, an open round is a set-up, and the input of its closing.
 pub record OpenRoundFields : Type 0 where
@@ -70,10 +75,15 @@ pub record OpenRoundFields : Type 0 where
 
 -- An open round of a set-up, from the current round, its prices, each bidder's eligibility and
 -- demands, and the sheets in force. The auction has not ended.
-abbrev pub open_at : SetupFields → ℕ → List PricePair → List ℕ → List (List ℕ) → List (Option (List Bid)) → OpenRoundFields
+abbrev pub open_at : SetupFields → ℕ → List PricePair → List ℕ → List (List ℕ)
+    → List (Option (List Bid)) → OpenRoundFields
 open_at setup round prices eligibilities demands sheets = record {
   setup = setup;
-  before = record { standing = record { ended = false; round = round; prices = prices }; holdings = holdings_of eligibilities demands; sheets = sheets };
+  before = record {
+    standing = record { ended = false; round = round; prices = prices };
+    holdings = holdings_of eligibilities demands;
+    sheets = sheets;
+  };
 }
 
 -- Each bidder has an entry in both lists, the round is in order, and round 1 has the opening
@@ -82,4 +92,5 @@ pub record IsOpenRound (round : OpenRoundFields) : Type 0 where
   pub holdings : length round.before.holdings ≡ length round.setup.bidders
   pub sheets : length round.before.sheets ≡ length round.setup.bidders
   pub sound : IsOpen (public_setup round.setup) round.before
-  pub opening : round.before.standing.round ≡ 1 → round.before.standing.prices ≡ opening_prices round.setup.products
+  pub opening : round.before.standing.round ≡ 1
+      → round.before.standing.prices ≡ opening_prices round.setup.products

@@ -19,4 +19,5 @@ pub record PreparedClosing : Type 0 where
 -- If the closing is accepted, it adds the round that the rules say. If it is refused, the rules
 -- refuse it for the same fault, or it is out of memory.
 abbrev pub Answers : Result ClosedRound CloseFault → Result PreparedClosing CloseFault → Type 0
-Answers closing result = MatchResult result (λ prepared. closing ≡ Ok prepared.closed) (IsRefusal close_faults.NoMemory closing)
+Answers closing result = MatchResult result (λ prepared. closing ≡ Ok prepared.closed)
+    (IsRefusal close_faults.NoMemory closing)

@@ -63,7 +63,12 @@ pub struct Prepared {
 impl Model for Prepared {
     ghost Value = { PreparedClosing };
 
-    ghost view = { λ p. record { round = p.round; increments = p.increments; ties = p.ties; closed = p.results.closed } };
+    ghost view = { λ p. record {
+      round = p.round;
+      increments = p.increments;
+      ties = p.ties;
+      closed = p.results.closed;
+    } };
 
     ghost invariant = { λ p. AreConsistent p.results };
 }

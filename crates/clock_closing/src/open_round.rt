@@ -1,9 +1,12 @@
-ghost use Rattle.std.specs.Prelude.{◌≡◌, ◌≢◌, ◌<◌, ◌≤◌, None, length, slice_index_or, option_copied, IfOk};
-ghost use Rattle.clock_terms.specs.{Eligibility.{activity}, Increments.{AreIncrements}, Limits.{IsRow, public_setup}};
+ghost use Rattle.std.specs.Prelude.{◌≡◌, ◌≢◌, ◌<◌, ◌≤◌, None, length, slice_index_or};
+ghost use Rattle.std.specs.Prelude.{option_copied, IfOk};
+ghost use Rattle.clock_terms.specs.{Eligibility.{activity}, Increments.{AreIncrements}};
+ghost use Rattle.clock_terms.specs.Limits.{IsRow, public_setup};
 ghost use Rattle.clock_bids.specs.Holding.{holding_of};
 ghost use Rattle.clock_order.specs.declared.ties.TieFault.TheVariants as tie_faults;
 ghost use Rattle.clock_processor.specs.Board.{IsWithinEligibility};
-ghost use Rattle.clock_closing.specs.{OpenRound.{IsOpenRound, OpenRoundFields, holding_at, open_at}, Prepared.{Answers}, Results.{demands_of}};
+ghost use Rattle.clock_closing.specs.OpenRound.{IsOpenRound, OpenRoundFields, holding_at, open_at};
+ghost use Rattle.clock_closing.specs.{Prepared.{Answers}, Results.{demands_of}};
 ghost use Rattle.clock_closing.specs.inside.OpenRound.{eligibilities_of, grid_of};
 ghost use Rattle.clock_closing.specs.inside.Postings.{AreRequests, ComesTo, IsRoundOf, posted_now};
 ghost use Rattle.clock_closing.specs.Closing as rules;
@@ -45,7 +48,8 @@ pub struct OpenRound<'a> {
 impl<'a> Model for OpenRound<'a> {
     ghost Value = { OpenRoundFields };
 
-    ghost view = { λ r. open_at r.setup.now r.round r.prices.now r.eligibilities.now r.demands.now r.sheets.now };
+    ghost view = { λ r.
+        open_at r.setup.now r.round r.prices.now r.eligibilities.now r.demands.now r.sheets.now };
 
     ghost invariant = { λ r. (length r.demands.now ≡ length r.eligibilities.now) × IsOpenRound
         (open_at r.setup.now r.round r.prices.now r.eligibilities.now r.demands.now r.sheets.now) };
@@ -126,7 +130,8 @@ impl<'a> OpenRound<'a> {
 
     /// The requested demands, one row per bidder, in blocks. No sheet counts as an empty one.
     fn asked_grid(&self, alloc: Global) -> Result<Grid, NoMemory>
-        ensures { IfOk result (λ grid. grid ≡ rules.asked_grid self.now.setup.products self.now.before) }
+        ensures { IfOk result
+            (λ grid. grid ≡ rules.asked_grid self.now.setup.products self.now.before) }
     {
         let mut rows = Vec::with_capacity(alloc, self.bidders() as usize)?;
         for bidder in 0..self.bidders() {
@@ -196,7 +201,8 @@ impl<'a> OpenRound<'a> {
         posting: Result<Posting, PostFault>,
         demands: Grid,
     ) -> Result<Results, CloseFault>
-        requires { IsWithinEligibility self.now.setup.products (eligibilities_of self.now.before) demands }
+        requires { IsWithinEligibility self.now.setup.products
+            (eligibilities_of self.now.before) demands }
         ensures { IsRoundOf self.now demands posting result }
     {
         let Posting { sheet, next } = posting?;
@@ -211,7 +217,8 @@ impl<'a> OpenRound<'a> {
     /// The bidder results after a round with these demands, one per bidder. Requires demands within
     /// the eligibilities.
     fn slips(&self, alloc: Global, demands: &Grid) -> Result<Slips, NoMemory>
-        requires { IsWithinEligibility self.now.setup.products (eligibilities_of self.now.before) demands.now }
+        requires { IsWithinEligibility self.now.setup.products
+            (eligibilities_of self.now.before) demands.now }
         ensures slips { IfOk result (λ slips. slips ≡
             rules.slips_after (public_setup self.now.setup) self.now.before demands.now) }
         ensures demands { IfOk result (λ slips. demands.now ≡ demands_of slips) }
@@ -230,8 +237,9 @@ impl<'a> OpenRound<'a> {
         requires row { IsRow self.now.setup.products demands.now }
         requires within { activity self.now.setup.products demands.now ≤
             (holding_at self.now.before.holdings bidder).eligibility }
-        ensures { IfOk result (λ slip. slip ≡ rules.slip_after (public_setup self.now.setup)
-            self.now.before.standing.round (holding_at self.now.before.holdings bidder).eligibility demands.now) }
+        ensures { IfOk result (λ slip. slip
+            ≡ rules.slip_after (public_setup self.now.setup) self.now.before.standing.round
+            (holding_at self.now.before.holdings bidder).eligibility demands.now) }
     {
         let setup = self.setup;
         let used = units_held(setup.products.as_slice(), demands);

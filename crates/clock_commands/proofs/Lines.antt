@@ -13,10 +13,11 @@ code_added : (text : List ℕ) (code : Option Code) → with_code text code ≡ 
 code_added text None = rw append-nil refl
 code_added text (Some code) = refl
 
-one_by_one : (words : Words) → text_of_words words ≡ words.0.now ++ (spaced_number words.1 ++ (spaced_number words.2 ++ spaced_code words.3))
+one_by_one : (words : Words)
+    → text_of_words words ≡ words.0.now ++ (spaced_number words.1 ++ (spaced_number words.2 ++ spaced_code words.3))
 one_by_one words = rw (code_added, number_added, number_added) (simp append_assoc)
 
 -- the words in the order in which they are written, and what follows them
-pub line_of_words : (words : Words) (rest : List ℕ)
-    → text_of_words words ++ rest ≡ words.0.now ++ (spaced_number words.1 ++ (spaced_number words.2 ++ (spaced_code words.3 ++ rest)))
+pub line_of_words : (words : Words) (rest : List ℕ) → text_of_words words ++ rest
+    ≡ words.0.now ++ (spaced_number words.1 ++ (spaced_number words.2 ++ (spaced_code words.3 ++ rest)))
 line_of_words words rest = rw (one_by_one words) (simp append_assoc)

@@ -13,24 +13,32 @@ module _ (reading : Reading) (mid : SourceReport) (document : List ℕ)
     (used : mid.calls ≤ length document + mid.interruptions) (unfailed : mid.has_failed ≡ false)
     (once : reading.after.calls ≤ mid.calls + 1) (kept : mid.interruptions ≤ reading.after.interruptions) where
   -- one more read, which gave these bytes
-  took : (bytes : List ℕ) (others : ℕ) → HasRead mid.left reading.after.left bytes
-      → reading.after.calls ≤ length (document ++ bytes) + reading.after.interruptions + others → Takes reading others (document ++ bytes)
+  took : (bytes : List ℕ) (others : ℕ) → HasRead mid.left reading.after.left bytes → reading.after.calls
+      ≤ length (document ++ bytes) + reading.after.interruptions + others → Takes reading others (document ++ bytes)
   took bytes others further count =
-      record { read = read_twice reading.before.left mid.left reading.after.left document bytes read further; used = count }
+      record {
+        read = read_twice reading.before.left mid.left reading.after.left document bytes read further;
+        used = count;
+      }
 
   -- it failed
-  pub failed_last : HasRead mid.left reading.after.left [] → reading.after.has_failed ≡ true → IsReadingOf reading (Err fault.Input)
-  failed_last further fails = inl (document ++ [], (took [] 1 further (rw length-append (omega arith)), rw append-nil few), fails)
+  pub failed_last : HasRead mid.left reading.after.left [] → reading.after.has_failed ≡ true
+      → IsReadingOf reading (Err fault.Input)
+  failed_last further fails =
+      inl (document ++ [], (took [] 1 further (rw length-append (omega arith)), rw append-nil few), fails)
 
   -- it gave one byte too many
-  pub too_much : (bytes : List ℕ) → HasRead mid.left reading.after.left bytes → length document + length bytes ≡ most_bytes + 1
-      → reading.after.has_failed ≡ mid.has_failed → IsReadingOf reading (Err fault.LongInput)
+  pub too_much : (bytes : List ℕ) → HasRead mid.left reading.after.left bytes → length document + length bytes
+      ≡ most_bytes + 1 → reading.after.has_failed ≡ mid.has_failed → IsReadingOf reading (Err fault.LongInput)
   too_much bytes further long fails =
       let all : length (document ++ bytes) ≡ most_bytes + 1 = rw length-append long in
       ((document ++ bytes, took bytes 0 further (omega (arith, all)), all), fails ∙ unfailed)
 
   -- memory for its bytes was refused
-  pub no_memory : (bytes : List ℕ) → HasRead mid.left reading.after.left bytes → length document + length bytes ≤ most_bytes
-      → reading.after.has_failed ≡ mid.has_failed → IsReadingOf reading (Err fault.Memory)
-  no_memory bytes further some fails =
-      (document ++ bytes, (took bytes 1 further (rw length-append (omega arith)), rw length-append some), fails ∙ unfailed)
+  pub no_memory : (bytes : List ℕ) → HasRead mid.left reading.after.left bytes → length document + length bytes
+      ≤ most_bytes → reading.after.has_failed ≡ mid.has_failed → IsReadingOf reading (Err fault.Memory)
+  no_memory bytes further some fails = (
+    document ++ bytes,
+    (took bytes 1 further (rw length-append (omega arith)), rw length-append some),
+    fails ∙ unfailed,
+  )

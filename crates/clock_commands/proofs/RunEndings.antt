@@ -19,12 +19,15 @@ pub unread_for_memory : (told : SourceReport) → IsUnread told
     → IsReadingOf (record { before = told; after = told }) (Err fault.Memory)
 unread_for_memory told unused = (
   [],
-  (record { read = read_nothing told.left told.left (same_bytes told.left); used = omega (arith, unused.uncounted) }, omega arith),
+  (
+    record { read = read_nothing told.left told.left (same_bytes told.left); used = omega (arith, unused.uncounted) },
+    omega arith,
+  ),
   unused.unfailed,
 )
 
 module _ (asked : Option Job) (job : Job) (asks : asked ≡ Some job) (reading : Reading) (output shown : Writing) where
-  pub stopped_run : (cause : Fault) → IsRunOf {U = Unit {0}} job reading output (Err cause) → Shows shown (fault_line cause)
-      → ComesTo asked reading output shown 1
+  pub stopped_run : (cause : Fault) → IsRunOf {U = Unit {0}} job reading output (Err cause)
+      → Shows shown (fault_line cause) → ComesTo asked reading output shown 1
   stopped_run fault.Memory run line = (stopped fault.Memory, refl, (run.0, run.1, line))
   stopped_run other run line = (stopped other, refl, ((job, asks, run), line))

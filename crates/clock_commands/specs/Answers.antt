@@ -45,8 +45,8 @@ first_round opening =
     let products = opening.setup.products in
     let posted = opening_posted products in
     let increments = Single opening.increment in
-    unless_limited (price_limit_fault products opening.grid posted increments)
-    (sheet_text products (round_sheet 1 products (opening_prices products) opening.grid posted increments))
+    unless_limited (price_limit_fault products opening.grid posted increments) (sheet_text products
+    (round_sheet 1 products (opening_prices products) opening.grid posted increments))
 
 -- the lines of round 1 of the opening document that was read
 abbrev pub opening_lines_of : Result Opening OpeningFault → Result (List ℕ) Fault

@@ -54,7 +54,8 @@ abbrev pub opening_words : OpeningFault → List ℕ
 opening_words in_opening.NotJson = codes "not_json"
 opening_words in_opening.Shape = codes "shape"
 opening_words (in_opening.Setup inner) = setup_words inner
-opening_words (in_opening.Demand bidder product) = codes "demand " ++ decimal bidder ++ (codes " " ++ decimal product)
+opening_words (in_opening.Demand bidder product) =
+    codes "demand " ++ decimal bidder ++ (codes " " ++ decimal product)
 opening_words (in_opening.Activity bidder) = codes "activity " ++ decimal bidder
 opening_words in_opening.Increment = codes "increment"
 opening_words in_opening.NoMemory = codes "memory"
@@ -65,14 +66,16 @@ script_words in_script.NotJson = codes "not_json"
 script_words in_script.Shape = codes "shape"
 script_words (in_script.Setup inner) = setup_words inner
 script_words in_script.Scripts = codes "scripts"
-script_words (in_script.Limits bidder product) = codes "limits " ++ decimal bidder ++ (codes " " ++ decimal product)
+script_words (in_script.Limits bidder product) =
+    codes "limits " ++ decimal bidder ++ (codes " " ++ decimal product)
 script_words in_script.NoMemory = codes "memory"
 
 -- a refused sheet or closing has the code of its reply
 abbrev pub simulation_words : SimFault → List ℕ
-simulation_words (in_simulation.Refused bidder round code) =
-    codes "refused " ++ decimal bidder ++ (codes " " ++ decimal round) ++ (codes " " ++ text_of code)
-simulation_words (in_simulation.Closing round code) = codes "closing " ++ decimal round ++ (codes " " ++ text_of code)
+simulation_words (in_simulation.Refused bidder round code) = codes "refused " ++ decimal bidder
+    ++ (codes " " ++ decimal round) ++ (codes " " ++ text_of code)
+simulation_words (in_simulation.Closing round code) =
+    codes "closing " ++ decimal round ++ (codes " " ++ text_of code)
 simulation_words in_simulation.ClosingsSpent = codes "closings_spent"
 simulation_words in_simulation.NoMemory = codes "memory"
 

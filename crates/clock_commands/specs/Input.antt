@@ -43,8 +43,10 @@ ReadsTooMuch reading = (bytes : List ℕ) × Takes reading 0 bytes × (length by
 -- bytes and interruptions used up all reads. Interrupted reads are retried.
 abbrev pub IsReadingOf : Reading → Result (List ℕ) Fault → Type 0
 IsReadingOf reading (Ok document) = ReadsWhole reading document
-IsReadingOf reading (Err fault.Input) =
-    HasFailedRead (TakesUpTo 1 reading) reading ⊎ RunsOutOfReads (TakesUpTo 0 reading) most_document_reads reading
-IsReadingOf reading (Err fault.LongInput) = ReadsTooMuch reading × (reading.after.has_failed ≡ false)
-IsReadingOf reading (Err fault.Memory) = (bytes : List ℕ) × TakesUpTo 1 reading bytes × (reading.after.has_failed ≡ false)
+IsReadingOf reading (Err fault.Input) = HasFailedRead (TakesUpTo 1 reading) reading
+    ⊎ RunsOutOfReads (TakesUpTo 0 reading) most_document_reads reading
+IsReadingOf reading (Err fault.LongInput) =
+    ReadsTooMuch reading × (reading.after.has_failed ≡ false)
+IsReadingOf reading (Err fault.Memory) =
+    (bytes : List ℕ) × TakesUpTo 1 reading bytes × (reading.after.has_failed ≡ false)
 IsReadingOf reading (Err other) = ⊥

@@ -9,8 +9,8 @@ use Rattle.clock_terms.specs.declared.setup.Product.{Product}
 
 -- NAME OPENING CLOCK, separated by spaces; CLOCK is a dash if it would be too high
 abbrev pub price_line : ℕ → Product → List ℕ
-price_line increment product =
-    product.name ++ codes " " ++ decimal product.opening ++ codes " " ++ number_or_dash (raise product.opening increment product.granule) ++ codes "\n"
+price_line increment product = product.name ++ codes " " ++ decimal product.opening ++ codes " "
+    ++ number_or_dash (raise product.opening increment product.granule) ++ codes "\n"
 
 -- a line for each product
 abbrev pub price_lines : ℕ → List Product → List ℕ

@@ -17,18 +17,24 @@ use Rattle.clock_commands.specs.declared.fault.Fault.TheVariants as fault
 
 -- the whole input is a document, and this is the job's answer to it
 abbrev pub HasAnswer : Job → Reading → Result (List ℕ) Fault → Type 0
-HasAnswer job reading answer = (document : List ℕ) × ReadsWhole reading document × (answer_to job document ≡ answer)
+HasAnswer job reading answer =
+    (document : List ℕ) × ReadsWhole reading document × (answer_to job document ≡ answer)
 
 -- The whole answer is printed. Or there is a fault, the first: of reading or of the document, with
 -- nothing printed; or of writing. `Memory` may replace any fault but those of reading and writing.
 abbrev pub IsRunOf : {U : Type 0} → Job → Reading → Writing → Result U Fault → Type 0
-IsRunOf job reading output (Ok done) = (text : List ℕ) × HasAnswer job reading (Ok text) × WritesWhole output text
+IsRunOf job reading output (Ok done) =
+    (text : List ℕ) × HasAnswer job reading (Ok text) × WritesWhole output text
 IsRunOf job reading output (Err fault.Output) =
     (text : List ℕ) × HasAnswer job reading (Ok text) × WritesFront output text
-IsRunOf job reading output (Err fault.Input) = IsReadingOf reading (Err fault.Input) × WritesNothing output
-IsRunOf job reading output (Err fault.LongInput) = IsReadingOf reading (Err fault.LongInput) × WritesNothing output
-IsRunOf job reading output (Err fault.Memory) = IsReadingOf reading (Err fault.Memory) × WritesNothing output
-IsRunOf job reading output (Err of_document) = HasAnswer job reading (Err of_document) × WritesNothing output
+IsRunOf job reading output (Err fault.Input) =
+    IsReadingOf reading (Err fault.Input) × WritesNothing output
+IsRunOf job reading output (Err fault.LongInput) =
+    IsReadingOf reading (Err fault.LongInput) × WritesNothing output
+IsRunOf job reading output (Err fault.Memory) =
+    IsReadingOf reading (Err fault.Memory) × WritesNothing output
+IsRunOf job reading output (Err of_document) =
+    HasAnswer job reading (Err of_document) × WritesNothing output
 
 -- how a run can end: its answer is printed, it has a fault, or its arguments are refused
 pub data RunEnding : Type 0 where
@@ -54,17 +60,20 @@ pub record MakesNoRead (reading : Reading) : Type 0 where
 
 -- the arguments ask for a job, whose run ends so
 abbrev pub RunsJob : {U : Type 0} → Option Job → Reading → Writing → Result U Fault → Type 0
-RunsJob asked reading output result = (job : Job) × (asked ≡ Some job) × IsRunOf job reading output result
+RunsJob asked reading output result =
+    (job : Job) × (asked ≡ Some job) × IsRunOf job reading output result
 
 -- A printed answer comes without a fault line, and a fault with its line. Words that ask for no job
 -- are refused, and nothing is read. `Memory` can come before the words are known.
 abbrev pub HasEnding : Option Job → Reading → Writing → Writing → RunEnding → Type 0
-HasEnding asked reading output shown printed = RunsJob {U = Unit {0}} asked reading output (Ok tt) × WritesNothing shown
-HasEnding asked reading output shown (stopped fault.Memory) =
-    IsReadingOf reading (Err fault.Memory) × WritesNothing output × Shows shown (fault_line fault.Memory)
+HasEnding asked reading output shown printed =
+    RunsJob {U = Unit {0}} asked reading output (Ok tt) × WritesNothing shown
+HasEnding asked reading output shown (stopped fault.Memory) = IsReadingOf reading (Err fault.Memory)
+    × WritesNothing output × Shows shown (fault_line fault.Memory)
 HasEnding asked reading output shown (stopped cause) =
     RunsJob {U = Unit {0}} asked reading output (Err cause) × Shows shown (fault_line cause)
-HasEnding asked reading output shown refused = (asked ≡ None) × MakesNoRead reading × WritesNothing output
+HasEnding asked reading output shown refused =
+    (asked ≡ None) × MakesNoRead reading × WritesNothing output
 
 -- the run ends in one of these ways, and its exit status says which
 abbrev pub ComesTo : Option Job → Reading → Writing → Writing → ℕ → Type 0

@@ -1,7 +1,9 @@
 ghost use Rattle.std.specs.Prelude.{◌≡◌, ◌++◌, Ok, All, length, IfOk, IfErr, OnOk};
-ghost use Rattle.clock_terms.specs.{Demands.{IsGrid}, Faults.{IsRefusal}, Increments.{IsIncrement}, Limits.{IsProduct}};
+ghost use Rattle.clock_terms.specs.{Demands.{IsGrid}, Faults.{IsRefusal}, Increments.{IsIncrement}};
+ghost use Rattle.clock_terms.specs.Limits.{IsProduct};
 ghost use Rattle.clock_setup.specs.SetupDocument.{document_setup};
-ghost use Rattle.clock_commands.specs.{Answers.{answer_to, first_round, read_in}, PriceLines.{price_line, price_lines}};
+ghost use Rattle.clock_commands.specs.Answers.{answer_to, first_round, read_in};
+ghost use Rattle.clock_commands.specs.PriceLines.{price_line, price_lines};
 ghost use Rattle.clock_words.specs.Words.{IsJob};
 
 use crate::fault::Fault;
@@ -73,7 +75,8 @@ fn push_line(text: &mut Text, product: &Product, increment: u64) -> Result<(), N
 fn prices_answer(alloc: Global, increment: u64, document: &[u8]) -> Result<Text, Fault>
     requires { IsJob (Job.Prices increment) }
     ensures ok { IfOk result (λ text. answer_to (Job.Prices increment) document.now ≡ Ok text) }
-    ensures err { IfErr result (IsRefusal Fault.Memory (answer_to (Job.Prices increment) document.now)) }
+    ensures err { IfErr result
+        (IsRefusal Fault.Memory (answer_to (Job.Prices increment) document.now)) }
 {
     let setup = setup_in(alloc, document)?;
     let text = prices_text(alloc, setup.products.as_slice(), increment);
@@ -85,7 +88,8 @@ fn prices_answer(alloc: Global, increment: u64, document: &[u8]) -> Result<Text,
 /// price.
 fn first_lines(alloc: Global, opening: &Opening) -> Result<Text, Fault>
     requires increment { IsIncrement opening.now.increment }
-    requires grid { IsGrid (length opening.now.setup.bidders) (length opening.now.setup.products) opening.now.grid }
+    requires grid { IsGrid (length opening.now.setup.bidders)
+        (length opening.now.setup.products) opening.now.grid }
     ensures ok { IfOk result (λ text. first_round opening.now ≡ Ok text) }
     ensures err { IfErr result (IsRefusal Fault.Memory (first_round opening.now)) }
 {

@@ -1,7 +1,9 @@
 ghost use Rattle.std.specs.Prelude.{◌≡◌, ◌++◌, ◌||◌, codes, is_err};
 ghost use Rattle.clock_device.specs.Streams.{WritesText};
-ghost use Rattle.clock_commands.specs.FaultLines.{of_journal, of_opening, of_script, of_serving, of_setup};
-ghost use Rattle.clock_commands.specs.FaultLines.{fault_line, fault_words, opening_words, place_words};
+ghost use Rattle.clock_commands.specs.FaultLines.{of_journal, of_opening, of_script, of_serving};
+ghost use Rattle.clock_commands.specs.FaultLines.{of_setup};
+ghost use Rattle.clock_commands.specs.FaultLines.{fault_line, fault_words, opening_words};
+ghost use Rattle.clock_commands.specs.FaultLines.{place_words};
 ghost use Rattle.clock_commands.specs.FaultLines.{script_words, setup_words};
 ghost use Rattle.clock_commands.specs.declared.fault.Fault.TheVariants.{Memory};
 ghost use Rattle.clock_commands.specs.inside.Lines.{spaced_number, spaced_code, text_of_words};
@@ -130,8 +132,10 @@ macro_rules! words {
 /// Writes the line of a fault: `fault: WORDS` and a line feed, or a prefix of it if a write fails.
 /// Allocates nothing.
 pub fn write_fault<W: Sink>(sink: &mut W, fault: Fault) -> Result<(), Failed>
-    ensures bytes { WritesText (W.told sink.old).taken (W.told sink.new).taken (fault_line fault) result }
-    ensures failed { (W.told sink.new).has_failed ≡ ((W.told sink.old).has_failed || is_err result) }
+    ensures bytes { WritesText (W.told sink.old).taken (W.told sink.new).taken
+        (fault_line fault) result }
+    ensures failed { (W.told sink.new).has_failed
+        ≡ ((W.told sink.old).has_failed || is_err result) }
 {
     let words = words_of(fault);
     write_all(sink, b"fault: ")?;
@@ -144,8 +148,10 @@ pub fn write_fault<W: Sink>(sink: &mut W, fault: Fault) -> Result<(), Failed>
 
 /// Writes a space and a number, if there is one.
 fn write_spaced_number<W: Sink>(sink: &mut W, number: Option<u64>) -> Result<(), Failed>
-    ensures bytes { WritesText (W.told sink.old).taken (W.told sink.new).taken (spaced_number number) result }
-    ensures failed { (W.told sink.new).has_failed ≡ ((W.told sink.old).has_failed || is_err result) }
+    ensures bytes { WritesText (W.told sink.old).taken (W.told sink.new).taken
+        (spaced_number number) result }
+    ensures failed { (W.told sink.new).has_failed
+        ≡ ((W.told sink.old).has_failed || is_err result) }
 {
     let Some(number) = number else {
         return Ok(());
@@ -156,8 +162,10 @@ fn write_spaced_number<W: Sink>(sink: &mut W, number: Option<u64>) -> Result<(),
 
 /// Writes a space and a code, if there is one.
 fn write_spaced_code<W: Sink>(sink: &mut W, code: Option<Code>) -> Result<(), Failed>
-    ensures bytes { WritesText (W.told sink.old).taken (W.told sink.new).taken (spaced_code code) result }
-    ensures failed { (W.told sink.new).has_failed ≡ ((W.told sink.old).has_failed || is_err result) }
+    ensures bytes { WritesText (W.told sink.old).taken (W.told sink.new).taken
+        (spaced_code code) result }
+    ensures failed { (W.told sink.new).has_failed
+        ≡ ((W.told sink.old).has_failed || is_err result) }
 {
     let Some(code) = code else {
         return Ok(());

@@ -2,7 +2,8 @@ ghost use Rattle.std.specs.Prelude.{◌≢◌, ◌≤◌, IfSome, map};
 ghost use Rattle.clap.specs.Words.{kind_of};
 ghost use Rattle.clock_device.specs.Told.{IsUnread, IsUnused};
 ghost use Rattle.clock_words.specs.Words.{IsJob, job_of};
-ghost use Rattle.clock_commands.specs.{FaultLines.{fault_line}, Input.{most_document_reads, IsReadingOf}};
+ghost use Rattle.clock_commands.specs.FaultLines.{fault_line};
+ghost use Rattle.clock_commands.specs.Input.{most_document_reads, IsReadingOf};
 ghost use Rattle.clock_commands.specs.Run.{ComesTo, IsRunOf, Shows};
 
 use crate::answer::answer;
@@ -114,7 +115,8 @@ const PIECE: usize = 65_536;
 /// were made, `LongInput` if there are more than 67,108,864 bytes. May return `Memory`.
 pub fn read_all<R: Source>(alloc: Global, reader: &mut R) -> Result<Text, Fault>
     requires { IsUnread (R.told reader.old) }
-    ensures reading { IsReadingOf (record { before = R.told reader.old; after = R.told reader.new }) result }
+    ensures reading { IsReadingOf
+        (record { before = R.told reader.old; after = R.told reader.new }) result }
     ensures calls { (R.told reader.new).calls ≤ most_document_reads }
 {
     let mut piece = room_for_read(alloc, PIECE)?;
@@ -142,7 +144,8 @@ pub fn read_all<R: Source>(alloc: Global, reader: &mut R) -> Result<Text, Fault>
 /// Writes the line of a fault, or a prefix of it if a write fails.
 pub fn show_fault<F: Sink>(fault: Fault, faults: &mut F)
     requires { IsUnused (F.told faults.old) }
-    ensures { Shows (record { before = F.told faults.old; after = F.told faults.new }) (fault_line fault) }
+    ensures { Shows (record { before = F.told faults.old; after = F.told faults.new })
+        (fault_line fault) }
 {
     let _ = write_fault(faults, fault);
 }

@@ -15,8 +15,12 @@ nothing_read bytes = read_nothing bytes bytes (same_bytes bytes)
 
 -- memory was refused before any read
 pub no_room_at_first : (told : SourceReport) → IsUnread told → HasNoRoom (record { before = told; after = told })
-no_room_at_first told none =
-    ([], [], record { read = nothing_read told.left; needed = nothing_needs_more; used = omega (arith, none.uncounted) }, none.unfailed)
+no_room_at_first told none = (
+  [],
+  [],
+  record { read = nothing_read told.left; needed = nothing_needs_more; used = omega (arith, none.uncounted) },
+  none.unfailed,
+)
 
 -- the reads before one more
 module _ (reading : Reading) (mid : SourceReport) (front : List ℕ)
@@ -32,6 +36,6 @@ module _ (reading : Reading) (mid : SourceReport) (front : List ℕ)
   }
 
   -- memory for them was refused
-  pub no_room : (last : List ℕ) → HasRead mid.left reading.after.left last → reading.after.has_failed ≡ (mid.has_failed || false)
-      → HasNoRoom reading
+  pub no_room : (last : List ℕ) → HasRead mid.left reading.after.left last
+      → reading.after.has_failed ≡ (mid.has_failed || false) → HasNoRoom reading
   no_room last further fails = (front, last, by_need last further, fails ∙ rw unfailed refl)

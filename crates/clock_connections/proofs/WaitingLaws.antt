@@ -1,5 +1,6 @@
 -- While one connection changes, the texts of all open connections still need more: the others are unchanged.
-use Rattle.std.proofs.Common.{◌≡◌, ◌≢◌, Bool, true, false, List, [], ℕ, Option, Some, None, Result, Ok, Err, IfOk, OnErr, is_some}
+use Rattle.std.proofs.Common.{◌≡◌, ◌≢◌, Bool, true, false, List, [], ℕ, Option, Some, None, Result, Ok, Err, IfOk}
+use Rattle.std.proofs.Common.{OnErr, is_some}
 use Rattle.std.proofs.Common.{refl, sym, ◌∙◌, ap, subst, true≢false}
 use Rattle.clock_http.specs.Framing.{needs_more}
 use Rattle.clock_connections.proofs.ArrivalLaws.{nothing_needs_more}
@@ -16,7 +17,8 @@ keeps_waiting old new conn before others here other text at = by (needs_more tex
     by : (more : Bool) → needs_more text ≡ more → needs_more text ≡ true
     by true is = is
     by false is =
-        let differs : other ≢ conn = λ same. true≢false (sym (here text (subst (λ (c : Conn). text_of new c ≡ Some text) same at)) ∙ is) in
+        let differs : other ≢ conn =
+        λ same. true≢false (sym (here text (subst (λ (c : Conn). text_of new c ≡ Some text) same at)) ∙ is) in
         absurd (true≢false (sym (before other text (sym (others other differs) ∙ at)) ∙ is))
 
 abbrev text_in : Option (List ℕ) → List ℕ
@@ -28,8 +30,8 @@ pub same_text : (o : Option (List ℕ)) (a b : List ℕ) → o ≡ Some a → o 
 same_text o a b one other = ap text_in (sym one ∙ other)
 
 -- the connection is open with this text, which needs more
-pub waits_with : (new : ConnectionFields) (conn : Conn) (here : List ℕ) → text_of new conn ≡ Some here → needs_more here ≡ true
-    → (text : List ℕ) → text_of new conn ≡ Some text → needs_more text ≡ true
+pub waits_with : (new : ConnectionFields) (conn : Conn) (here : List ℕ) → text_of new conn ≡ Some here
+    → needs_more here ≡ true → (text : List ℕ) → text_of new conn ≡ Some text → needs_more text ≡ true
 waits_with new conn here stands more text at = ap needs_more (same_text (text_of new conn) text here at stands) ∙ more
 
 -- the connection is not open

@@ -5,7 +5,8 @@
 --     IsNotRead reading      no request was read: a read failed, or the limit was reached
 --     HasNoRoom reading      memory for the bytes was refused
 --     EndsArrival reading result      how reading a request ends
-use Rattle.std.specs.Prelude.{◌≡◌, ◌≤◌, ◌⊎◌, ◌+◌, ◌++◌, ℕ, List, [], length, Option, true, false, Result, Ok, Err}
+use Rattle.std.specs.Prelude.{◌≡◌, ◌≤◌, ◌⊎◌, ◌+◌, ◌++◌, ℕ, List, [], length, Option, true, false}
+use Rattle.std.specs.Prelude.{Result, Ok, Err}
 use Rattle.clock_device.specs.Streams.{HasRead, IsReadOut}
 use Rattle.clock_device.specs.Readings.{HasFailedRead, RunsOutOfReads}
 use Rattle.clock_device.specs.Told.{Reading}
@@ -51,12 +52,13 @@ pub record UsesReads (reading : Reading) (text : List ℕ) : Type 0 where
 
 -- bytes that needed more were read, and then a read failed or the limit was reached
 abbrev pub IsNotRead : Reading → Type 0
-IsNotRead reading =
-    HasFailedRead (λ text. IsReadByNeed reading text []) reading ⊎ RunsOutOfReads (UsesReads reading) most_request_reads reading
+IsNotRead reading = HasFailedRead (λ text. IsReadByNeed reading text []) reading
+    ⊎ RunsOutOfReads (UsesReads reading) most_request_reads reading
 
 -- memory was refused: for a first buffer, or for the bytes of the last read
 abbrev pub HasNoRoom : Reading → Type 0
-HasNoRoom reading = (front : List ℕ) × (last : List ℕ) × IsReadByNeed reading front last × (reading.after.has_failed ≡ false)
+HasNoRoom reading = (front : List ℕ) × (last : List ℕ) × IsReadByNeed reading front last
+    × (reading.after.has_failed ≡ false)
 
 -- how reading a request ends; interrupted reads are retried
 abbrev pub EndsArrival : Reading → Result (List ℕ) RequestReadError → Type 0

@@ -6,11 +6,13 @@
 --     IsTaken old new conn text      a piece was appended; the connection now has this text
 --     IsGone old new conn      a connection was closed
 -- A connection has a slot, which is reused, and a serial number, which is not.
-use Rattle.std.specs.Prelude.{◌≡◌, ◌≢◌, ℕ, ◌+◌, Bool, true, false, ◌||◌, List, [], Option, Some, None, if◌then◌else◌, ◌==◌, nat_le}
+use Rattle.std.specs.Prelude.{◌≡◌, ◌≢◌, ℕ, ◌+◌, Bool, true, false, ◌||◌, List, [], Option, Some}
+use Rattle.std.specs.Prelude.{None, if◌then◌else◌, ◌==◌, nat_le}
 use Rattle.std.specs.Prelude.{is_some, count_by, slice_index_or}
 use Rattle.clock_connections.specs.declared.connections.Conn.{Conn}
 use Rattle.clock_connections.specs.declared.connections.HubFault.{HubFault}
-use Rattle.clock_connections.specs.declared.connections.HubFault.TheVariants.{Full, NoMemory, Unknown}
+use Rattle.clock_connections.specs.declared.connections.HubFault.TheVariants.{Full, NoMemory}
+use Rattle.clock_connections.specs.declared.connections.HubFault.TheVariants.{Unknown}
 
 -- the most connections that are open at once (own limit)
 abbrev pub most_connections : ℕ
@@ -48,7 +50,8 @@ open_count connections = count_by is_some connections.slots
 
 -- 256 connections are open, or all serial numbers are used
 abbrev pub is_full : ConnectionFields → Bool
-is_full connections = nat_le most_connections (open_count connections) || nat_le most_serials connections.next
+is_full connections =
+    nat_le most_connections (open_count connections) || nat_le most_serials connections.next
 
 -- every other connection is unchanged
 abbrev pub LeavesOthers : ConnectionFields → ConnectionFields → Conn → Type 0

@@ -4,7 +4,8 @@
 --     after numbered event      the connections after an event
 --     requests_of events      the requests of a list of events, in the order of their completion
 -- Connections are numbered from 0 in the order in which clients connect. Refused ones count.
-use Rattle.std.specs.Prelude.{ℕ, ◌++◌, List, [], ◌∷◌, Option, Some, None, option_map, option_and_then, if◌then◌else◌, nat_lt}
+use Rattle.std.specs.Prelude.{ℕ, ◌++◌, List, [], ◌∷◌, Option, Some, None, option_map}
+use Rattle.std.specs.Prelude.{option_and_then, if◌then◌else◌, nat_lt}
 use Rattle.std.specs.Prelude.{is_some, count_by, slice_index_or, slice_set}
 use Rattle.clock_http.specs.Framing.{needs_more}
 use Rattle.clock_connections.specs.Connections.{most_connections}
@@ -21,16 +22,16 @@ text_at numbered number = slice_index_or numbered number None
 -- the request that an event completes: the text, if it needs no more after a piece, or at its end
 abbrev pub completed : Numbered → Event → Option (ℕ × List ℕ)
 completed numbered Connect = None
-completed numbered (Piece number piece) = option_and_then
-    (λ text. if needs_more (text ++ piece) then None else Some (number, text ++ piece)) (text_at numbered number)
+completed numbered (Piece number piece) = option_and_then (λ text. if needs_more (text ++ piece)
+    then None else Some (number, text ++ piece)) (text_at numbered number)
 completed numbered (Finish number) = option_map (λ text. (number, text)) (text_at numbered number)
 
 -- the connections after an event: a new one, unless 256 are open; a completed one becomes `None`
 abbrev pub after : Numbered → Event → Numbered
 after numbered Connect =
     numbered ++ (if nat_lt (count_by is_some numbered) most_connections then Some [] else None) ∷ []
-after numbered (Piece number piece) = slice_set numbered number (option_and_then
-    (λ text. if needs_more (text ++ piece) then Some (text ++ piece) else None) (text_at numbered number))
+after numbered (Piece number piece) = slice_set numbered number (option_and_then (λ text.
+    if needs_more (text ++ piece) then Some (text ++ piece) else None) (text_at numbered number))
 after numbered (Finish number) = slice_set numbered number None
 
 abbrev pub and_then : Option (ℕ × List ℕ) → List (ℕ × List ℕ) → List (ℕ × List ℕ)
@@ -40,7 +41,8 @@ and_then (Some request) later = request ∷ later
 -- the requests that events complete, given the connections before them
 abbrev pub requests_from : Numbered → List Event → List (ℕ × List ℕ)
 requests_from numbered [] = []
-requests_from numbered (event ∷ events) = and_then (completed numbered event) (requests_from (after numbered event) events)
+requests_from numbered (event ∷ events) =
+    and_then (completed numbered event) (requests_from (after numbered event) events)
 
 abbrev pub requests_of : List Event → List (ℕ × List ℕ)
 requests_of events = requests_from [] events

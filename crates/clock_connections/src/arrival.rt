@@ -35,7 +35,8 @@ impl From<NoMemory> for RequestReadError {
 /// May return `Memory`, also after some reads.
 pub fn read_request<R: Source>(alloc: Global, source: &mut R) -> Result<Arriving, RequestReadError>
     requires { IsUnread (R.told source.old) }
-    ensures arrival { EndsArrival (record { before = R.told source.old; after = R.told source.new }) result }
+    ensures arrival { EndsArrival
+        (record { before = R.told source.old; after = R.told source.new }) result }
     ensures calls { (R.told source.new).calls ≤ most_request_reads }
 {
     let mut piece = room_for_read(alloc, PIECE)?;

@@ -1,7 +1,10 @@
-ghost use Rattle.std.specs.Prelude.{◌≡◌, ◌++◌, ℕ, List, [], Some, IfOk, IfErr, IfSome, OnErr, OnOk, OnSome, false, is_some, IsSome};
+ghost use Rattle.std.specs.Prelude.{◌≡◌, ◌++◌, ℕ, List, [], Some, IfOk, IfErr, IfSome, OnErr, OnOk};
+ghost use Rattle.std.specs.Prelude.{OnSome, false, is_some, IsSome};
 ghost use Rattle.clock_http.specs.{Framing.{needs_more}, Shown.{IsFramed}};
 ghost use Rattle.clock_connections.specs.declared.connections.HubFault.TheVariants as faults;
-ghost use Rattle.clock_connections.specs.Connections.{text_of, ConnectionFields, IsConnected, IsConnectFault, IsGone, IsTaken, OpenConnection};
+ghost use Rattle.clock_connections.specs.Connections.{text_of, ConnectionFields, IsConnected};
+ghost use Rattle.clock_connections.specs.Connections.{IsConnectFault, IsGone, IsTaken};
+ghost use Rattle.clock_connections.specs.Connections.{OpenConnection};
 
 use clock_device::{NoMemory, Text};
 use clock_http::{Arriving, Framing};
@@ -118,8 +121,8 @@ impl Connections {
         requires { IsSome (text_of self.old conn) }
         ensures taken { (text : List ℕ) → text_of self.old conn ≡ Some text
             → OnOk result (IsTaken self.old self.new conn (text ++ piece.now)) }
-        ensures short { (text : List ℕ) → text_of self.old conn ≡ Some text → IfOk result (λ short. short
-            ≡ needs_more (text ++ piece.now)) }
+        ensures short { (text : List ℕ) → text_of self.old conn ≡ Some text
+            → IfOk result (λ short. short ≡ needs_more (text ++ piece.now)) }
         ensures err { OnErr result (self.new ≡ self.old) }
     {
         self.slab[conn.slot].text.take(piece)

@@ -14,7 +14,8 @@ module _ {A : Type 0} (R : A → A → Type 0) where
   pairs_tail x xs pairs i j d before within = pairs (suc i) (suc j) d (omega (arith, before)) (omega (arith, within))
 
   -- two lists joined, if the property also holds for each pair across them
-  pub AllPairs-append : (xs ys : List A) → AllPairs R xs → AllPairs R ys → All (λ x. All (R x) ys) xs → AllPairs R (xs ++ ys)
+  pub AllPairs-append : (xs ys : List A) → AllPairs R xs → AllPairs R ys → All (λ x. All (R x) ys) xs
+      → AllPairs R (xs ++ ys)
   AllPairs-append [] ys first second across = second
   AllPairs-append (x ∷ xs) ys first second across =
       AllPairs-cons R x (xs ++ ys)

@@ -6,20 +6,23 @@ use Rattle.std.specs.Prelude.{IsErrAnd}
 use Rattle.std.proofs.lemmas.List.{drop-take, take-take, take-append-drop}
 use Rattle.clock_device.specs.Streams.{HasRead, HasWritten, HasWrittenFront, HasWrittenNothing, WritesText}
 
-pub written_twice : (old mid new : Option (List ℕ)) (a b : List ℕ) → HasWritten old mid a → HasWritten mid new b → HasWritten old new (a ++ b)
+pub written_twice : (old mid new : Option (List ℕ)) (a b : List ℕ) → HasWritten old mid a → HasWritten mid new b
+    → HasWritten old new (a ++ b)
 written_twice None mid new a b first second = tt
 written_twice (Some xs) None new a b first second = absurd first
 written_twice (Some xs) (Some ys) None a b first second = absurd second
 written_twice (Some xs) (Some ys) (Some zs) a b first second = second ∙ ap (λ l. l ++ b) first ∙ append_assoc xs a b
 
 -- a write that wrote nothing adds nothing to what was written before
-pub written_still : (old mid new : Option (List ℕ)) (a : List ℕ) → HasWritten old mid a → HasWrittenNothing mid new → HasWritten old new a
+pub written_still : (old mid new : Option (List ℕ)) (a : List ℕ) → HasWritten old mid a → HasWrittenNothing mid new
+    → HasWritten old new a
 written_still None mid new a first second = tt
 written_still (Some xs) None new a first second = absurd first
 written_still (Some xs) (Some ys) None a first second = absurd second
 written_still (Some xs) (Some ys) (Some zs) a first second = second ∙ first
 
-pub read_twice : (old mid new : Option (List ℕ)) (a b : List ℕ) → HasRead old mid a → HasRead mid new b → HasRead old new (a ++ b)
+pub read_twice : (old mid new : Option (List ℕ)) (a b : List ℕ) → HasRead old mid a → HasRead mid new b
+    → HasRead old new (a ++ b)
 read_twice None mid new a b first second = tt
 read_twice (Some xs) None new a b first second = absurd first
 read_twice (Some xs) (Some ys) None a b first second = absurd second
@@ -54,7 +57,8 @@ take_in_second (x ∷ a) b count =
     let rest = take_in_second a b count in (suc rest.0, ap (λ l. x ∷ l) rest.1)
 
 -- a prefix of the first of two texts was written, and so a prefix of both
-pub front_written : (old new : Option (List ℕ)) (a b : List ℕ) → HasWrittenFront old new a → HasWrittenFront old new (a ++ b)
+pub front_written : (old new : Option (List ℕ)) (a b : List ℕ) → HasWrittenFront old new a
+    → HasWrittenFront old new (a ++ b)
 front_written old new a b front =
     let both = take_in_first front.0 a b in
     (both.0, subst (HasWritten old new) (sym both.1) front.1)
@@ -67,13 +71,13 @@ front_beyond old mid new a b first second =
     (both.0, subst (HasWritten old new) (sym both.1) (written_twice old mid new a (take second.0 b) first second.1))
 
 -- the first of two texts was written, and then the second
-pub both_written : {U E : Type 0} (old mid new : Option (List ℕ)) (a b : List ℕ) (result : Result U E) → HasWritten old mid a
-    → WritesText mid new b result → WritesText old new (a ++ b) result
+pub both_written : {U E : Type 0} (old mid new : Option (List ℕ)) (a b : List ℕ) (result : Result U E)
+    → HasWritten old mid a → WritesText mid new b result → WritesText old new (a ++ b) result
 both_written old mid new a b (Ok done) first second = written_twice old mid new a b first second
 both_written old mid new a b (Err failed) first second = front_beyond old mid new a b first second
 
 -- writing the first of two texts failed
-pub first_failed : {U E : Type 0} (Q : E → Type 0) (old new : Option (List ℕ)) (a b : List ℕ) (result : Result U E) → IsErrAnd result Q
-    → HasWrittenFront old new a → WritesText old new (a ++ b) result
+pub first_failed : {U E : Type 0} (Q : E → Type 0) (old new : Option (List ℕ)) (a b : List ℕ) (result : Result U E)
+    → IsErrAnd result Q → HasWrittenFront old new a → WritesText old new (a ++ b) result
 first_failed Q old new a b (Ok done) failed front = absurd failed
 first_failed Q old new a b (Err failed) is_failed front = front_written old new a b front

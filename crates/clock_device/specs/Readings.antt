@@ -9,5 +9,5 @@ HasFailedRead Holds reading = (bytes : List ℕ) × Holds bytes × (reading.afte
 
 -- bytes with this property were read, no read failed, and the most reads allowed were made
 abbrev pub RunsOutOfReads : (List ℕ → Type 0) → ℕ → Reading → Type 0
-RunsOutOfReads Holds most reading =
-    (bytes : List ℕ) × Holds bytes × (reading.after.calls ≡ most) × (reading.after.has_failed ≡ false)
+RunsOutOfReads Holds most reading = (bytes : List ℕ) × Holds bytes × (reading.after.calls ≡ most)
+    × (reading.after.has_failed ≡ false)

@@ -1,5 +1,6 @@
 -- A sink that stores its bytes in memory.
-use Rattle.std.specs.Prelude.{◌==◌, ◌-◌, ◌||◌, ◌++◌, ℕ, Bool, false, List, [], length, take, min, Option, Some, None, if◌then◌else◌, is_some, not}
+use Rattle.std.specs.Prelude.{◌==◌, ◌-◌, ◌||◌, ◌++◌, ℕ, Bool, false, List, [], length, take, min}
+use Rattle.std.specs.Prelude.{Option, Some, None, if◌then◌else◌, is_some, not}
 use Rattle.clock_device.specs.Calls.{count_after}
 use Rattle.clock_device.specs.Told.{SinkReport}
 

@@ -1,5 +1,6 @@
 -- A source of bytes in memory.
-use Rattle.std.specs.Prelude.{◌==◌, ◌||◌, ℕ, Bool, false, List, length, drop, min, Option, Some, None, Result, Ok, Err, if◌then◌else◌}
+use Rattle.std.specs.Prelude.{◌==◌, ◌||◌, ℕ, Bool, false, List, length, drop, min, Option, Some}
+use Rattle.std.specs.Prelude.{None, Result, Ok, Err, if◌then◌else◌}
 use Rattle.clock_device.specs.Calls.{count_after, interruptions_after, is_failed_read}
 use Rattle.clock_device.specs.Told.{SourceReport}
 use Rattle.clock_device.specs.declared.stream.Stop.{Stop}
@@ -15,7 +16,12 @@ pub record SourceState : Type 0 where
 
 -- what it reports
 abbrev pub source_report : SourceState → SourceReport
-source_report s = record { left = Some s.left; calls = s.calls; interruptions = s.interruptions; has_failed = s.has_failed }
+source_report s = record {
+  left = Some s.left;
+  calls = s.calls;
+  interruptions = s.interruptions;
+  has_failed = s.has_failed;
+}
 
 -- without reads so far
 abbrev pub new_source : List ℕ → ℕ → Option (ℕ × Stop) → SourceState

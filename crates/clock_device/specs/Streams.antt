@@ -33,6 +33,7 @@ abbrev pub HasWrittenFront : Option (List ℕ) → Option (List ℕ) → List �
 HasWrittenFront old new text = (count : ℕ) × HasWritten old new (take count text)
 
 -- how writing a text ends: all of it was written, or a prefix of it if a write failed
-abbrev pub WritesText : {U E : Type 0} → Option (List ℕ) → Option (List ℕ) → List ℕ → Result U E → Type 0
+abbrev pub WritesText : {U E : Type 0} → Option (List ℕ) → Option (List ℕ) → List ℕ
+    → Result U E → Type 0
 WritesText old new text (Ok done) = HasWritten old new text
 WritesText old new text (Err failed) = HasWrittenFront old new text

@@ -1,4 +1,5 @@
-ghost use Rattle.std.specs.Prelude.{◌≡◌, ◌++◌, ◌+◌, ◌≤◌, ◌||◌, decimal, drop, length, take, OnOk, OnErr, is_err};
+ghost use Rattle.std.specs.Prelude.{◌≡◌, ◌++◌, ◌+◌, ◌≤◌, ◌||◌, decimal, drop, length, take, OnOk};
+ghost use Rattle.std.specs.Prelude.{OnErr, is_err};
 ghost use Rattle.clock_device.specs.{Decimal.{number_or_dash}, Streams.{WritesText}};
 
 use crate::items::{Bounded, Items, NoMemory};
@@ -41,8 +42,10 @@ impl Bounded<u8> {
 
 /// Writes `number` in decimal, or a prefix of its digits if a write fails.
 pub fn write_number<W: Sink>(sink: &mut W, number: u64) -> Result<(), Failed>
-    ensures bytes { WritesText (W.told sink.old).taken (W.told sink.new).taken (decimal number) result }
-    ensures failed { (W.told sink.new).has_failed ≡ ((W.told sink.old).has_failed || is_err result) }
+    ensures bytes { WritesText (W.told sink.old).taken (W.told sink.new).taken
+        (decimal number) result }
+    ensures failed { (W.told sink.new).has_failed
+        ≡ ((W.told sink.old).has_failed || is_err result) }
 {
     write_all(sink, Buffer::new().format(number).as_bytes())
 }

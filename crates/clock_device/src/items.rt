@@ -1,4 +1,5 @@
-ghost use Rattle.std.specs.Prelude.{◌≡◌, [], ◌∷◌, ◌++◌, ◌<◌, ◌↔◌, ◌+◌, ◌-◌, ◌≤◌, length, replicate, slice_set, IsTrue, OnOk, OnErr, IfOk, vec_len, vec_capacity};
+ghost use Rattle.std.specs.Prelude.{◌≡◌, [], ◌∷◌, ◌++◌, ◌<◌, ◌↔◌, ◌+◌, ◌-◌, ◌≤◌, length, replicate};
+ghost use Rattle.std.specs.Prelude.{slice_set, IsTrue, OnOk, OnErr, IfOk, vec_len, vec_capacity};
 ghost use Rattle.std.specs.Borrow.{sem};
 ghost use Rattle.clock_device.specs.{Lends.{lends_slice}, Bounded.{BoundedList}};
 
@@ -168,7 +169,8 @@ pub struct Bounded<T> {
 impl<T> Model for Bounded<T> {
     ghost Value = { BoundedList T };
 
-    ghost view = { λ b. record { items = b.held.items; room = vec_capacity b.held - vec_len b.held } };
+    ghost view = { λ b.
+        record { items = b.held.items; room = vec_capacity b.held - vec_len b.held } };
 }
 
 impl<T> Bounded<T> {

@@ -1,8 +1,13 @@
-ghost use Rattle.std.specs.Prelude.{◌≡◌, ◌≤◌, ◌||◌, ◌++◌, length, take, drop, IfOk, OnErr, Some, vec_len, vec_capacity, is_err};
-ghost use Rattle.std.specs.{Result.{result_ok}, Io.{ReadsAtMost}, Io.KnownBytes.{ReadConsumes, WriteAppends}};
-ghost use Rattle.clock_device.specs.{Calls.{count_after, interruptions_after, is_failed_read}, Streams.{CountsTaken}};
-ghost use Rattle.clock_device.specs.SourceState.{SourceState, after_read, new_source, read_answer, source_report};
-ghost use Rattle.clock_device.specs.SinkState.{SinkState, after_write, new_sink, sink_report, write_count};
+ghost use Rattle.std.specs.Prelude.{◌≡◌, ◌≤◌, ◌||◌, ◌++◌, length, take, drop, IfOk, OnErr, Some};
+ghost use Rattle.std.specs.Prelude.{vec_len, vec_capacity, is_err};
+ghost use Rattle.std.specs.{Result.{result_ok}, Io.{ReadsAtMost}};
+ghost use Rattle.std.specs.Io.KnownBytes.{ReadConsumes, WriteAppends};
+ghost use Rattle.clock_device.specs.Calls.{count_after, interruptions_after, is_failed_read};
+ghost use Rattle.clock_device.specs.Streams.{CountsTaken};
+ghost use Rattle.clock_device.specs.SourceState.{SourceState, after_read, new_source, read_answer};
+ghost use Rattle.clock_device.specs.SourceState.{source_report};
+ghost use Rattle.clock_device.specs.SinkState.{SinkState, after_write, new_sink, sink_report};
+ghost use Rattle.clock_device.specs.SinkState.{write_count};
 
 use crate::items::NoMemory;
 use crate::stream::{Failed, Sink, Source, Stop};
@@ -62,7 +67,8 @@ impl Source for ListSource<'_> {
         ensures within { ReadsAtMost result buffer.new }
         ensures bytes { ReadConsumes (Some self.old.left) (Some self.new.left) result buffer.new }
         ensures counted { self.new.calls ≡ count_after self.old.calls }
-        ensures interrupted { self.new.interruptions ≡ interruptions_after self.old.interruptions result }
+        ensures interrupted { self.new.interruptions
+            ≡ interruptions_after self.old.interruptions result }
         ensures failed { self.new.has_failed ≡ (self.old.has_failed || is_failed_read result) }
 
         ensures answer { result ≡ read_answer self.old (length buffer.old) }
@@ -115,7 +121,8 @@ impl Model for ListSink {
       has_failed = s.has_failed;
     } };
 
-    ghost invariant = { λ s. (vec_len s.taken ≤ s.room) × (s.room ≤ vec_capacity s.taken) × (1 ≤ s.piece) };
+    ghost invariant = { λ s. (vec_len s.taken ≤ s.room)
+        × (s.room ≤ vec_capacity s.taken) × (1 ≤ s.piece) };
 }
 
 impl ListSink {

@@ -1,6 +1,9 @@
-ghost use Rattle.std.specs.{Prelude.{◌≡◌, ◌||◌, vec_len, IfOk, is_err}, Io.{ReadsAtMost, KnownBytes.{ReadConsumes, WriteAppends}}};
-ghost use Rattle.clock_device.specs.{Calls.{count_after, interruptions_after, is_failed_read}, Streams.{CountsTaken, WritesText}};
-ghost use Rattle.clock_device.specs.Told.{SinkReport, SourceReport, IsUnread, IsUnused, unread, unused};
+ghost use Rattle.std.specs.Prelude.{◌≡◌, ◌||◌, vec_len, IfOk, is_err};
+ghost use Rattle.std.specs.Io.{ReadsAtMost, KnownBytes.{ReadConsumes, WriteAppends}};
+ghost use Rattle.clock_device.specs.Calls.{count_after, interruptions_after, is_failed_read};
+ghost use Rattle.clock_device.specs.Streams.{CountsTaken, WritesText};
+ghost use Rattle.clock_device.specs.Told.{SinkReport, SourceReport, IsUnread, IsUnused, unread};
+ghost use Rattle.clock_device.specs.Told.{unused};
 
 use crate::items::NoMemory;
 use std::alloc::Global;
@@ -37,8 +40,10 @@ pub trait Source {
         ensures within { ReadsAtMost result buffer.new }
         ensures bytes { ReadConsumes (told self.old).left (told self.new).left result buffer.new }
         ensures counted { (told self.new).calls ≡ count_after (told self.old).calls }
-        ensures interrupted { (told self.new).interruptions ≡ interruptions_after (told self.old).interruptions result }
-        ensures failed { (told self.new).has_failed ≡ ((told self.old).has_failed || is_failed_read result) };
+        ensures interrupted { (told self.new).interruptions
+            ≡ interruptions_after (told self.old).interruptions result }
+        ensures failed { (told self.new).has_failed
+            ≡ ((told self.old).has_failed || is_failed_read result) };
 }
 
 /// Allocates a buffer of `size` bytes. May return `NoMemory`.
@@ -60,13 +65,15 @@ pub trait Sink {
         ensures within { CountsTaken result bytes.now }
         ensures bytes { WriteAppends (told self.old).taken (told self.new).taken result bytes.now }
         ensures counted { (told self.new).calls ≡ count_after (told self.old).calls }
-        ensures failed { (told self.new).has_failed ≡ ((told self.old).has_failed || is_err result) };
+        ensures failed { (told self.new).has_failed
+            ≡ ((told self.old).has_failed || is_err result) };
 }
 
 /// Writes all bytes, or a prefix of them if a write fails.
 pub fn write_all<W: Sink>(sink: &mut W, bytes: &[u8]) -> Result<(), Failed>
     ensures bytes { WritesText (W.told sink.old).taken (W.told sink.new).taken bytes.now result }
-    ensures failed { (W.told sink.new).has_failed ≡ ((W.told sink.old).has_failed || is_err result) }
+    ensures failed { (W.told sink.new).has_failed
+        ≡ ((W.told sink.old).has_failed || is_err result) }
 {
     let mut done = 0;
     while done < bytes.len() {
@@ -151,7 +158,11 @@ impl<W: Write> ToWriter<W> {
 }
 
 impl<W: Write> Sink for ToWriter<W> {
-    ghost told = { λ sink. record { taken = W.contents sink.writer; calls = sink.calls; has_failed = sink.has_failed } };
+    ghost told = { λ sink. record {
+      taken = W.contents sink.writer;
+      calls = sink.calls;
+      has_failed = sink.has_failed;
+    } };
 
     /// Fails also if the writer is interrupted or accepts no byte.
     fn write(&mut self, bytes: &[u8]) -> Result<usize, Failed> {

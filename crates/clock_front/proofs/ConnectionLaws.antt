@@ -17,8 +17,9 @@ some_text None is = absurd (true≢false (sym is))
 some_text (Some text) is = (text, refl)
 
 -- Appending a piece and then answering the request does what `IsFed` says of both.
-pub fed_and_answered : (house : HouseFields) (old taken : ConnectionFields) (new : HubFields) (conn : Conn) (text : List ℕ) (reply : Answer)
-    → IsTaken old taken conn text → IsAnswered (hub_of house taken) new conn text reply → IsAnswered (hub_of house old) new conn text reply
+pub fed_and_answered : (house : HouseFields) (old taken : ConnectionFields) (new : HubFields) (conn : Conn)
+    (text : List ℕ) (reply : Answer) → IsTaken old taken conn text → IsAnswered (hub_of house taken) new conn text reply
+    → IsAnswered (hub_of house old) new conn text reply
 fed_and_answered house old taken new conn text reply first second = record {
   gone = record {
     gone = second.gone.gone;
@@ -32,9 +33,9 @@ fed_and_answered house old taken new conn text reply first second = record {
 }
 
 -- After a piece, every open connection still needs more.
-pub fed_keeps : (old new : HubFields) (conn : Conn) (text : List ℕ) (fed : Fed) → AllNeedMore old.connections → IsFed old new conn text fed
-    → AllNeedMore new.connections
-fed_keeps old new conn text More before is =
-    keeps_waiting old.connections new.connections conn before is.1.others (waits_with new.connections conn text is.1.stands is.0)
-fed_keeps old new conn text (Reply reply) before is =
-    keeps_waiting old.connections new.connections conn before is.1.gone.others (waits_no_more new.connections conn is.1.gone.gone)
+pub fed_keeps : (old new : HubFields) (conn : Conn) (text : List ℕ) (fed : Fed) → AllNeedMore old.connections
+    → IsFed old new conn text fed → AllNeedMore new.connections
+fed_keeps old new conn text More before is = keeps_waiting old.connections new.connections conn before is.1.others
+    (waits_with new.connections conn text is.1.stands is.0)
+fed_keeps old new conn text (Reply reply) before is = keeps_waiting old.connections new.connections conn before
+    is.1.gone.others (waits_no_more new.connections conn is.1.gone.gone)

@@ -1,6 +1,7 @@
 -- Proves that taking events one by one gives a run over the requests that they complete. By an invariant that holds
 -- before the first event, after each, and gives the run after the last.
-use Rattle.std.proofs.Common.{◌≡◌, ◌≤◌, ◌<◌, ◌+◌, ℕ, List, [], ◌∷◌, ◌++◌, length, get_or, drop, Option, Some, None, refl, sym, ◌∙◌, ap}
+use Rattle.std.proofs.Common.{◌≡◌, ◌≤◌, ◌<◌, ◌+◌, ℕ, List, [], ◌∷◌, ◌++◌, length, get_or, drop, Option, Some, None}
+use Rattle.std.proofs.Common.{refl, sym, ◌∙◌, ap}
 use Rattle.std.proofs.Common.{subst, arith, append-nil, append_assoc, length-append}
 use Rattle.std.proofs.lemmas.List.{length-set, drop_more, drop_all, map-append}
 use Rattle.clock_terms.specs.Limits.{SetupFields, IsSetup}
@@ -40,7 +41,8 @@ abbrev with_request : List (ℕ × List ℕ) → Option (ℕ × List ℕ) → Li
 with_request done None = done
 with_request done (Some request) = done ++ request ∷ []
 
-with_later : (done : List (ℕ × List ℕ)) (o : Option (ℕ × List ℕ)) (later : List (ℕ × List ℕ)) → with_request done o ++ later ≡ done ++ and_then o later
+with_later : (done : List (ℕ × List ℕ)) (o : Option (ℕ × List ℕ)) (later : List (ℕ × List ℕ))
+    → with_request done o ++ later ≡ done ++ and_then o later
 with_later done None later = refl
 with_later done (Some request) later = append_assoc done (request ∷ []) later
 
@@ -53,9 +55,9 @@ one_longer : (before now index : ℕ) → before ≤ index → now ≤ before + 
 one_longer before now index few longer = omega arith
 
 -- After an event, each reply has the number of its request's connection.
-next_numbers : (done : List (ℕ × List ℕ)) (replies : List EventReply) (o : Option (ℕ × List ℕ)) (told : Option EventReply) (house next : HouseFields)
-    → HasCompleted o house next told → numbers_of replies ≡ numbers_of_requests done
-    → numbers_of (kept replies told) ≡ numbers_of_requests (with_request done o)
+next_numbers : (done : List (ℕ × List ℕ)) (replies : List EventReply) (o : Option (ℕ × List ℕ))
+    (told : Option EventReply) (house next : HouseFields) → HasCompleted o house next told → numbers_of replies
+    ≡ numbers_of_requests done → numbers_of (kept replies told) ≡ numbers_of_requests (with_request done o)
 next_numbers done replies None None house next is same = same
 next_numbers done replies None (Some one) house next is same = absurd is
 next_numbers done replies (Some request) None house next is same = absurd is
@@ -74,37 +76,42 @@ next_underway setup limits done replies None None house next is before =
 next_underway setup limits done replies None (Some one) house next is before = absurd is
 next_underway setup limits done replies (Some request) None house next is before = absurd is
 next_underway setup limits done replies (Some request) (Some one) house next is before =
-    let one_more = step setup limits (texts_of done) (answers_of replies) house next request.1 one.reply before is.2 is.1 in
+    let one_more =
+    step setup limits (texts_of done) (answers_of replies) house next request.1 one.reply before is.2 is.1 in
     subst (λ (texts : List (List ℕ)). IsUnderWay setup texts (answers_of (replies ++ one ∷ [])) next)
     (sym (map-append (λ (r : ℕ × List ℕ). r.1) done (request ∷ [])))
     (subst (λ (answers : List Answer). IsUnderWay setup (texts_of done ++ request.1 ∷ []) answers next)
     (sym (map-append (λ (r : EventReply). r.reply) replies (one ∷ []))) one_more)
 
 -- The invariant after one more event.
-pub goes_on : (setup : SetupFields) (limits : IsSetup setup) (events : List Event) (index : ℕ) (replies : List EventReply)
-    (connections later : ConnectionFields) (conns more : List (Option Conn)) (house next : HouseFields)
+pub goes_on : (setup : SetupFields) (limits : IsSetup setup) (events : List Event) (index : ℕ) (replies : List
+    EventReply) (connections later : ConnectionFields) (conns more : List (Option Conn)) (house next : HouseFields)
     (event : Event) (told : Option EventReply) (before : IsOnItsWay setup events index replies connections conns house)
-    → index < length events → event ≡ get_or events index event
-    → AreNumbered (after before.numbered event) later more → HasCompleted (completed before.numbered event) house next told
+    → index < length events → event ≡ get_or events index event → AreNumbered (after before.numbered event) later more
+    → HasCompleted (completed before.numbered event) house next told
     → IsOnItsWay setup events (index + 1) (kept replies told) later more next
-goes_on setup limits events index replies connections later conns more house next event told before lt at stands is = record {
-  numbered = after before.numbered event;
-  done = with_request before.done (completed before.numbered event);
-  stands = stands;
-  few = one_longer (length before.numbered) (length (after before.numbered event)) index before.few (no_more_than_one before.numbered event);
-  rest = with_later before.done (completed before.numbered event) (requests_from (after before.numbered event) (drop (index + 1) events))
-      ∙ ap (λ rest. before.done ++ requests_from before.numbered rest) (sym split) ∙ before.rest;
-  numbers = next_numbers before.done replies (completed before.numbered event) told house next is before.numbers;
-  underway = next_underway setup limits before.done replies (completed before.numbered event) told house next is before.underway;
-}
+goes_on setup limits events index replies connections later conns more house next event told before lt
+    at stands is = record {
+      numbered = after before.numbered event;
+      done = with_request before.done (completed before.numbered event);
+      stands = stands;
+      few = one_longer (length before.numbered) (length (after before.numbered event)) index before.few
+          (no_more_than_one before.numbered event);
+      rest = with_later before.done (completed before.numbered event)
+          (requests_from (after before.numbered event) (drop (index + 1) events))
+          ∙ ap (λ rest. before.done ++ requests_from before.numbered rest) (sym split) ∙ before.rest;
+      numbers = next_numbers before.done replies (completed before.numbered event) told house next is before.numbers;
+      underway = next_underway setup limits before.done replies
+          (completed before.numbered event) told house next is before.underway;
+    }
   where
     split : drop index events ≡ event ∷ drop (index + 1) events
     split = drop_more events index event lt ∙ ap (λ (e : Event). e ∷ drop (index + 1) events) (sym at)
 
 -- The invariant before the first event.
 pub begins : (setup : SetupFields) (events : List Event) (replies : List EventReply) (connections : ConnectionFields)
-    (conns : List (Option Conn)) (house : HouseFields)
-    → replies ≡ [] → AreNumbered [] connections conns → house.setup ≡ setup → StandsForTexts [] house → IsOnItsWay setup events 0 replies connections conns house
+    (conns : List (Option Conn)) (house : HouseFields) → replies ≡ [] → AreNumbered [] connections conns
+    → house.setup ≡ setup → StandsForTexts [] house → IsOnItsWay setup events 0 replies connections conns house
 begins setup events replies connections conns house none stands kept new = record {
   numbered = [];
   done = [];
@@ -121,15 +128,19 @@ begins setup events replies connections conns house none stands kept new = recor
 }
 
 -- The run, from the invariant after the last event.
-pub ends : (setup : SetupFields) (events : List Event) (index : ℕ) (replies : List EventReply) (connections : ConnectionFields)
-    (conns : List (Option Conn)) (house : HouseFields)
+pub ends : (setup : SetupFields) (events : List Event) (index : ℕ) (replies : List EventReply)
+    (connections : ConnectionFields) (conns : List (Option Conn)) (house : HouseFields)
     → IsOnItsWay setup events index replies connections conns house → length events ≤ index
     → ((commands : List Command) → IsSound setup (history setup commands)) → IsEventRun setup events replies
 ends setup events index replies connections conns house way past sound =
-    let all : way.done ≡ requests_of events = sym (append-nil way.done)
-    ∙ ap (λ (left : List Event). way.done ++ requests_from way.numbered left) (sym (drop_all index events past)) ∙ way.rest in
+    let all : way.done ≡ requests_of events = sym (append-nil way.done) ∙ ap (λ (left : List Event). way.done
+    ++ requests_from way.numbered left) (sym (drop_all index events past)) ∙ way.rest in
     record {
       numbers = way.numbers ∙ ap numbers_of_requests all;
       run = subst (λ (requests : List (ℕ × List ℕ)). IsRun setup (texts_of requests) (answers_of replies)) all
-          (record { end = way.underway.end; runs = way.underway.runs; sound = sound (commands_of setup way.underway.end) });
+          (record {
+            end = way.underway.end;
+            runs = way.underway.runs;
+            sound = sound (commands_of setup way.underway.end);
+          });
     }

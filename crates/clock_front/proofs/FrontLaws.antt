@@ -42,11 +42,12 @@ needs_by_test text more = by (framing text) more
 -- ---- what a house that stands for commands replies
 
 abbrev shown_by : SetupFields → Caller → Ask → List ClosedRound → List (Option (List Bid)) → Outcome
-shown_by setup caller ask closed sheets = outcome (record { setup = setup; closed = closed; sheets = sheets; spare = 0 }) caller ask
+shown_by setup caller ask closed sheets =
+    outcome (record { setup = setup; closed = closed; sheets = sheets; spare = 0 }) caller ask
 
 -- A house that stands for commands gives the replies that follow from these commands.
-pub outcome_after : (house : HouseFields) (commands : List Command) (caller : Caller) (ask : Ask) → StandsFor commands house
-    → outcome house caller ask ≡ outcome (house_after house.setup commands) caller ask
+pub outcome_after : (house : HouseFields) (commands : List Command) (caller : Caller) (ask : Ask)
+    → StandsFor commands house → outcome house caller ask ≡ outcome (house_after house.setup commands) caller ask
 outcome_after house commands caller ask stands =
     ap (λ closed. shown_by house.setup caller ask closed house.sheets) stands.closed
     ∙ ap (shown_by house.setup caller ask (history house.setup commands).closed) stands.sheets
@@ -58,27 +59,29 @@ pub whole_request : (text : List ℕ) (head : Head) (body : List ℕ) → whole 
 unfolding request_of
 whole_request text head body is =
     let request : Option (List ℕ) → Ask → Request = λ token ask. record { token = token; ask = ask } in
-    sym (ap (λ h. request (option_and_then (λ head. head.token) h) (ask_of (framing text))) (whole_head text head body (sym is))
-    ∙ ap (λ f. request head.token (ask_of f)) (sym is))
+    sym (ap (λ h. request (option_and_then (λ head. head.token) h) (ask_of (framing text)))
+    (whole_head text head body (sym is)) ∙ ap (λ f. request head.token (ask_of f)) (sym is))
 
 pub ask_by : (text : List ℕ) (f : Framing) → f ≡ framing text → ask_of f ≡ (request_of text).ask
 unfolding request_of
 ask_by text f is = ap ask_of is
 
 -- A request that is turned away by its bytes or its path gets the refusal with that code.
-pub away_told : (house : HouseFields) (who : Caller) (text : List ℕ) (f : Framing) (code : Code) → f ≡ framing text → ask_of f ≡ turned_away code
+pub away_told : (house : HouseFields) (who : Caller) (text : List ℕ) (f : Framing) (code : Code) → f ≡ framing text
+    → ask_of f ≡ turned_away code
     → answer_of (refused (bare code)) ≡ answer_of (outcome house who (request_of text).ask)
 away_told house who text f code is away = ap (λ ask. answer_of (outcome house who ask)) (sym away ∙ ask_by text f is)
 
 -- Such a request is no command.
-pub away_command : (setup : SetupFields) (who : Caller) (text : List ℕ) (f : Framing) (code : Code) → f ≡ framing text → ask_of f ≡ turned_away code
-    → command_of setup who (request_of text).ask ≡ other
-away_command setup who text f code is away = ap (command_of setup who) (sym (ask_by text f is) ∙ away) ∙ away_other setup who code
+pub away_command : (setup : SetupFields) (who : Caller) (text : List ℕ) (f : Framing) (code : Code) → f ≡ framing text
+    → ask_of f ≡ turned_away code → command_of setup who (request_of text).ask ≡ other
+away_command setup who text f code is away =
+    ap (command_of setup who) (sym (ask_by text f is) ∙ away) ∙ away_other setup who code
 
 -- A fact about the sender of a complete request and what it asks for is a fact about the request's bytes.
-pub of_text : (setup : SetupFields) (text : List ℕ) (P : Caller → Ask → Type 0) (who : Caller) (ask : Ask) (head : Head) (body : List ℕ)
-    → who ≡ caller setup head.token → ask ≡ ask_by_route (page_of head.path) head body → whole head body ≡ framing text
-    → P who ask → P (caller setup (request_of text).token) (request_of text).ask
+pub of_text : (setup : SetupFields) (text : List ℕ) (P : Caller → Ask → Type 0) (who : Caller) (ask : Ask) (head : Head)
+    (body : List ℕ) → who ≡ caller setup head.token → ask ≡ ask_by_route (page_of head.path) head body
+    → whole head body ≡ framing text → P who ask → P (caller setup (request_of text).token) (request_of text).ask
 of_text setup text P who ask head body sender asks is holds =
     subst (λ request. P (caller setup request.token) request.ask) (whole_request text head body is)
     (subst (λ a. P (caller setup head.token) a) asks (subst (λ w. P w ask) sender holds))
@@ -91,7 +94,8 @@ refused_code house who text code is =
 
 -- ---- facts about a reply, moved to an equal one
 
-pub told_as : {N : Type 0} (told : Result Answer N) (a b : Answer) → a ≡ b → IfOk told (λ reply. reply ≡ a) → IfOk told (λ reply. reply ≡ b)
+pub told_as : {N : Type 0} (told : Result Answer N) (a b : Answer) → a ≡ b → IfOk told (λ reply. reply ≡ a)
+    → IfOk told (λ reply. reply ≡ b)
 told_as (Ok reply) a b same is = is ∙ same
 told_as (Err e) a b same is = tt
 

@@ -1,5 +1,6 @@
 -- Proves that the connections by number agree with the connections of the hub after each step of the hub.
-use Rattle.std.proofs.Common.{◌≡◌, ℕ, Bool, cond, List, ◌++◌, set, Option, Some, None, Result, Ok, Err, OnOk, sym, ◌∙◌, ap, subst, true≢false}
+use Rattle.std.proofs.Common.{◌≡◌, ℕ, Bool, cond, List, ◌++◌, set, Option, Some, None, Result, Ok, Err, OnOk, sym, ◌∙◌}
+use Rattle.std.proofs.Common.{ap, subst, true≢false}
 use Rattle.std.specs.Prelude.{is_some, IsSome, option_and_then}
 use Rattle.clock_http.specs.Replies.{Answer}
 use Rattle.clock_connections.specs.declared.connections.Conn.{Conn}
@@ -16,37 +17,40 @@ then_ok (Ok value) next is = next is
 then_ok (Err e) next is = tt
 
 -- They agree after a piece with which the request is incomplete.
-pub more_stands : (numbered : Numbered) (old new : HubFields) (conns : List (Option Conn)) (number : ℕ) (conn : Conn) (piece : List ℕ) (o : Option (List ℕ))
-    → AreNumbered numbered old.connections conns → conn_at conns number ≡ Some conn → IsSome (text_of old.connections conn) → text_at numbered number ≡ o
+pub more_stands : (numbered : Numbered) (old new : HubFields) (conns : List (Option Conn)) (number : ℕ) (conn : Conn)
+    (piece : List ℕ) (o : Option (List ℕ)) → AreNumbered numbered old.connections conns
+    → conn_at conns number ≡ Some conn → IsSome (text_of old.connections conn) → text_at numbered number ≡ o
     → ((text : List ℕ) → text_of old.connections conn ≡ Some text → IsFed old new conn (text ++ piece) More)
     → AreNumbered (set numbered number (option_and_then (λ text. if_open (text ++ piece)) o)) new.connections conns
-more_stands numbered old new conns number conn piece None stands at stood is fed =
-    absurd (true≢false (sym stood ∙ ap is_some (standing_text numbered old.connections conns number conn stands at ∙ is)))
+more_stands numbered old new conns number conn piece None stands at stood is fed = absurd
+    (true≢false (sym stood ∙ ap is_some (standing_text numbered old.connections conns number conn stands at ∙ is)))
 more_stands numbered old new conns number conn piece (Some text) stands at stood is fed =
     let told = fed text (standing_text numbered old.connections conns number conn stands at ∙ is) in
-    subst (λ (b : Bool). AreNumbered (set numbered number (cond b (Some (text ++ piece)) None)) new.connections conns) (sym told.0)
+    subst (λ (b : Bool). AreNumbered (set numbered number (cond b (Some (text ++ piece)) None)) new.connections conns)
+    (sym told.0)
     (taken_stands numbered old.connections new.connections conns number conn text (text ++ piece) stands at is told.1)
 
 -- They agree after a piece with which the request was answered.
-pub answered_stands : (numbered : Numbered) (old new : HubFields) (conns : List (Option Conn)) (number : ℕ) (conn : Conn)
-    (piece : List ℕ) (reply : Answer) (o : Option (List ℕ))
-    → AreNumbered numbered old.connections conns → conn_at conns number ≡ Some conn → IsSome (text_of old.connections conn) → text_at numbered number ≡ o
+pub answered_stands : (numbered : Numbered) (old new : HubFields) (conns : List (Option Conn)) (number : ℕ)
+    (conn : Conn) (piece : List ℕ) (reply : Answer) (o : Option (List ℕ)) → AreNumbered numbered old.connections conns
+    → conn_at conns number ≡ Some conn → IsSome (text_of old.connections conn) → text_at numbered number ≡ o
     → ((text : List ℕ) → text_of old.connections conn ≡ Some text → IsFed old new conn (text ++ piece) (Reply reply))
     → AreNumbered (set numbered number (option_and_then (λ text. if_open (text ++ piece)) o)) new.connections conns
-answered_stands numbered old new conns number conn piece reply None stands at stood is fed =
-    absurd (true≢false (sym stood ∙ ap is_some (standing_text numbered old.connections conns number conn stands at ∙ is)))
+answered_stands numbered old new conns number conn piece reply None stands at stood is fed = absurd
+    (true≢false (sym stood ∙ ap is_some (standing_text numbered old.connections conns number conn stands at ∙ is)))
 answered_stands numbered old new conns number conn piece reply (Some text) stands at stood is fed =
     let told = fed text (standing_text numbered old.connections conns number conn stands at ∙ is) in
-    subst (λ (b : Bool). AreNumbered (set numbered number (cond b (Some (text ++ piece)) None)) new.connections conns) (sym told.0)
-    (gone_stands numbered old.connections new.connections conns number conn text stands at is told.1.gone)
+    subst (λ (b : Bool). AreNumbered (set numbered number (cond b (Some (text ++ piece)) None)) new.connections conns)
+    (sym told.0) (gone_stands numbered old.connections new.connections conns number conn text stands at is told.1.gone)
 
 -- They agree after the end of a request, which was answered.
-pub finished_stands : (numbered : Numbered) (old new : HubFields) (conns : List (Option Conn)) (number : ℕ) (conn : Conn) (reply : Answer) (o : Option (List ℕ))
-    → AreNumbered numbered old.connections conns → conn_at conns number ≡ Some conn → IsSome (text_of old.connections conn) → text_at numbered number ≡ o
+pub finished_stands : (numbered : Numbered) (old new : HubFields) (conns : List (Option Conn)) (number : ℕ)
+    (conn : Conn) (reply : Answer) (o : Option (List ℕ)) → AreNumbered numbered old.connections conns
+    → conn_at conns number ≡ Some conn → IsSome (text_of old.connections conn) → text_at numbered number ≡ o
     → ((text : List ℕ) → text_of old.connections conn ≡ Some text → IsAnswered old new conn text reply)
     → AreNumbered (set numbered number None) new.connections conns
-finished_stands numbered old new conns number conn reply None stands at stood is answered =
-    absurd (true≢false (sym stood ∙ ap is_some (standing_text numbered old.connections conns number conn stands at ∙ is)))
+finished_stands numbered old new conns number conn reply None stands at stood is answered = absurd
+    (true≢false (sym stood ∙ ap is_some (standing_text numbered old.connections conns number conn stands at ∙ is)))
 finished_stands numbered old new conns number conn reply (Some text) stands at stood is answered =
     let told = answered text (standing_text numbered old.connections conns number conn stands at ∙ is) in
     gone_stands numbered old.connections new.connections conns number conn text stands at is told.gone

@@ -12,14 +12,15 @@ use Rattle.clock_front.specs.Requests as asked
 use Rattle.clock_front.specs.Outcomes.{done, page_or_no_round, command_of}
 
 -- The page of a part of a closed round, if that round exists.
-pub found_page : {T : Type 0} (value : T → Data) (part : ClosedRound → T) (closed : Option ClosedRound) (x : T) → Some x ≡ option_map part closed
-    → done (value x) ≡ page_or_no_round (option_map (λ round. value (part round)) closed)
+pub found_page : {T : Type 0} (value : T → Data) (part : ClosedRound → T) (closed : Option ClosedRound) (x : T) → Some x
+    ≡ option_map part closed → done (value x) ≡ page_or_no_round (option_map (λ round. value (part round)) closed)
 found_page value part None x is = absurd cc
 found_page value part (Some round) x is = (let same : x ≡ part round = cc in ap (λ y. done (value y)) same)
 
 -- ---- requests that are no commands
 
-pub away_other : (setup : SetupFields) (caller : Caller) (code : Code) → command_of setup caller (asked.turned_away code) ≡ other
+pub away_other : (setup : SetupFields) (caller : Caller) (code : Code)
+    → command_of setup caller (asked.turned_away code) ≡ other
 away_other setup Nobody code = refl
 away_other setup Operator code = refl
 away_other setup (Bidder b) code = refl

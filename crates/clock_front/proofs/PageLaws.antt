@@ -12,15 +12,15 @@ use Rattle.clock_front.specs.inside.KeptPage.{head_room}
 
 -- A reply whose page was written after space for the head is the reply with that page.
 pub written_page : (told : Answer) (code : Code) (allowed : Option Page) (text : List ℕ) (value : Data)
-    → told ≡ record { code = code; bytes = reply_bytes code allowed (drop head_room text) } → text ≡ replicate head_room 0 ++ compact_text value
-    → told ≡ with_page code allowed value
+    → told ≡ record { code = code; bytes = reply_bytes code allowed (drop head_room text) }
+    → text ≡ replicate head_room 0 ++ compact_text value → told ≡ with_page code allowed value
 written_page told code allowed text value is behind =
     let made : List ℕ → Answer = λ page. record { code = code; bytes = reply_bytes code allowed page } in
     is ∙ ap made (ap (drop head_room) behind ∙ drop-append_seam (replicate head_room 0) (compact_text value))
 
 -- Eligibility and processed demands make up what a bidder has.
-pub held_is : (held : Holding) (eligibility : ℕ) (demands : List ℕ) → eligibility ≡ held.eligibility → demands ≡ held.demands
-    → record { eligibility = eligibility; demands = demands } ≡ held
+pub held_is : (held : Holding) (eligibility : ℕ) (demands : List ℕ) → eligibility ≡ held.eligibility
+    → demands ≡ held.demands → record { eligibility = eligibility; demands = demands } ≡ held
 held_is held eligibility demands e d =
     let made : ℕ → List ℕ → Holding = λ n row. record { eligibility = n; demands = row } in
     ap (λ n. made n demands) e ∙ ap (made held.eligibility) d

@@ -10,7 +10,8 @@ use Rattle.clock_front.specs.Effects.{IsRightResponse}
 use Rattle.clock_front.specs.Fronts.{commands_of}
 use Rattle.clock_front.specs.Outcomes.{outcome, answer_of}
 use Rattle.clock_front.specs.Private.{IsPrivateReply}
-use Rattle.clock_front.specs.Rooms.{FailsByPrivateAllocation, FailsByAllocation, NeedsRoom, asks_for_page, refusal_room, reply_room}
+use Rattle.clock_front.specs.Rooms.{FailsByPrivateAllocation, FailsByAllocation, NeedsRoom, asks_for_page, refusal_room}
+use Rattle.clock_front.specs.Rooms.{reply_room}
 use Rattle.clock_front.specs.declared.front.replies.AnswerError.{AnswerError}
 use Rattle.clock_front.specs.declared.front.replies.AnswerError.TheVariants.{Room}
 use Rattle.clock_http.specs.Replies.{Answer}
@@ -23,12 +24,11 @@ use Rattle.clock_front.proofs.TextViews.{told_from_view}
 
 -- The right reply to a bidder's own request is private.
 pub private_reply : (house : HouseFields) (text : List ℕ) (answer : Answer) → IsSetup house.setup
-    → answer ≡ answer_of (outcome house (caller house.setup (request_of text).token) (request_of text).ask) → IsPrivateReply text house answer
-private_reply house text answer limits is =
-    λ texts bidder stands lt own.
-    (right house.setup limits texts text answer
-    (is ∙ ap answer_of (outcome_after house (commands_of house.setup texts) (caller house.setup (request_of text).token) (request_of text).ask stands))).private
-    bidder lt own
+    → answer ≡ answer_of (outcome house (caller house.setup (request_of text).token) (request_of text).ask)
+    → IsPrivateReply text house answer
+private_reply house text answer limits is = λ texts bidder stands lt own.
+    (right house.setup limits texts text answer (is ∙ ap answer_of (outcome_after house (commands_of house.setup texts)
+    (caller house.setup (request_of text).token) (request_of text).ask stands))).private bidder lt own
 
 pub if_private : {N : Type 0} (told : Result Response N) (old new : HouseFields) (text : List ℕ) → IsSetup old.setup
     → IfOk told (IsRightResponse text old new) → IfOk told (λ response. IsPrivateReply text old response.reply)
@@ -37,26 +37,28 @@ if_private (Err e) old new text limits is = tt
 
 -- ---- what running out of memory reveals
 
-pub want_as : {T : Type 0} (told : Result T AnswerError) (P Q : AnswerError → Type 0) → ((why : AnswerError) → P why → Q why) → IfErr told P → IfErr told Q
+pub want_as : {T : Type 0} (told : Result T AnswerError) (P Q : AnswerError → Type 0)
+    → ((why : AnswerError) → P why → Q why) → IfErr told P → IfErr told Q
 want_as (Ok done) P Q goes is = tt
 want_as (Err why) P Q goes is = goes why is
 
 -- The failed allocation for the refusal of a request that was incomplete when its input ended.
-pub cut_short_want : (house : HouseFields) (text : List ℕ) (why : AnswerError) → incomplete ≡ framing text → why ≡ Room refusal_room → FailsByAllocation text house why
+pub cut_short_want : (house : HouseFields) (text : List ℕ) (why : AnswerError) → incomplete ≡ framing text
+    → why ≡ Room refusal_room → FailsByAllocation text house why
 cut_short_want house text why is wants =
     let who = caller house.setup (request_of text).token in
     subst (λ ask. NeedsRoom who ask (outcome house who ask) why) (ask_by text incomplete is) (λ reading. wants)
 
 -- The size of the allocation for a bidder's own request follows from its view.
-private_want : (house : HouseFields) (text : List ℕ) (why : AnswerError) → IsSetup house.setup → FailsByAllocation text house why → FailsByPrivateAllocation text house why
-private_want house text why limits want =
-    λ texts bidder stands lt own asks.
-    want (ap (λ who. asks_for_page who (request_of text).ask) (caller_own house.setup limits.tokens bidder lt (request_of text).token own) ∙ asks)
+private_want : (house : HouseFields) (text : List ℕ) (why : AnswerError) → IsSetup house.setup
+    → FailsByAllocation text house why → FailsByPrivateAllocation text house why
+private_want house text why limits want = λ texts bidder stands lt own asks. want (ap (λ who. asks_for_page who
+    (request_of text).ask) (caller_own house.setup limits.tokens bidder lt (request_of text).token own) ∙ asks)
     ∙ ap (λ told. Room (reply_room (request_of text).ask told))
-    (outcome_after house (commands_of house.setup texts) (caller house.setup (request_of text).token) (request_of text).ask stands
-    ∙ told_from_view house.setup bidder texts text limits.tokens lt own)
+    (outcome_after house (commands_of house.setup texts) (caller house.setup (request_of text).token)
+    (request_of text).ask stands ∙ told_from_view house.setup bidder texts text limits.tokens lt own)
 
-pub if_private_want : {T : Type 0} (told : Result T AnswerError) (house : HouseFields) (text : List ℕ) → IsSetup house.setup
-    → IfErr told (FailsByAllocation text house) → IfErr told (FailsByPrivateAllocation text house)
-if_private_want told house text limits =
-    want_as told (FailsByAllocation text house) (FailsByPrivateAllocation text house) (λ why want. private_want house text why limits want)
+pub if_private_want : {T : Type 0} (told : Result T AnswerError) (house : HouseFields) (text : List ℕ)
+    → IsSetup house.setup → IfErr told (FailsByAllocation text house) → IfErr told (FailsByPrivateAllocation text house)
+if_private_want told house text limits = want_as told (FailsByAllocation text house)
+    (FailsByPrivateAllocation text house) (λ why want. private_want house text why limits want)

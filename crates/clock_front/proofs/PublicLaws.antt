@@ -42,7 +42,8 @@ public_outcome setup sheets _ = refused (bare Token)
 abbrev sheet_of : ClosedRound → RoundSheet
 sheet_of closed = closed.sheet
 
-standing_shown : (products : List Product) (closed : List ClosedRound) → standing products closed ≡ standing_by products (map sheet_of closed)
+standing_shown : (products : List Product) (closed : List ClosedRound)
+    → standing products closed ≡ standing_by products (map sheet_of closed)
 standing_shown products [] = refl
 standing_shown products (last ∷ rounds) = refl
 
@@ -50,16 +51,18 @@ standing_shown products (last ∷ rounds) = refl
 
 reversed : (closed : List ClosedRound) → map sheet_of (reverse closed) ≡ reverse (map sheet_of closed)
 reversed [] = refl
-reversed (last ∷ rounds) =
-    ap (map sheet_of) (reverse_cons last rounds) ∙ map-append sheet_of (reverse rounds) (last ∷ [])
-    ∙ ap (λ sheets. sheets ++ sheet_of last ∷ []) (reversed rounds) ∙ sym (reverse_cons (sheet_of last) (map sheet_of rounds))
+reversed (last ∷ rounds) = ap (map sheet_of) (reverse_cons last rounds)
+    ∙ map-append sheet_of (reverse rounds) (last ∷ []) ∙ ap (λ sheets. sheets ++ sheet_of last ∷ []) (reversed rounds)
+    ∙ sym (reverse_cons (sheet_of last) (map sheet_of rounds))
 
-sheet_shown : (n : ℕ) (closed : List ClosedRound) → option_map sheet_of (round_at n closed) ≡ round_at n (map sheet_of closed)
+sheet_shown : (n : ℕ) (closed : List ClosedRound)
+    → option_map sheet_of (round_at n closed) ≡ round_at n (map sheet_of closed)
 sheet_shown zero closed = refl
-sheet_shown (suc n) closed = sym (slice_get-map sheet_of (reverse closed) n) ∙ ap (λ sheets. slice_get sheets n) (reversed closed)
+sheet_shown (suc n) closed =
+    sym (slice_get-map sheet_of (reverse closed) n) ∙ ap (λ sheets. slice_get sheets n) (reversed closed)
 
-page_of_sheet : (setup : PublicSetup) (found : Option ClosedRound) →
-    option_map (λ closed. sheet_value setup closed.sheet) found ≡ option_map (sheet_value setup) (option_map sheet_of found)
+page_of_sheet : (setup : PublicSetup) (found : Option ClosedRound) → option_map
+    (λ closed. sheet_value setup closed.sheet) found ≡ option_map (sheet_value setup) (option_map sheet_of found)
 page_of_sheet setup None = refl
 page_of_sheet setup (Some closed) = refl
 
@@ -67,27 +70,29 @@ named_sheet : (setup : PublicSetup) (closed : List ClosedRound) (named : Option 
     option_map (λ closed. sheet_value setup closed.sheet) (option_and_then (λ n. round_at n closed) named)
     ≡ option_map (sheet_value setup) (option_and_then (λ n. round_at n (map sheet_of closed)) named)
 named_sheet setup closed None = refl
-named_sheet setup closed (Some n) = page_of_sheet setup (round_at n closed) ∙ ap (option_map (sheet_value setup)) (sheet_shown n closed)
+named_sheet setup closed (Some n) =
+    page_of_sheet setup (round_at n closed) ∙ ap (option_map (sheet_value setup)) (sheet_shown n closed)
 
 -- ---- replies to requests with no valid token
 
-told_of_public : (setup : SetupFields) (commands : List Command) (ask : Ask) →
-    outcome (house_after setup commands) Nobody ask ≡ public_outcome (public_setup setup) (map sheet_of (history setup commands).closed) ask
-told_of_public setup commands asked.status =
-    ap (λ now. done (status_value (public_setup setup) now.round now.ended)) (standing_shown setup.products (history setup commands).closed)
+told_of_public : (setup : SetupFields) (commands : List Command) (ask : Ask) → outcome (house_after setup commands)
+    Nobody ask ≡ public_outcome (public_setup setup) (map sheet_of (history setup commands).closed) ask
+told_of_public setup commands asked.status = ap (λ now. done (status_value (public_setup setup) now.round now.ended))
+    (standing_shown setup.products (history setup commands).closed)
 told_of_public setup commands (asked.sheet segment) =
     ap page_or_no_round (named_sheet (public_setup setup) (history setup commands).closed (plain_number segment))
 told_of_public setup commands _ = refl
 
-answered_from_public : (setup : SetupFields) (past : List (List ℕ)) (text : List ℕ) → HasNoValidToken setup text
-    → reply setup past text ≡ answer_of (public_outcome (public_setup setup) (public_view setup past) (request_of text).ask)
+answered_from_public : (setup : SetupFields) (past : List (List ℕ)) (text : List ℕ) → HasNoValidToken setup text → reply
+    setup past text ≡ answer_of (public_outcome (public_setup setup) (public_view setup past) (request_of text).ask)
 answered_from_public setup past text none =
     ap (λ who. answer_of (outcome (house_after setup (commands_of setup past)) who (request_of text).ask)) none
     ∙ ap answer_of (told_of_public setup (commands_of setup past) (request_of text).ask)
 
 -- If everyone sees the same in two runs, a request with no valid token gets the same reply in both.
-pub told_alike : (one two : SetupFields) (past other_past : List (List ℕ)) (text : List ℕ) → HasNoValidToken one text → HasNoValidToken two text
-    → public_setup one ≡ public_setup two → public_view one past ≡ public_view two other_past → reply one past text ≡ reply two other_past text
+pub told_alike : (one two : SetupFields) (past other_past : List (List ℕ)) (text : List ℕ) → HasNoValidToken one text
+    → HasNoValidToken two text → public_setup one ≡ public_setup two → public_view one past ≡ public_view two other_past
+    → reply one past text ≡ reply two other_past text
 told_alike one two past other_past text none other_none public seen =
     answered_from_public one past text none
     ∙ ap (λ setup. answer_of (public_outcome setup (public_view one past) (request_of text).ask)) public

@@ -1,6 +1,7 @@
 -- Proves that the response to a sheet or a closing is right, case by case: accepted, refused by the rules, or a body
 -- that could not be read.
-use Rattle.std.proofs.Common.{◌≡◌, ◌≢◌, ℕ, List, Bool, Option, Some, None, Result, Ok, Err, IfOk, OnOk, refl, sym, ap, ◌∙◌, subst}
+use Rattle.std.proofs.Common.{◌≡◌, ◌≢◌, ℕ, List, Bool, Option, Some, None, Result, Ok, Err, IfOk, OnOk, refl, sym, ap}
+use Rattle.std.proofs.Common.{◌∙◌, subst}
 use Rattle.clock_terms.specs.declared.increments.Increments.{Increments}
 use Rattle.clock_order.specs.declared.ties.Tie.{Tie}
 use Rattle.clock_house.specs.Command as command
@@ -17,7 +18,8 @@ use Rattle.clock_bodies.specs.declared.body.BodyFault.{BodyFault}
 use Rattle.clock_bodies.specs.declared.body.BodyFault.TheVariants.{NoMemory}
 use Rattle.clock_front.specs.Effects.{IsRightFor, close_effect, effect_in, put_effect}
 use Rattle.clock_front.specs.Requests.{Ask, put, close}
-use Rattle.clock_front.specs.Outcomes.{answer_of, body_code, close_command, close_outcome, close_to, command_of, outcome, put_outcome, refused}
+use Rattle.clock_front.specs.Outcomes.{answer_of, body_code, close_command, close_outcome, close_to, command_of}
+use Rattle.clock_front.specs.Outcomes.{outcome, put_outcome, refused}
 use Rattle.clock_front.specs.declared.front.callers.Caller.{Caller}
 use Rattle.clock_front.specs.declared.front.callers.Caller.TheVariants.{Operator, Bidder}
 use Rattle.clock_front.specs.declared.front.response.Effect.{Effect}
@@ -31,8 +33,9 @@ pub same_stands : (house : HouseFields) → StandsForTheSame house house
 same_stands house = record { setup = refl; stands = λ commands stood. stood }
 
 -- The response to a request that is no command is right.
-pub unchanged_right : (who : Caller) (ask : Ask) (house : HouseFields) (response : Response) → response.reply ≡ answer_of (outcome house who ask)
-    → response.effect ≡ Nothing → command_of house.setup who ask ≡ command.other → IsRightFor who ask house house response
+pub unchanged_right : (who : Caller) (ask : Ask) (house : HouseFields) (response : Response)
+    → response.reply ≡ answer_of (outcome house who ask) → response.effect ≡ Nothing
+    → command_of house.setup who ask ≡ command.other → IsRightFor who ask house house response
 unchanged_right who ask house response reply nothing none = record {
   reply = reply;
   effect = nothing ∙ ap (effect_in house) (sym none);
@@ -41,17 +44,17 @@ unchanged_right who ask house response reply nothing none = record {
 }
 
 -- The reply of a right response.
-pub right_reply : {N : Type 0} (told : Result Response N) (old new : HouseFields) (who : Caller) (ask : Ask) → IfOk told (IsRightFor who ask old new)
-    → IfOk told (λ response. response.reply ≡ answer_of (outcome old who ask))
+pub right_reply : {N : Type 0} (told : Result Response N) (old new : HouseFields) (who : Caller) (ask : Ask)
+    → IfOk told (IsRightFor who ask old new) → IfOk told (λ response. response.reply ≡ answer_of (outcome old who ask))
 right_reply (Ok response) old new who ask is = is.reply
 right_reply (Err why) old new who ask is = tt
 
 -- ---- sheets
 
 -- The response to a sheet that could be read, and became the sheet in force; below, to one that was refused.
-pub sheet_put : (old new : HouseFields) (bidder : ℕ) (sent : Result PutBody BodyFault) (sheet : PutBody) (reply : Answer) → sent ≡ Ok sheet
-    → reply ≡ answer_of (put_outcome sheet None) → put_fault_in old bidder sheet.round sheet.bids ≡ None
-    → IsFollowedBy (command.put bidder sheet.round sheet.bids) old new
+pub sheet_put : (old new : HouseFields) (bidder : ℕ) (sent : Result PutBody BodyFault) (sheet : PutBody)
+    (reply : Answer) → sent ≡ Ok sheet → reply ≡ answer_of (put_outcome sheet None) → put_fault_in old bidder
+    sheet.round sheet.bids ≡ None → IsFollowedBy (command.put bidder sheet.round sheet.bids) old new
     → IsRightFor (Bidder bidder) (put sent) old new (record { reply = reply; effect = Sheet })
 sheet_put old new bidder sent sheet reply is told none followed =
     subst (λ body. IsRightFor (Bidder bidder) (put body) old new (record { reply = reply; effect = Sheet })) (sym is)
@@ -62,9 +65,11 @@ sheet_put old new bidder sent sheet reply is told none followed =
       still = λ (nothing : Sheet ≡ Nothing). cc;
     })
 
-pub sheet_refused : (house : HouseFields) (bidder : ℕ) (sent : Result PutBody BodyFault) (sheet : PutBody) (fault : PutFault) (response : Response) → sent ≡ Ok sheet
-    → response.reply ≡ answer_of (put_outcome sheet (Some fault)) → response.effect ≡ Nothing → put_fault_in house bidder sheet.round sheet.bids ≡ Some fault
-    → IsFollowedBy (command.put bidder sheet.round sheet.bids) house house → IsRightFor (Bidder bidder) (put sent) house house response
+pub sheet_refused : (house : HouseFields) (bidder : ℕ) (sent : Result PutBody BodyFault) (sheet : PutBody)
+    (fault : PutFault) (response : Response) → sent ≡ Ok sheet
+    → response.reply ≡ answer_of (put_outcome sheet (Some fault)) → response.effect ≡ Nothing
+    → put_fault_in house bidder sheet.round sheet.bids ≡ Some fault → IsFollowedBy
+    (command.put bidder sheet.round sheet.bids) house house → IsRightFor (Bidder bidder) (put sent) house house response
 sheet_refused house bidder sent sheet fault response is told nothing faulty followed =
     subst (λ body. IsRightFor (Bidder bidder) (put body) house house response) (sym is)
     (record {
@@ -75,14 +80,15 @@ sheet_refused house bidder sent sheet fault response is told nothing faulty foll
     })
 
 -- The response to a body that is not a sheet.
-refused_body : (who : Caller) (ask : Ask) (house : HouseFields) (response : Response) (answer : Answer) → response ≡ record { reply = answer; effect = Nothing }
-    → answer ≡ answer_of (outcome house who ask) → command_of house.setup who ask ≡ command.other → IsRightFor who ask house house response
-refused_body who ask house response answer is right none =
-    unchanged_right who ask house response (ap (λ (one : Response). one.reply) is ∙ right) (ap (λ (one : Response). one.effect) is) none
+refused_body : (who : Caller) (ask : Ask) (house : HouseFields) (response : Response) (answer : Answer)
+    → response ≡ record { reply = answer; effect = Nothing } → answer ≡ answer_of (outcome house who ask)
+    → command_of house.setup who ask ≡ command.other → IsRightFor who ask house house response
+refused_body who ask house response answer is right none = unchanged_right who ask house response
+    (ap (λ (one : Response). one.reply) is ∙ right) (ap (λ (one : Response). one.effect) is) none
 
-pub refused_put : {N : Type 0} (told : Result Response N) (house : HouseFields) (bidder : ℕ) (sent : Result PutBody BodyFault) (fault : BodyFault)
-    → (fault ≢ NoMemory → sent ≡ Err fault) → OnOk told (fault ≢ NoMemory)
-    → IfOk told (λ response. response ≡ record { reply = answer_of (refused (bare (body_code fault))); effect = Nothing })
+pub refused_put : {N : Type 0} (told : Result Response N) (house : HouseFields) (bidder : ℕ) (sent : Result PutBody
+    BodyFault) (fault : BodyFault) → (fault ≢ NoMemory → sent ≡ Err fault) → OnOk told (fault ≢ NoMemory) → IfOk told
+    (λ response. response ≡ record { reply = answer_of (refused (bare (body_code fault))); effect = Nothing })
     → IfOk told (IsRightFor (Bidder bidder) (put sent) house house)
 refused_put (Ok response) house bidder sent fault err known is =
     subst (λ body. IsRightFor (Bidder bidder) (put body) house house response) (sym (err known))
@@ -92,19 +98,22 @@ refused_put (Err none) house bidder sent fault err known is = tt
 -- ---- closings
 
 -- The response to a closing is right, given its body as the version of the set-up reads it.
-record IsClosingResponse (old new : HouseFields) (response : Response) (body : Result CloseBody BodyFault) : Type 0 where
+record IsClosingResponse (old new : HouseFields) (response : Response)
+    (body : Result CloseBody BodyFault) : Type 0 where
   reply : response.reply ≡ answer_of (close_to (without_room old) body)
   effect : response.effect ≡ effect_in old (close_command body)
   followed : IsFollowedBy (close_command body) old new
   still : response.effect ≡ Nothing → StandsForTheSame old new
 
-closing_response : (old new : HouseFields) (response : Response) (sent : Result CloseBody BodyFault)
-    → IsClosingResponse old new response (in_version old.setup.version sent) → IsRightFor Operator (close sent) old new response
-closing_response old new response sent is = record { reply = is.reply; effect = is.effect; followed = is.followed; still = is.still }
+closing_response : (old new : HouseFields) (response : Response) (sent : Result CloseBody BodyFault) → IsClosingResponse
+    old new response (in_version old.setup.version sent) → IsRightFor Operator (close sent) old new response
+closing_response old new response sent is =
+    record { reply = is.reply; effect = is.effect; followed = is.followed; still = is.still }
 
 -- The response to a closing that could be read, and closed the round; below, to one that was refused.
-pub closing_made : (old new : HouseFields) (sent : Result CloseBody BodyFault) (closing : CloseBody) (closed : ClosedRound) (reply : Answer)
-    → in_version old.setup.version sent ≡ Ok closing → closing_in old closing.round closing.increments closing.ties ≡ Ok closed
+pub closing_made : (old new : HouseFields) (sent : Result CloseBody BodyFault) (closing : CloseBody)
+    (closed : ClosedRound) (reply : Answer) → in_version old.setup.version sent ≡ Ok closing
+    → closing_in old closing.round closing.increments closing.ties ≡ Ok closed
     → reply ≡ answer_of (close_outcome closing.round (closing_in old closing.round closing.increments closing.ties))
     → IsFollowedBy (command.close closing.round closing.increments closing.ties) old new
     → IsRightFor Operator (close sent) old new (record { reply = reply; effect = Closing closing.round })
@@ -118,10 +127,12 @@ closing_made old new sent closing closed reply is made told followed =
       still = λ (nothing : Closing closing.round ≡ Nothing). cc;
     }))
 
-pub closing_refused : (old new : HouseFields) (sent : Result CloseBody BodyFault) (closing : CloseBody) (fault : CloseFault) (response : Response)
-    → in_version old.setup.version sent ≡ Ok closing → closing_in old closing.round closing.increments closing.ties ≡ Err fault
-    → response.reply ≡ answer_of (close_outcome closing.round (closing_in old closing.round closing.increments closing.ties)) → response.effect ≡ Nothing
-    → IsFollowedBy (command.close closing.round closing.increments closing.ties) old new → StandsForTheSame old new → IsRightFor Operator (close sent) old new response
+pub closing_refused : (old new : HouseFields) (sent : Result CloseBody BodyFault) (closing : CloseBody)
+    (fault : CloseFault) (response : Response) → in_version old.setup.version sent ≡ Ok closing
+    → closing_in old closing.round closing.increments closing.ties ≡ Err fault → response.reply
+    ≡ answer_of (close_outcome closing.round (closing_in old closing.round closing.increments closing.ties))
+    → response.effect ≡ Nothing → IsFollowedBy (command.close closing.round closing.increments closing.ties) old new
+    → StandsForTheSame old new → IsRightFor Operator (close sent) old new response
 closing_refused old new sent closing fault response is faulty told nothing followed still =
     closing_response old new response sent
     (subst (IsClosingResponse old new response) (sym is)
@@ -133,9 +144,10 @@ closing_refused old new sent closing fault response is faulty told nothing follo
     }))
 
 -- The response to a body that is not a closing.
-pub refused_close : {N : Type 0} (told : Result Response N) (house : HouseFields) (sent : Result CloseBody BodyFault) (fault : BodyFault)
-    → (fault ≢ NoMemory → in_version house.setup.version sent ≡ Err fault) → OnOk told (fault ≢ NoMemory)
-    → IfOk told (λ response. response ≡ record { reply = answer_of (refused (bare (body_code fault))); effect = Nothing })
+pub refused_close : {N : Type 0} (told : Result Response N) (house : HouseFields) (sent : Result CloseBody BodyFault)
+    (fault : BodyFault) → (fault ≢ NoMemory → in_version house.setup.version sent ≡ Err fault)
+    → OnOk told (fault ≢ NoMemory) → IfOk told
+    (λ response. response ≡ record { reply = answer_of (refused (bare (body_code fault))); effect = Nothing })
     → IfOk told (IsRightFor Operator (close sent) house house)
 refused_close (Ok response) house sent fault err known is =
     closing_response house house response sent

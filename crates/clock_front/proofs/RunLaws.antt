@@ -19,14 +19,16 @@ right setup limits past text one is = record {
     elsewhere = λ other number other_past other_tokens other_lt alike. is
         ∙ isolated setup other bidder number past other_past text limits.tokens other_tokens lt other_lt alike own;
   };
-  public = λ none other other_past other_none same seen. is ∙ told_alike setup other past other_past text none other_none same seen;
+  public = λ none other other_past other_none same seen. is
+      ∙ told_alike setup other past other_past text none other_none same seen;
 }
 
 -- A run with one more request at its end, which was answered or left out.
-goes_on : (setup : SetupFields) (past texts : List (List ℕ)) (answers : List Answer) (end next : List (List ℕ)) (text : List ℕ) (one : Answer) →
-    Runs setup past texts answers end → Runs setup end (text ∷ []) (one ∷ []) next →
-    Runs setup past (texts ++ text ∷ []) (answers ++ one ∷ []) next
-goes_on setup past [] [] end next text one runs is = subst (λ before. Runs setup before (text ∷ []) (one ∷ []) next) runs is
+goes_on : (setup : SetupFields) (past texts : List (List ℕ)) (answers : List Answer) (end next : List (List ℕ))
+    (text : List ℕ) (one : Answer) → Runs setup past texts answers end → Runs setup end (text ∷ []) (one ∷ []) next
+    → Runs setup past (texts ++ text ∷ []) (answers ++ one ∷ []) next
+goes_on setup past [] [] end next text one runs is =
+    subst (λ before. Runs setup before (text ∷ []) (one ∷ []) next) runs is
 goes_on setup past [] (a ∷ answers) end next text one runs is = absurd runs
 goes_on setup past (t ∷ texts) [] end next text one runs is = absurd runs
 goes_on setup past (t ∷ texts) (a ∷ answers) end next text one runs is =
@@ -36,24 +38,28 @@ goes_on setup past (t ∷ texts) (a ∷ answers) end next text one runs is =
     ]
 
 -- The invariant of a run: the front has the set-up, and stands for the requests that were not left out.
-pub record IsUnderWay (setup : SetupFields) (texts : List (List ℕ)) (answers : List Answer) (front : HouseFields) : Type 0 where
+pub record IsUnderWay (setup : SetupFields) (texts : List (List ℕ)) (answers : List Answer)
+    (front : HouseFields) : Type 0 where
   pub end : List (List ℕ)
   pub kept : front.setup ≡ setup
   pub runs : Runs setup [] texts answers end
   pub stands : StandsForTexts end front
 
 -- The invariant after one more request.
-pub step : (setup : SetupFields) (limits : IsSetup setup) (texts : List (List ℕ)) (answers : List Answer) (front next : HouseFields)
-    (text : List ℕ) (one : Answer) →
-    IsUnderWay setup texts answers front → next.setup ≡ front.setup → AnswersText text one front next →
-    IsUnderWay setup (texts ++ text ∷ []) (answers ++ one ∷ []) next
+pub step : (setup : SetupFields) (limits : IsSetup setup) (texts : List (List ℕ)) (answers : List Answer)
+    (front next : HouseFields) (text : List ℕ) (one : Answer) → IsUnderWay setup texts answers front → next.setup
+    ≡ front.setup → AnswersText text one front next → IsUnderWay setup (texts ++ text ∷ []) (answers ++ one ∷ []) next
 step setup limits texts answers front next text one before same answered =
     elim (answered before.end before.stands) [
       | inl told ↦ record {
         end = text ∷ before.end;
         kept = same ∙ before.kept;
         runs = goes_on setup [] texts answers before.end (text ∷ before.end) text one before.runs
-            (inr (right setup limits before.end text one (told.0 ∙ ap (λ of_setup. reply of_setup before.end text) before.kept), refl));
+            (inr (
+              right setup limits before.end text one
+                  (told.0 ∙ ap (λ of_setup. reply of_setup before.end text) before.kept),
+              refl,
+            ));
         stands = told.1;
       }
       | inr none ↦ record {

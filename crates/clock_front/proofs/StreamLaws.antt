@@ -10,16 +10,16 @@ use Rattle.clock_http.specs.Replies.{Answer}
 use Rattle.clock_front.specs.Streamed.{HasServed, IsAnswerTo}
 
 -- The request that was read is answered.
-pub answer_read : (reading : Reading) (text : List ℕ) (told answer : Answer) (old new mid : HouseFields) → answer ≡ told → mid ≡ new
-    → HasArrived reading text → AnswersText text told old new → (IsOutOfMemoryReply text told ⊎ IsPrivateReply text old told)
-    → IsAnswerTo reading answer old mid
+pub answer_read : (reading : Reading) (text : List ℕ) (told answer : Answer) (old new mid : HouseFields) → answer ≡ told
+    → mid ≡ new → HasArrived reading text → AnswersText text told old new
+    → (IsOutOfMemoryReply text told ⊎ IsPrivateReply text old told) → IsAnswerTo reading answer old mid
 answer_read reading text told answer old new mid is same arrived answers private =
-    subst (λ (one : Answer). IsAnswerTo reading one old mid) (sym is)
-    (subst (λ (house : HouseFields). IsAnswerTo reading told old house) (sym same) (inl (text, arrived, answers, private)))
+    subst (λ (one : Answer). IsAnswerTo reading one old mid) (sym is) (subst
+    (λ (house : HouseFields). IsAnswerTo reading told old house) (sym same) (inl (text, arrived, answers, private)))
 
 -- Out of memory to read a request.
-pub answer_unread : (reading : Reading) (told answer : Answer) (old mid : HouseFields) → answer ≡ told → mid ≡ old → HasNoRoom reading
-    → told ≡ no_memory → IsAnswerTo reading answer old mid
+pub answer_unread : (reading : Reading) (told answer : Answer) (old mid : HouseFields) → answer ≡ told → mid ≡ old
+    → HasNoRoom reading → told ≡ no_memory → IsAnswerTo reading answer old mid
 answer_unread reading told answer old mid is same room none = inr (room, is ∙ none, same)
 
 -- After a reply, the front stands for at most one more request.
@@ -32,5 +32,6 @@ served_one text answer old new answers texts stands =
     ]
 
 -- Without a reply, the front stands for the same requests.
-pub served_none : (most : ℕ) (house : HouseFields) (texts : List (List ℕ)) → StandsForTexts texts house → HasServed most texts house
+pub served_none : (most : ℕ) (house : HouseFields) (texts : List (List ℕ)) → StandsForTexts texts house
+    → HasServed most texts house
 served_none most house texts stands = ([], omega arith, stands)

@@ -1,6 +1,7 @@
 -- Proves isolation: the reply to a bidder's own request follows from its view. By showing that the view of requests has
 -- the same sheets and closings as the view of their commands, from which all that the bidder knows follows.
-use Rattle.std.proofs.Common.{◌≡◌, ◌≢◌, ℕ, ◌<◌, Bool, true, false, cond, List, [], ◌∷◌, ◌++◌, length, refl, sym, ◌∙◌, ap, arith, eqb}
+use Rattle.std.proofs.Common.{◌≡◌, ◌≢◌, ℕ, ◌<◌, Bool, true, false, cond, List, [], ◌∷◌, ◌++◌, length, refl, sym, ◌∙◌}
+use Rattle.std.proofs.Common.{ap, arith, eqb}
 use Rattle.std.proofs.Common.{eq-eqb, append-nil, append_assoc, zero-add}
 use Rattle.std.specs.Prelude.{Option, Some, None, option_map, option_and_then, slice_index_or, Result, Ok, Err}
 use Rattle.std.proofs.lemmas.Bool.Decides.{nat_tests}
@@ -16,8 +17,10 @@ use Rattle.clock_closing.specs.declared.closed_round.Slip.{Slip}
 use Rattle.clock_closing.specs.declared.fault.CloseFault.{CloseFault}
 use Rattle.clock_closing.specs.declared.closed_round.ClosedRound.{ClosedRound}
 use Rattle.clock_house.specs.Standing.{Standing}
-use Rattle.clock_house.specs.History.{Auction, history, bidder_at, closing_of, round_at, slip_of, standing, holding, sheet_in_force, for_each_bidder}
-use Rattle.clock_house.specs.View.{Seen, own_put, view_of, seen_of, seen_closing, seen_standing, seen_holding, seen_in_force, seen_round, shown_to, IsSeen}
+use Rattle.clock_house.specs.History.{Auction, history, bidder_at, closing_of, round_at, slip_of, standing, holding}
+use Rattle.clock_house.specs.History.{sheet_in_force, for_each_bidder}
+use Rattle.clock_house.specs.View.{Seen, own_put, view_of, seen_of, seen_closing, seen_standing, seen_holding}
+use Rattle.clock_house.specs.View.{seen_in_force, seen_round, shown_to, IsSeen}
 use Rattle.clock_house.specs.View as typed
 use Rattle.clock_house.proofs.Isolation.{seen}
 use Rattle.clock_views.specs.PublicPages.{sheet_value}
@@ -34,7 +37,8 @@ use Rattle.clock_front.specs.Requests as ask
 use Rattle.clock_bodies.specs.CloseBodies.{in_version}
 use Rattle.clock_front.specs.Outcomes.{done, answer_of, page_or_no_round, close_command, outcome, command_of}
 use Rattle.clock_front.specs.Fronts.{text_command, commands_of, house_after}
-use Rattle.clock_front.specs.Views.{SeenText, own, seen_close, is_own, closings_of, seen_of_text, text_view, sheet_put, typed_view, bidder_outcome, answer}
+use Rattle.clock_front.specs.Views.{SeenText, own, seen_close, is_own, closings_of, seen_of_text, text_view, sheet_put}
+use Rattle.clock_front.specs.Views.{typed_view, bidder_outcome, answer}
 use Rattle.clock_front.specs.inside.Knowledge.{Knowledge, known_from, known_outcome}
 use Rattle.clock_front.specs.inside.Isolation.{IsAnsweredFromView, IsIsolated}
 use Rattle.clock_front.proofs.CallerLaws.{caller_own, caller_other}
@@ -45,7 +49,8 @@ typed_view-append [] back = refl
 typed_view-append (own text ∷ front) back =
     ap (λ rest. sheet_put (request_of text).ask ++ rest) (typed_view-append front back)
     ∙ sym (append_assoc (sheet_put (request_of text).ask) (typed_view front) (typed_view back))
-typed_view-append (seen_close sheet slip ∷ front) back = ap (λ rest. typed.accepted_close sheet slip ∷ rest) (typed_view-append front back)
+typed_view-append (seen_close sheet slip ∷ front) back =
+    ap (λ rest. typed.accepted_close sheet slip ∷ rest) (typed_view-append front back)
 
 -- An own request is seen as the sheet that it submits.
 own_put_seen : (setup : SetupFields) (b : ℕ) (auction : Auction) (round : ℕ) (sent : PutBody) →
@@ -58,14 +63,16 @@ own_seen setup b auction (ask.put (Ok sent)) = own_put_seen setup b auction 0 se
 own_seen setup b auction _ = refl
 
 -- Of others' commands the accepted closings are seen, and nothing else.
-closing_seen_again : (b : ℕ) (closing : Result ClosedRound CloseFault) → typed_view (closings_of (seen_closing b closing)) ≡ seen_closing b closing
+closing_seen_again : (b : ℕ) (closing : Result ClosedRound CloseFault)
+    → typed_view (closings_of (seen_closing b closing)) ≡ seen_closing b closing
 closing_seen_again b (Ok round) = refl
 closing_seen_again b (Err fault) = refl
 
-closing_seen_of : (setup : SetupFields) (b : ℕ) (auction : Auction) (sent : Result CloseBody BodyFault) →
-    typed_view (closings_of (seen_of setup b auction (close_command sent))) ≡ seen_of setup b auction (close_command sent)
+closing_seen_of : (setup : SetupFields) (b : ℕ) (auction : Auction) (sent : Result CloseBody BodyFault) → typed_view
+    (closings_of (seen_of setup b auction (close_command sent))) ≡ seen_of setup b auction (close_command sent)
 closing_seen_of setup b auction (Err fault) = refl
-closing_seen_of setup b auction (Ok sent) = closing_seen_again b (closing_of setup auction sent.round sent.increments sent.ties)
+closing_seen_of setup b auction (Ok sent) =
+    closing_seen_again b (closing_of setup auction sent.round sent.increments sent.ties)
 
 rival_put_seen : (setup : SetupFields) (b d : ℕ) (auction : Auction) (sent : PutBody) → d ≢ b →
     seen_of setup b auction (command.put d sent.round sent.bids) ≡ []
@@ -73,35 +80,35 @@ rival_put_seen setup b d auction sent differ =
     let no : eqb d b ≡ false = grind (arith, nat_tests) in
     ap (λ t. cond t (own_put sent.round sent.bids ∷ []) []) no
 
-other_seen : (setup : SetupFields) (b : ℕ) (auction : Auction) (author : Caller) (asked : Ask) → (author ≡ who.Bidder b → ⊥) →
-    typed_view (closings_of (seen_of setup b auction (command_of setup author asked))) ≡ seen_of setup b auction (command_of setup author asked)
+other_seen : (setup : SetupFields) (b : ℕ) (auction : Auction) (author : Caller) (asked : Ask)
+    → (author ≡ who.Bidder b → ⊥) → typed_view (closings_of (seen_of setup b auction (command_of setup author asked)))
+    ≡ seen_of setup b auction (command_of setup author asked)
 other_seen setup b auction (who.Bidder d) (ask.put (Ok sent)) not_b =
     let none = rival_put_seen setup b d auction sent (λ e. not_b (ap who.Bidder e)) in
     ap (λ xs. typed_view (closings_of xs)) none ∙ sym none
-other_seen setup b auction who.Operator (ask.close sent) not_b = closing_seen_of setup b auction (in_version setup.version sent)
+other_seen setup b auction who.Operator (ask.close sent) not_b =
+    closing_seen_of setup b auction (in_version setup.version sent)
 other_seen setup b auction _ _ not_b = refl
 
 -- What is seen of one request has the same sheets and closings as what is seen of its command.
 text_seen : (setup : SetupFields) (b : ℕ) (tokens : HasOwnTokens setup) → b < length setup.bidders
-    → (past : List (List ℕ)) (text : List ℕ) (mine : Bool) → is_own (bidder_at setup b) text ≡ mine →
-    typed_view (cond mine (own text ∷ []) (closings_of (seen_of setup b (history setup (commands_of setup past)) (text_command setup text))))
-    ≡ seen_of setup b (history setup (commands_of setup past)) (text_command setup text)
-text_seen setup b tokens lt past text true is =
-    append-nil (sheet_put (request_of text).ask)
+    → (past : List (List ℕ)) (text : List ℕ) (mine : Bool) → is_own (bidder_at setup b) text ≡ mine
+    → typed_view (cond mine (own text ∷ []) (closings_of (seen_of setup b (history setup (commands_of setup past))
+    (text_command setup text)))) ≡ seen_of setup b (history setup (commands_of setup past)) (text_command setup text)
+text_seen setup b tokens lt past text true is = append-nil (sheet_put (request_of text).ask)
     ∙ sym (own_seen setup b (history setup (commands_of setup past)) (request_of text).ask)
-    ∙ ap (λ author. seen_of setup b (history setup (commands_of setup past)) (command_of setup author (request_of text).ask))
-    (sym (caller_own setup tokens b lt (request_of text).token is))
-text_seen setup b tokens lt past text false is =
-    other_seen setup b (history setup (commands_of setup past)) (caller setup (request_of text).token) (request_of text).ask
-    (caller_other setup b (request_of text).token is)
+    ∙ ap (λ author. seen_of setup b (history setup (commands_of setup past))
+    (command_of setup author (request_of text).ask)) (sym (caller_own setup tokens b lt (request_of text).token is))
+text_seen setup b tokens lt past text false is = other_seen setup b (history setup (commands_of setup past))
+    (caller setup (request_of text).token) (request_of text).ask (caller_other setup b (request_of text).token is)
 
-pub typed_view-text_view : (setup : SetupFields) (b : ℕ) (tokens : HasOwnTokens setup) → b < length setup.bidders → (past : List (List ℕ)) →
-    typed_view (text_view setup b past) ≡ view_of setup b (commands_of setup past)
+pub typed_view-text_view : (setup : SetupFields) (b : ℕ) (tokens : HasOwnTokens setup) → b < length setup.bidders
+    → (past : List (List ℕ)) → typed_view (text_view setup b past) ≡ view_of setup b (commands_of setup past)
 typed_view-text_view setup b tokens lt [] = refl
-typed_view-text_view setup b tokens lt (text ∷ past) =
-    typed_view-append (seen_of_text setup b past text) (text_view setup b past)
-    ∙ ap (λ front. front ++ typed_view (text_view setup b past)) (text_seen setup b tokens lt past text (is_own (bidder_at setup b) text) refl)
-    ∙ ap (λ rest. seen_of setup b (history setup (commands_of setup past)) (text_command setup text) ++ rest) (typed_view-text_view setup b tokens lt past)
+typed_view-text_view setup b tokens lt (text ∷ past) = typed_view-append (seen_of_text setup b past text)
+    (text_view setup b past) ∙ ap (λ front. front ++ typed_view (text_view setup b past)) (text_seen setup b tokens lt
+    past text (is_own (bidder_at setup b) text) refl) ∙ ap (λ rest. seen_of setup b (history setup
+    (commands_of setup past)) (text_command setup text) ++ rest) (typed_view-text_view setup b tokens lt past)
 
 -- ---- a reply depends on what is known of the round asked for, and of no other round
 abbrev Rounds : Type 0
@@ -109,21 +116,23 @@ Rounds = ℕ → Option (RoundSheet × Slip)
 
 module _ (setup : PublicSetup) (row : Bidder) (standing_now : Standing) (held : Holding) (in_force : Option (List Bid))
     (one two : Rounds) (alike : (n : ℕ) → one n ≡ two n) where
-  same_slip : (named : Option ℕ) →
-      page_or_no_round (option_map (λ (one_seen : RoundSheet × Slip). slip_value one_seen.1) (option_and_then one named))
-      ≡ page_or_no_round (option_map (λ (one_seen : RoundSheet × Slip). slip_value one_seen.1) (option_and_then two named))
+  same_slip : (named : Option ℕ) → page_or_no_round (option_map
+      (λ (one_seen : RoundSheet × Slip). slip_value one_seen.1) (option_and_then one named)) ≡ page_or_no_round
+      (option_map (λ (one_seen : RoundSheet × Slip). slip_value one_seen.1) (option_and_then two named))
   same_slip None = refl
-  same_slip (Some n) = ap (λ found. page_or_no_round (option_map (λ (one_seen : RoundSheet × Slip). slip_value one_seen.1) found)) (alike n)
+  same_slip (Some n) = ap (λ found.
+      page_or_no_round (option_map (λ (one_seen : RoundSheet × Slip). slip_value one_seen.1) found)) (alike n)
 
-  same_sheet : (named : Option ℕ) →
-      page_or_no_round (option_map (λ (one_seen : RoundSheet × Slip). sheet_value setup one_seen.0) (option_and_then one named))
-      ≡ page_or_no_round (option_map (λ (one_seen : RoundSheet × Slip). sheet_value setup one_seen.0) (option_and_then two named))
+  same_sheet : (named : Option ℕ) → page_or_no_round (option_map
+      (λ (one_seen : RoundSheet × Slip). sheet_value setup one_seen.0) (option_and_then one named)) ≡ page_or_no_round
+      (option_map (λ (one_seen : RoundSheet × Slip). sheet_value setup one_seen.0) (option_and_then two named))
   same_sheet None = refl
-  same_sheet (Some n) = ap (λ found. page_or_no_round (option_map (λ (one_seen : RoundSheet × Slip). sheet_value setup one_seen.0) found)) (alike n)
+  same_sheet (Some n) = ap (λ found.
+      page_or_no_round (option_map (λ (one_seen : RoundSheet × Slip). sheet_value setup one_seen.0) found)) (alike n)
 
-  pub same_rounds : (asked : Ask) →
-      known_outcome setup row (record { standing = standing_now; holding = held; in_force = in_force; rounds = one }) asked
-      ≡ known_outcome setup row (record { standing = standing_now; holding = held; in_force = in_force; rounds = two }) asked
+  pub same_rounds : (asked : Ask) → known_outcome setup row
+      (record { standing = standing_now; holding = held; in_force = in_force; rounds = one }) asked ≡ known_outcome
+      setup row (record { standing = standing_now; holding = held; in_force = in_force; rounds = two }) asked
   unfolding known_outcome
   same_rounds (ask.slip segment) = same_slip (plain_number segment)
   same_rounds (ask.sheet segment) = same_sheet (plain_number segment)
@@ -141,9 +150,8 @@ module _ (setup : SetupFields) (b : ℕ) (lt : b < length setup.bidders) (comman
     rounds = λ n. option_map (shown_to b) (round_at n (history setup commands).closed);
   }
 
-  slip_told : (found : Option ClosedRound) →
-      option_map (λ closed. slip_value (slip_of b closed)) found ≡ option_map (λ (one_seen : RoundSheet × Slip). slip_value one_seen.1)
-      (option_map (shown_to b) found)
+  slip_told : (found : Option ClosedRound) → option_map (λ closed. slip_value (slip_of b closed)) found
+      ≡ option_map (λ (one_seen : RoundSheet × Slip). slip_value one_seen.1) (option_map (shown_to b) found)
   slip_told None = refl
   slip_told (Some closed) = refl
 
@@ -153,43 +161,45 @@ module _ (setup : SetupFields) (b : ℕ) (lt : b < length setup.bidders) (comman
   sheet_told None = refl
   sheet_told (Some closed) = refl
 
-  named_slip : (named : Option ℕ) →
-      option_map (λ closed. slip_value (slip_of b closed)) (option_and_then (λ n. round_at n (history setup commands).closed) named)
+  named_slip : (named : Option ℕ) → option_map (λ closed. slip_value (slip_of b closed))
+      (option_and_then (λ n. round_at n (history setup commands).closed) named)
       ≡ option_map (λ (one_seen : RoundSheet × Slip). slip_value one_seen.1) (option_and_then known_in.rounds named)
   named_slip None = refl
   named_slip (Some n) = slip_told (round_at n (history setup commands).closed)
 
-  named_sheet : (named : Option ℕ) →
-      option_map (λ closed. sheet_value (public_setup setup) closed.sheet) (option_and_then (λ n. round_at n (history setup commands).closed) named)
-      ≡ option_map (λ (one_seen : RoundSheet × Slip). sheet_value (public_setup setup) one_seen.0) (option_and_then known_in.rounds named)
+  named_sheet : (named : Option ℕ) → option_map (λ closed. sheet_value (public_setup setup) closed.sheet)
+      (option_and_then (λ n. round_at n (history setup commands).closed) named) ≡ option_map (λ (one_seen : RoundSheet
+      × Slip). sheet_value (public_setup setup) one_seen.0) (option_and_then known_in.rounds named)
   named_sheet None = refl
   named_sheet (Some n) = sheet_told (round_at n (history setup commands).closed)
 
-  own_sheet : slice_index_or (for_each_bidder setup (sheet_in_force setup (history setup commands))) b None ≡ sheet_in_force setup (history setup commands) b
-  own_sheet = get_or-map-range_with_len (sheet_in_force setup (history setup commands)) 0 (length setup.bidders) b b None lt (zero-add b)
+  own_sheet : slice_index_or (for_each_bidder setup (sheet_in_force setup (history setup commands))) b None
+      ≡ sheet_in_force setup (history setup commands) b
+  own_sheet = get_or-map-range_with_len (sheet_in_force setup (history setup commands)) 0
+      (length setup.bidders) b b None lt (zero-add b)
 
   pub told_of_known : (asked : Ask) → outcome (house_after setup commands) (who.Bidder b) asked ≡ known_outcome
       (public_setup setup) (bidder_at setup b) known_in asked
   unfolding known_outcome
   told_of_known (ask.slip segment) = ap page_or_no_round (named_slip (plain_number segment))
   told_of_known (ask.sheet segment) = ap page_or_no_round (named_sheet (plain_number segment))
-  told_of_known ask.bids = ap (λ sheet. done (bids_value (standing setup.products (history setup commands).closed).round sheet)) own_sheet
+  told_of_known ask.bids =
+      ap (λ sheet. done (bids_value (standing setup.products (history setup commands).closed).round sheet)) own_sheet
   told_of_known (ask.put (Ok body)) = refl
   told_of_known _ = refl
 
   -- The reply follows from the view of the commands.
-  pub told_of_view : (asked : Ask) →
-      outcome (house_after setup commands) (who.Bidder b) asked
-      ≡ known_outcome (public_setup setup) (bidder_at setup b) (known_from (public_setup setup) (bidder_at setup b) (view_of setup b commands)) asked
+  pub told_of_view : (asked : Ask)
+      → outcome (house_after setup commands) (who.Bidder b) asked ≡ known_outcome (public_setup setup)
+      (bidder_at setup b) (known_from (public_setup setup) (bidder_at setup b) (view_of setup b commands)) asked
   told_of_view asked =
       let is : IsSeen setup b commands = seen setup b commands in
       let public = public_setup setup in
       let row = bidder_at setup b in
       let view = view_of setup b commands in
-      told_of_known asked
-      ∙ ap (λ s. known_outcome public row (record { standing = s; holding = known_in.holding; in_force = known_in.in_force; rounds = known_in.rounds }) asked)
-      is.standing
-      ∙ ap (λ h. known_outcome public row (record {
+      told_of_known asked ∙ ap (λ s. known_outcome public row
+      (record { standing = s; holding = known_in.holding; in_force = known_in.in_force; rounds = known_in.rounds })
+      asked) is.standing ∙ ap (λ h. known_outcome public row (record {
         standing = seen_standing public view;
         holding = h;
         in_force =
@@ -202,7 +212,8 @@ module _ (setup : SetupFields) (b : ℕ) (lt : b < length setup.bidders) (comman
         in_force = f;
         rounds = known_in.rounds;
       }) asked) is.in_force
-      ∙ same_rounds public row (seen_standing public view) (seen_holding public row view) (seen_in_force public row view) known_in.rounds
+      ∙ same_rounds public row (seen_standing public view) (seen_holding public row view)
+      (seen_in_force public row view) known_in.rounds
       (λ n. seen_round n view) is.rounds asked
 
 -- The reply computed from what a view makes known is the reply computed from the view.
@@ -215,16 +226,15 @@ told_by_known setup row view _ = refl
 -- ---- isolation
 
 -- The reply to an own request follows from the view.
-pub told_from_view : (setup : SetupFields) (b : ℕ) (past : List (List ℕ)) (text : List ℕ) → HasOwnTokens setup → b < length setup.bidders
-    → is_own (bidder_at setup b) text ≡ true
-    → outcome (house_after setup (commands_of setup past)) (caller setup (request_of text).token) (request_of text).ask
-    ≡ bidder_outcome (public_setup setup) (bidder_at setup b) (typed_view (text_view setup b past)) (request_of text).ask
+pub told_from_view : (setup : SetupFields) (b : ℕ) (past : List (List ℕ)) (text : List ℕ) → HasOwnTokens setup
+    → b < length setup.bidders → is_own (bidder_at setup b) text ≡ true → outcome (house_after setup
+    (commands_of setup past)) (caller setup (request_of text).token) (request_of text).ask ≡ bidder_outcome
+    (public_setup setup) (bidder_at setup b) (typed_view (text_view setup b past)) (request_of text).ask
 told_from_view setup b past text tokens lt is =
-    ap (λ author. outcome (house_after setup (commands_of setup past)) author (request_of text).ask)
-    (caller_own setup tokens b lt (request_of text).token is)
-    ∙ told_of_view setup b lt (commands_of setup past) (request_of text).ask
-    ∙ ap (λ view. known_outcome (public_setup setup) (bidder_at setup b) (known_from (public_setup setup) (bidder_at setup b) view)
-    (request_of text).ask) (sym (typed_view-text_view setup b tokens lt past))
+    ap (λ author. outcome (house_after setup (commands_of setup past)) author (request_of text).ask) (caller_own setup
+    tokens b lt (request_of text).token is) ∙ told_of_view setup b lt (commands_of setup past) (request_of text).ask
+    ∙ ap (λ view. known_outcome (public_setup setup) (bidder_at setup b) (known_from (public_setup setup)
+    (bidder_at setup b) view) (request_of text).ask) (sym (typed_view-text_view setup b tokens lt past))
     ∙ told_by_known (public_setup setup) (bidder_at setup b) (typed_view (text_view setup b past)) (request_of text).ask
 
 pub answered_from_view : IsAnsweredFromView

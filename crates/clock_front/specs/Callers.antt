@@ -22,7 +22,8 @@ holder (entry ∷ entries) token = if same_bytes token entry.0 then entry.1 else
 -- Who sent a request with this token, or with none. The operator's token is compared first.
 abbrev pub caller : SetupFields → Option (List ℕ) → Caller
 caller setup None = Nobody
-caller setup (Some token) = holder ((setup.operator, Operator) ∷ bidder_tokens 0 setup.bidders) token
+caller setup (Some token) =
+    holder ((setup.operator, Operator) ∷ bidder_tokens 0 setup.bidders) token
 
 -- No token of the set-up occurs twice. Every set-up that was read has this property.
 abbrev pub HasOwnTokens : SetupFields → Type 0

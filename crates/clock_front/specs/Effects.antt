@@ -8,7 +8,8 @@ use Rattle.clock_terms.specs.Limits.{SetupFields}
 use Rattle.clock_closing.specs.declared.closed_round.ClosedRound.{ClosedRound}
 use Rattle.clock_closing.specs.declared.fault.CloseFault.{CloseFault}
 use Rattle.clock_house.specs.Command.{Command, put, close, other}
-use Rattle.clock_house.specs.House.{HouseFields, IsFollowedBy, StandsForTheSame, put_fault_in, closing_in}
+use Rattle.clock_house.specs.House.{HouseFields, IsFollowedBy, StandsForTheSame, put_fault_in}
+use Rattle.clock_house.specs.House.{closing_in}
 use Rattle.clock_house.specs.declared.fault.PutFault.{PutFault}
 use Rattle.clock_front.specs.Callers.{caller}
 use Rattle.clock_front.specs.Fronts.{IsOutOfMemoryReply, commands_of, house_after, text_command}
@@ -32,16 +33,19 @@ close_effect round (Err fault) = Nothing
 -- What a command changes now. Only sheets and closings change anything.
 abbrev pub effect_in : HouseFields → Command → Effect
 effect_in house (put bidder round bids) = put_effect (put_fault_in house bidder round bids)
-effect_in house (close round increments ties) = close_effect round (closing_in house round increments ties)
+effect_in house (close round increments ties) =
+    close_effect round (closing_in house round increments ties)
 effect_in house other = Nothing
 
 -- What a request changes after other requests, listed newest first.
 abbrev pub effect : SetupFields → List (List ℕ) → List ℕ → Effect
-effect setup texts text = effect_in (house_after setup (commands_of setup texts)) (text_command setup text)
+effect setup texts text =
+    effect_in (house_after setup (commands_of setup texts)) (text_command setup text)
 
 -- The reply and the effect follow from the old house. The new house stands for one more command; if
 -- the effect is `Nothing`, it also stands for the commands of the old one.
-pub record IsRightFor (who : Caller) (ask : Ask) (old new : HouseFields) (response : Response) : Type 0 where
+pub record IsRightFor (who : Caller) (ask : Ask) (old new : HouseFields)
+    (response : Response) : Type 0 where
   pub reply : response.reply ≡ answer_of (outcome old who ask)
   pub effect : response.effect ≡ effect_in old (command_of old.setup who ask)
   pub followed : IsFollowedBy (command_of old.setup who ask) old new
@@ -54,6 +58,5 @@ IsRightResponse text old new response =
 
 -- The right response; or out of memory, and the house stands for the same commands as before.
 abbrev pub RespondsTo : List ℕ → Response → HouseFields → HouseFields → Type 0
-RespondsTo text response old new =
-    IsRightResponse text old new response
-    ⊎ (IsOutOfMemoryReply text response.reply × (response.effect ≡ Nothing) × StandsForTheSame old new)
+RespondsTo text response old new = IsRightResponse text old new response ⊎ (IsOutOfMemoryReply text
+    response.reply × (response.effect ≡ Nothing) × StandsForTheSame old new)

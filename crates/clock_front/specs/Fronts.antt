@@ -23,7 +23,8 @@ use Rattle.clock_front.specs.Outcomes.{answer_of, outcome, command_of}
 
 -- The command that a request is: a sheet of its sender, a closing, or neither.
 abbrev pub text_command : SetupFields → List ℕ → Command
-text_command setup text = command_of setup (caller setup (request_of text).token) (request_of text).ask
+text_command setup text =
+    command_of setup (caller setup (request_of text).token) (request_of text).ask
 
 abbrev pub commands_of : SetupFields → List (List ℕ) → List Command
 commands_of setup texts = map (text_command setup) texts
@@ -38,8 +39,8 @@ house_after setup commands = record {
 
 -- The one right reply, computed from the auction so far, the request's token, and what it asks for.
 abbrev pub reply : SetupFields → List (List ℕ) → List ℕ → Answer
-reply setup texts text =
-    answer_of (outcome (house_after setup (commands_of setup texts)) (caller setup (request_of text).token) (request_of text).ask)
+reply setup texts text = answer_of (outcome (house_after setup (commands_of setup texts))
+    (caller setup (request_of text).token) (request_of text).ask)
 
 -- All that the house shows follows from these requests: it stands for their commands.
 abbrev pub StandsForTexts : List (List ℕ) → HouseFields → Type 0
@@ -47,7 +48,8 @@ StandsForTexts texts house = StandsFor (commands_of house.setup texts) house
 
 -- The right reply to a request, by the current state of the house.
 abbrev pub right_answer : HouseFields → List ℕ → Answer
-right_answer house text = answer_of (outcome house (caller house.setup (request_of text).token) (request_of text).ask)
+right_answer house text =
+    answer_of (outcome house (caller house.setup (request_of text).token) (request_of text).ask)
 
 -- The reply to a request that was incomplete when its input ended: `cut_short`, or out of memory.
 abbrev pub IsCutShort : Answer → Type 0

@@ -50,7 +50,8 @@ use Rattle.clock_connections.specs.Pieces.{requests_of}
 
 -- A bidder sees the same in two runs: the public set-up, its own row, and its view are equal. Its
 -- number, the rivals, and their number may differ, as far as the results in the view are equal.
-pub record SeesTheSame (one two : SetupFields) (bidder other_number : ℕ) (past other_past : List (List ℕ)) : Type 0 where
+pub record SeesTheSame (one two : SetupFields) (bidder other_number : ℕ)
+    (past other_past : List (List ℕ)) : Type 0 where
   pub public : public_setup one ≡ public_setup two
   pub row : bidder_at one bidder ≡ bidder_at two other_number
   pub view : text_view one bidder past ≡ text_view two other_number other_past
@@ -58,22 +59,28 @@ pub record SeesTheSame (one two : SetupFields) (bidder other_number : ℕ) (past
 -- The reply to a bidder's own request is computed from what the bidder sees, without any rival. It
 -- is also the right reply after every other list of requests, under any set-up with distinct
 -- tokens, if some bidder there sees the same.
-pub record IsPrivate (setup : SetupFields) (bidder : ℕ) (past : List (List ℕ)) (text : List ℕ) (one : Answer) : Type 0 where
-  pub from_view : one ≡ answer (public_setup setup) (bidder_at setup bidder) (text_view setup bidder past) text
-  pub elsewhere : (other : SetupFields) (other_number : ℕ) (other_past : List (List ℕ)) → HasOwnTokens other → other_number < length other.bidders
-      → SeesTheSame setup other bidder other_number past other_past → one ≡ reply other other_past text
+pub record IsPrivate (setup : SetupFields) (bidder : ℕ) (past : List (List ℕ)) (text : List ℕ)
+    (one : Answer) : Type 0 where
+  pub from_view : one
+      ≡ answer (public_setup setup) (bidder_at setup bidder) (text_view setup bidder past) text
+  pub elsewhere : (other : SetupFields) (other_number : ℕ) (other_past : List (List ℕ))
+      → HasOwnTokens other → other_number < length other.bidders → SeesTheSame setup other bidder
+      other_number past other_past → one ≡ reply other other_past text
 
 -- The reply is also the right reply after every other list of requests after which everyone sees
 -- the same, if the request has no valid token there either.
 abbrev pub IsPublic : SetupFields → List (List ℕ) → List ℕ → Answer → Type 0
-IsPublic setup past text one = (other : SetupFields) (other_past : List (List ℕ)) → HasNoValidToken other text
-    → public_setup setup ≡ public_setup other → public_view setup past ≡ public_view other other_past → one ≡ reply other other_past text
+IsPublic setup past text one = (other : SetupFields) (other_past : List (List ℕ))
+    → HasNoValidToken other text → public_setup setup ≡ public_setup other
+    → public_view setup past ≡ public_view other other_past → one ≡ reply other other_past text
 
 -- The reply is the right one after the requests of the past. If the request is a bidder's own, the
 -- reply depends only on what that bidder sees. If the request has no valid token, it is public.
-pub record IsRight (setup : SetupFields) (past : List (List ℕ)) (text : List ℕ) (one : Answer) : Type 0 where
+pub record IsRight (setup : SetupFields) (past : List (List ℕ)) (text : List ℕ)
+    (one : Answer) : Type 0 where
   pub is : one ≡ reply setup past text
-  pub private : (bidder : ℕ) → bidder < length setup.bidders → is_own (bidder_at setup bidder) text ≡ true → IsPrivate setup bidder past text one
+  pub private : (bidder : ℕ) → bidder < length setup.bidders
+      → is_own (bidder_at setup bidder) text ≡ true → IsPrivate setup bidder past text one
   pub public : HasNoValidToken setup text → IsPublic setup past text one
 
 -- Each request has the right reply, or was answered out of memory: then it is left out of the past
@@ -88,13 +95,16 @@ Runs setup past (text ∷ texts) (one ∷ answers) end =
 
 -- A run from the beginning of an auction: each reply is right, or its request is left out. The
 -- auction that the other requests have made is sound.
-pub record IsRun (setup : SetupFields) (texts : List (List ℕ)) (answers : List Answer) : Type 0 where
+pub record IsRun (setup : SetupFields) (texts : List (List ℕ))
+    (answers : List Answer) : Type 0 where
   pub end : List (List ℕ)
   pub runs : Runs setup [] texts answers end
   pub sound : IsSound setup (history setup (commands_of setup end))
 
 -- A run of the requests that arrive in pieces over connections, in the order in which they become
 -- complete. Each reply has the number of its connection.
-pub record IsEventRun (setup : SetupFields) (events : List Event) (replies : List EventReply) : Type 0 where
+pub record IsEventRun (setup : SetupFields) (events : List Event)
+    (replies : List EventReply) : Type 0 where
   pub numbers : map (λ one. one.number) replies ≡ map (λ request. request.0) (requests_of events)
-  pub run : IsRun setup (map (λ request. request.1) (requests_of events)) (map (λ one. one.reply) replies)
+  pub run : IsRun setup (map (λ request. request.1) (requests_of events))
+      (map (λ one. one.reply) replies)

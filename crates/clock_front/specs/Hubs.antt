@@ -8,7 +8,8 @@ use Rattle.clock_house.specs.House.{HouseFields}
 use Rattle.clock_connections.specs.Connections.{ConnectionFields, IsTaken, IsGone, text_of}
 use Rattle.clock_connections.specs.declared.connections.Conn.{Conn}
 use Rattle.clock_connections.specs.declared.connections.HubFault.{HubFault}
-use Rattle.clock_connections.specs.declared.connections.HubFault.TheVariants.{Full, NoMemory, Unknown}
+use Rattle.clock_connections.specs.declared.connections.HubFault.TheVariants.{Full, NoMemory}
+use Rattle.clock_connections.specs.declared.connections.HubFault.TheVariants.{Unknown}
 use Rattle.clock_http.specs.Framing.{needs_more}
 use Rattle.clock_http.specs.Replies.{Answer}
 use Rattle.clock_front.specs.Fronts.{AnswersText, IsOutOfMemoryReply}
@@ -23,7 +24,8 @@ pub record HubFields : Type 0 where
 
 -- The request of a connection was answered, and the connection is gone. The reply is right, and
 -- private to the bidder who sent the request; or it is the out-of-memory reply.
-pub record IsAnswered (old new : HubFields) (conn : Conn) (text : List ℕ) (reply : Answer) : Type 0 where
+pub record IsAnswered (old new : HubFields) (conn : Conn) (text : List ℕ)
+    (reply : Answer) : Type 0 where
   pub gone : IsGone old.connections new.connections conn
   pub answered : AnswersText text reply old.house new.house
   pub private : IsOutOfMemoryReply text reply ⊎ IsPrivateReply text old.house reply
@@ -32,12 +34,15 @@ pub record IsAnswered (old new : HubFields) (conn : Conn) (text : List ℕ) (rep
 -- A connection's bytes are now `text`. If they are less than a request, the connection waits for
 -- more, and the house is unchanged. Otherwise the request was answered.
 abbrev pub IsFed : HubFields → HubFields → Conn → List ℕ → Fed → Type 0
-IsFed old new conn text More = (needs_more text ≡ true) × IsTaken old.connections new.connections conn text × (new.house ≡ old.house)
-IsFed old new conn text (Reply reply) = (needs_more text ≡ false) × IsAnswered old new conn text reply
+IsFed old new conn text More = (needs_more text ≡ true)
+    × IsTaken old.connections new.connections conn text × (new.house ≡ old.house)
+IsFed old new conn text (Reply reply) =
+    (needs_more text ≡ false) × IsAnswered old new conn text reply
 
 -- What a piece led to, which is appended to the bytes of its connection.
 abbrev pub IsFedBy : HubFields → HubFields → Conn → List ℕ → Fed → Type 0
-IsFedBy old new conn piece fed = (text : List ℕ) → text_of old.connections conn ≡ Some text → IsFed old new conn (text ++ piece) fed
+IsFedBy old new conn piece fed = (text : List ℕ) → text_of old.connections conn ≡ Some text
+    → IsFed old new conn (text ++ piece) fed
 
 -- Why a piece was refused: out of memory on an open connection, or the connection is not open.
 abbrev pub IsFeedFault : Option (List ℕ) → HubFault → Type 0

@@ -4,7 +4,8 @@
 --     to_bidder caller page, to_operator caller page      a page only for bidders, or the operator
 --     outcome house caller ask      the reply to a sender who asks for this
 --     command_of setup caller ask      the command that the request is
-use Rattle.std.specs.Prelude.{ℕ, List, length, Option, Some, None, option_map, option_and_then, Result, Ok, Err, slice_index_or}
+use Rattle.std.specs.Prelude.{ℕ, List, length, Option, Some, None, option_map, option_and_then}
+use Rattle.std.specs.Prelude.{Result, Ok, Err, slice_index_or}
 use Rattle.serde_json.specs.Data.{Data}
 use Rattle.serde_json.specs.Written.{compact_text}
 use Rattle.clock_terms.specs.Limits.{SetupFields, public_setup}
@@ -43,7 +44,8 @@ pub data Outcome : Type 0 where
 
 -- A reply with a page as its body. `allowed` is the page whose methods the head lists, if any.
 abbrev pub with_page : Code → Option Page → Data → Answer
-with_page code allowed value = record { code = code; bytes = reply_bytes code allowed (compact_text value) }
+with_page code allowed value =
+    record { code = code; bytes = reply_bytes code allowed (compact_text value) }
 
 abbrev pub answer_of : Outcome → Answer
 answer_of (done value) = with_page code.Done None value
@@ -99,7 +101,8 @@ put_to house bidder (Ok body) = put_outcome body (put_fault_in house bidder body
 -- The reply to a closing of the operator. A body that is not a closing is refused for that.
 abbrev pub close_to : HouseFields → Result CloseBody BodyFault → Outcome
 close_to house (Err fault) = refused (bare (body_code fault))
-close_to house (Ok body) = close_outcome body.round (closing_in house body.round body.increments body.ties)
+close_to house (Ok body) =
+    close_outcome body.round (closing_in house body.round body.increments body.ties)
 
 -- ---- the reply to each request
 
@@ -107,23 +110,28 @@ close_to house (Ok body) = close_outcome body.round (closing_in house body.round
 abbrev pub outcome_of : HouseFields → Caller → Ask → Outcome
 outcome_of house caller (asked.turned_away why) = refused (bare why)
 outcome_of house caller (asked.no_method page) = not_allowed page
-outcome_of house caller asked.status = done (status_value (public_setup house.setup) (standing_in house).round (standing_in house).ended)
+outcome_of house caller asked.status = done
+    (status_value (public_setup house.setup) (standing_in house).round (standing_in house).ended)
 outcome_of house caller asked.products = done (products_value (public_setup house.setup))
-outcome_of house caller (asked.sheet segment) =
-    page_or_no_round (option_map (λ closed. sheet_value (public_setup house.setup) closed.sheet) (round_in house segment))
-outcome_of house caller asked.account = to_bidder caller (λ bidder. done (account_value house.setup.products (bidder_at house.setup bidder).name
+outcome_of house caller (asked.sheet segment) = page_or_no_round (option_map
+    (λ closed. sheet_value (public_setup house.setup) closed.sheet) (round_in house segment))
+outcome_of house caller asked.account = to_bidder caller
+    (λ bidder. done (account_value house.setup.products (bidder_at house.setup bidder).name
     (standing_in house).round (holding_in house bidder) (standing_in house).ended))
-outcome_of house caller asked.bids = to_bidder caller (λ bidder. done (bids_value (standing_in house).round (slice_index_or house.sheets bidder None)))
+outcome_of house caller asked.bids = to_bidder caller (λ bidder.
+    done (bids_value (standing_in house).round (slice_index_or house.sheets bidder None)))
 outcome_of house caller (asked.put body) = to_bidder caller (λ bidder. put_to house bidder body)
-outcome_of house caller (asked.slip segment) =
-    to_bidder caller (λ bidder. page_or_no_round (option_map (λ closed. slip_value (slip_of bidder closed)) (round_in house segment)))
-outcome_of house caller (asked.close body) = to_operator caller (close_to house (in_version house.setup.version body))
+outcome_of house caller (asked.slip segment) = to_bidder caller (λ bidder. page_or_no_round
+    (option_map (λ closed. slip_value (slip_of bidder closed)) (round_in house segment)))
+outcome_of house caller (asked.close body) =
+    to_operator caller (close_to house (in_version house.setup.version body))
 outcome_of house caller asked.results = to_operator caller (done (results_value house))
 
 -- The reply by the house's state. It does not depend on memory allocated for further rounds.
 abbrev pub outcome : HouseFields → Caller → Ask → Outcome
-outcome house caller ask =
-    outcome_of (record { setup = house.setup; closed = house.closed; sheets = house.sheets; spare = 0 }) caller ask
+outcome house caller ask = outcome_of
+    (record { setup = house.setup; closed = house.closed; sheets = house.sheets; spare = 0 }) caller
+    ask
 
 -- ---- the command that a request is
 

@@ -11,5 +11,6 @@ use Rattle.clock_front.specs.Headline.{IsPrivate}
 -- If the request is a bidder's own, its reply is private to that bidder, after every list of
 -- requests that the house stands for.
 abbrev pub IsPrivateReply : List ℕ → HouseFields → Answer → Type 0
-IsPrivateReply text house answer = (texts : List (List ℕ)) (bidder : ℕ) → StandsForTexts texts house → bidder < length house.setup.bidders
-    → is_own (bidder_at house.setup bidder) text ≡ true → IsPrivate house.setup bidder texts text answer
+IsPrivateReply text house answer = (texts : List (List ℕ)) (bidder : ℕ) → StandsForTexts texts house
+    → bidder < length house.setup.bidders → is_own (bidder_at house.setup bidder) text ≡ true
+    → IsPrivate house.setup bidder texts text answer

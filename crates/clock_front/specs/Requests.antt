@@ -2,7 +2,8 @@
 --     Ask      what a request asks for
 --     ask_of framing      what a request asks for, once its bytes are split into head and body
 --     request_of text      the token of a request, and what it asks for
-use Rattle.std.specs.Prelude.{ℕ, List, if◌then◌else◌, Option, Some, None, option_and_then, Result, codes}
+use Rattle.std.specs.Prelude.{ℕ, List, if◌then◌else◌, Option, Some, None, option_and_then, Result}
+use Rattle.std.specs.Prelude.{codes}
 use Rattle.clock_http.specs.declared.code.Code.{Code}
 use Rattle.clock_http.specs.declared.code.Code.TheVariants.{CutShort, NoPage}
 use Rattle.clock_http.specs.Heads.{same_bytes}
@@ -11,7 +12,8 @@ use Rattle.clock_http.specs.Routes.{page_of, last_segment, has_method}
 use Rattle.clock_bodies.specs.Bodies.{put_body}
 use Rattle.clock_bodies.specs.CloseBodies.{close_body}
 use Rattle.clock_http.specs.declared.routes.Page.{Page}
-use Rattle.clock_http.specs.declared.routes.Page.TheVariants.{Status, Products, Sheet, Account, Bids, Slip, Close, Results}
+use Rattle.clock_http.specs.declared.routes.Page.TheVariants.{Status, Products, Sheet, Account}
+use Rattle.clock_http.specs.declared.routes.Page.TheVariants.{Bids, Slip, Close, Results}
 use Rattle.clock_bodies.specs.declared.put_body.PutBody.{PutBody}
 use Rattle.clock_bodies.specs.declared.close_body.CloseBody.{CloseBody}
 use Rattle.clock_bodies.specs.declared.body.BodyFault.{BodyFault}
@@ -42,7 +44,8 @@ ask_of_page Status head body = status
 ask_of_page Products head body = products
 ask_of_page Sheet head body = sheet (last_segment head.path)
 ask_of_page Account head body = account
-ask_of_page Bids head body = if same_bytes (codes "PUT") head.method then put (put_body body) else bids
+ask_of_page Bids head body =
+    if same_bytes (codes "PUT") head.method then put (put_body body) else bids
 ask_of_page Slip head body = slip (last_segment head.path)
 ask_of_page Close head body = close (close_body body)
 ask_of_page Results head body = results
@@ -50,7 +53,8 @@ ask_of_page Results head body = results
 -- What a request asks for, by the page that its path names, if any.
 abbrev pub ask_by_route : Option Page → Head → List ℕ → Ask
 ask_by_route None head body = turned_away NoPage
-ask_by_route (Some page) head body = if has_method page head.method then ask_of_page page head body else no_method page
+ask_by_route (Some page) head body =
+    if has_method page head.method then ask_of_page page head body else no_method page
 
 -- What a request asks for. If its input ended before it was complete, it is refused as cut short.
 abbrev pub ask_of : Framing → Ask
@@ -60,4 +64,7 @@ ask_of (whole head body) = ask_by_route (page_of head.path) head body
 
 -- The token of a request, even if its body is refused or cut short, and what it asks for.
 unfoldable pub request_of : List ℕ → Request
-request_of text = record { token = option_and_then (λ head. head.token) (head_in text); ask = ask_of (framing text) }
+request_of text = record {
+  token = option_and_then (λ head. head.token) (head_in text);
+  ask = ask_of (framing text);
+}

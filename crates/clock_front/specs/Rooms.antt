@@ -3,8 +3,10 @@
 -- of the system's memory.
 --     asks_for_page caller ask      the request can only be answered by a page, without a change
 --     reply_room ask outcome      how many bytes are allocated for the page of the reply
---     FailsByAllocation text house why      a request for a page fails only if this allocation failed
---     FailsByPrivateAllocation text house why      for a bidder's own request, its size follows from the view
+--     FailsByAllocation text house why      a request for a page fails only if this
+--         allocation failed
+--     FailsByPrivateAllocation text house why      for a bidder's own request, its size
+--         follows from the view
 use Rattle.std.specs.Prelude.{◌≡◌, ◌<◌, ℕ, Bool, true, false, List, length}
 use Rattle.serde_json.specs.Data.{Data}
 use Rattle.serde_json.specs.Written.{compact_text}
@@ -80,7 +82,8 @@ FailsByAllocation text house why =
 -- the bidder's row, and its view, after every list of requests that the house stands for. No rival
 -- occurs among these.
 abbrev pub FailsByPrivateAllocation : List ℕ → HouseFields → AnswerError → Type 0
-FailsByPrivateAllocation text house why = (texts : List (List ℕ)) (bidder : ℕ) → StandsForTexts texts house → bidder < length house.setup.bidders
-    → is_own (bidder_at house.setup bidder) text ≡ true
-    → NeedsRoom (Bidder bidder) (request_of text).ask (bidder_outcome (public_setup house.setup) (bidder_at house.setup bidder)
+FailsByPrivateAllocation text house why = (texts : List (List ℕ)) (bidder : ℕ)
+    → StandsForTexts texts house → bidder < length house.setup.bidders
+    → is_own (bidder_at house.setup bidder) text ≡ true → NeedsRoom (Bidder bidder)
+    (request_of text).ask (bidder_outcome (public_setup house.setup) (bidder_at house.setup bidder)
     (typed_view (text_view house.setup bidder texts)) (request_of text).ask) why

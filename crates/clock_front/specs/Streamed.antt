@@ -24,20 +24,23 @@ IsLeftUnread reading old new = IsNotRead reading × (new ≡ old)
 -- The reply to the bytes that were read, private to the bidder who sent them; or the out-of-memory
 -- reply, because memory ran out while they were read, and then the front is unchanged.
 abbrev pub IsAnswerTo : Reading → Answer → HouseFields → HouseFields → Type 0
-IsAnswerTo reading answer old new =
-    ((text : List ℕ) × HasArrived reading text × AnswersText text answer old new × (IsOutOfMemoryReply text answer ⊎ IsPrivateReply text old answer))
+IsAnswerTo reading answer old new = ((text : List ℕ) × HasArrived reading text × AnswersText text
+    answer old new × (IsOutOfMemoryReply text answer ⊎ IsPrivateReply text old answer))
     ⊎ (HasNoRoom reading × (answer ≡ no_memory) × (new ≡ old))
 
 -- How a stream was served, by the result. `Ok`: the whole reply with this code was written. `Read`:
 -- no request was read, and nothing was written. `Write`: a write failed, a prefix of the reply was
 -- written, and the request took effect as the code says.
-abbrev pub IsServed : Reading → Writing → HouseFields → HouseFields → Result Code StreamFault → Type 0
-IsServed reading writing old new (Ok code) =
-    (answer : Answer) × IsAnswerTo reading answer old new × (answer.code ≡ code) × WritesWhole writing answer.bytes
-IsServed reading writing old new (Err fault.Read) = IsLeftUnread reading old new × WritesNothing writing
-IsServed reading writing old new (Err (fault.Write code)) =
-    (answer : Answer) × IsAnswerTo reading answer old new × (answer.code ≡ code) × WritesFront writing answer.bytes
+abbrev pub IsServed : Reading → Writing → HouseFields → HouseFields
+    → Result Code StreamFault → Type 0
+IsServed reading writing old new (Ok code) = (answer : Answer) × IsAnswerTo reading answer old new
+    × (answer.code ≡ code) × WritesWhole writing answer.bytes
+IsServed reading writing old new (Err fault.Read) =
+    IsLeftUnread reading old new × WritesNothing writing
+IsServed reading writing old new (Err (fault.Write code)) = (answer : Answer)
+    × IsAnswerTo reading answer old new × (answer.code ≡ code) × WritesFront writing answer.bytes
 
 -- The front stands for these requests, and for at most `most` newer ones.
 abbrev pub HasServed : ℕ → List (List ℕ) → HouseFields → Type 0
-HasServed most texts house = (served : List (List ℕ)) × (length served ≤ most) × StandsForTexts (served ++ texts) house
+HasServed most texts house =
+    (served : List (List ℕ)) × (length served ≤ most) × StandsForTexts (served ++ texts) house

@@ -6,7 +6,8 @@
 --     answer setup row view text      the reply to an own request; no rival is an argument
 --     HasNoValidToken setup text      the request has no token, or none of the set-up
 --     public_view setup past      what everyone sees: the round results of the closed rounds
-use Rattle.std.specs.Prelude.{◌≡◌, ℕ, Bool, false, List, [], ◌∷◌, ◌++◌, map, if◌then◌else◌, Option, option_map, option_and_then, Ok, Err}
+use Rattle.std.specs.Prelude.{◌≡◌, ℕ, Bool, false, List, [], ◌∷◌, ◌++◌, map, if◌then◌else◌, Option}
+use Rattle.std.specs.Prelude.{option_map, option_and_then, Ok, Err}
 use Rattle.std.specs.Option.{option_map_or}
 use Rattle.clock_terms.specs.declared.setup.Bidder.{Bidder}
 use Rattle.clock_terms.specs.Limits.{SetupFields, PublicSetup}
@@ -14,7 +15,8 @@ use Rattle.clock_posting.specs.declared.sheet.RoundSheet.{RoundSheet}
 use Rattle.clock_closing.specs.declared.closed_round.Slip.{Slip}
 use Rattle.clock_house.specs.Standing.{put_fault}
 use Rattle.clock_house.specs.History.{history, bidder_at}
-use Rattle.clock_house.specs.View.{Seen, seen_of, seen_standing, seen_holding, seen_in_force, seen_round}
+use Rattle.clock_house.specs.View.{Seen, seen_of, seen_standing, seen_holding, seen_in_force}
+use Rattle.clock_house.specs.View.{seen_round}
 use Rattle.clock_house.specs.View as typed
 use Rattle.clock_http.specs.declared.code.Code.TheVariants as code
 use Rattle.clock_views.specs.Refusals.{bare}
@@ -27,7 +29,8 @@ use Rattle.clock_front.specs.declared.front.callers.Caller.TheVariants.{Nobody}
 use Rattle.clock_front.specs.Callers.{caller}
 use Rattle.clock_front.specs.Requests.{Ask, request_of}
 use Rattle.clock_front.specs.Requests as asked
-use Rattle.clock_front.specs.Outcomes.{Outcome, done, refused, not_allowed, answer_of, body_code, page_or_no_round, put_outcome}
+use Rattle.clock_front.specs.Outcomes.{Outcome, done, refused, not_allowed, answer_of, body_code}
+use Rattle.clock_front.specs.Outcomes.{page_or_no_round, put_outcome}
 use Rattle.clock_front.specs.Fronts.{text_command, commands_of}
 
 -- The head of the request has the bidder's token, on whatever path, even if the request is refused
@@ -50,13 +53,15 @@ closings_of (typed.accepted_close sheet slip ∷ rest) = seen_close sheet slip �
 
 -- What the bidder sees of one request, which came after the requests of the past.
 abbrev pub seen_of_text : SetupFields → ℕ → List (List ℕ) → List ℕ → List SeenText
-seen_of_text setup bidder past text = if is_own (bidder_at setup bidder) text then own text ∷ []
-    else closings_of (seen_of setup bidder (history setup (commands_of setup past)) (text_command setup text))
+seen_of_text setup bidder past text =
+    if is_own (bidder_at setup bidder) text then own text ∷ [] else closings_of
+    (seen_of setup bidder (history setup (commands_of setup past)) (text_command setup text))
 
 -- The bidder's view: what it sees of all requests, newest first.
 abbrev pub text_view : SetupFields → ℕ → List (List ℕ) → List SeenText
 text_view setup bidder [] = []
-text_view setup bidder (text ∷ past) = seen_of_text setup bidder past text ++ text_view setup bidder past
+text_view setup bidder (text ∷ past) =
+    seen_of_text setup bidder past text ++ text_view setup bidder past
 
 -- The sheet that an own request submits, if it does.
 abbrev pub sheet_put : Ask → List Seen
@@ -90,8 +95,8 @@ bidder_outcome setup row view asked.account = done (account_value setup.products
 bidder_outcome setup row view asked.bids =
     done (bids_value (seen_standing setup view).round (seen_in_force setup row view))
 bidder_outcome setup row view (asked.put (Err fault)) = refused (bare (body_code fault))
-bidder_outcome setup row view (asked.put (Ok body)) =
-    put_outcome body (put_fault setup (seen_standing setup view) (seen_holding setup row view) body.round body.bids)
+bidder_outcome setup row view (asked.put (Ok body)) = put_outcome body
+    (put_fault setup (seen_standing setup view) (seen_holding setup row view) body.round body.bids)
 bidder_outcome setup row view (asked.slip segment) =
     page_or_no_round (option_map (λ seen. slip_value seen.1) (round_of_segment view segment))
 bidder_outcome setup row view (asked.close body) = refused (bare code.Role)
@@ -99,7 +104,8 @@ bidder_outcome setup row view asked.results = refused (bare code.Role)
 
 -- The reply to a bidder's own request, by the public set-up, the bidder's row, and its view.
 abbrev pub answer : PublicSetup → Bidder → List SeenText → List ℕ → Answer
-answer setup row view text = answer_of (bidder_outcome setup row (typed_view view) (request_of text).ask)
+answer setup row view text =
+    answer_of (bidder_outcome setup row (typed_view view) (request_of text).ask)
 
 -- ---- what everyone sees
 
@@ -111,4 +117,5 @@ HasNoValidToken setup text = caller setup (request_of text).token ≡ Nobody
 -- The public view: the round results of the closed rounds, newest first. They have the prices, and
 -- aggregate demand if it is above supply.
 abbrev pub public_view : SetupFields → List (List ℕ) → List RoundSheet
-public_view setup past = map (λ closed. closed.sheet) (history setup (commands_of setup past)).closed
+public_view setup past =
+    map (λ closed. closed.sheet) (history setup (commands_of setup past)).closed

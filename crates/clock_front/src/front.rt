@@ -1,10 +1,13 @@
 ghost use Rattle.std.specs.Prelude.{◌≡◌, ◌⊎◌, [], ℕ, List, IfOk, IfErr, IsOk, OnOk, OnErr};
 ghost use Rattle.clock_http.specs.declared.code.Code.{Code as ReplyCode};
-ghost use Rattle.clock_http.specs.Framing.{framing as framing_of, incomplete, refusal as refusal_of};
+ghost use Rattle.clock_http.specs.Framing.{framing as framing_of, incomplete};
+ghost use Rattle.clock_http.specs.Framing.{refusal as refusal_of};
 ghost use Rattle.clock_http.specs.Shown.{IsFramed, shown_framing};
 ghost use Rattle.clock_house.specs.House.{HouseFields, StandsForTheSame};
-ghost use Rattle.clock_front.specs.Fronts.{AnswersText, IsCutShort, IsDoneBy, IsOutOfMemoryReply, StandsForTexts};
-ghost use Rattle.clock_front.specs.{Effects.{IsRightResponse, RespondsTo}, Private.{IsPrivateReply}};
+ghost use Rattle.clock_front.specs.Fronts.{AnswersText, IsCutShort, IsDoneBy, IsOutOfMemoryReply};
+ghost use Rattle.clock_front.specs.Fronts.{StandsForTexts};
+ghost use Rattle.clock_front.specs.Effects.{IsRightResponse, RespondsTo};
+ghost use Rattle.clock_front.specs.Private.{IsPrivateReply};
 ghost use Rattle.clock_front.specs.Rooms.{FailsByPrivateAllocation, FailsByAllocation};
 ghost use Rattle.clock_front.specs.inside.{HeldTokens.{IsTableOf}, KeptPage.{IsProductsPage}};
 
@@ -50,7 +53,8 @@ struct FixedParts {
 
 /// Builds the constant parts of a front from a set-up.
 fn fixed_parts(alloc: Global, setup: &Setup) -> Result<FixedParts, NoMemory>
-    ensures { IfOk result (λ kept. IsTableOf setup.now kept.tokens.entries × IsProductsPage setup.now kept.products) }
+    ensures { IfOk result (λ kept. IsTableOf setup.now kept.tokens.entries
+        × IsProductsPage setup.now kept.products) }
 {
     Ok(FixedParts {
         tokens: tokens_of(alloc, setup)?,
@@ -64,7 +68,8 @@ impl<P> Model for Front<P> {
 
     ghost view = { λ f. f.house };
 
-    ghost invariant = { λ f. IsTableOf f.house.setup f.kept.tokens.entries × IsProductsPage f.house.setup f.kept.products };
+    ghost invariant = { λ f. IsTableOf f.house.setup f.kept.tokens.entries
+        × IsProductsPage f.house.setup f.kept.products };
 }
 
 impl<P: Processor> Front<P> {
@@ -91,10 +96,12 @@ impl<P: Processor> Front<P> {
         ensures still { OnErr result (StandsForTheSame self.old self.new) }
         ensures private { (text : List ℕ) → IsFramed text framing.entry
             → IfOk result (λ response. IsPrivateReply text self.old response.reply) }
-        ensures wanted { (text : List ℕ) → IsFramed text framing.entry → IfErr result (FailsByAllocation text self.old) }
+        ensures wanted { (text : List ℕ) → IsFramed text framing.entry
+            → IfErr result (FailsByAllocation text self.old) }
         ensures wanted_privately { (text : List ℕ) → IsFramed text framing.entry
             → IfErr result (FailsByPrivateAllocation text self.old) }
-        ensures refused { (code : ReplyCode) → shown_framing framing.entry ≡ refusal_of code → IsOk result }
+        ensures refused { (code : ReplyCode)
+            → shown_framing framing.entry ≡ refusal_of code → IsOk result }
     {
         self.house.law_of_house();
         match framing {
@@ -133,12 +140,15 @@ impl<P: Processor> Front<P> {
     /// memory.
     pub fn answer_framed(&mut self, framing: Framing<'_>) -> Reply
         requires { (text : List ℕ) × IsFramed text framing }
-        ensures answered { (text : List ℕ) → IsFramed text framing.entry → AnswersText text result self.old self.new }
-        ensures done { (text : List ℕ) → IsFramed text framing.entry → IsDoneBy text result self.old self.new }
+        ensures answered { (text : List ℕ) → IsFramed text framing.entry
+            → AnswersText text result self.old self.new }
+        ensures done { (text : List ℕ) → IsFramed text framing.entry
+            → IsDoneBy text result self.old self.new }
         ensures private { (text : List ℕ) → IsFramed text framing.entry
             → IsOutOfMemoryReply text result ⊎ IsPrivateReply text self.old result }
         ensures setup { self.new.setup ≡ self.old.setup }
-        ensures refused { (code : ReplyCode) → shown_framing framing.entry ≡ refusal_of code → result.code ≡ code }
+        ensures refused { (code : ReplyCode) → shown_framing framing.entry ≡ refusal_of code
+            → result.code ≡ code }
         ensures cut_short { shown_framing framing.entry ≡ incomplete → IsCutShort result }
     {
         self.respond(framing).reply
@@ -152,9 +162,11 @@ impl<P: Processor> Front<P> {
     pub fn answer(&mut self, text: &[u8]) -> Reply
         ensures answered { AnswersText text.now result self.old self.new }
         ensures done { IsDoneBy text.now result self.old self.new }
-        ensures private { IsOutOfMemoryReply text.now result ⊎ IsPrivateReply text.now self.old result }
+        ensures private { IsOutOfMemoryReply text.now result
+            ⊎ IsPrivateReply text.now self.old result }
         ensures setup { self.new.setup ≡ self.old.setup }
-        ensures refused { (code : ReplyCode) → framing_of text.now ≡ refusal_of code → result.code ≡ code }
+        ensures refused { (code : ReplyCode) → framing_of text.now ≡ refusal_of code
+            → result.code ≡ code }
     {
         self.answer_framed(frame(text))
     }

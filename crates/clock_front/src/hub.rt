@@ -1,8 +1,11 @@
 ghost use Rattle.std.specs.Prelude.{◌≡◌, ℕ, true, List, [], Some, IfOk, IfErr, OnErr, OnOk, IsSome};
-ghost use Rattle.clock_front.specs.{Fronts.{IsCutShort}, Hubs.{HubFields, IsFedBy, IsFeedFault, IsAnswered, IsFinishFault}};
+ghost use Rattle.clock_front.specs.Fronts.{IsCutShort};
+ghost use Rattle.clock_front.specs.Hubs.{HubFields, IsFedBy, IsFeedFault, IsAnswered};
+ghost use Rattle.clock_front.specs.Hubs.{IsFinishFault};
 ghost use Rattle.clock_front.specs.inside.Hubs.{hub_of};
 ghost use Rattle.clock_http.specs.Framing.{needs_more};
-ghost use Rattle.clock_connections.specs.{inside.Waiting.{AllNeedMore}, Connections.{text_of, IsConnected, IsConnectFault}};
+ghost use Rattle.clock_connections.specs.inside.Waiting.{AllNeedMore};
+ghost use Rattle.clock_connections.specs.Connections.{text_of, IsConnected, IsConnectFault};
 
 use crate::front::Front;
 use clock_connections::{Conn, Connections, HubFault};
@@ -44,10 +47,10 @@ impl<P> Model for Hub<P> {
 #[inline(never)]
 fn complete<P: Processor>(front: &mut Front<P>, connections: &mut Connections, conn: Conn) -> Reply
     requires { IsSome (text_of connections.old conn) }
-    ensures answered { (text : List ℕ) → text_of connections.old conn ≡ Some text
-        → IsAnswered (hub_of front.old connections.old) (hub_of front.new connections.new) conn text result }
-    ensures cut_short { (text : List ℕ) → text_of connections.old conn ≡ Some text → needs_more text ≡ true
-        → IsCutShort result }
+    ensures answered { (text : List ℕ) → text_of connections.old conn ≡ Some text → IsAnswered
+        (hub_of front.old connections.old) (hub_of front.new connections.new) conn text result }
+    ensures cut_short { (text : List ℕ) → text_of connections.old conn ≡ Some text
+        → needs_more text ≡ true → IsCutShort result }
 {
     let request = connections.remove(conn);
     front.answer_framed(request.framing())
@@ -91,9 +94,9 @@ impl<P: Processor> Hub<P> {
         Ok(Fed::Reply(complete(&mut self.front, &mut self.connections, conn)))
     }
 
-    /// Like `feed_on`, but for a piece that is not one byte. If only the head has come and the piece
-    /// has the whole body, the request is answered without a copy of the piece. This is a function
-    /// of its own so that [`Hub::feed`] stays cheap for single bytes.
+    /// Like `feed_on`, but for a piece that is not one byte. If only the head has come and the
+    /// piece has the whole body, the request is answered without a copy of the piece. This is a
+    /// function of its own so that [`Hub::feed`] stays cheap for single bytes.
     #[inline(never)]
     fn feed_piece(&mut self, conn: Conn, piece: &[u8]) -> Result<Fed, NoMemory>
         requires { IsSome (text_of self.old.connections conn) }

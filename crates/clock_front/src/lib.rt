@@ -16,7 +16,7 @@ mod hub;
 mod runs;
 mod stream;
 
-pub use front::{Effect, Front, Response, AnswerError, no_memory_reply};
+pub use front::{AnswerError, Effect, Front, Response, no_memory_reply};
 pub use hub::{Fed, Hub};
 pub use runs::{EventReplies, EventReply, Replies, run, run_events};
 pub use stream::{StreamFault, serve_stream};

@@ -1,7 +1,9 @@
 ghost use Rattle.std.specs.Prelude.{[], ◌≡◌, ◌<◌, IfOk, length, Some, None, OnOk};
-ghost use Rattle.clock_connections.specs.{inside.Numbers.{AreNumbered, conn_at}, Pieces.{Numbered, completed, after}};
+ghost use Rattle.clock_connections.specs.inside.Numbers.{AreNumbered, conn_at};
+ghost use Rattle.clock_connections.specs.Pieces.{Numbered, completed, after};
 ghost use Rattle.clock_connections.specs.Connections.{most_serials};
-ghost use Rattle.clock_front.specs.{Fronts.{StandsForTexts}, Headline.{IsRun, IsEventRun}, inside.NumberedHubs.{HasCompleted}};
+ghost use Rattle.clock_front.specs.{Fronts.{StandsForTexts}, Headline.{IsRun, IsEventRun}};
+ghost use Rattle.clock_front.specs.inside.NumberedHubs.{HasCompleted};
 
 use crate::front::Front;
 use crate::hub::{Fed, Hub};
@@ -126,10 +128,12 @@ impl<P: Processor> NumberedHub<P> {
     /// Takes an event, and returns the reply to the request that it completes, if any.
     fn take_event(&mut self, event: &Event) -> Result<Option<EventReply>, NoMemory>
         requires { length self.old.conns < most_serials }
-        ensures stands { (numbered : Numbered) → AreNumbered numbered self.old.hub.connections self.old.conns
-            → OnOk result (AreNumbered (after numbered event.now) self.new.hub.connections self.new.conns) }
-        ensures told { (numbered : Numbered) → AreNumbered numbered self.old.hub.connections self.old.conns
-            → IfOk result (HasCompleted (completed numbered event.now) self.old.hub.house self.new.hub.house) }
+        ensures stands { (numbered : Numbered)
+            → AreNumbered numbered self.old.hub.connections self.old.conns → OnOk result
+            (AreNumbered (after numbered event.now) self.new.hub.connections self.new.conns) }
+        ensures told { (numbered : Numbered)
+            → AreNumbered numbered self.old.hub.connections self.old.conns → IfOk result
+            (HasCompleted (completed numbered event.now) self.old.hub.house self.new.hub.house) }
     {
         match event {
             Event::Connect => {

@@ -41,7 +41,8 @@ pub fn serve_stream<P: Processor, R: Source, W: Sink>(
     requires unused { IsUnused (W.told sink.old) }
     ensures served { IsServed (record { before = R.told source.old; after = R.told source.new })
         (record { before = W.told sink.old; after = W.told sink.new }) front.old front.new result }
-    ensures stands { (texts : List (List ℕ)) → StandsForTexts texts front.old → HasServed 1 texts front.new }
+    ensures stands { (texts : List (List ℕ)) → StandsForTexts texts front.old
+        → HasServed 1 texts front.new }
     ensures calls { (R.told source.new).calls ≤ most_request_reads }
     ensures setup { front.new.setup ≡ front.old.setup }
 {

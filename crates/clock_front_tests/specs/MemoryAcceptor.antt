@@ -1,8 +1,7 @@
 -- Connections in memory.
---     MemoryAcceptorState      the bytes of those still to come, in order; whether one is open, what its
---         source had when it was
---         accepted, what was read and written on each closed one, and whether accepting one has
---         failed
+--     MemoryAcceptorState      the bytes of those still to come, in order; whether one is open,
+--         what its source had when it was accepted, what was read and written on each closed one,
+--         and whether accepting one has failed
 use Rattle.std.specs.Prelude.{ℕ, Bool, List}
 use Rattle.clock_serving.specs.Exchanges.{Exchange}
 

@@ -1,5 +1,7 @@
-ghost use Rattle.std.specs.Prelude.{◌≡◌, ◌≤◌, ◌+◌, [], drop, length, map, IfOk, MatchBool, None, Some, true, false};
-ghost use Rattle.clock_device.specs.{Told.{unread, unused}, SourceState.{source_report}, SinkState.{sink_report}};
+ghost use Rattle.std.specs.Prelude.{◌≡◌, ◌≤◌, ◌+◌, [], drop, length, map, IfOk, MatchBool, None};
+ghost use Rattle.std.specs.Prelude.{Some, true, false};
+ghost use Rattle.clock_device.specs.{Told.{unread, unused}, SourceState.{source_report}};
+ghost use Rattle.clock_device.specs.SinkState.{sink_report};
 ghost use Rattle.clock_serving.specs.Exchanges.{Closes, Exchange};
 ghost use Rattle.clock_front_tests.specs.MemoryAcceptor.{MemoryAcceptorState};
 
@@ -75,7 +77,8 @@ impl<'a> Model for MemoryAcceptor<'a> {
       has_failed = l.has_failed;
     } };
 
-    ghost invariant = { λ l. (l.next ≤ length l.clients.now) × (length l.clients.now ≤ l.next + l.closed.room)
+    ghost invariant = { λ l. (l.next ≤ length l.clients.now)
+        × (length l.clients.now ≤ l.next + l.closed.room)
         × MatchBool l.is_open (length l.clients.now + 1 ≤ l.next + l.closed.room) (Unit {0}) };
 }
 
@@ -118,7 +121,8 @@ impl<'a> Acceptor for MemoryAcceptor<'a> {
 
     ghost is_open = { λ listed. listed.is_open };
 
-    ghost offer = { λ listed. record { source = unread (Some listed.offered); sink = unused (Some []) } };
+    ghost offer = { λ listed.
+        record { source = unread (Some listed.offered); sink = unused (Some []) } };
 
     ghost closed = { λ listed. Some listed.closed };
 
@@ -149,7 +153,10 @@ impl<'a> Acceptor for MemoryAcceptor<'a> {
         ensures coming { Some self.new.coming ≡ Some self.old.coming }
         ensures failed { self.new.has_failed ≡ self.old.has_failed }
         ensures closed { Closes (Some self.old.closed) (Some self.new.closed)
-            (record { before = unread (Some self.old.offered); after = source_report connection.entry.source })
+            (record {
+              before = unread (Some self.old.offered);
+              after = source_report connection.entry.source;
+            })
             (record { before = unused (Some []); after = sink_report connection.entry.sink }) None }
     {
         self.is_open = false;

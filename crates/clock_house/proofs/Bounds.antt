@@ -14,7 +14,8 @@ by_round (suc zero) bound = omega arith
 by_round (suc (suc n)) bound = bound (omega arith)
 
 -- The number of the current round is bounded by the sum of the highest prices.
-pub round_bounded : (products : List Product) (now : Standing) → length products ≤ most_products → HasSoundPrices products now → now.round ≤ most_rounds
+pub round_bounded : (products : List Product) (now : Standing) → length products ≤ most_products
+    → HasSoundPrices products now → now.round ≤ most_rounds
 round_bounded products now few priced =
     let starts : sum_by (λ (pair : PricePair). pair.start) now.prices ≤ length now.prices * 1000000000000 =
     sum_by-le (λ (pair : PricePair). pair.start) 1000000000000 now.prices priced.highest in

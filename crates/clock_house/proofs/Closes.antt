@@ -1,7 +1,8 @@
 -- Proves what a closing does to the commands that a house stands for, case by case: accepted, refused, or out of
 -- memory.
 use Rattle.std.proofs.Common.{◌≡◌, ◌≢◌, ℕ, List, ◌∷◌, Bool, true, false, length, refl, ap, sym, subst, ◌∙◌}
-use Rattle.std.specs.Prelude.{Option, Some, None, Result, Ok, Err, ◌↔◌, IsNone, IsTrue, IfSome, IfOk, IfErr, map, unwrap_or}
+use Rattle.std.specs.Prelude.{Option, Some, None, Result, Ok, Err, ◌↔◌, IsNone, IsTrue, IfSome, IfOk, IfErr, map}
+use Rattle.std.specs.Prelude.{unwrap_or}
 use Rattle.clock_terms.specs.declared.prices.PricePair.{PricePair}
 use Rattle.clock_posting.specs.Posting.{next_pair}
 use Rattle.clock_posting.specs.declared.sheet.Line.{Line}
@@ -14,8 +15,10 @@ use Rattle.clock_closing.specs.declared.fault.CloseFault.TheVariants as close_fa
 use Rattle.clock_house.specs.Command.{Command, close}
 use Rattle.clock_closing.specs.OpenRound.{OpenRound, OpenRoundFields}
 use Rattle.clock_closing.specs.Closing.{closing, closing_now}
-use Rattle.clock_house.specs.History.{ClosedRound, history, standing, closing_of, after_closing, for_each_bidder, sheet_in_force}
-use Rattle.clock_house.specs.House.{HouseFields, StandsFor, IsFollowedBy, StandsForTheSame, IsUnchanged, HasClosed, AnswersClose, ToHistory}
+use Rattle.clock_house.specs.History.{ClosedRound, history, standing, closing_of, after_closing, for_each_bidder}
+use Rattle.clock_house.specs.History.{sheet_in_force}
+use Rattle.clock_house.specs.House.{HouseFields, StandsFor, IsFollowedBy, StandsForTheSame, IsUnchanged, HasClosed}
+use Rattle.clock_house.specs.House.{AnswersClose, ToHistory}
 use Rattle.clock_house.specs.Standing.{Standing}
 use Rattle.clock_house.specs.House.{standing_in, closing_in}
 use Rattle.clock_house.specs.inside.OpenRounds.{open_round_in}
@@ -29,37 +32,40 @@ use Rattle.clock_house.proofs.Kept.{stands_open}
 module _ (house : HouseFields) (round : ℕ) (increments : Increments) (ties : List Tie) (commands : List Command)
     (stands : StandsFor commands house) where
   -- The closing by the history of the commands is the closing by the house.
-  pub closing_same : closing_of house.setup (history house.setup commands) round increments ties ≡ closing_in house round increments ties
-  closing_same = ap (λ (now : OpenRound). closing (public_setup house.setup) now round increments ties) (sym (stands_open house commands stands))
+  pub closing_same : closing_of house.setup (history house.setup commands) round increments ties
+      ≡ closing_in house round increments ties
+  closing_same = ap (λ (now : OpenRound). closing (public_setup house.setup) now round increments ties)
+      (sym (stands_open house commands stands))
 
   abbrev closed_with : Result ClosedRound CloseFault → List ClosedRound
   closed_with answer = (after_closing (history house.setup commands) (close round increments ties) answer).closed
 
   abbrev sheets_with : Result ClosedRound CloseFault → List (Option (List Bid))
-  sheets_with answer =
-      for_each_bidder house.setup (sheet_in_force house.setup (after_closing (history house.setup commands) (close round increments ties) answer))
+  sheets_with answer = for_each_bidder house.setup
+      (sheet_in_force house.setup (after_closing (history house.setup commands) (close round increments ties) answer))
 
   -- An accepted closing adds its round, and no sheet is in force.
-  pub close-accepted : (done : ClosedRound) (closed : List ClosedRound) (sheets : List (Option (List Bid))) (spare : ℕ) →
-      closing_in house round increments ties ≡ Ok done →
-      closed ≡ done ∷ house.closed → sheets ≡ for_each_bidder house.setup (λ bidder. None) →
-      StandsFor (close round increments ties ∷ commands) (record { setup = house.setup; closed = closed; sheets = sheets; spare = spare })
+  pub close-accepted : (done : ClosedRound) (closed : List ClosedRound) (sheets : List (Option (List Bid))) (spare : ℕ)
+      → closing_in house round increments ties ≡ Ok done → closed ≡ done ∷ house.closed
+      → sheets ≡ for_each_bidder house.setup (λ bidder. None) → StandsFor (close round increments ties ∷ commands)
+      (record { setup = house.setup; closed = closed; sheets = sheets; spare = spare })
   close-accepted done closed sheets spare e added none = record {
-    closed = added ∙ ap (λ (list : List ClosedRound). done ∷ list) stands.closed ∙ sym (ap closed_with (closing_same ∙ e));
+    closed =
+        added ∙ ap (λ (list : List ClosedRound). done ∷ list) stands.closed ∙ sym (ap closed_with (closing_same ∙ e));
     sheets = none ∙ sym (ap sheets_with (closing_same ∙ e));
   }
 
   -- A refused closing changes nothing.
-  pub close-refused : (fault : CloseFault) → closing_in house round increments ties ≡ Err fault → StandsFor (close round increments ties ∷ commands) house
+  pub close-refused : (fault : CloseFault) → closing_in house round increments ties ≡ Err fault
+      → StandsFor (close round increments ties ∷ commands) house
   close-refused fault e = record {
     closed = stands.closed ∙ sym (ap closed_with (closing_same ∙ e));
     sheets = stands.sheets ∙ sym (ap sheets_with (closing_same ∙ e));
   }
 
 -- After a refused closing, the house stands for one more command.
-pub close-followed : (house : HouseFields) (round : ℕ) (increments : Increments) (ties : List Tie) (fault : CloseFault) →
-    closing_in house round increments ties ≡ Err fault →
-    IsFollowedBy (close round increments ties) house house
+pub close-followed : (house : HouseFields) (round : ℕ) (increments : Increments) (ties : List Tie) (fault : CloseFault)
+    → closing_in house round increments ties ≡ Err fault → IsFollowedBy (close round increments ties) house house
 close-followed house round increments ties fault e = record {
   setup = refl;
   stands = λ commands stands. close-refused house round increments ties commands stands fault e;
@@ -68,14 +74,16 @@ close-followed house round increments ties fault e = record {
 -- An equal house accepts the same closing.
 pub fits_like : (like house : HouseFields) (prepared : PreparedClosing) → house ≡ like → FitsClosing prepared house →
     closing_in like prepared.round prepared.increments prepared.ties ≡ Ok prepared.closed
-fits_like like house prepared same fits =
-    subst (λ (one : HouseFields). closing_in one prepared.round prepared.increments prepared.ties ≡ Ok prepared.closed) same fits
+fits_like like house prepared same fits = subst (λ (one : HouseFields).
+    closing_in one prepared.round prepared.increments prepared.ties ≡ Ok prepared.closed) same fits
 
 -- A house stands for its commands whatever memory it has for further rounds.
-pub stands_unchanged : (old new : HouseFields) (commands : List Command) → IsUnchanged old new → StandsFor commands old → StandsFor commands new
+pub stands_unchanged : (old new : HouseFields) (commands : List Command) → IsUnchanged old new → StandsFor commands old
+    → StandsFor commands new
 stands_unchanged old new commands same stands = record {
   closed = same.closed ∙ stands.closed ∙ ap (λ (setup : SetupFields). (history setup commands).closed) (sym same.setup);
-  sheets = same.sheets ∙ stands.sheets ∙ ap (λ (setup : SetupFields). for_each_bidder setup (sheet_in_force setup (history setup commands))) (sym same.setup);
+  sheets = same.sheets ∙ stands.sheets ∙ ap (λ (setup : SetupFields). for_each_bidder setup
+      (sheet_in_force setup (history setup commands))) (sym same.setup);
 }
 
 -- An accepted closing is of the current round.
@@ -96,14 +104,16 @@ closed_slips house round increments ties done e =
     ap (λ (one : ClosedRound). length one.slips) is.made ∙ length-map-range_with_len _ 0 _ ∙ in-many house
 
 -- The prices stored for the next round are those of the round results.
-pub taken_prices : (next : Option (List PricePair)) (old : List PricePair) (lines : List Line) (ended : Bool) → ended ≡ false → (IsNone next ↔ IsTrue ended) →
-    IfSome next (λ list. list ≡ map next_pair lines) → unwrap_or next old ≡ map next_pair lines
-taken_prices None old lines ended going end shown = let bad : ended ≡ true = end.0 refl in let same : false ≡ true = sym going ∙ bad in cc
+pub taken_prices : (next : Option (List PricePair)) (old : List PricePair) (lines : List Line) (ended : Bool)
+    → ended ≡ false → (IsNone next ↔ IsTrue ended) → IfSome next (λ list. list ≡ map next_pair lines)
+    → unwrap_or next old ≡ map next_pair lines
+taken_prices None old lines ended going end shown = let bad : ended ≡ true = end.0 refl in
+    let same : false ≡ true = sym going ∙ bad in cc
 taken_prices (Some list) old lines ended going end shown = shown
 
 -- A closing does not depend on the memory for further rounds.
-closing_unchanged : (old new : HouseFields) → IsUnchanged old new → (round : ℕ) (increments : Increments) (ties : List Tie) →
-    closing_in new round increments ties ≡ closing_in old round increments ties
+closing_unchanged : (old new : HouseFields) → IsUnchanged old new → (round : ℕ) (increments : Increments)
+    (ties : List Tie) → closing_in new round increments ties ≡ closing_in old round increments ties
 closing_unchanged old new same round increments ties =
     let by = λ (setup : SetupFields) (closed : List ClosedRound) (sheets : List (Option (List Bid))).
     closing_in (record { setup = setup; closed = closed; sheets = sheets; spare = old.spare }) round increments ties in
@@ -113,24 +123,25 @@ closing_unchanged old new same round increments ties =
 
 -- Nor does the state of the auction.
 pub standing_unchanged : (old new : HouseFields) → IsUnchanged old new → standing_in new ≡ standing_in old
-standing_unchanged old new same =
-    ap (λ (setup : SetupFields). standing setup.products new.closed) same.setup ∙ ap (standing old.setup.products) same.closed
+standing_unchanged old new same = ap (λ (setup : SetupFields). standing setup.products new.closed) same.setup
+    ∙ ap (standing old.setup.products) same.closed
 
 -- Houses that differ only in this memory stand for the same commands.
 pub still_unchanged : (old new : HouseFields) → IsUnchanged old new → StandsForTheSame old new
-still_unchanged old new same = record { setup = same.setup; stands = λ commands stands. stands_unchanged old new commands same stands }
+still_unchanged old new same =
+    record { setup = same.setup; stands = λ commands stands. stands_unchanged old new commands same stands }
 
 -- The result of preparing a closing is the result of the closing.
-pub answers-close : (closing : Result ClosedRound CloseFault) (result : Result PreparedClosing CloseFault) → Answers closing result →
-    AnswersClose closing result
+pub answers-close : (closing : Result ClosedRound CloseFault) (result : Result PreparedClosing CloseFault)
+    → Answers closing result → AnswersClose closing result
 answers-close closing (Ok prepared) is = rw is refl
 answers-close closing (Err fault) is = is
 
 -- A closing fits the house that prepared it.
-pub fits-asked : (house : HouseFields) (round : ℕ) (increments : Increments) (ties : List Tie) (result : Result PreparedClosing CloseFault) →
-    Answers (closing_in house round increments ties) result →
-    IfOk result (λ prepared. (prepared.round ≡ round) × (prepared.increments ≡ increments) × (prepared.ties ≡ ties)) →
-    IfOk result (λ prepared. FitsClosing prepared house)
+pub fits-asked : (house : HouseFields) (round : ℕ) (increments : Increments) (ties : List Tie)
+    (result : Result PreparedClosing CloseFault) → Answers (closing_in house round increments ties) result
+    → IfOk result (λ prepared. (prepared.round ≡ round) × (prepared.increments ≡ increments) × (prepared.ties ≡ ties))
+    → IfOk result (λ prepared. FitsClosing prepared house)
 fits-asked house round increments ties (Ok prepared) is asked =
     ap (λ (n : ℕ). closing_in house n prepared.increments prepared.ties) asked.0
     ∙ ap (λ (one : Increments). closing_in house round one prepared.ties) asked.1
@@ -152,8 +163,8 @@ module _ (old new : HouseFields) (same : IsUnchanged old new) (round : ℕ) (inc
       (ap (λ (now : Standing). now.round) (standing_unchanged old new same) ∙ sym current) answers-now
 
   pub answers-old : Answers (closing_in old round increments ties) result
-  answers-old =
-      subst (λ (closing : Result ClosedRound CloseFault). Answers closing result) (closing_unchanged old new same round increments ties) answers-new
+  answers-old = subst (λ (closing : Result ClosedRound CloseFault). Answers closing result)
+      (closing_unchanged old new same round increments ties) answers-new
 
   pub answers-history : ToHistory old (λ auction. Answers (closing_of old.setup auction round increments ties) result)
   answers-history = λ commands stands. subst (λ (closing : Result ClosedRound CloseFault). Answers closing result)
@@ -165,16 +176,20 @@ module _ (old new : HouseFields) (same : IsUnchanged old new) (round : ℕ) (inc
   refused_by (Ok prepared) is = tt
   refused_by (Err fault) is = λ other. record {
     setup = same.setup;
-    stands = λ commands stands. close-refused new round increments ties commands (stands_unchanged old new commands same stands) fault (is other);
+    stands = λ commands stands. close-refused new round increments ties commands
+        (stands_unchanged old new commands same stands) fault (is other);
   }
 
-  pub refused-followed : IfErr result (λ told. told ≢ close_faults.NoMemory → IsFollowedBy (close round increments ties) old new)
+  pub refused-followed : IfErr result (λ told. told ≢ close_faults.NoMemory
+      → IsFollowedBy (close round increments ties) old new)
   refused-followed = refused_by result answers-new
 
 -- A closing that is prepared and then committed.
-module _ (old mid new : HouseFields) (round : ℕ) (increments : Increments) (ties : List Tie) (prepared : PreparedClosing)
+module _ (old mid new : HouseFields) (round : ℕ) (increments : Increments) (ties : List Tie)
+    (prepared : PreparedClosing)
     (asked : (prepared.round ≡ round) × (prepared.increments ≡ increments) × (prepared.ties ≡ ties)) where
-  asked_closing : FitsClosing prepared mid → IsUnchanged old mid → closing_in old round increments ties ≡ Ok prepared.closed
+  asked_closing : FitsClosing prepared mid → IsUnchanged old mid
+      → closing_in old round increments ties ≡ Ok prepared.closed
   asked_closing fits same =
       sym (closing_unchanged old mid same round increments ties)
       ∙ ap (λ (n : ℕ). closing_in mid n increments ties) (sym asked.0)
@@ -184,16 +199,15 @@ module _ (old mid new : HouseFields) (round : ℕ) (increments : Increments) (ti
 
   pub close-done : FitsClosing prepared mid → IsUnchanged old mid → HasClosed prepared.closed mid new →
       IfOk (closing_in old round increments ties) (λ closed. HasClosed closed old new)
-  close-done fits same done =
-      subst (λ (answer : Result ClosedRound CloseFault). IfOk answer (λ closed. HasClosed closed old new)) (sym (asked_closing fits same))
-      (record {
+  close-done fits same done = subst (λ (answer : Result ClosedRound CloseFault). IfOk answer
+      (λ closed. HasClosed closed old new)) (sym (asked_closing fits same)) (record {
         setup = done.setup ∙ same.setup;
         closed = done.closed ∙ ap (λ (closed : List ClosedRound). prepared.closed ∷ closed) same.closed;
         sheets = done.sheets ∙ ap (λ (setup : SetupFields). for_each_bidder setup (λ bidder. None)) same.setup;
       })
 
-  pub close-done-followed : StandsForTheSame old mid → IsFollowedBy (close prepared.round prepared.increments prepared.ties) mid new →
-      IsFollowedBy (close round increments ties) old new
+  pub close-done-followed : StandsForTheSame old mid → IsFollowedBy (close prepared.round prepared.increments
+      prepared.ties) mid new → IsFollowedBy (close round increments ties) old new
   close-done-followed still followed = record {
     setup = followed.setup ∙ still.setup;
     stands = λ commands stands.

@@ -20,45 +20,58 @@ module _ (house : HouseFields) where
   pub in-many : length (open_round_in house).holdings ≡ length house.setup.bidders
   in-many = length-map-range_with_len (holding_in house) 0 (length house.setup.bidders)
 
-  in-held : (bidder : ℕ) → bidder < length house.setup.bidders → holding_at (open_round_in house).holdings bidder ≡ holding_in house bidder
-  in-held bidder lt = get_or-map-range_with_len (holding_in house) 0 (length house.setup.bidders) bidder bidder nothing lt (omega arith)
+  in-held : (bidder : ℕ) → bidder < length house.setup.bidders
+      → holding_at (open_round_in house).holdings bidder ≡ holding_in house bidder
+  in-held bidder lt =
+      get_or-map-range_with_len (holding_in house) 0 (length house.setup.bidders) bidder bidder nothing lt (omega arith)
 
   -- The stored eligibilities, and a bidder's entry in them.
   module _ (eligibilities : List ℕ) (are : eligibilities ≡ eligibilities_of (open_round_in house)) where
     pub many_eligibilities : length eligibilities ≡ length house.setup.bidders
-    many_eligibilities = ap length are ∙ length-map (open_round_in house).holdings (λ (held : Holding). held.eligibility) ∙ in-many
+    many_eligibilities =
+        ap length are ∙ length-map (open_round_in house).holdings (λ (held : Holding). held.eligibility) ∙ in-many
 
-    pub own_eligibility : (bidder : ℕ) → bidder < length house.setup.bidders → get_or eligibilities bidder 0 ≡ (holding_in house bidder).eligibility
-    own_eligibility bidder lt =
-        ap (λ (list : List ℕ). get_or list bidder 0) are
-        ∙ get_or-map (λ (held : Holding). held.eligibility) (open_round_in house).holdings bidder nothing 0 (omega (arith, lt, in-many))
-        ∙ ap (λ (held : Holding). held.eligibility) (in-held bidder lt)
+    pub own_eligibility : (bidder : ℕ) → bidder < length house.setup.bidders
+        → get_or eligibilities bidder 0 ≡ (holding_in house bidder).eligibility
+    own_eligibility bidder lt = ap (λ (list : List ℕ). get_or list bidder 0) are
+        ∙ get_or-map (λ (held : Holding). held.eligibility) (open_round_in house).holdings bidder nothing 0
+        (omega (arith, lt, in-many)) ∙ ap (λ (held : Holding). held.eligibility) (in-held bidder lt)
 
   -- The stored demands, and a bidder's row in them.
   module _ (demands : List (List ℕ)) (are : demands ≡ grid_of (open_round_in house)) where
     pub many_demands : length demands ≡ length house.setup.bidders
-    many_demands = ap length are ∙ length-map (open_round_in house).holdings (λ (held : Holding). held.demands) ∙ in-many
+    many_demands =
+        ap length are ∙ length-map (open_round_in house).holdings (λ (held : Holding). held.demands) ∙ in-many
 
-    pub own_demands : (bidder : ℕ) → bidder < length house.setup.bidders → row_of demands bidder ≡ (holding_in house bidder).demands
-    own_demands bidder lt =
-        ap (λ (grid : List (List ℕ)). row_of grid bidder) are
-        ∙ get_or-map (λ (held : Holding). held.demands) (open_round_in house).holdings bidder nothing [] (omega (arith, lt, in-many))
-        ∙ ap (λ (held : Holding). held.demands) (in-held bidder lt)
+    pub own_demands : (bidder : ℕ) → bidder < length house.setup.bidders
+        → row_of demands bidder ≡ (holding_in house bidder).demands
+    own_demands bidder lt = ap (λ (grid : List (List ℕ)). row_of grid bidder) are
+        ∙ get_or-map (λ (held : Holding). held.demands) (open_round_in house).holdings bidder nothing []
+        (omega (arith, lt, in-many)) ∙ ap (λ (held : Holding). held.demands) (in-held bidder lt)
 
   -- If the auction has not ended, the stored parts are the input of a closing.
-  pub open_is : (ended : Bool) (round : ℕ) (prices : List PricePair) (eligibilities : List ℕ) (demands : List (List ℕ)) → ended ≡ false →
-      ended ≡ (standing_in house).ended → round ≡ (standing_in house).round → prices ≡ (standing_in house).prices →
-      eligibilities ≡ eligibilities_of (open_round_in house) → demands ≡ grid_of (open_round_in house) →
-      open_at house.setup round prices eligibilities demands house.sheets ≡ record { setup = house.setup; before = open_round_in house }
+  pub open_is : (ended : Bool) (round : ℕ) (prices : List PricePair) (eligibilities : List ℕ) (demands : List (List ℕ))
+      → ended ≡ false → ended ≡ (standing_in house).ended → round ≡ (standing_in house).round
+      → prices ≡ (standing_in house).prices → eligibilities ≡ eligibilities_of (open_round_in house)
+      → demands ≡ grid_of (open_round_in house) → open_at house.setup round prices eligibilities demands house.sheets
+      ≡ record { setup = house.setup; before = open_round_in house }
   open_is ended round prices eligibilities demands going ended_is round_is prices_are eligibilities_are demands_are =
-      let by = λ (end : Bool) (number : ℕ) (pairs : List PricePair) (held : List Holding). let one : OpenRoundFields = record {
+      let by =
+      λ (end : Bool) (number : ℕ) (pairs : List PricePair) (held : List Holding). let one : OpenRoundFields = record {
         setup = house.setup;
-        before = record { standing = record { ended = end; round = number; prices = pairs }; holdings = held; sheets = house.sheets };
+        before = record {
+          standing = record { ended = end; round = number; prices = pairs };
+          holdings = held;
+          sheets = house.sheets;
+        };
       } in one in
       ap (λ (list : List ℕ). by false round prices (holdings_of list demands)) eligibilities_are
-      ∙ ap (λ (grid : List (List ℕ)). by false round prices (holdings_of (eligibilities_of (open_round_in house)) grid)) demands_are
+      ∙ ap (λ (grid : List (List ℕ)). by false round prices
+      (holdings_of (eligibilities_of (open_round_in house)) grid)) demands_are
       ∙ ap (by false round prices) (held_again (for_each_bidder house.setup (holding_in house)))
       ∙ ap (λ (number : ℕ). by false number prices (for_each_bidder house.setup (holding_in house))) round_is
-      ∙ ap (λ (pairs : List PricePair). by false (standing_in house).round pairs (for_each_bidder house.setup (holding_in house))) prices_are
-      ∙ ap (λ (end : Bool). by end (standing_in house).round (standing_in house).prices (for_each_bidder house.setup (holding_in house)))
+      ∙ ap (λ (pairs : List PricePair). by false (standing_in house).round pairs
+      (for_each_bidder house.setup (holding_in house))) prices_are
+      ∙ ap (λ (end : Bool). by end (standing_in house).round (standing_in house).prices
+      (for_each_bidder house.setup (holding_in house)))
       (sym going ∙ ended_is)

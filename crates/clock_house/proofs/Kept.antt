@@ -21,7 +21,8 @@ use Rattle.clock_house.proofs.Numbers.{numbered, round-closed, first_prices, rev
 module _ (house : HouseFields) (commands : List Command) (stands : StandsFor commands house) where
   -- Its closed rounds are numbered from 1.
   pub stands_numbered : AreNumbered (length house.setup.bidders) (length house.setup.products) house.closed
-  stands_numbered = subst (AreNumbered (length house.setup.bidders) (length house.setup.products)) (sym stands.closed) (numbered house.setup commands)
+  stands_numbered = subst (AreNumbered (length house.setup.bidders) (length house.setup.products)) (sym stands.closed)
+      (numbered house.setup commands)
 
   -- It stores a sheet or none for each bidder.
   pub stands_sheets : length house.sheets ≡ length house.setup.bidders
@@ -35,41 +36,53 @@ module _ (house : HouseFields) (commands : List Command) (stands : StandsFor com
         holdings = for_each_bidder house.setup (holding house.setup closed);
         sheets = sheets;
       } in round in
-      ap (λ (closed : List ClosedRound). at closed house.sheets) stands.closed ∙ ap (at (history house.setup commands).closed) stands.sheets
+      ap (λ (closed : List ClosedRound). at closed house.sheets) stands.closed
+      ∙ ap (at (history house.setup commands).closed) stands.sheets
 
 All-reverse : {A : Type 0} (P : A → Type 0) (xs : List A) → All P xs → All P (reverse xs)
 All-reverse P [] all = All-nil P
-All-reverse P (x ∷ xs) all =
-    subst (All P) (sym (reverse_cons x xs))
-    (All-append P (reverse xs) (x ∷ []) (All-reverse P xs (All-tail P x xs all)) (All-cons P x [] (All-head P x xs all) (All-nil P)))
+All-reverse P (x ∷ xs) all = subst (All P) (sym (reverse_cons x xs)) (All-append P (reverse xs) (x ∷ [])
+    (All-reverse P xs (All-tail P x xs all)) (All-cons P x [] (All-head P x xs all) (All-nil P)))
 
 -- A property of all closed rounds is one of the round with a number.
-found_all : (P : ClosedRound → Type 0) (n : ℕ) (closed : List ClosedRound) (one : ClosedRound) → All P closed → round_at n closed ≡ Some one → P one
+found_all : (P : ClosedRound → Type 0) (n : ℕ) (closed : List ClosedRound) (one : ClosedRound) → All P closed
+    → round_at n closed ≡ Some one → P one
 found_all P zero closed one all e = absurd (none-some one e)
-found_all P (suc k) closed one all e =
-    subst P (get_or_from_slice_get (reverse closed) k one one e) (All-reverse P closed all k one (slice_get_within (reverse closed) k one e))
+found_all P (suc k) closed one all e = subst P (get_or_from_slice_get (reverse closed) k one one e)
+    (All-reverse P closed all k one (slice_get_within (reverse closed) k one e))
 
 -- A closed round has results for each bidder, and a line for each product.
 abbrev IsWhole : ℕ → ℕ → ClosedRound → Type 0
 IsWhole bidders products one = (length one.slips ≡ bidders) × (length one.sheet.lines ≡ products)
 
-all_whole : (bidders products : ℕ) (closed : List ClosedRound) → AreNumbered bidders products closed → All (IsWhole bidders products) closed
+all_whole : (bidders products : ℕ) (closed : List ClosedRound) → AreNumbered bidders products closed
+    → All (IsWhole bidders products) closed
 all_whole bidders products [] all = All-nil (IsWhole bidders products)
-all_whole bidders products (round ∷ rounds) all = All-cons (IsWhole bidders products) round rounds (all.1, all.2) (all_whole bidders products rounds all.3)
+all_whole bidders products (round ∷ rounds) all =
+    All-cons (IsWhole bidders products) round rounds (all.1, all.2) (all_whole bidders products rounds all.3)
 
 -- So has the round with a number.
-pub numbered_whole : (bidders products n : ℕ) (closed : List ClosedRound) (one : ClosedRound) → AreNumbered bidders products closed →
-    round_at n closed ≡ Some one →
-    (length one.slips ≡ bidders) × (length one.sheet.lines ≡ products)
-numbered_whole bidders products n closed one all e = found_all (IsWhole bidders products) n closed one (all_whole bidders products closed all) e
+pub numbered_whole : (bidders products n : ℕ) (closed : List ClosedRound) (one : ClosedRound) → AreNumbered bidders
+    products closed → round_at n closed ≡ Some one → (length one.slips ≡ bidders) × (length one.sheet.lines ≡ products)
+numbered_whole bidders products n closed one all e =
+    found_all (IsWhole bidders products) n closed one (all_whole bidders products closed all) e
 
 -- The auction of a house that stands for a list of commands is sound.
-module _ (house : HouseFields) (limits : IsSetup house.setup) (commands : List Command) (stands : StandsFor commands house) where
-  pub stands_sound : IsSound house.setup (record { closed = house.closed; since = (history house.setup commands).since })
+module _ (house : HouseFields) (limits : IsSetup house.setup) (commands : List Command)
+    (stands : StandsFor commands house) where
+  pub stands_sound : IsSound house.setup
+      (record { closed = house.closed; since = (history house.setup commands).since })
   stands_sound =
-      let P = λ (closed : List ClosedRound). IsSound house.setup (record { closed = closed; since = (history house.setup commands).since }) in
+      let P = λ (closed : List ClosedRound). IsSound house.setup
+      (record { closed = closed; since = (history house.setup commands).since }) in
       let all : IsSound house.setup (history house.setup commands) = sound house.setup limits commands in
-      subst P (sym stands.closed) (record { numbered = all.numbered; within = all.within; priced = all.priced; supplied = all.supplied; count = all.count })
+      subst P (sym stands.closed) (record {
+        numbered = all.numbered;
+        within = all.within;
+        priced = all.priced;
+        supplied = all.supplied;
+        count = all.count;
+      })
 
   pub stands_going : (standing_in house).ended ≡ false → IsOpen (public_setup house.setup) (open_round_in house)
   stands_going going =
@@ -78,12 +91,14 @@ module _ (house : HouseFields) (limits : IsSetup house.setup) (commands : List C
       (ap (λ (closed : List ClosedRound). (standing house.setup.products closed).ended) (sym stands.closed) ∙ going))
 
   -- The first round has the opening prices.
-  stands_opening : (standing_in house).ended ≡ false → (standing_in house).round ≡ 1 → (standing_in house).prices ≡ opening_prices house.setup.products
-  stands_opening going first =
-      first_prices house.setup house.closed (round-closed house.setup house.closed (stands_numbered house commands stands) going) first
+  stands_opening : (standing_in house).ended ≡ false → (standing_in house).round ≡ 1
+      → (standing_in house).prices ≡ opening_prices house.setup.products
+  stands_opening going first = first_prices house.setup house.closed
+      (round-closed house.setup house.closed (stands_numbered house commands stands) going) first
 
   -- If the auction has not ended, the house has an open round.
-  pub stands_open_round : (standing_in house).ended ≡ false → IsOpenRound (record { setup = house.setup; before = open_round_in house })
+  pub stands_open_round : (standing_in house).ended ≡ false
+      → IsOpenRound (record { setup = house.setup; before = open_round_in house })
   stands_open_round going = record {
     holdings = length-map-range_with_len (holding_in house) 0 (length house.setup.bidders);
     sheets = stands_sheets house commands stands;
@@ -92,9 +107,10 @@ module _ (house : HouseFields) (limits : IsSetup house.setup) (commands : List C
   }
 
 -- The invariant of a house does not depend on its memory for further rounds.
-pub kept_in_room : (house : HouseFields) (spare : ℕ) (ended : Bool) (round : ℕ) (prices : List PricePair) (eligibilities : List ℕ) (demands : List (List ℕ)) →
-    AgreesWithRounds house ended round prices eligibilities demands →
-    AgreesWithRounds (record { setup = house.setup; closed = house.closed; sheets = house.sheets; spare = spare }) ended round prices eligibilities demands
+pub kept_in_room : (house : HouseFields) (spare : ℕ) (ended : Bool) (round : ℕ) (prices : List PricePair)
+    (eligibilities : List ℕ) (demands : List (List ℕ)) → AgreesWithRounds house ended round prices eligibilities demands
+    → AgreesWithRounds (record { setup = house.setup; closed = house.closed; sheets = house.sheets; spare = spare })
+    ended round prices eligibilities demands
 kept_in_room house spare ended round prices eligibilities demands kept = record {
   limits = kept.limits;
   commands = kept.commands;

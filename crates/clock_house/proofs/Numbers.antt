@@ -19,23 +19,27 @@ module _ (setup : SetupFields) where
   pub round-closed : (closed : List ClosedRound) → AreNumbered (length setup.bidders) (length setup.products) closed →
       (standing setup.products closed).ended ≡ false → (standing setup.products closed).round ≡ suc (length closed)
   round-closed [] all going = refl
-  round-closed (last ∷ rounds) all going = ap (λ ended. cond ended last.sheet.round (last.sheet.round + 1)) going ∙ omega (arith, all.0)
+  round-closed (last ∷ rounds) all going =
+      ap (λ ended. cond ended last.sheet.round (last.sheet.round + 1)) going ∙ omega (arith, all.0)
 
   -- The prices of round 1 are the opening prices.
-  pub first_prices : (closed : List ClosedRound) → (standing setup.products closed).round ≡ suc (length closed) → (standing setup.products closed).round ≡ 1 →
-      (standing setup.products closed).prices ≡ (standing setup.products []).prices
+  pub first_prices : (closed : List ClosedRound) → (standing setup.products closed).round ≡ suc (length closed)
+      → (standing setup.products closed).round ≡ 1
+      → (standing setup.products closed).prices ≡ (standing setup.products []).prices
   first_prices [] number one = refl
   first_prices (last ∷ rounds) number one = absurd (omega (arith, number, one))
 
-  numbered_closing : (auction : Auction) (round : ℕ) (increments : Increments) (ties : List Tie) (answer : Result ClosedRound CloseFault) →
-      closing_of setup auction round increments ties ≡ answer →
-      AreNumbered (length setup.bidders) (length setup.products) auction.closed →
-      AreNumbered (length setup.bidders) (length setup.products) (after_closing auction (close round increments ties) answer).closed
+  numbered_closing : (auction : Auction) (round : ℕ) (increments : Increments) (ties : List Tie)
+      (answer : Result ClosedRound CloseFault) → closing_of setup auction round increments ties ≡ answer
+      → AreNumbered (length setup.bidders) (length setup.products) auction.closed → AreNumbered (length setup.bidders)
+      (length setup.products) (after_closing auction (close round increments ties) answer).closed
   numbered_closing auction round increments ties (Ok done) e all =
       let is : IsClosing (public_setup setup) (open_round setup auction) round increments ties done
       = closing_passed (public_setup setup) (open_round setup auction) round increments ties done e in
-      let number : (standing setup.products auction.closed).round ≡ suc (length auction.closed) = round-closed auction.closed all is.going in
-      let bidders : length (open_round setup auction).holdings ≡ length setup.bidders = length-map-range_with_len _ 0 (length setup.bidders) in (
+      let number : (standing setup.products auction.closed).round ≡ suc (length auction.closed) =
+      round-closed auction.closed all is.going in
+      let bidders : length (open_round setup auction).holdings ≡ length setup.bidders =
+      length-map-range_with_len _ 0 (length setup.bidders) in (
         ap (λ one. one.sheet.round) is.made ∙ number,
         ap (λ one. length one.slips) is.made ∙ length-map-range_with_len _ 0 _
             ∙ bidders,
@@ -45,11 +49,12 @@ module _ (setup : SetupFields) where
   numbered_closing auction round increments ties (Err fault) e all = all
 
   -- After every list of commands, the closed rounds are numbered from 1.
-  pub numbered : (commands : List Command) → AreNumbered (length setup.bidders) (length setup.products) (history setup commands).closed
+  pub numbered : (commands : List Command)
+      → AreNumbered (length setup.bidders) (length setup.products) (history setup commands).closed
   numbered [] = tt
   numbered (put author round bids ∷ earlier) = numbered earlier
-  numbered (close round increments ties ∷ earlier) =
-      numbered_closing (history setup earlier) round increments ties (closing_of setup (history setup earlier) round increments ties) refl (numbered earlier)
+  numbered (close round increments ties ∷ earlier) = numbered_closing (history setup earlier) round increments ties
+      (closing_of setup (history setup earlier) round increments ties) refl (numbered earlier)
   numbered (other ∷ earlier) = numbered earlier
 
 module _ {A : Type 0} where

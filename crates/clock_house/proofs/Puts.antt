@@ -16,15 +16,16 @@ use Rattle.clock_house.specs.declared.fault.PutFault.TheVariants as put_faults
 use Rattle.clock_house.specs.Command.{Command, put}
 use Rattle.clock_house.specs.Standing.{put_fault}
 use Rattle.clock_house.specs.History.{ClosedRound, history, standing, holding, sheet_in_force}
-use Rattle.clock_house.specs.House.{HouseFields, StandsFor, IsFollowedBy, AnswersPut, standing_in, holding_in, put_fault_in, with_sheet}
+use Rattle.clock_house.specs.House.{HouseFields, StandsFor, IsFollowedBy, AnswersPut, standing_in, holding_in}
+use Rattle.clock_house.specs.House.{put_fault_in, with_sheet}
 use Rattle.clock_house.specs.Prepared.{PreparedSheet, FitsSheet}
 use Rattle.clock_house.proofs.Steps.{in_force-accepted, in_force-skipped}
 
 -- A prepared sheet that a house accepts, by equal parts of both.
-pub fits_inside : (prepared inside : PreparedSheet) (house held : HouseFields) → inside ≡ prepared → held ≡ house → FitsSheet prepared house
-    → FitsSheet inside held
-fits_inside prepared inside house held p h fits =
-    subst (λ (of : HouseFields). FitsSheet inside of) (sym h) (subst (λ (sheet : PreparedSheet). FitsSheet sheet house) (sym p) fits)
+pub fits_inside : (prepared inside : PreparedSheet) (house held : HouseFields) → inside ≡ prepared → held ≡ house
+    → FitsSheet prepared house → FitsSheet inside held
+fits_inside prepared inside house held p h fits = subst (λ (of : HouseFields). FitsSheet inside of) (sym h)
+    (subst (λ (sheet : PreparedSheet). FitsSheet sheet house) (sym p) fits)
 
 skip_by : (own good : Bool) → good ≡ false → own && good ≡ false
 skip_by true good e = e
@@ -34,61 +35,64 @@ other_by : (own good : Bool) → own ≡ false → own && good ≡ false
 other_by true good e = let bad : true ≡ false = e in cc
 other_by false good e = refl
 
-module _ (house : HouseFields) (bidder round : ℕ) (bids : List Bid) (commands : List Command) (stands : StandsFor commands house) where
+module _ (house : HouseFields) (bidder round : ℕ) (bids : List Bid) (commands : List Command)
+    (stands : StandsFor commands house) where
   -- The fault of the sheet by the history of the commands is its fault by the house.
-  fault_same : put_fault (public_setup house.setup) (standing house.setup.products (history house.setup commands).closed)
-      (holding house.setup (history house.setup commands).closed bidder) round bids ≡ put_fault_in house bidder round bids
+  fault_same : put_fault (public_setup house.setup)
+      (standing house.setup.products (history house.setup commands).closed) (holding house.setup
+      (history house.setup commands).closed bidder) round bids ≡ put_fault_in house bidder round bids
   fault_same =
       ap (λ (closed : List ClosedRound). put_fault (public_setup house.setup) (standing house.setup.products closed)
       (holding house.setup closed bidder) round bids) (sym stands.closed)
 
   -- The sheet in force that the house has for a bidder is the one by the commands.
-  pub sheet_at : (who : ℕ) → who < length house.setup.bidders → get_or house.sheets who None ≡ sheet_in_force house.setup (history house.setup commands) who
-  sheet_at who lt =
-      ap (λ (sheets : List (Option (List Bid))). get_or sheets who None) stands.sheets
-      ∙ get_or-map-range_with_len (sheet_in_force house.setup (history house.setup commands)) 0 (length house.setup.bidders) who who None lt (omega arith)
+  pub sheet_at : (who : ℕ) → who < length house.setup.bidders
+      → get_or house.sheets who None ≡ sheet_in_force house.setup (history house.setup commands) who
+  sheet_at who lt = ap (λ (sheets : List (Option (List Bid))). get_or sheets who None) stands.sheets
+      ∙ get_or-map-range_with_len (sheet_in_force house.setup (history house.setup commands)) 0
+      (length house.setup.bidders) who who None lt (omega arith)
 
   many : length house.sheets ≡ length house.setup.bidders
-  many = ap length stands.sheets ∙ length-map-range_with_len (sheet_in_force house.setup (history house.setup commands)) 0 (length house.setup.bidders)
+  many = ap length stands.sheets ∙ length-map-range_with_len
+      (sheet_in_force house.setup (history house.setup commands)) 0 (length house.setup.bidders)
 
   -- A sheet that is refused is not an accepted sheet of any bidder.
-  refused : (fault : PutFault) → put_fault_in house bidder round bids ≡ Some fault → (who : ℕ) →
-      (bidder == who) && is_none (put_fault (public_setup house.setup) (standing house.setup.products (history house.setup commands).closed)
-      (holding house.setup (history house.setup commands).closed who) round bids) ≡ false
+  refused : (fault : PutFault) → put_fault_in house bidder round bids ≡ Some fault → (who : ℕ) → (bidder == who)
+      && is_none (put_fault (public_setup house.setup) (standing house.setup.products (history house.setup
+      commands).closed) (holding house.setup (history house.setup commands).closed who) round bids) ≡ false
   refused fault e who =
-      let judged = λ (one : ℕ). put_fault (public_setup house.setup) (standing house.setup.products (history house.setup commands).closed)
-      (holding house.setup (history house.setup commands).closed one) round bids in
+      let judged = λ (one : ℕ). put_fault (public_setup house.setup) (standing house.setup.products (history house.setup
+      commands).closed) (holding house.setup (history house.setup commands).closed one) round bids in
       elim (cases_eq bidder who) as (λ _. (bidder == who) && is_none (judged who) ≡ false) [
         | inl same ↦ skip_by (bidder == who) (is_none (judged who)) (ap is_none (ap judged (sym same) ∙ fault_same ∙ e))
         | inr differ ↦ other_by (bidder == who) (is_none (judged who)) (ne_eqb bidder who differ)
       ]
 
   -- A refused sheet changes nothing.
-  pub put-refused : (fault : PutFault) → put_fault_in house bidder round bids ≡ Some fault → StandsFor (put bidder round bids ∷ commands) house
+  pub put-refused : (fault : PutFault) → put_fault_in house bidder round bids ≡ Some fault
+      → StandsFor (put bidder round bids ∷ commands) house
   put-refused fault e = record {
     closed = stands.closed;
-    sheets = fill_by_all (sheet_in_force house.setup (history house.setup (put bidder round bids ∷ commands))) house.sheets
-        (length house.setup.bidders) None many
-        (λ who lt. sheet_at who lt ∙ sym (in_force-skipped house.setup (history house.setup commands) bidder round bids who (refused fault e who)));
+    sheets = fill_by_all (sheet_in_force house.setup (history house.setup (put bidder round bids ∷ commands)))
+        house.sheets (length house.setup.bidders) None many (λ who lt. sheet_at who lt ∙ sym (in_force-skipped
+        house.setup (history house.setup commands) bidder round bids who (refused fault e who)));
   }
 
-  accepted_at : bidder < length house.setup.bidders → put_fault_in house bidder round bids ≡ None → (who : ℕ) → who < length house.setup.bidders →
-      get_or (set house.sheets bidder (Some bids)) who None ≡ sheet_in_force house.setup (history house.setup (put bidder round bids ∷ commands)) who
+  accepted_at : bidder < length house.setup.bidders → put_fault_in house bidder round bids ≡ None → (who : ℕ)
+      → who < length house.setup.bidders → get_or (set house.sheets bidder (Some bids)) who None
+      ≡ sheet_in_force house.setup (history house.setup (put bidder round bids ∷ commands)) who
   accepted_at lt e who who_in =
       elim (cases_eq who bidder) as (λ _. get_or (set house.sheets bidder (Some bids)) who None
       ≡ sheet_in_force house.setup (history house.setup (put bidder round bids ∷ commands)) who) [
-        | inl same ↦
-            subst (λ (one : ℕ). get_or (set house.sheets bidder (Some bids)) one None
-            ≡ sheet_in_force house.setup (history house.setup (put bidder round bids ∷ commands)) one) (sym same)
-            (get_or-set_same house.sheets bidder (Some bids) None (omega (arith, lt, many))
-            ∙ sym (in_force-accepted house.setup (history house.setup commands) bidder round bids (eq-eqb bidder bidder refl) (ap is_none (fault_same ∙ e))))
-        | inr differ ↦
-            get_or-set_other house.sheets bidder who (Some bids) None differ
-            ∙ sheet_at who who_in
+        | inl same ↦ subst (λ (one : ℕ). get_or (set house.sheets bidder (Some bids)) one None ≡ sheet_in_force
+            house.setup (history house.setup (put bidder round bids ∷ commands)) one) (sym same) (get_or-set_same
+            house.sheets bidder (Some bids) None (omega (arith, lt, many)) ∙ sym (in_force-accepted house.setup
+            (history house.setup commands) bidder round bids (eq-eqb bidder bidder refl) (ap is_none (fault_same ∙ e))))
+        | inr differ ↦ get_or-set_other house.sheets bidder who (Some bids) None differ ∙ sheet_at who who_in
             ∙ sym (in_force-skipped house.setup (history house.setup commands) bidder round bids who
-            (other_by (bidder == who)
-            (is_none (put_fault (public_setup house.setup) (standing house.setup.products (history house.setup commands).closed)
-            (holding house.setup (history house.setup commands).closed who) round bids)) (ne_eqb bidder who (λ e. differ (sym e)))))
+            (other_by (bidder == who) (is_none (put_fault (public_setup house.setup)
+            (standing house.setup.products (history house.setup commands).closed) (holding house.setup
+            (history house.setup commands).closed who) round bids)) (ne_eqb bidder who (λ e. differ (sym e)))))
       ]
 
   -- An accepted sheet is in force, and the other bidders' sheets are unchanged.
@@ -96,8 +100,8 @@ module _ (house : HouseFields) (bidder round : ℕ) (bids : List Bid) (commands 
       StandsFor (put bidder round bids ∷ commands) (with_sheet house bidder bids)
   put-accepted lt e = record {
     closed = stands.closed;
-    sheets = fill_by_all (sheet_in_force house.setup (history house.setup (put bidder round bids ∷ commands))) (set house.sheets bidder (Some bids))
-        (length house.setup.bidders) None
+    sheets = fill_by_all (sheet_in_force house.setup (history house.setup (put bidder round bids ∷ commands)))
+        (set house.sheets bidder (Some bids)) (length house.setup.bidders) None
         (length-set house.sheets bidder (Some bids) ∙ many) (accepted_at lt e);
   }
 
@@ -108,15 +112,16 @@ module _ (house : HouseFields) (bidder round : ℕ) (bids : List Bid) where
       (put_faults.Ended, not ended)
       ∷ (put_faults.WrongRound (standing_in house).round, current)
       ∷ fault_check put_faults.Bid
-      (sheet_fault (public_setup house.setup) (standing_in house).round (standing_in house).prices (holding_in house bidder) bids))
+      (sheet_fault (public_setup house.setup) (standing_in house).round (standing_in house).prices
+      (holding_in house bidder) bids))
 
   pub put-ended : (standing_in house).ended ≡ true → put_fault_in house bidder round bids ≡ Some put_faults.Ended
   put-ended ended = ap (λ end. by_tests end (round == (standing_in house).round)) ended
 
   pub put-other : (standing_in house).ended ≡ false → round ≢ (standing_in house).round →
       put_fault_in house bidder round bids ≡ Some (put_faults.WrongRound (standing_in house).round)
-  put-other going other =
-      ap (λ end. by_tests end (round == (standing_in house).round)) going ∙ ap (by_tests false) (ne_eqb round (standing_in house).round other)
+  put-other going other = ap (λ end. by_tests end (round == (standing_in house).round)) going
+      ∙ ap (by_tests false) (ne_eqb round (standing_in house).round other)
 
 -- The result of a house that checks a sheet.
 module _ (house : HouseFields) (bidder round : ℕ) (bids : List Bid) where
@@ -130,8 +135,8 @@ module _ (house : HouseFields) (bidder round : ℕ) (bids : List Bid) where
   fits-judged (Err fault) known is asked = tt
 
   -- After a refused sheet, the house stands for one more command.
-  pub judged-followed : (result : Result PreparedSheet PutFault) → AnswersPut (put_fault_in house bidder round bids) result →
-      IfErr result (λ told. told ≢ put_faults.NoMemory → IsFollowedBy (put bidder round bids) house house)
+  pub judged-followed : (result : Result PreparedSheet PutFault) → AnswersPut (put_fault_in house bidder round bids)
+      result → IfErr result (λ told. told ≢ put_faults.NoMemory → IsFollowedBy (put bidder round bids) house house)
   judged-followed (Ok prepared) is = tt
   judged-followed (Err fault) is = λ other. record {
     setup = refl;

@@ -1,6 +1,7 @@
 -- What holds after every list of commands.
 --     AreNumbered bidders products closed      the closed rounds are numbered from 1
---     StaysSupplied products later earlier      aggregate demand, once at supply, never falls below it
+--     StaysSupplied products later earlier      aggregate demand, once at supply,
+--         never falls below it
 --     IsSound setup auction      both, bidders within their limits, sound prices, bounded rounds
 use Rattle.std.specs.Prelude.{◌≡◌, ℕ, suc, ◌+◌, ◌*◌, ◌<◌, ◌≤◌, List, [], ◌∷◌, false, length}
 use Rattle.std.specs.List.{AllPairs}
@@ -20,7 +21,8 @@ most_rounds = most_products * highest_price + 2
 abbrev pub AreNumbered : ℕ → ℕ → List ClosedRound → Type 0
 AreNumbered bidders products [] = Unit {0}
 AreNumbered bidders products (round ∷ rounds) =
-    (round.sheet.round ≡ suc (length rounds)) × (length round.slips ≡ bidders) × (length round.sheet.lines ≡ products) × AreNumbered bidders products rounds
+    (round.sheet.round ≡ suc (length rounds)) × (length round.slips ≡ bidders)
+    × (length round.sheet.lines ≡ products) × AreNumbered bidders products rounds
 
 -- If aggregate demand was at least supply after the earlier round, it is after the later one.
 abbrev pub StaysSupplied : List Product → ClosedRound → ClosedRound → Type 0
@@ -33,7 +35,9 @@ StaysSupplied products later earlier =
 -- after a round never falls below supply after a later one.
 pub record IsSound (setup : SetupFields) (auction : Auction) : Type 0 where
   pub numbered : AreNumbered (length setup.bidders) (length setup.products) auction.closed
-  pub within : (bidder : ℕ) → bidder < length setup.bidders → IsWithinLimits setup.products (holding setup auction.closed bidder)
-  pub priced : (standing setup.products auction.closed).ended ≡ false → HasSoundPrices setup.products (standing setup.products auction.closed)
+  pub within : (bidder : ℕ) → bidder < length setup.bidders
+      → IsWithinLimits setup.products (holding setup auction.closed bidder)
+  pub priced : (standing setup.products auction.closed).ended ≡ false
+      → HasSoundPrices setup.products (standing setup.products auction.closed)
   pub supplied : AllPairs (StaysSupplied setup.products) auction.closed
   pub count : length auction.closed ≤ most_rounds

@@ -19,4 +19,5 @@ pub record FitsSheet (prepared : PreparedSheet) (house : HouseFields) : Type 0 w
 
 -- The house accepts the closing, and the round that it adds is the one prepared.
 abbrev pub FitsClosing : PreparedClosing → HouseFields → Type 0
-FitsClosing prepared house = closing_in house prepared.round prepared.increments prepared.ties ≡ Ok prepared.closed
+FitsClosing prepared house =
+    closing_in house prepared.round prepared.increments prepared.ties ≡ Ok prepared.closed

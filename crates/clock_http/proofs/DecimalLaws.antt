@@ -37,8 +37,8 @@ module _ {E : Type 0} (text : List ℕ) (is : IsTrue (is_number text)) where
   by_result (Ok n) told = (told.0.1, told.1)
   by_result (Err e) told = λ short. told (some_digits text is, short)
 
-  pub number_read : (bytes : List ℕ) (r : Result ℕ E) (o : Option ℕ) → bytes ≡ text → ParsesUnsigned 64 10 bytes r → o ≡ result_ok r
-      → SomeIff o (digits_value 10 text < 2 ^ 64) (digits_value 10 text)
+  pub number_read : (bytes : List ℕ) (r : Result ℕ E) (o : Option ℕ) → bytes ≡ text → ParsesUnsigned 64 10 bytes r
+      → o ≡ result_ok r → SomeIff o (digits_value 10 text < 2 ^ 64) (digits_value 10 text)
   number_read bytes r o same reads made =
       let plain : ParsesUnsigned 64 10 text r = subst (λ (b : List ℕ). ParsesUnsigned 64 10 b r) same reads in
       subst (λ (told : Option ℕ). SomeIff told (digits_value 10 text < 2 ^ 64) (digits_value 10 text)) (sym made)

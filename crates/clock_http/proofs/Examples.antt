@@ -3,7 +3,8 @@ use Rattle.std.specs.Prelude.{◌≡◌, List, [], ◌∷◌, ◌++◌, Some, No
 use Rattle.std.specs.Fmt.{digits}
 use Rattle.clock_http.specs.declared.code.Code.TheVariants.{Done, Method, Token}
 use Rattle.clock_http.specs.declared.routes.Page.{Page}
-use Rattle.clock_http.specs.declared.routes.Page.TheVariants.{Status, Products, Sheet, Account, Bids, Slip, Close, Results}
+use Rattle.clock_http.specs.declared.routes.Page.TheVariants.{Status, Products, Sheet, Account, Bids, Slip, Close}
+use Rattle.clock_http.specs.declared.routes.Page.TheVariants.{Results}
 use Rattle.clock_http.specs.Replies.{reply_bytes}
 use Rattle.clock_http.specs.Decimals.{plain_number}
 use Rattle.matchit.specs.Route.{scan}
@@ -14,15 +15,18 @@ use Rattle.clock_http.specs.inside.Routing.{page_at, table}
 pages : List Page
 pages = Status ∷ Products ∷ Sheet ∷ Account ∷ Bids ∷ Slip ∷ Close ∷ Results ∷ []
 
-all_pages_but_one_are_got : map (λ page. has_method page (codes "GET")) pages ≡ true ∷ true ∷ true ∷ true ∷ true ∷ true ∷ false ∷ true ∷ []
+all_pages_but_one_are_got : map (λ page. has_method page (codes "GET")) pages
+    ≡ true ∷ true ∷ true ∷ true ∷ true ∷ true ∷ false ∷ true ∷ []
 unfolding pages
 all_pages_but_one_are_got = refl
 
-bids_are_put : map (λ page. has_method page (codes "PUT")) pages ≡ false ∷ false ∷ false ∷ false ∷ true ∷ false ∷ false ∷ false ∷ []
+bids_are_put : map (λ page. has_method page (codes "PUT")) pages
+    ≡ false ∷ false ∷ false ∷ false ∷ true ∷ false ∷ false ∷ false ∷ []
 unfolding pages
 bids_are_put = refl
 
-a_closing_is_posted : map (λ page. has_method page (codes "POST")) pages ≡ false ∷ false ∷ false ∷ false ∷ false ∷ false ∷ true ∷ false ∷ []
+a_closing_is_posted : map (λ page. has_method page (codes "POST")) pages
+    ≡ false ∷ false ∷ false ∷ false ∷ false ∷ false ∷ true ∷ false ∷ []
 unfolding pages
 a_closing_is_posted = refl
 
@@ -34,20 +38,18 @@ no_page_has_another_method : map (λ page. has_method page (codes "HEAD")) pages
 unfolding pages
 no_page_has_another_method = refl
 
-each_route_has_its_page :
-    map page_at (codes "/v1/status" ∷ codes "/v1/products" ∷ codes "/v1/rounds/7" ∷ codes "/v1/me" ∷ codes "/v1/me/bids" ∷ codes "/v1/me/rounds/7"
-    ∷ codes "/v1/close" ∷ codes "/v1/results" ∷ []) ≡ map Some pages
+each_route_has_its_page : map page_at (codes "/v1/status" ∷ codes "/v1/products" ∷ codes "/v1/rounds/7" ∷ codes "/v1/me"
+    ∷ codes "/v1/me/bids" ∷ codes "/v1/me/rounds/7" ∷ codes "/v1/close" ∷ codes "/v1/results" ∷ []) ≡ map Some pages
 unfolding pages table scan seek param_step
 each_route_has_its_page = refl
 
-no_other_path_has_a_page :
-    map page_at (codes "/v1/rounds/" ∷ codes "/v1/rounds" ∷ codes "/v1/rounds/1/2" ∷ codes "/v1/status/" ∷ codes "/v1/Status" ∷ codes "/" ∷ [] ∷ [])
-    ≡ None ∷ None ∷ None ∷ None ∷ None ∷ None ∷ None ∷ []
+no_other_path_has_a_page : map page_at (codes "/v1/rounds/" ∷ codes "/v1/rounds" ∷ codes "/v1/rounds/1/2" ∷ codes
+    "/v1/status/" ∷ codes "/v1/Status" ∷ codes "/" ∷ [] ∷ []) ≡ None ∷ None ∷ None ∷ None ∷ None ∷ None ∷ None ∷ []
 unfolding table scan seek param_step
 no_other_path_has_a_page = refl
 
-rounds_are_named_by_plain_digits :
-    map plain_number (last_segment (codes "/v1/rounds/12") ∷ last_segment (codes "/v1/rounds/0") ∷ last_segment (codes "/v1/me/rounds/18446744073709551615")
+rounds_are_named_by_plain_digits : map plain_number (last_segment (codes "/v1/rounds/12")
+    ∷ last_segment (codes "/v1/rounds/0") ∷ last_segment (codes "/v1/me/rounds/18446744073709551615")
     ∷ codes "18446744073709551616" ∷ codes "01" ∷ codes "+1" ∷ codes "1a" ∷ [])
     ≡ Some 12 ∷ Some 0 ∷ Some 18446744073709551615 ∷ None ∷ None ∷ None ∷ None ∷ []
 rounds_are_named_by_plain_digits = refl

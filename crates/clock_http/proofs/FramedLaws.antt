@@ -9,8 +9,10 @@ use Rattle.clock_http.specs.declared.code.Code.TheVariants.{LongHead, BadHead, C
 use Rattle.clock_http.specs.Scans.{head_length, is_loose}
 use Rattle.clock_http.specs.Heads.{head_of}
 use Rattle.clock_http.specs.Decimals.{is_number}
-use Rattle.clock_http.specs.HeaderLines.{pairs_of, values_of, length_from, within_limit, unless_coded, body_length, body_limit}
-use Rattle.clock_http.specs.Framing.{head_limit, or_bad_head, ended_head, Head, stored_head, and_length, length_read, Known, unended}
+use Rattle.clock_http.specs.HeaderLines.{pairs_of, values_of, length_from, within_limit, unless_coded, body_length}
+use Rattle.clock_http.specs.HeaderLines.{body_limit}
+use Rattle.clock_http.specs.Framing.{head_limit, or_bad_head, ended_head, Head, stored_head, and_length, length_read}
+use Rattle.clock_http.specs.Framing.{Known, unended}
 use Rattle.clock_http.specs.Framing.{waiting, complete, refused, known_with_head, known_with_end, known}
 use Rattle.clock_http.specs.Framing.{refusal, whole, framing, ok_head, head_in}
 use Rattle.clock_http.specs.inside.Framed.{framed}
@@ -20,7 +22,8 @@ use Rattle.clock_http.proofs.Prefixes.{cond_cases, framed_is, head_is}
 
 -- ---- a text is refused by one of five codes
 
-module _ (P : Code → Type 0) (long_head : P LongHead) (bad_head : P BadHead) (coding : P Coding) (bad_length : P BadLength) (long_body : P LongBody) where
+module _ (P : Code → Type 0) (long_head : P LongHead) (bad_head : P BadHead) (coding : P Coding)
+    (bad_length : P BadLength) (long_body : P LongBody) where
   by_length : (values : List (List ℕ)) (code : Code) → length_from values ≡ Err code → P code
   by_length [] code e = absurd cc
   by_length (value ∷ []) code e =
@@ -38,7 +41,8 @@ module _ (P : Code → Type 0) (long_head : P LongHead) (bad_head : P BadHead) (
         | inr i ↦ absurd (let bad = i.1 in cc)
       ]
 
-  by_coding : (values : List (List ℕ)) (r : Result ℕ Code) (code : Code) → (r ≡ Err code → P code) → unless_coded values r ≡ Err code → P code
+  by_coding : (values : List (List ℕ)) (r : Result ℕ Code) (code : Code) → (r ≡ Err code → P code)
+      → unless_coded values r ≡ Err code → P code
   by_coding [] r code h e = h e
   by_coding (value ∷ more) r code h e = (let same : Coding ≡ code = cc in subst P same coding)
 
@@ -62,7 +66,8 @@ module _ (P : Code → Type 0) (long_head : P LongHead) (bad_head : P BadHead) (
         ]
       ]
 
-  by_measured : (head : RequestHead) (r : Result ℕ Code) (code : Code) → (r ≡ Err code → P code) → and_length head r ≡ Err code → P code
+  by_measured : (head : RequestHead) (r : Result ℕ Code) (code : Code) → (r ≡ Err code → P code)
+      → and_length head r ≡ Err code → P code
   by_measured head (Err c) code h e = (let is : c ≡ code = cc in h (ap Err is))
   by_measured head (Ok n) code h e = absurd cc
 
@@ -70,7 +75,8 @@ module _ (P : Code → Type 0) (long_head : P LongHead) (bad_head : P BadHead) (
   by_read (Err c) code h e = (let is : c ≡ code = cc in h (ap Err is))
   by_read (Ok head) code h e = by_measured head (body_length (pairs_of head)) code (by_body (pairs_of head) code) e
 
-  by_head : (count n : ℕ) (r : Result (Head × ℕ) Code) (code : Code) → (r ≡ Err code → P code) → known_with_head count n r ≡ refused code → P code
+  by_head : (count n : ℕ) (r : Result (Head × ℕ) Code) (code : Code) → (r ≡ Err code → P code)
+      → known_with_head count n r ≡ refused code → P code
   by_head count n (Err c) code h e = (let is : c ≡ code = cc in h (ap Err is))
   by_head count n (Ok read) code h e =
       elim (cond_cases (nat_lt count (n + read.1)) (waiting read.0 n read.1) (complete read.0 n read.1) _ e) [
@@ -96,7 +102,8 @@ module _ (P : Code → Type 0) (long_head : P LongHead) (bad_head : P BadHead) (
 
   pub refused_by : (text : List ℕ) (code : Code) → framing text ≡ refusal code → P code
   unfolding known
-  refused_by text code e = by_end (head_length (take head_limit text)) text code (by_known (known text) text code (framed_is text ∙ e))
+  refused_by text code e =
+      by_end (head_length (take head_limit text)) text code (by_known (known text) text code (framed_is text ∙ e))
 
 -- ---- the head of a whole text
 
@@ -108,16 +115,18 @@ head_or (Ok read) head = read.0
 abbrev as_read : ℕ → Head → Result (Head × ℕ) Code
 as_read n head = Ok (head, n)
 
-measured_head : (h : RequestHead) (r : Result ℕ Code) (head : Head) (n : ℕ) → and_length h r ≡ Ok (head, n) → stored_head h ≡ head
+measured_head : (h : RequestHead) (r : Result ℕ Code) (head : Head) (n : ℕ) → and_length h r ≡ Ok (head, n)
+    → stored_head h ≡ head
 measured_head h (Err c) head n e = absurd cc
 measured_head h (Ok m) head n e = ap (λ r. head_or r head) e
 
-read_head_of : (r : Result RequestHead Code) (head : Head) (n : ℕ) → length_read r ≡ Ok (head, n) → ok_head r ≡ Some head
+read_head_of : (r : Result RequestHead Code) (head : Head) (n : ℕ) → length_read r ≡ Ok (head, n)
+    → ok_head r ≡ Some head
 read_head_of (Err c) head n e = absurd cc
 read_head_of (Ok h) head n e = ap Some (measured_head h (body_length (pairs_of h)) head n e)
 
-complete_read : (count n : ℕ) (r : Result (Head × ℕ) Code) (head : Head) (m body : ℕ) → known_with_head count n r ≡ complete head m body
-    → (k : ℕ) × (r ≡ Ok (head, k))
+complete_read : (count n : ℕ) (r : Result (Head × ℕ) Code) (head : Head) (m body : ℕ)
+    → known_with_head count n r ≡ complete head m body → (k : ℕ) × (r ≡ Ok (head, k))
 complete_read count n (Err c) head m body e = absurd cc
 complete_read count n (Ok read) head m body e =
     elim (cond_cases (nat_lt count (n + read.1)) (waiting read.0 n read.1) (complete read.0 n read.1) _ e) [
@@ -125,7 +134,8 @@ complete_read count n (Ok read) head m body e =
       | inr k ↦ (let is = k.1 in let same : read.0 ≡ head = cc in (read.1, ap (as_read read.1) same))
     ]
 
-end_head : (o : Option ℕ) (text : List ℕ) (head : Head) (m body : ℕ) → known_with_end o text ≡ complete head m body → ended_at o text ≡ Some head
+end_head : (o : Option ℕ) (text : List ℕ) (head : Head) (m body : ℕ) → known_with_end o text ≡ complete head m body
+    → ended_at o text ≡ Some head
 end_head None text head m body e =
     elim (cond_cases (nat_lt (length text) head_limit) (unended (length text)) (refused LongHead) _ e) [
       | inl h ↦ absurd (let bad = h.1 in cc)
@@ -135,14 +145,16 @@ end_head (Some n) text head m body e =
     let read = complete_read (length text) n (head_with_length (take n text)) head m body e in
     read_head_of (ended_head (take n text)) head read.0 read.1
 
-whole_of : (k : Known) (text : List ℕ) (head : Head) (body : List ℕ) → framed k text ≡ whole head body → (n : ℕ) × (m : ℕ) × (k ≡ complete head n m)
+whole_of : (k : Known) (text : List ℕ) (head : Head) (body : List ℕ) → framed k text ≡ whole head body
+    → (n : ℕ) × (m : ℕ) × (k ≡ complete head n m)
 whole_of (unended n) text head body e = absurd cc
 whole_of (waiting h n b) text head body e = absurd cc
 whole_of (refused c) text head body e = absurd cc
 whole_of (complete h n b) text head body e = (let same : h ≡ head = cc in (n, b, ap (λ x. complete x n b) same))
 
 -- a whole text has its head
-pub whole_head : (text : List ℕ) (head : Head) (body : List ℕ) → framing text ≡ whole head body → head_in text ≡ Some head
+pub whole_head : (text : List ℕ) (head : Head) (body : List ℕ) → framing text ≡ whole head body
+    → head_in text ≡ Some head
 unfolding known
 whole_head text head body e =
     let is = whole_of (known text) text head body (framed_is text ∙ e) in

@@ -1,7 +1,9 @@
 -- A decided text stays decided, and what is known of a text follows from what is known of a prefix. The end of a head,
 -- once found, does not move, and everything else depends on the bytes before it and on lengths.
-use Rattle.std.proofs.Common.{◌≡◌, ℕ, ◌+◌, ◌≤◌, ◌⊎◌, suc, Bool, true, false, cond, List, [], ◌∷◌, ◌++◌, length, take, drop, Option, Some}
-use Rattle.std.proofs.Common.{None, Ok, Err, Result, refl, sym, ◌∙◌, ap, arith, inl, inr, zero, length-append, length-drop}
+use Rattle.std.proofs.Common.{◌≡◌, ℕ, ◌+◌, ◌≤◌, ◌⊎◌, suc, Bool, true, false, cond, List, [], ◌∷◌, ◌++◌, length, take}
+use Rattle.std.proofs.Common.{drop, Option, Some}
+use Rattle.std.proofs.Common.{None, Ok, Err, Result, refl, sym, ◌∙◌, ap, arith, inl, inr, zero, length-append}
+use Rattle.std.proofs.Common.{length-drop}
 use Rattle.std.specs.Prelude.{option_map, option_and_then, nat_eq, nat_lt, if◌then◌else◌}
 use Rattle.std.specs.List.{starts_with}
 use Rattle.std.specs.Cmp.Lexicographic.{as_long, pointwise}
@@ -14,7 +16,8 @@ use Rattle.clock_http.specs.Scans.{head_length}
 use Rattle.clock_http.specs.inside.HeadTests.{empty_line}
 use Rattle.clock_http.specs.inside.HeadParts.{head_with_length, ended_at}
 use Rattle.clock_http.specs.Framing.{ok_head, ended_head, head_in, head_limit, Head, Known, unended, waiting}
-use Rattle.clock_http.specs.Framing.{complete, refused, known_with_body, known_with_head, known_with_end, known, advanced, is_incomplete}
+use Rattle.clock_http.specs.Framing.{complete, refused, known_with_body, known_with_head, known_with_end, known}
+use Rattle.clock_http.specs.Framing.{advanced, is_incomplete}
 use Rattle.clock_http.specs.Framing.{incomplete, refusal, whole, framed_at, framed_head, framing}
 use Rattle.clock_http.specs.inside.Framed.{framed}
 use Rattle.clock_http.specs.FramingLaws.{IsDecidedOnce, IsKnownByParts, HasOneHead}
@@ -35,8 +38,10 @@ pub head_length_within : (text : List ℕ) (n : ℕ) → head_length text ≡ So
 head_length_within [] n e = absurd cc
 head_length_within (b ∷ rest) n e =
     elim (cond_cases (starts_with nat_eq (b ∷ rest) empty_line) _ _ _ e) [
-      | inl h ↦ (let m : 4 ≤ length (b ∷ rest) = four (b ∷ rest) h.0 in let k : 4 ≡ n = cc in (omega arith, omega arith))
-      | inr h ↦ (let m = suc_of (head_length rest) n h.1 in let w = head_length_within rest m.0 m.1 in (omega arith, omega arith))
+      | inl h ↦
+          (let m : 4 ≤ length (b ∷ rest) = four (b ∷ rest) h.0 in let k : 4 ≡ n = cc in (omega arith, omega arith))
+      | inr h ↦ (let m = suc_of (head_length rest) n h.1 in let w = head_length_within rest m.0 m.1 in
+          (omega arith, omega arith))
     ]
 
 pub head_length-append : (text more : List ℕ) (n : ℕ) → head_length text ≡ Some n → head_length (text ++ more) ≡ Some n
@@ -60,13 +65,15 @@ taken zero (b ∷ text) more = ([], refl)
 taken (suc limit) (b ∷ text) more = let t = taken limit text more in (t.0, ap (λ xs. b ∷ xs) t.1)
 
 -- the end of a head, once found, does not move
-pub end-append : (text more : List ℕ) (n : ℕ) → head_length (take head_limit text) ≡ Some n → head_length (take head_limit (text ++ more)) ≡ Some n
+pub end-append : (text more : List ℕ) (n : ℕ) → head_length (take head_limit text) ≡ Some n
+    → head_length (take head_limit (text ++ more)) ≡ Some n
 end-append text more n e =
     let t = taken head_limit text more in
     ap head_length t.1 ∙ head_length-append (take head_limit text) t.0 n e
 
 pub end_within : (text : List ℕ) (n : ℕ) → head_length (take head_limit text) ≡ Some n → n ≤ length text
-end_within text n e = (let w = head_length_within (take head_limit text) n e in omega (arith, length-take head_limit text))
+end_within text n e =
+    (let w = head_length_within (take head_limit text) n e in omega (arith, length-take head_limit text))
 
 -- if no head ends in the most bytes that one may have, none does later
 long-append : (text more : List ℕ) → head_length (take head_limit text) ≡ None → head_limit ≤ length text
@@ -75,13 +82,14 @@ long-append text more e le = ap head_length (take-append-le head_limit text more
 
 -- ---- what is known
 
-body-append : (text more : List ℕ) (head : Head) (n body : ℕ) (k : Known) → known_with_body (length text) head n body ≡ k
-    → known_with_body (length (text ++ more)) head n body ≡ advanced k (text ++ more)
+body-append : (text more : List ℕ) (head : Head) (n body : ℕ) (k : Known) → known_with_body (length text) head n body
+    ≡ k → known_with_body (length (text ++ more)) head n body ≡ advanced k (text ++ more)
 body-append text more head n body k e =
     elim (cond_cases (nat_lt (length text) (n + body)) (waiting head n body) (complete head n body) _ e) [
       | inl h ↦ ap (λ k. advanced k (text ++ more)) h.1
       | inr h ↦ (let le : n + body ≤ length text = grind (arith, nat_tests) in
-          let no : nat_lt (length (text ++ more)) (n + body) ≡ false = grind (arith, nat_tests, length-append text more) in
+          let no : nat_lt (length (text ++ more)) (n + body) ≡ false =
+          grind (arith, nat_tests, length-append text more) in
           ap (λ t. cond t (waiting head n body) (complete head n body)) no ∙ ap (λ k. advanced k (text ++ more)) h.1)
     ]
 
@@ -97,9 +105,10 @@ known-append text more None e =
     elim (cond_cases (nat_lt (length text) head_limit) (unended (length text)) (refused LongHead) _ refl) [
       | inl h ↦ ap (λ k. advanced k (text ++ more)) h.1
       | inr h ↦ (let le : head_limit ≤ length text = grind (arith, nat_tests) in
-          let no : nat_lt (length (text ++ more)) head_limit ≡ false = grind (arith, nat_tests, length-append text more) in
-          ap (λ o. known_with_end o (text ++ more)) (long-append text more e le)
-          ∙ ap (λ t. cond t (unended (length (text ++ more))) (refused LongHead)) no ∙ ap (λ k. advanced k (text ++ more)) h.1)
+          let no : nat_lt (length (text ++ more)) head_limit ≡ false =
+          grind (arith, nat_tests, length-append text more) in
+          ap (λ o. known_with_end o (text ++ more)) (long-append text more e le) ∙ ap (λ t. cond t
+          (unended (length (text ++ more))) (refused LongHead)) no ∙ ap (λ k. advanced k (text ++ more)) h.1)
     ]
 known-append text more (Some n) e =
     let le = end_within text n e in
@@ -112,7 +121,8 @@ unfolding known
 known_by_parts text more = known-append text more (head_length (take head_limit text)) refl
 
 -- a complete request is within the text
-complete_of : (text : List ℕ) (o : Option ℕ) (head : Head) (n body : ℕ) → known_with_end o text ≡ complete head n body → n + body ≤ length text
+complete_of : (text : List ℕ) (o : Option ℕ) (head : Head) (n body : ℕ) → known_with_end o text ≡ complete head n body
+    → n + body ≤ length text
 complete_of text None head n body e =
     elim (cond_cases (nat_lt (length text) head_limit) (unended (length text)) (refused LongHead) _ e) [
       | inl h ↦ absurd (let bad = h.1 in cc)
@@ -120,7 +130,8 @@ complete_of text None head n body e =
     ]
 complete_of text (Some m) head n body e = by (head_with_length (take m text)) e
   where
-    by : (r : Result (Head × ℕ) Code) → known_with_head (length text) m r ≡ complete head n body → n + body ≤ length text
+    by : (r : Result (Head × ℕ) Code) → known_with_head (length text) m r ≡ complete head n body
+        → n + body ≤ length text
     by (Err fault) e = absurd cc
     by (Ok read) e =
         elim (cond_cases (nat_lt (length text) (m + read.1)) (waiting read.0 m read.1) (complete read.0 m read.1) _ e) [
@@ -132,7 +143,8 @@ complete_of text (Some m) head n body e = by (head_with_length (take m text)) e
               omega arith)
         ]
 
-pub complete_fits : (text : List ℕ) (head : Head) (n body : ℕ) → known text ≡ complete head n body → n + body ≤ length text
+pub complete_fits : (text : List ℕ) (head : Head) (n body : ℕ) → known text ≡ complete head n body
+    → n + body ≤ length text
 unfolding known
 complete_fits text head n body e = complete_of text (head_length (take head_limit text)) head n body e
 
@@ -160,7 +172,8 @@ framed_unended : (text : List ℕ) (n : ℕ) (short : Bool)
 framed_unended text n true = refl
 framed_unended text n false = refl
 
-framed_read : (text : List ℕ) (n : ℕ) (read : Result (Head × ℕ) Code) → framed (known_with_head (length text) n read) text ≡ framed_head n text read
+framed_read : (text : List ℕ) (n : ℕ) (read : Result (Head × ℕ) Code)
+    → framed (known_with_head (length text) n read) text ≡ framed_head n text read
 framed_read text n (Err fault) = refl
 framed_read text n (Ok read) = framed_with text n read.0 read.1 (nat_lt (length text) (n + read.1))
 
@@ -179,7 +192,8 @@ decided_once text more d =
 
 -- ---- the head of a text
 
-ended_at-append : (text more : List ℕ) (o : Option ℕ) → head_length (take head_limit text) ≡ o → is_incomplete (framed (known_with_end o text) text) ≡ false
+ended_at-append : (text more : List ℕ) (o : Option ℕ) → head_length (take head_limit text) ≡ o
+    → is_incomplete (framed (known_with_end o text) text) ≡ false
     → ended_at (head_length (take head_limit (text ++ more))) (text ++ more) ≡ ended_at o text
 ended_at-append text more None e d =
     elim (cond_cases (nat_lt (length text) head_limit) (unended (length text)) (refused LongHead) _ refl) [
@@ -192,7 +206,8 @@ ended_at-append text more (Some n) e d =
     ap (λ o. ended_at o (text ++ more)) (end-append text more n e)
     ∙ ap (λ front. ok_head (ended_head front)) (take-append-le n text more le)
 
-ended_is : (o : Option ℕ) (text : List ℕ) → ended_at o text ≡ option_and_then (λ n. ok_head (ended_head (take n text))) o
+ended_is : (o : Option ℕ) (text : List ℕ)
+    → ended_at o text ≡ option_and_then (λ n. ok_head (ended_head (take n text))) o
 ended_is None text = refl
 ended_is (Some n) text = refl
 
@@ -204,6 +219,5 @@ head_is text = ended_is (head_length (take head_limit text)) text
 -- adding bytes to a decided text does not change its head
 pub one_head : HasOneHead
 unfolding known
-one_head text more d =
-    sym (head_is (text ++ more)) ∙ ended_at-append text more (head_length (take head_limit text)) refl (ap is_incomplete (framed_is text) ∙ d)
-    ∙ head_is text
+one_head text more d = sym (head_is (text ++ more)) ∙ ended_at-append text more
+    (head_length (take head_limit text)) refl (ap is_incomplete (framed_is text) ∙ d) ∙ head_is text

@@ -1,14 +1,16 @@
 -- The router's walk over its rows finds the row that matches a path, and the rows of our table match the paths of the
 -- pages. Our patterns have no catch-all, and a parameter only at the end. So the walk tries the next byte, and then a
 -- parameter.
-use Rattle.std.proofs.Common.{◌≡◌, ℕ, zero, suc, ◌-◌, Bool, true, false, cond, not, List, [], ◌∷◌, ◌++◌, length, drop, nat_eq}
+use Rattle.std.proofs.Common.{◌≡◌, ℕ, zero, suc, ◌-◌, Bool, true, false, cond, not, List, [], ◌∷◌, ◌++◌, length, drop}
+use Rattle.std.proofs.Common.{nat_eq}
 use Rattle.std.proofs.Common.{Option, Some, None, refl, sym, ◌∙◌, ap, subst, arith, eqb-true, eq-eqb}
 use Rattle.std.specs.Prelude.{option_map, find, ◌==◌, ◌&&◌, ◌||◌, ltb, nat_lt}
 use Rattle.std.specs.List.{starts_with, list_any, list_all}
 use Rattle.std.proofs.lemmas.Bool.{and_parts}
 use Rattle.std.proofs.lemmas.Bool.Decides.{nat_tests}
 use Rattle.matchit.specs.Rows.{RowsOf, param_token, catch_all_token}
-use Rattle.matchit.specs.Seek.{seek, first, own, step, or_else, param_step, has_slash, longest_from, better, segment, with_suffix}
+use Rattle.matchit.specs.Seek.{seek, first, own, step, or_else, param_step, has_slash, longest_from, better, segment}
+use Rattle.matchit.specs.Seek.{with_suffix}
 use Rattle.matchit.specs.Router.{RouteOf}
 use Rattle.matchit.specs.Route.{scan}
 use Rattle.matchit.proofs.ParamLemmas.{one_less}
@@ -82,7 +84,8 @@ module _ {K : Type 0} where
   unfolding seek
   seek-empty k [] = refl
   seek-empty (suc k) (b ∷ p) = seek-empty k p
-  seek-empty zero (b ∷ p) = simp (seek-empty 0 p, param_step-empty (b ∷ p), seek-empty (((param_step {K = K} [] (b ∷ p)).0) - 1) p)
+  seek-empty zero (b ∷ p) =
+      simp (seek-empty 0 p, param_step-empty (b ∷ p), seek-empty (((param_step {K = K} [] (b ∷ p)).0) - 1) p)
 
   seek-all : (rs : RowsOf K) (p : List ℕ) → seek (length p) rs p ≡ own rs
   unfolding seek
@@ -105,17 +108,16 @@ module _ {K : Type 0} where
 
   longest_ends : (seg : List ℕ) (rs : RowsOf K) → AreEnds rs → longest_from seg [] rs ≡ []
   longest_ends seg [] all = refl
-  longest_ends seg ((t, k) ∷ rs) all = ap (λ t. longest_from seg (better seg [] (segment t)) rs) all.0 ∙ longest_ends seg rs all.1
+  longest_ends seg ((t, k) ∷ rs) all =
+      ap (λ t. longest_from seg (better seg [] (segment t)) rs) all.0 ∙ longest_ends seg rs all.1
 
   param_is : (rs : RowsOf K) (p : List ℕ) → AreEnds rs → param_step rs p ≡ cond (has_slash p) (0, []) (length p, rs)
   unfolding param_step
-  param_is rs p all =
-      ap (λ s. cond (ltb 0 (length s)) (length (segment p) - length s, with_suffix s rs) (cond (has_slash p) (0, []) (length p, rs)))
-      (longest_ends (segment p) rs all)
+  param_is rs p all = ap (λ s. cond (ltb 0 (length s)) (length (segment p) - length s, with_suffix s rs)
+      (cond (has_slash p) (0, []) (length p, rs))) (longest_ends (segment p) rs all)
 
-  after_param : (v : Bool) (rs : RowsOf K) (b : ℕ) (p : List ℕ) →
-      seek ((cond {A = ℕ × RowsOf K} v (0, []) (length (b ∷ p), rs)).0 - 1) (cond {A = ℕ × RowsOf K} v (0, []) (length (b ∷ p), rs)).1 p
-      ≡ cond v None (own rs)
+  after_param : (v : Bool) (rs : RowsOf K) (b : ℕ) (p : List ℕ) → seek ((cond {A = ℕ × RowsOf K} v (0, [])
+      (length (b ∷ p), rs)).0 - 1) (cond {A = ℕ × RowsOf K} v (0, []) (length (b ∷ p), rs)).1 p ≡ cond v None (own rs)
   after_param true rs b p = seek-empty 0 p
   after_param false rs b p = ap (λ n. seek n rs p) (one_less (length p)) ∙ seek-all rs p
 
@@ -174,14 +176,13 @@ module _ {K : Type 0} where
 
   walk_empty : (p : List ℕ) → walk [] p ≡ None
   walk_empty [] = refl
-  walk_empty (b ∷ p) =
-      ap (λ (o : Option K). or_else o (cond (has_slash (b ∷ p)) None None)) (walk_empty p) ∙ none_twice (has_slash (b ∷ p))
+  walk_empty (b ∷ p) = ap (λ (o : Option K). or_else o (cond (has_slash (b ∷ p)) None None)) (walk_empty p)
+      ∙ none_twice (has_slash (b ∷ p))
 
   walk_ends : (rs : RowsOf K) (c : ℕ) (p : List ℕ) → AreEnds rs → walk rs (c ∷ p) ≡ None
-  walk_ends rs c p all =
-      ap (λ (s : RowsOf K). or_else (walk s p) (cond (has_slash (c ∷ p)) None (own (step param_token rs)))) (step_ends c rs all)
-      ∙ ap (λ (s : RowsOf K). or_else (walk [] p) (cond (has_slash (c ∷ p)) None (own s))) (step_ends param_token rs all)
-      ∙ walk_empty (c ∷ p)
+  walk_ends rs c p all = ap (λ (s : RowsOf K). or_else (walk s p)
+      (cond (has_slash (c ∷ p)) None (own (step param_token rs)))) (step_ends c rs all) ∙ ap (λ (s : RowsOf K).
+      or_else (walk [] p) (cond (has_slash (c ∷ p)) None (own s))) (step_ends param_token rs all) ∙ walk_empty (c ∷ p)
 
   only_ends : (b : ℕ) (rs : RowsOf K) → GoesFirst (256 ∷ []) rs → ArePlain rs → AreEnds (step b rs)
   only_ends b [] go all = tt
@@ -206,24 +207,26 @@ module _ {K : Type 0} where
 
   param_row : (k : K) (rs : RowsOf K) (b : ℕ) (p : List ℕ) → GoesFirst (256 ∷ []) rs → ArePlain rs →
       walk ((256 ∷ [], k) ∷ rs) (b ∷ p) ≡ cond (not (has_slash (b ∷ p))) (Some k) (walk rs (b ∷ p))
-  param_row k rs b (c ∷ p) go all =
-      param_longer (has_slash (b ∷ (c ∷ p))) k (walk (cond (256 == b) (([], k) ∷ step b rs) (step b rs)) (c ∷ p)) (walk (step b rs) (c ∷ p))
-      (own (step param_token rs)) (walk_ends _ c p (both (256 == b))) (walk_ends (step b rs) c p (only_ends b rs go all))
+  param_row k rs b (c ∷ p) go all = param_longer (has_slash (b ∷ (c ∷ p))) k
+      (walk (cond (256 == b) (([], k) ∷ step b rs) (step b rs)) (c ∷ p)) (walk (step b rs) (c ∷ p)) (own
+      (step param_token rs)) (walk_ends _ c p (both (256 == b))) (walk_ends (step b rs) c p (only_ends b rs go all))
     where
       both : (v : Bool) → AreEnds (cond v (([], k) ∷ step b rs) (step b rs))
       both true = (refl, only_ends b rs go all)
       both false = only_ends b rs go all
   param_row k rs b [] go all = by (256 == b) refl
     where
-      by : (v : Bool) → (256 == b) ≡ v →
-          or_else (own (cond v (([], k) ∷ step b rs) (step b rs))) (cond (cond (b == 47) true false) None (Some k))
-          ≡ cond (not (cond (b == 47) true false)) (Some k) (or_else (own (step b rs)) (cond (cond (b == 47) true false) None (own (step param_token rs))))
+      by : (v : Bool) → (256 == b) ≡ v → or_else (own (cond v (([], k) ∷ step b rs) (step b rs)))
+          (cond (cond (b == 47) true false) None (Some k)) ≡ cond (not (cond (b == 47) true false)) (Some k)
+          (or_else (own (step b rs)) (cond (cond (b == 47) true false) None (own (step param_token rs))))
       by true e =
           let no : (b == 47) ≡ false = ap (λ n. n == 47) (sym (eqb-true 256 b e)) in
-          sym (ap (λ v. cond (not (cond v true false)) (Some k) (or_else (own (step b rs)) (cond (cond v true false) None (own (step param_token rs))))) no)
+          sym (ap (λ v. cond (not (cond v true false)) (Some k)
+          (or_else (own (step b rs)) (cond (cond v true false) None (own (step param_token rs))))) no)
       by false e =
           let none : own (step b rs) ≡ None = ap own (none_step b rs e go) in
-          param_longer (cond (b == 47) true false) k (own (step b rs)) (own (step b rs)) (own (step param_token rs)) none none
+          param_longer (cond (b == 47) true false) k (own (step b rs)) (own (step b rs))
+          (own (step param_token rs)) none none
 
   go_on : (x b : ℕ) (t : List ℕ) (rs : RowsOf K) → (x == b) ≡ true → GoesFirst (x ∷ t) rs → GoesFirst t (step b rs)
   go_on x b t [] same go = tt
@@ -246,13 +249,12 @@ module _ {K : Type 0} where
   row_first [] k rs [] h go all = refl
   row_first [] k rs (b ∷ p) h go all = refl
   row_first (x ∷ t) k rs [] h go all = refl
-  row_first (x ∷ t) k rs (b ∷ p) h go all =
-      by (x == 256) refl (λ same. row_first t k (step b rs) p (plain_tail x t h) (go_on x b t rs same go) (plain_step b rs all))
+  row_first (x ∷ t) k rs (b ∷ p) h go all = by (x == 256) refl
+      (λ same. row_first t k (step b rs) p (plain_tail x t h) (go_on x b t rs same go) (plain_step b rs all))
     where
-      literal : (v : Bool) → (x == b) ≡ v
-          → ((x == b) ≡ true → walk ((t, k) ∷ step b rs) p ≡ cond (fits t p) (Some k) (walk (step b rs) p)) →
-          or_else (walk (cond v ((t, k) ∷ step b rs) (step b rs)) p) (cond (has_slash (b ∷ p)) None (own (step param_token rs)))
-          ≡ cond (v && fits t p) (Some k) (walk rs (b ∷ p))
+      literal : (v : Bool) → (x == b) ≡ v → ((x == b) ≡ true → walk ((t, k) ∷ step b rs) p
+          ≡ cond (fits t p) (Some k) (walk (step b rs) p)) → or_else (walk (cond v ((t, k) ∷ step b rs) (step b rs)) p)
+          (cond (has_slash (b ∷ p)) None (own (step param_token rs))) ≡ cond (v && fits t p) (Some k) (walk rs (b ∷ p))
       literal true e ih =
           ap (λ o. or_else o (cond (has_slash (b ∷ p)) None (own (step param_token rs)))) (ih e)
           ∙ later (fits t p) k (walk (step b rs) p) (cond (has_slash (b ∷ p)) None (own (step param_token rs)))
@@ -264,7 +266,8 @@ module _ {K : Type 0} where
       by true e ih =
           let nil : t ≡ [] = end_of x t h e in
           let is : x ≡ 256 = eqb-true x 256 e in
-          let going : GoesFirst (256 ∷ []) rs = subst (λ (n : ℕ). GoesFirst (n ∷ []) rs) is (subst (λ (u : List ℕ). GoesFirst (x ∷ u) rs) nil go) in
+          let going : GoesFirst (256 ∷ []) rs =
+          subst (λ (n : ℕ). GoesFirst (n ∷ []) rs) is (subst (λ (u : List ℕ). GoesFirst (x ∷ u) rs) nil go) in
           ap (λ (u : List ℕ). walk ((x ∷ u, k) ∷ rs) (b ∷ p)) nil ∙ ap (λ (n : ℕ). walk ((n ∷ [], k) ∷ rs) (b ∷ p)) is
           ∙ param_row k rs b p going all
           ∙ sym (ap (λ v. cond (cond v (not (has_slash (b ∷ p))) ((x == b) && fits t p)) (Some k) (walk rs (b ∷ p))) e)
@@ -295,7 +298,8 @@ in_order ((t, k) ∷ rs) = plain t && (goes_first t rs && in_order rs)
 
 first_from : (t : List ℕ) (rs : RowsOf (RouteOf Page)) → goes_first t rs ≡ true → GoesFirst t rs
 first_from t [] h = tt
-first_from t ((u, k) ∷ rs) h = let parts = and_parts (goes_before t u) (goes_first t rs) h in (parts.0, first_from t rs parts.1)
+first_from t ((u, k) ∷ rs) h = let parts = and_parts (goes_before t u) (goes_first t rs) h in
+    (parts.0, first_from t rs parts.1)
 
 plain_from : (rs : RowsOf (RouteOf Page)) → in_order rs ≡ true → ArePlain rs
 plain_from [] h = tt
@@ -303,13 +307,14 @@ plain_from ((t, k) ∷ rs) h =
     let parts = and_parts (plain t) (goes_first t rs && in_order rs) h in
     (parts.0, plain_from rs (and_parts (goes_first t rs) (in_order rs) parts.1).1)
 
-fitted : (rs : RowsOf (RouteOf Page)) (p : List ℕ) → in_order rs ≡ true → option_map (λ r. r.value) (walk rs p) ≡ first_fit (pages_in rs) p
+fitted : (rs : RowsOf (RouteOf Page)) (p : List ℕ) → in_order rs ≡ true
+    → option_map (λ r. r.value) (walk rs p) ≡ first_fit (pages_in rs) p
 fitted [] p h = ap (option_map (λ (r : RouteOf Page). r.value)) (walk_empty p)
 fitted ((t, r) ∷ rs) p h =
     let parts = and_parts (plain t) (goes_first t rs && in_order rs) h in
     let others = and_parts (goes_first t rs) (in_order rs) parts.1 in
-    ap (option_map (λ (r : RouteOf Page). r.value)) (row_first t r rs p parts.0 (first_from t rs others.0) (plain_from rs others.1))
-    ∙ by (fits t p) (fitted rs p others.1)
+    ap (option_map (λ (r : RouteOf Page). r.value)) (row_first t r rs p parts.0 (first_from t rs others.0)
+    (plain_from rs others.1)) ∙ by (fits t p) (fitted rs p others.1)
   where
     by : (v : Bool) → option_map (λ r. r.value) (walk rs p) ≡ first_fit (pages_in rs) p
         → option_map (λ r. r.value) (cond v (Some r) (walk rs p)) ≡ cond v (Some r.value) (first_fit (pages_in rs) p)
@@ -338,7 +343,8 @@ slash_any : (p : List ℕ) → has_slash p ≡ list_any (λ b. b == 47) p
 slash_any [] = refl
 slash_any (b ∷ p) = by (b == 47) (slash_any p)
   where
-    by : (v : Bool) → has_slash p ≡ list_any (λ b. b == 47) p → cond v true (has_slash p) ≡ v || list_any (λ b. b == 47) p
+    by : (v : Bool) → has_slash p ≡ list_any (λ b. b == 47) p
+        → cond v true (has_slash p) ≡ v || list_any (λ b. b == 47) p
     by true ih = refl
     by false ih = ih
 
@@ -349,9 +355,11 @@ regrouped : (a s g : Bool) → a && (s && g) ≡ (a && s) && g
 regrouped true s g = refl
 regrouped false s g = refl
 
-fits_segment : (t p : List ℕ) → literal t ≡ true → fits (t ++ 256 ∷ []) p ≡ (starts_with nat_eq p t && is_segment (drop (length t) p))
+fits_segment : (t p : List ℕ) → literal t ≡ true
+    → fits (t ++ 256 ∷ []) p ≡ (starts_with nat_eq p t && is_segment (drop (length t) p))
 fits_segment [] [] h = refl
-fits_segment [] (b ∷ p) h = ap not (slash_any (b ∷ p)) ∙ sym (ap (λ v. v && not (list_any (λ b. b == 47) (b ∷ p))) (some_bytes b p))
+fits_segment [] (b ∷ p) h =
+    ap not (slash_any (b ∷ p)) ∙ sym (ap (λ v. v && not (list_any (λ b. b == 47) (b ∷ p))) (some_bytes b p))
 fits_segment (x ∷ t) [] h = refl
 fits_segment (x ∷ t) (b ∷ p) h =
     let parts = and_parts (not (x == 256)) (literal t) h in
@@ -379,8 +387,8 @@ patterns_of (row ∷ rows) = (pattern_of row.0, row.1) ∷ patterns_of rows
 found_is : (rows : List (List ℕ × Page)) (p : List ℕ) → AreLiteral rows →
     first_fit (patterns_of rows) p ≡ option_map (λ row. row.1) (find (λ row. is_path row.0 p) rows)
 found_is [] p all = refl
-found_is (row ∷ rows) p all =
-    ap (λ v. cond v (Some row.1) (first_fit (patterns_of rows) p)) (fits_is row.0 p all.0) ∙ by (is_path row.0 p) (found_is rows p all.1)
+found_is (row ∷ rows) p all = ap (λ v. cond v (Some row.1) (first_fit (patterns_of rows) p)) (fits_is row.0 p all.0)
+    ∙ by (is_path row.0 p) (found_is rows p all.1)
   where
     by : (v : Bool) → first_fit (patterns_of rows) p ≡ option_map (λ row. row.1) (find (λ row. is_path row.0 p) rows)
         → cond v (Some row.1) (first_fit (patterns_of rows) p)
@@ -397,7 +405,8 @@ unfolding table scan
 table_is = refl
 
 -- the router's walk over our table finds the page of a path
-pub walk_is : (path : List ℕ) → option_map (λ r. r.value) (first table path) ≡ option_map (λ row. row.1) (find (λ row. is_path row.0 path) paths)
-walk_is path =
-    ap (option_map (λ (r : RouteOf Page). r.value)) (walked table path (plain_from table table_in_order)) ∙ fitted table path table_in_order
-    ∙ ap (λ rows. first_fit rows path) table_is ∙ found_is paths path (refl, (refl, (refl, (refl, (refl, (refl, (refl, (refl, tt))))))))
+pub walk_is : (path : List ℕ)
+    → option_map (λ r. r.value) (first table path) ≡ option_map (λ row. row.1) (find (λ row. is_path row.0 path) paths)
+walk_is path = ap (option_map (λ (r : RouteOf Page). r.value)) (walked table path (plain_from table table_in_order))
+    ∙ fitted table path table_in_order ∙ ap (λ rows. first_fit rows path) table_is
+    ∙ found_is paths path (refl, (refl, (refl, (refl, (refl, (refl, (refl, (refl, tt))))))))

@@ -1,6 +1,7 @@
 -- What the parser's contract says of a head, in our definitions: which head is found, when none is, and that its spans
 -- cover the parts.
-use Rattle.std.proofs.Common.{◌≡◌, ℕ, ◌-◌, ◌≤◌, false, cond, List, [], ◌++◌, length, map, take, drop, Option, Some, None}
+use Rattle.std.proofs.Common.{◌≡◌, ℕ, ◌-◌, ◌≤◌, false, cond, List, [], ◌++◌, length, map, take, drop, Option, Some}
+use Rattle.std.proofs.Common.{None}
 use Rattle.std.proofs.Common.{Result, Ok, Err, refl, sym, ◌∙◌, ap, arith}
 use Rattle.std.specs.Prelude.{nat_lt}
 use Rattle.std.proofs.Math.ListN.{drop_of_length-le}
@@ -23,16 +24,17 @@ use Rattle.clock_http.specs.inside.HeadParts.{path_of_target, head_with_length}
 use Rattle.clock_http.proofs.HeadLaws.{head_of_reads, found_of_reads, append_none}
 
 -- a parse that is complete at the end of the bytes has found their head
-pub parsed : (bytes : List ℕ) (headers : List HeaderSpan) (r : RequestSpans) → is_loose bytes ≡ false → r.len ≡ length bytes
-    → IsRequestOf bytes headers r → (h : RequestHead) × (head_of bytes ≡ Some h) × IsRequestAt bytes headers r h
+pub parsed : (bytes : List ℕ) (headers : List HeaderSpan) (r : RequestSpans) → is_loose bytes ≡ false → r.len ≡ length
+    bytes → IsRequestOf bytes headers r → (h : RequestHead) × (head_of bytes ≡ Some h) × IsRequestAt bytes headers r h
 parsed bytes headers r tight all (h, at) =
     let rest : drop r.len bytes ≡ [] = drop_of_length-le bytes (omega arith) in
     let reads : ReadsRequest bytes h [] = (at.reads.0, at.reads.1 ∙ ap (λ t. print_request h ++ t) rest) in
     (h, (found_of_reads bytes h tight reads).head, at)
 
 -- a head that exists is found, so if none is found there is none
-pub not_parsed : (bytes : List ℕ) (room : ℕ) (headers : List HeaderSpan) (result : Result (Status RequestSpans) Error) → line_ends bytes - 2 ≤ room
-    → is_loose bytes ≡ false → FindsRequest bytes room headers result → (IsCompleteAnd result (λ r. r.len ≡ length bytes) → ⊥) → head_of bytes ≡ None
+pub not_parsed : (bytes : List ℕ) (room : ℕ) (headers : List HeaderSpan) (result : Result (Status RequestSpans) Error)
+    → line_ends bytes - 2 ≤ room → is_loose bytes ≡ false → FindsRequest bytes room headers result
+    → (IsCompleteAnd result (λ r. r.len ≡ length bytes) → ⊥) → head_of bytes ≡ None
 not_parsed bytes room headers result few tight finds missing = by (head_of bytes) refl
   where
     weaker : (q : Result (Status RequestSpans) Error) (h : RequestHead) → bytes ≡ print_request h ++ []
@@ -53,14 +55,15 @@ abbrev parted : List ℕ → List ℕ → Option (List ℕ) → ℕ → Result (
 parted method path token n = Ok (record { method = method; path = path; token = token }, n)
 
 -- the spans cover the parts of the head
-pub read_is : (bytes : List ℕ) (headers : List HeaderSpan) (r : RequestSpans) (h : RequestHead) (method target path : List ℕ) (token : Option (List ℕ)) (n : ℕ)
-    → line_ends bytes ≤ 66 → is_loose bytes ≡ false → head_of bytes ≡ Some h → IsRequestAt bytes headers r h
-    → method ≡ span_bytes bytes r.method → target ≡ span_bytes bytes r.path → path ≡ path_of_target target
-    → token ≡ token_of (map (header_bytes bytes) (take r.headers headers))
-    → Ok n ≡ body_length (map (header_bytes bytes) (take r.headers headers))
+pub read_is : (bytes : List ℕ) (headers : List HeaderSpan) (r : RequestSpans) (h : RequestHead)
+    (method target path : List ℕ) (token : Option (List ℕ)) (n : ℕ) → line_ends bytes ≤ 66 → is_loose bytes ≡ false
+    → head_of bytes ≡ Some h → IsRequestAt bytes headers r h → method ≡ span_bytes bytes r.method
+    → target ≡ span_bytes bytes r.path → path ≡ path_of_target target → token ≡ token_of (map (header_bytes bytes)
+    (take r.headers headers)) → Ok n ≡ body_length (map (header_bytes bytes) (take r.headers headers))
     → Ok (record { method = method; path = path; token = token }, n) ≡ head_with_length bytes
 read_is bytes headers r h method target path token n few tight head at m t p k l =
-    let short : nat_lt 64 (line_ends bytes - 2) ≡ false = (let le : line_ends bytes - 2 ≤ 64 = omega arith in grind (arith, nat_tests)) in
+    let short : nat_lt 64 (line_ends bytes - 2) ≡ false =
+    (let le : line_ends bytes - 2 ≤ 64 = omega arith in grind (arith, nat_tests)) in
     let ended : ended_head bytes ≡ Ok h =
     ap (λ u. cond u (Err LongHead) (cond (is_loose bytes) (Err BadHead) (or_bad_head (head_of bytes)))) short
     ∙ ap (λ u. cond u (Err BadHead) (or_bad_head (head_of bytes))) tight ∙ ap or_bad_head head in
@@ -73,18 +76,22 @@ read_is bytes headers r h method target path token n few tight head at m t p k l
     ∙ sym (ap length_read ended ∙ ap (and_length h) sized)
 
 -- bytes that have no head by the grammar are refused
-pub no_head : (bytes : List ℕ) → line_ends bytes ≤ 66 → is_loose bytes ≡ false → head_of bytes ≡ None → Err BadHead ≡ head_with_length bytes
+pub no_head : (bytes : List ℕ) → line_ends bytes ≤ 66 → is_loose bytes ≡ false → head_of bytes ≡ None
+    → Err BadHead ≡ head_with_length bytes
 no_head bytes few tight none =
-    let short : nat_lt 64 (line_ends bytes - 2) ≡ false = (let le : line_ends bytes - 2 ≤ 64 = omega arith in grind (arith, nat_tests)) in
-    sym (ap length_read (ap (λ u. cond u (Err LongHead) (cond (is_loose bytes) (Err BadHead) (or_bad_head (head_of bytes)))) short
+    let short : nat_lt 64 (line_ends bytes - 2) ≡ false =
+    (let le : line_ends bytes - 2 ≤ 64 = omega arith in grind (arith, nat_tests)) in
+    sym (ap length_read
+    (ap (λ u. cond u (Err LongHead) (cond (is_loose bytes) (Err BadHead) (or_bad_head (head_of bytes)))) short
     ∙ ap (λ u. cond u (Err BadHead) (or_bad_head (head_of bytes))) tight ∙ ap or_bad_head none))
 
 -- a head with a refused length is refused
-pub no_length : (bytes : List ℕ) (headers : List HeaderSpan) (r : RequestSpans) (h : RequestHead) (fault : Code) → line_ends bytes ≤ 66
-    → is_loose bytes ≡ false → head_of bytes ≡ Some h → IsRequestAt bytes headers r h
+pub no_length : (bytes : List ℕ) (headers : List HeaderSpan) (r : RequestSpans) (h : RequestHead) (fault : Code)
+    → line_ends bytes ≤ 66 → is_loose bytes ≡ false → head_of bytes ≡ Some h → IsRequestAt bytes headers r h
     → Err fault ≡ body_length (map (header_bytes bytes) (take r.headers headers)) → Err fault ≡ head_with_length bytes
 no_length bytes headers r h fault few tight head at refused =
-    let short : nat_lt 64 (line_ends bytes - 2) ≡ false = (let le : line_ends bytes - 2 ≤ 64 = omega arith in grind (arith, nat_tests)) in
+    let short : nat_lt 64 (line_ends bytes - 2) ≡ false =
+    (let le : line_ends bytes - 2 ≤ 64 = omega arith in grind (arith, nat_tests)) in
     let ended : ended_head bytes ≡ Ok h =
     ap (λ u. cond u (Err LongHead) (cond (is_loose bytes) (Err BadHead) (or_bad_head (head_of bytes)))) short
     ∙ ap (λ u. cond u (Err BadHead) (or_bad_head (head_of bytes))) tight ∙ ap or_bad_head head in

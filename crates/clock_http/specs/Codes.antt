@@ -3,9 +3,15 @@
 --     status_of code, text_of code      its two columns
 use Rattle.std.specs.Prelude.{ℕ, List, codes}
 use Rattle.clock_http.specs.declared.code.Code.{Code}
-use Rattle.clock_http.specs.declared.code.Code.TheVariants.{Done, BadHead, BadLength, CutShort, BadJson, Token, Role, NoPage, NoRound, Method, Ended}
-use Rattle.clock_http.specs.declared.code.Code.TheVariants.{WrongRound, LongBody, Shape, TooMany, UnknownProduct, PriceRange, OverCap, PriceOrder}
-use Rattle.clock_http.specs.declared.code.Code.TheVariants.{MixedDirection, KeepPrice, OverActivity, Increment, TieRange, TieRepeated, TooManyTies}
+use Rattle.clock_http.specs.declared.code.Code.TheVariants.{Done, BadHead, BadLength, CutShort}
+use Rattle.clock_http.specs.declared.code.Code.TheVariants.{BadJson, Token, Role, NoPage, NoRound}
+use Rattle.clock_http.specs.declared.code.Code.TheVariants.{Method, Ended}
+use Rattle.clock_http.specs.declared.code.Code.TheVariants.{WrongRound, LongBody, Shape, TooMany}
+use Rattle.clock_http.specs.declared.code.Code.TheVariants.{UnknownProduct, PriceRange, OverCap}
+use Rattle.clock_http.specs.declared.code.Code.TheVariants.{PriceOrder}
+use Rattle.clock_http.specs.declared.code.Code.TheVariants.{MixedDirection, KeepPrice, OverActivity}
+use Rattle.clock_http.specs.declared.code.Code.TheVariants.{Increment, TieRange, TieRepeated}
+use Rattle.clock_http.specs.declared.code.Code.TheVariants.{TooManyTies}
 use Rattle.clock_http.specs.declared.code.Code.TheVariants.{PriceLimit, LongHead, Coding, Memory}
 
 abbrev pub row_of : Code → ℕ × List ℕ

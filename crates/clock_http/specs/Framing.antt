@@ -8,7 +8,9 @@
 --     advanced known text      what is known of a longer text, by what was known of a prefix
 -- The order of the refusals is our own. Nothing is refused before the head has ended or is too
 -- long.
-use Rattle.std.specs.Prelude.{◌≡◌, ℕ, ◌+◌, ◌-◌, Bool, true, false, List, length, take, drop, if◌then◌else◌, ◌==◌, nat_lt, Option, Some, None, option_and_then, Result}
+use Rattle.std.specs.Prelude.{◌≡◌, ℕ, ◌+◌, ◌-◌, Bool, true, false, List, length, take, drop}
+use Rattle.std.specs.Prelude.{if◌then◌else◌, ◌==◌, nat_lt, Option, Some, None, option_and_then}
+use Rattle.std.specs.Prelude.{Result}
 use Rattle.std.specs.Prelude.{Ok, Err}
 use Rattle.std.specs.List.{before_first}
 use Rattle.httparse.specs.Grammar.{RequestHead}
@@ -68,7 +70,8 @@ pub data Framing : Type 0 where
 -- a head of n bytes and its body, if that is whole; bytes after the body are ignored
 abbrev pub framed_head : ℕ → List ℕ → Result (Head × ℕ) Code → Framing
 framed_head n text (Err fault) = refusal fault
-framed_head n text (Ok read) = if nat_lt (length text) (n + read.1) then incomplete else whole read.0 (take read.1 (drop n text))
+framed_head n text (Ok read) = if nat_lt (length text) (n + read.1) then incomplete
+    else whole read.0 (take read.1 (drop n text))
 
 -- what a text is, given where its head ends; without an end it is incomplete or too long
 abbrev pub framed_at : Option ℕ → List ℕ → Framing
@@ -98,7 +101,8 @@ ok_head (Ok head) = Some (stored_head head)
 
 -- the head of a text, once it has ended
 unfoldable pub head_in : List ℕ → Option Head
-head_in text = option_and_then (λ n. ok_head (ended_head (take n text))) (head_length (take head_limit text))
+head_in text =
+    option_and_then (λ n. ok_head (ended_head (take n text))) (head_length (take head_limit text))
 
 -- ---- what is known of a text that may still grow
 
@@ -112,15 +116,18 @@ pub data Known : Type 0 where
 
 -- what is known of a text of `count` bytes with a head of n bytes, by the length of its body
 abbrev pub known_with_body : ℕ → Head → ℕ → ℕ → Known
-known_with_body count head n body = if nat_lt count (n + body) then waiting head n body else complete head n body
+known_with_body count head n body =
+    if nat_lt count (n + body) then waiting head n body else complete head n body
 
 abbrev pub known_with_head : ℕ → ℕ → Result (Head × ℕ) Code → Known
 known_with_head count n (Err fault) = refused fault
 known_with_head count n (Ok read) = known_with_body count read.0 n read.1
 
 abbrev pub known_with_end : Option ℕ → List ℕ → Known
-known_with_end None text = if nat_lt (length text) head_limit then unended (length text) else refused LongHead
-known_with_end (Some n) text = known_with_head (length text) n (length_read (ended_head (take n text)))
+known_with_end None text =
+    if nat_lt (length text) head_limit then unended (length text) else refused LongHead
+known_with_end (Some n) text =
+    known_with_head (length text) n (length_read (ended_head (take n text)))
 
 -- what is known of a text
 unfoldable pub known : List ℕ → Known

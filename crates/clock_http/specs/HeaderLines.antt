@@ -3,7 +3,8 @@
 --     values_of name pairs      the values of the lines of one name, in their order
 --     body_length pairs      the length of the body, or why it is refused
 --     token_of pairs      the token: what follows the word Bearer in the only authorization line
-use Rattle.std.specs.Prelude.{ℕ, Bool, List, [], ◌∷◌, take, drop, map, filter, if◌then◌else◌, ◌==◌, nat_lt, Option, Some, None, Result, Ok, Err, codes}
+use Rattle.std.specs.Prelude.{ℕ, Bool, List, [], ◌∷◌, take, drop, map, filter, if◌then◌else◌, ◌==◌}
+use Rattle.std.specs.Prelude.{nat_lt, Option, Some, None, Result, Ok, Err, codes}
 use Rattle.std.specs.Char.{to_ascii_lowercase}
 use Rattle.std.specs.Str.Parse.{digits_value}
 use Rattle.httparse.specs.Ascii.{space}
@@ -45,8 +46,8 @@ unless_coded [] n = n
 unless_coded (value ∷ more) n = Err Coding
 
 abbrev pub body_length : List (List ℕ × List ℕ) → Result ℕ Code
-body_length pairs =
-    unless_coded (values_of (codes "transfer-encoding") pairs) (within_limit (length_from (values_of (codes "content-length") pairs)))
+body_length pairs = unless_coded (values_of (codes "transfer-encoding") pairs)
+    (within_limit (length_from (values_of (codes "content-length") pairs)))
 
 abbrev pub skip_spaces : List ℕ → List ℕ
 skip_spaces [] = []
@@ -54,8 +55,8 @@ skip_spaces (b ∷ rest) = if b == space then skip_spaces rest else b ∷ rest
 
 -- what follows Bearer, in letters of any case, and one or more spaces (RFC 6750, section 2.1)
 abbrev pub bearer : List ℕ → Option (List ℕ)
-bearer value =
-    if same_bytes (map to_ascii_lowercase (take 7 value)) (codes "bearer ") then Some (skip_spaces (drop 7 value)) else None
+bearer value = if same_bytes (map to_ascii_lowercase (take 7 value)) (codes "bearer ")
+    then Some (skip_spaces (drop 7 value)) else None
 
 -- only a head with exactly one such line has a token
 abbrev pub token_from : List (List ℕ) → Option (List ℕ)

@@ -19,7 +19,8 @@ pub record Answer : Type 0 where
 -- the line with the methods of a page that does not have the requested one
 abbrev pub allow_line : Option Page → List ℕ
 allow_line None = []
-allow_line (Some page) = codes "allow: " ++ (join_by (λ method. method) (codes ", ") (methods page) ++ codes "\r\n")
+allow_line (Some page) =
+    codes "allow: " ++ (join_by (λ method. method) (codes ", ") (methods page) ++ codes "\r\n")
 
 -- the line that asks for a token
 abbrev pub challenge_line : Code → List ℕ
@@ -29,6 +30,9 @@ challenge_line _ = []
 -- a whole reply: status line with reason phrase, header lines, empty line, and page
 unfoldable pub reply_bytes : Code → Option Page → List ℕ → List ℕ
 reply_bytes code allowed page =
-    codes "HTTP/1.1 " ++ (decimal (status_of code) ++ (codes " " ++ (unwrap_or (reason_phrase (status_of code)) []
-    ++ (codes "\r\n" ++ (allow_line allowed ++ (codes "connection: close\r\ncontent-length: " ++ (decimal (length page)
-    ++ (codes "\r\ncontent-type: application/json\r\n" ++ (challenge_line code ++ codes "\r\n" ++ page)))))))))
+    codes "HTTP/1.1 "
+    ++ (decimal (status_of code) ++ (codes " " ++ (unwrap_or (reason_phrase (status_of code)) []
+    ++ (codes "\r\n" ++ (allow_line allowed
+    ++ (codes "connection: close\r\ncontent-length: " ++ (decimal (length page)
+    ++ (codes "\r\ncontent-type: application/json\r\n"
+    ++ (challenge_line code ++ codes "\r\n" ++ page)))))))))

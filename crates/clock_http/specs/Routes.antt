@@ -6,13 +6,15 @@
 --     page_of path      the page of a path
 --     last_segment path      what follows the last slash of a path
 --     methods page      the methods of a page, in the order in which replies list them
-use Rattle.std.specs.Prelude.{ℕ, Bool, List, [], ◌∷◌, ◌&&◌, not, length, drop, find, nat_eq, nat_lt, if◌then◌else◌, ◌==◌, Option}
+use Rattle.std.specs.Prelude.{ℕ, Bool, List, [], ◌∷◌, ◌&&◌, not, length, drop, find, nat_eq, nat_lt}
+use Rattle.std.specs.Prelude.{if◌then◌else◌, ◌==◌, Option}
 use Rattle.std.specs.Prelude.{None, option_map, codes}
 use Rattle.std.specs.List.{after_last, list_any, starts_with}
 use Rattle.std.specs.Str.{is_utf8}
 use Rattle.clock_http.specs.Heads.{same_bytes}
 use Rattle.clock_http.specs.declared.routes.Page.{Page}
-use Rattle.clock_http.specs.declared.routes.Page.TheVariants.{Status, Products, Sheet, Account, Bids, Slip, Close, Results}
+use Rattle.clock_http.specs.declared.routes.Page.TheVariants.{Status, Products, Sheet, Account}
+use Rattle.clock_http.specs.declared.routes.Page.TheVariants.{Bids, Slip, Close, Results}
 
 abbrev pub last_segment : List ℕ → List ℕ
 last_segment path = after_last (λ b. b == 47) path
@@ -28,13 +30,13 @@ abbrev pub is_segment : List ℕ → Bool
 is_segment rest = nat_lt 0 (length rest) && not (list_any (λ b. b == 47) rest)
 
 abbrev pub is_path : List ℕ → List ℕ → Bool
-is_path text path =
-    if length (last_segment text) == 0 then starts_with nat_eq path text && is_segment (drop (length text) path)
-    else same_bytes text path
+is_path text path = if length (last_segment text) == 0 then starts_with nat_eq path text
+    && is_segment (drop (length text) path) else same_bytes text path
 
 -- the page of a path, which must be UTF-8
 unfoldable pub page_of : List ℕ → Option Page
-page_of path = if is_utf8 path then option_map (λ row. row.1) (find (λ row. is_path row.0 path) paths) else None
+page_of path = if is_utf8 path
+    then option_map (λ row. row.1) (find (λ row. is_path row.0 path) paths) else None
 
 abbrev pub methods : Page → List (List ℕ)
 methods Status = codes "GET" ∷ []

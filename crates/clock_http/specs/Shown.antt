@@ -36,8 +36,10 @@ pub record IsHeadWithin (count : ℕ) (head : EndedHead) : Type 0 where
 
 abbrev pub shown_progress : List ℕ → Progress → spec.Known
 shown_progress text (so_far.Unended n) = spec.unended n
-shown_progress text (so_far.Waiting head) = spec.waiting (shown_ended text head) head.length head.body
-shown_progress text (so_far.Complete head) = spec.complete (shown_ended text head) head.length head.body
+shown_progress text (so_far.Waiting head) =
+    spec.waiting (shown_ended text head) head.length head.body
+shown_progress text (so_far.Complete head) =
+    spec.complete (shown_ended text head) head.length head.body
 shown_progress text (so_far.Refused fault) = spec.refused fault
 
 -- a head and its whole body are within a text of `count` bytes
@@ -65,7 +67,8 @@ abbrev pub shown_bytes : Option (Bor (List ℕ)) → Option (List ℕ)
 shown_bytes bytes = option_map (λ b. b.now) bytes
 
 abbrev pub shown_head : Head → spec.Head
-shown_head head = record { method = head.method.now; path = head.path.now; token = shown_bytes head.token }
+shown_head head =
+    record { method = head.method.now; path = head.path.now; token = shown_bytes head.token }
 
 abbrev pub shown_framing : Framing → spec.Framing
 shown_framing framed.NeedMore = spec.incomplete

@@ -1,5 +1,7 @@
-ghost use Rattle.std.specs.Prelude.{◌≡◌, ◌+◌, ◌≤◌, ◌++◌, ℕ, List, [], false, length, take, IfOk, IfSome, OnErr, OnOk, OnSome};
-ghost use Rattle.clock_http.specs.{Framing.{needs_more}, Shown.{IsFramed, Knows}, inside.Followed.{IsFollowed}};
+ghost use Rattle.std.specs.Prelude.{◌≡◌, ◌+◌, ◌≤◌, ◌++◌, ℕ, List, [], false, length, take, IfOk};
+ghost use Rattle.std.specs.Prelude.{IfSome, OnErr, OnOk, OnSome};
+ghost use Rattle.clock_http.specs.{Framing.{needs_more}, Shown.{IsFramed, Knows}};
+ghost use Rattle.clock_http.specs.inside.Followed.{IsFollowed};
 
 use crate::progress::{Framing, Progress, head_in};
 use clock_device::NoMemory;
@@ -65,7 +67,8 @@ fn append(room: &mut Vec<u8>, piece: &[u8], awaited: usize) -> Result<(), NoMemo
 /// Overwrites the bytes from `place` on with `piece`.
 fn write_at(room: &mut Vec<u8>, place: usize, piece: &[u8])
     requires { place + length piece.now ≤ length room.old.items }
-    ensures written { take (place + length piece.now) room.new.items ≡ take place room.old.items ++ piece.now }
+    ensures written { take (place + length piece.now) room.new.items
+        ≡ take place room.old.items ++ piece.now }
     ensures size { length room.new.items ≡ length room.old.items }
 {
     room[place..place + piece.len()].copy_from_slice(piece);

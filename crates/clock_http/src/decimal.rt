@@ -1,6 +1,7 @@
 //! Numbers in decimal digits.
 
-ghost use Rattle.std.specs.{Prelude.{◌≡◌, ◌<◌, ◌^◌, IsTrue}, Option.{SomeIff}, Str.Parse.{digits_value}};
+ghost use Rattle.std.specs.{Prelude.{◌≡◌, ◌<◌, ◌^◌, IsTrue}, Option.{SomeIff}};
+ghost use Rattle.std.specs.Str.Parse.{digits_value};
 ghost use Rattle.clock_http.specs.Decimals as spec;
 
 /// Returns whether `text` is one or more digits.

@@ -6,8 +6,10 @@
 
 ghost use Rattle.std.specs.Prelude.{◌≡◌, ◌≤◌, ◌+◌, ◌-◌, length, false, IfOk, drop, option_map};
 ghost use Rattle.httparse.specs.Spans.{IsWithin, span_bytes};
-ghost use Rattle.clock_http.specs.Scans.{line_ends as count_of_line_ends, is_loose as is_loose_text, head_length as length_of_head};
-ghost use Rattle.clock_http.specs.{inside.HeadParts.{path_of_target, head_with_length}, Shown.{IsHeadWithin}};
+ghost use Rattle.clock_http.specs.Scans.{line_ends as count_of_line_ends};
+ghost use Rattle.clock_http.specs.Scans.{is_loose as is_loose_text, head_length as length_of_head};
+ghost use Rattle.clock_http.specs.inside.HeadParts.{path_of_target, head_with_length};
+ghost use Rattle.clock_http.specs.Shown.{IsHeadWithin};
 ghost use Rattle.clock_http.specs.inside.HeadFields.{shown_read};
 
 use crate::code::Code;
@@ -20,7 +22,8 @@ use memchr::memchr;
 /// begins before `start`. Looks only at CRs, since an empty line begins with one.
 pub(crate) fn head_length(text: &[u8], start: usize) -> Option<usize>
     requires within { start ≤ length text.now }
-    requires none { length_of_head text.now ≡ option_map (λ n. start + n) (length_of_head (drop start text.now)) }
+    requires none { length_of_head text.now
+        ≡ option_map (λ n. start + n) (length_of_head (drop start text.now)) }
     ensures { result ≡ length_of_head text.now }
 {
     let mut from = start;

@@ -6,10 +6,12 @@
 //! credentials    = "Bearer" 1*SP b64token                (RFC 6750, section 2.1; here any bytes)
 //! ```
 
-ghost use Rattle.std.specs.Prelude.{◌≡◌, ◌+◌, ◌≤◌, ◌<◌, ◌++◌, ℕ, List, [], ◌∷◌, length, map, drop, All, IfSome, option_map};
+ghost use Rattle.std.specs.Prelude.{◌≡◌, ◌+◌, ◌≤◌, ◌<◌, ◌++◌, ℕ, List, [], ◌∷◌, length, map, drop};
+ghost use Rattle.std.specs.Prelude.{All, IfSome, option_map};
 ghost use Rattle.httparse.specs.Spans.{IsHeaderWithin, IsWithin, header_bytes, span_bytes};
 ghost use Rattle.clock_http.specs.HeaderLines as lines;
-ghost use Rattle.clock_http.specs.{Shown.{IsSomeWithin}, inside.HeadFields.{Pairs, AreLinesOf, AreFieldsOf}};
+ghost use Rattle.clock_http.specs.Shown.{IsSomeWithin};
+ghost use Rattle.clock_http.specs.inside.HeadFields.{Pairs, AreLinesOf, AreFieldsOf};
 
 use crate::code::Code;
 use crate::decimal::{is_number, number};
@@ -41,8 +43,8 @@ impl HeaderLines {
     fn add(&mut self, wanted: &[u8], name: &[u8], value: Span)
         requires { self.old.count < usize.MAX }
         ensures lines { (text : List ℕ) (pairs : Pairs) → AreLinesOf text wanted.now pairs self.old
-            → IsWithin (length text) value
-            → AreLinesOf text wanted.now (pairs ++ (name.now, span_bytes text value) ∷ []) self.new }
+            → IsWithin (length text) value → AreLinesOf text wanted.now
+            (pairs ++ (name.now, span_bytes text value) ∷ []) self.new }
         ensures few { self.new.count ≤ self.old.count + 1 }
     {
         if name.eq_ignore_ascii_case(wanted) {
@@ -111,7 +113,8 @@ impl Fields {
     /// [`MOST_BODY`].
     pub(crate) fn body_length(&self, text: &[u8]) -> Result<usize, Code>
         requires { (pairs : Pairs) × AreFieldsOf text.now pairs self.now }
-        ensures { (pairs : Pairs) → AreFieldsOf text.now pairs self.now → result ≡ lines.body_length pairs }
+        ensures { (pairs : Pairs) → AreFieldsOf text.now pairs self.now
+            → result ≡ lines.body_length pairs }
     {
         if self.coding.count > 0 {
             return Err(Code::Coding);
@@ -126,8 +129,8 @@ impl Fields {
     /// Returns where the token is, if there is exactly one `authorization` line and it has one.
     pub(crate) fn token(&self, text: &[u8]) -> Option<Span>
         requires { (pairs : Pairs) × AreFieldsOf text.now pairs self.now }
-        ensures shown { (pairs : Pairs) → AreFieldsOf text.now pairs self.now → option_map (span_bytes text.now) result
-            ≡ lines.token_of pairs }
+        ensures shown { (pairs : Pairs) → AreFieldsOf text.now pairs self.now
+            → option_map (span_bytes text.now) result ≡ lines.token_of pairs }
         ensures within { IsSomeWithin (length text.now) result }
     {
         if self.authorization.count != 1 {

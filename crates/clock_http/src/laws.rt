@@ -1,6 +1,7 @@
 //! Laws of framing. Each function does nothing when it runs; its contract is the law.
 
-ghost use Rattle.clock_http.specs.FramingLaws.{IsDecidedOnce, IsKnownByParts, IsHeadOfGrammar, HasOneHead};
+ghost use Rattle.clock_http.specs.FramingLaws.{IsDecidedOnce, IsKnownByParts, IsHeadOfGrammar};
+ghost use Rattle.clock_http.specs.FramingLaws.{HasOneHead};
 
 /// Adding bytes to a text that is decided does not change its framing.
 pub fn law_decided_once()

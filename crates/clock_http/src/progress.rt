@@ -1,6 +1,7 @@
 ghost use Rattle.std.specs.Prelude.{◌≡◌, ◌≤◌, ◌<◌, [], ℕ, List, length, take, None, codes};
 ghost use Rattle.clock_http.specs.{Scans.{head_length as length_of_head}, Heads.{same_bytes}};
-ghost use Rattle.clock_http.specs.Shown.{Knows, KnowsOfStart, IsFramed, IsHeadWithin, shown_ended, shown_head, shown_progress, IsProgressWithin};
+ghost use Rattle.clock_http.specs.Shown.{Knows, KnowsOfStart, IsFramed, IsHeadWithin, shown_ended};
+ghost use Rattle.clock_http.specs.Shown.{shown_head, shown_progress, IsProgressWithin};
 ghost use Rattle.clock_http.specs.inside.Followed.{Waits};
 ghost use Rattle.clock_http.specs.Framing as spec;
 
@@ -127,7 +128,8 @@ impl Progress {
     /// Returns the length of head and body that a waiting text must reach, and 0 if the text waits
     /// for no body. A shorter text still waits.
     pub(crate) fn awaited(&self) -> usize
-        ensures { (text : List ℕ) → KnowsOfStart text self.now → length text < result → Waits text self.now }
+        ensures { (text : List ℕ) → KnowsOfStart text self.now → length text < result
+            → Waits text self.now }
     {
         match self {
             Progress::Waiting(head) => head.length.saturating_add(head.body),

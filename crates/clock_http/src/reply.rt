@@ -140,7 +140,8 @@ impl Reply {
     /// whose methods the reply lists. Requires at least [`HEADROOM`] in `text`. Allocates nothing.
     pub fn written(code: Code, allowed: Option<Page>, mut text: Text) -> Reply
         requires { MOST_HEAD ≤ length text }
-        ensures { result ≡ record { code = code; bytes = reply_bytes code allowed (drop MOST_HEAD text) } }
+        ensures { result
+            ≡ record { code = code; bytes = reply_bytes code allowed (drop MOST_HEAD text) } }
     {
         // from its end to its start, since the length of the head is only known at the end
         let page = text.len() - MOST_HEAD;

@@ -44,8 +44,8 @@ leave_both old since new Leaves before more = (
 
 pub leave_then : (old mid new : Option (List Moment)) (Leaves : List ℕ → Type 0)
     → LeaveOnly old mid Leaves → LeaveOnly mid new Leaves → LeaveOnly old new Leaves
-leave_then (Some old) mid new Leaves first then_ =
-    leave_both old first.0 new Leaves first.2 (subst (λ (at : Option (List Moment)). LeaveOnly at new Leaves) first.1 then_)
+leave_then (Some old) mid new Leaves first then_ = leave_both old first.0 new Leaves first.2
+    (subst (λ (at : Option (List Moment)). LeaveOnly at new Leaves) first.1 then_)
 leave_then None mid new Leaves first then_ = tt
 
 pub leave_more : (old new : Option (List Moment)) (Leaves Others : List ℕ → Type 0)

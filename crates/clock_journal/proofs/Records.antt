@@ -1,5 +1,6 @@
 -- What a record reads as, whole or torn, by the four cases of `next`.
-use Rattle.std.proofs.Common.{◌≡◌, ◌+◌, ◌-◌, ◌^◌, ◌<◌, ◌≤◌, inl, inr, ℕ, Bool, true, List, ◌++◌, length, take, drop, refl, ap, sym, ◌∙◌, subst, arith, length-append, bytes_eq, nat_le, ◌&&◌}
+use Rattle.std.proofs.Common.{◌≡◌, ◌+◌, ◌-◌, ◌^◌, ◌<◌, ◌≤◌, inl, inr, ℕ, Bool, true, List, ◌++◌, length, take, drop}
+use Rattle.std.proofs.Common.{refl, ap, sym, ◌∙◌, subst, arith, length-append, bytes_eq, nat_le, ◌&&◌}
 use Rattle.std.proofs.lemmas.List.{take_at, drop_at, length-take-le, drop-drop, append_assoc}
 use Rattle.std.proofs.Math.Seq.{take-append-add}
 use Rattle.std.proofs.lemmas.Bool.{cases_lt}
@@ -19,7 +20,13 @@ length-mark count = refl
 
 pub length-record : (chain text : List ℕ) → length (record_of chain text) ≡ before_text + length text
 length-record chain text =
-    omega (arith, length-append (mark (length text)) (link chain text ++ text), length-append (link chain text) text, length-mark (length text), length-link chain text)
+    omega (
+      arith,
+      length-append (mark (length text)) (link chain text ++ text),
+      length-append (link chain text) text,
+      length-mark (length text),
+      length-link chain text,
+    )
 
 -- a mark gives its length, whatever follows
 pub marked_length-mark : (count : ℕ) (more : List ℕ) → count < 2 ^ 32 → marked_length (mark count ++ more) ≡ count
@@ -39,7 +46,8 @@ unfolding is_marked
 is_marked_mark count more least most =
     let length_is = marked_length-mark count more (omega arith) in
     let is_least : nat_le 1 (marked_length (mark count ++ more)) ≡ true = rw length_is (le_true 1 count least) in
-    let is_most : nat_le (marked_length (mark count ++ more)) most_text ≡ true = rw length_is (le_true count most_text most) in
+    let is_most : nat_le (marked_length (mark count ++ more)) most_text ≡ true =
+    rw length_is (le_true count most_text most) in
     all_three _ _ _ (bytes_eq_same _ _ (twice count more)) is_least is_most
 
 -- ---- the four cases of `next`
@@ -52,44 +60,53 @@ pub next_short : (chain bytes : List ℕ) → 0 < length bytes → length bytes 
 unfolding next
 next_short chain bytes some short = rw (eq_false _ _ some, lt_true _ _ short) refl
 
-pub next_cut : (chain bytes : List ℕ) → mark_length ≤ length bytes → is_marked bytes ≡ true → length bytes < before_text + marked_length bytes → next chain bytes ≡ torn
+pub next_cut : (chain bytes : List ℕ) → mark_length ≤ length bytes → is_marked bytes ≡ true
+    → length bytes < before_text + marked_length bytes → next chain bytes ≡ torn
 unfolding next
-next_cut chain bytes some marked short = rw (eq_false (length bytes) 0 (omega arith), lt_false (length bytes) mark_length some, marked, lt_true _ _ short) refl
+next_cut chain bytes some marked short =
+    rw (eq_false (length bytes) 0 (omega arith), lt_false (length bytes) mark_length some, marked, lt_true _ _ short)
+    refl
 
-next_judged : (chain bytes : List ℕ) → mark_length ≤ length bytes → is_marked bytes ≡ true → before_text + marked_length bytes ≤ length bytes
-    → next chain bytes ≡ checked_text chain bytes (marked_length bytes)
+next_judged : (chain bytes : List ℕ) → mark_length ≤ length bytes → is_marked bytes ≡ true → before_text
+    + marked_length bytes ≤ length bytes → next chain bytes ≡ checked_text chain bytes (marked_length bytes)
 unfolding next
-next_judged chain bytes some marked enough = rw (eq_false (length bytes) 0 (omega arith), lt_false (length bytes) mark_length some, marked, lt_false _ _ enough) refl
+next_judged chain bytes some marked enough =
+    rw (eq_false (length bytes) 0 (omega arith), lt_false (length bytes) mark_length some, marked, lt_false _ _ enough)
+    refl
 
 -- ---- a whole record
 
 -- the parts of a record
 pub behind_mark : (count : ℕ) (inner more : List ℕ) → drop mark_length ((mark count ++ inner) ++ more) ≡ inner ++ more
-behind_mark count inner more =
-    ap (drop mark_length) (append_assoc (mark count) inner more) ∙ drop_at (mark count) (inner ++ more) mark_length (length-mark count)
+behind_mark count inner more = ap (drop mark_length) (append_assoc (mark count) inner more)
+    ∙ drop_at (mark count) (inner ++ more) mark_length (length-mark count)
 
-digest_part : (count : ℕ) (digest text more : List ℕ) → length digest ≡ 32 → take 32 (drop mark_length ((mark count ++ (digest ++ text)) ++ more)) ≡ digest
-digest_part count digest text more size =
-    ap (take 32) (behind_mark count (digest ++ text) more) ∙ (ap (take 32) (append_assoc digest text more) ∙ take_at digest (text ++ more) 32 size)
+digest_part : (count : ℕ) (digest text more : List ℕ) → length digest ≡ 32
+    → take 32 (drop mark_length ((mark count ++ (digest ++ text)) ++ more)) ≡ digest
+digest_part count digest text more size = ap (take 32) (behind_mark count (digest ++ text) more)
+    ∙ (ap (take 32) (append_assoc digest text more) ∙ take_at digest (text ++ more) 32 size)
 
-text_part : (count : ℕ) (digest text more : List ℕ) → length digest ≡ 32 → drop before_text ((mark count ++ (digest ++ text)) ++ more) ≡ text ++ more
-text_part count digest text more size =
-    sym (drop-drop 32 mark_length ((mark count ++ (digest ++ text)) ++ more))
-    ∙ (ap (drop 32) (behind_mark count (digest ++ text) more) ∙ (ap (drop 32) (append_assoc digest text more) ∙ drop_at digest (text ++ more) 32 size))
+text_part : (count : ℕ) (digest text more : List ℕ) → length digest ≡ 32
+    → drop before_text ((mark count ++ (digest ++ text)) ++ more) ≡ text ++ more
+text_part count digest text more size = sym (drop-drop 32 mark_length ((mark count ++ (digest ++ text)) ++ more))
+    ∙ (ap (drop 32) (behind_mark count (digest ++ text) more)
+    ∙ (ap (drop 32) (append_assoc digest text more) ∙ drop_at digest (text ++ more) 32 size))
 
 pub behind_record : (chain text more : List ℕ) → drop (before_text + length text) (record_of chain text ++ more) ≡ more
-behind_record chain text more = drop_at (record_of chain text) more (before_text + length text) (length-record chain text)
+behind_record chain text more =
+    drop_at (record_of chain text) more (before_text + length text) (length-record chain text)
 
-judged_right : (chain bytes text : List ℕ) → take 32 (drop mark_length bytes) ≡ link chain text → take (length text) (drop before_text bytes) ≡ text
-    → checked_text chain bytes (length text) ≡ whole text
+judged_right : (chain bytes text : List ℕ) → take 32 (drop mark_length bytes) ≡ link chain text
+    → take (length text) (drop before_text bytes) ≡ text → checked_text chain bytes (length text) ≡ whole text
 judged_right chain bytes text digest same =
-    let right : bytes_eq (take 32 (drop mark_length bytes)) (link chain (take (length text) (drop before_text bytes))) ≡ true =
-    bytes_eq_same _ _ (digest ∙ ap (link chain) (sym same)) in
+    let right : bytes_eq (take 32 (drop mark_length bytes)) (link chain (take (length text) (drop before_text bytes)))
+    ≡ true = bytes_eq_same _ _ (digest ∙ ap (link chain) (sym same)) in
     rw right (ap whole same)
 
-pub marked_length-record : (chain text more : List ℕ) → Fits text → marked_length (record_of chain text ++ more) ≡ length text
-marked_length-record chain text more fits =
-    ap marked_length (append_assoc (mark (length text)) (link chain text ++ text) more) ∙ marked_length-mark (length text) ((link chain text ++ text) ++ more) (omega (arith, fits.most))
+pub marked_length-record : (chain text more : List ℕ) → Fits text
+    → marked_length (record_of chain text ++ more) ≡ length text
+marked_length-record chain text more fits = ap marked_length (append_assoc (mark (length text)) (link chain text
+    ++ text) more) ∙ marked_length-mark (length text) ((link chain text ++ text) ++ more) (omega (arith, fits.most))
 
 pub marked_record : (chain text more : List ℕ) → Fits text → is_marked (record_of chain text ++ more) ≡ true
 marked_record chain text more fits =
@@ -103,19 +120,21 @@ next_record chain text more fits =
     let all = length-append (record_of chain text) more in
     let size = length-record chain text in
     let judged_is = judged_right chain (record_of chain text ++ more) text
-    (digest_part (length text) (link chain text) text more (length-link chain text))
-    (ap (take (length text)) (text_part (length text) (link chain text) text more (length-link chain text)) ∙ take_at text more (length text) refl) in
+    (digest_part (length text) (link chain text) text more (length-link chain text)) (ap (take (length text)) (text_part
+    (length text) (link chain text) text more (length-link chain text)) ∙ take_at text more (length text) refl) in
     next_judged chain (record_of chain text ++ more) (omega arith) (marked_record chain text more fits) (omega arith)
     ∙ (ap (checked_text chain (record_of chain text ++ more)) length_is ∙ judged_is)
 
 -- ---- a torn record
 
-front_of_mark : (count n : ℕ) (inner : List ℕ) → take (mark_length + n) (mark count ++ inner) ≡ mark count ++ take n inner
+front_of_mark : (count n : ℕ) (inner : List ℕ)
+    → take (mark_length + n) (mark count ++ inner) ≡ mark count ++ take n inner
 front_of_mark count n inner =
     ap (λ (k : ℕ). take (k + n) (mark count ++ inner)) (sym (length-mark count)) ∙ take-append-add (mark count) inner n
 
 -- with a whole mark, the missing length is known
-cut_behind_mark : (chain text : List ℕ) (n : ℕ) → Fits text → mark_length + n < before_text + length text → next chain (take (mark_length + n) (record_of chain text)) ≡ torn
+cut_behind_mark : (chain text : List ℕ) (n : ℕ) → Fits text → mark_length + n < before_text + length text
+    → next chain (take (mark_length + n) (record_of chain text)) ≡ torn
 cut_behind_mark chain text n fits short =
     let inner = link chain text ++ text in
     let front = front_of_mark (length text) n inner in
@@ -127,14 +146,16 @@ cut_behind_mark chain text n fits short =
     next_cut chain (take (mark_length + n) (record_of chain text)) (omega arith) marked (omega arith)
 
 -- a proper prefix of a record is torn or empty
-pub next_front : (chain text : List ℕ) (n : ℕ) → Fits text → n < before_text + length text → Ends chain (take n (record_of chain text))
+pub next_front : (chain text : List ℕ) (n : ℕ) → Fits text → n < before_text + length text
+    → Ends chain (take n (record_of chain text))
 next_front chain text n fits short =
     let size = length-take-le n (record_of chain text) (omega (arith, length-record chain text)) in
     elim (cases_lt 0 n) [
       | inl some ↦ elim (cases_lt n mark_length) [
         | inl few ↦ inr (next_short chain (take n (record_of chain text)) (omega arith) (omega arith))
         | inr many ↦ inr (let e : mark_length + (n - mark_length) ≡ n = omega arith in
-            subst (λ (k : ℕ). next chain (take k (record_of chain text)) ≡ torn) e (cut_behind_mark chain text (n - mark_length) fits (omega arith)))
+            subst (λ (k : ℕ). next chain (take k (record_of chain text)) ≡ torn) e
+            (cut_behind_mark chain text (n - mark_length) fits (omega arith)))
       ]
       | inr none ↦ inl (next_none chain (take n (record_of chain text)) (omega arith))
     ]

@@ -1,6 +1,8 @@
 -- What a crash leaves while a journal is begun, or resumed from a file: by cases on the moments of the calls.
-use Rattle.std.proofs.Common.{◌≡◌, ◌≤◌, ◌<◌, ◌+◌, inl, inr, ◌++◌, ℕ, List, [], Option, Some, None, length, take, drop, refl, sym, ap, ◌∙◌, subst, arith, length-append}
-use Rattle.std.proofs.lemmas.List.{append_assoc, append-nil, take_all, take-take, length-take, length-take-le, take-append-drop, drop_at}
+use Rattle.std.proofs.Common.{◌≡◌, ◌≤◌, ◌<◌, ◌+◌, inl, inr, ◌++◌, ℕ, List, [], Option, Some, None, length, take, drop}
+use Rattle.std.proofs.Common.{refl, sym, ap, ◌∙◌, subst, arith, length-append}
+use Rattle.std.proofs.lemmas.List.{append_assoc, append-nil, take_all, take-take, length-take, length-take-le}
+use Rattle.std.proofs.lemmas.List.{take-append-drop, drop_at}
 use Rattle.std.proofs.lemmas.Bool.{cases_lt}
 use Rattle.clock_device.specs.Streams.{HasWrittenFront}
 use Rattle.clock_journal.specs.Disks.{LeaveOnly, MayBeLeft, Moment, Passes, up_to}
@@ -38,8 +40,8 @@ front_of_head digest left n size is =
       | inr long ↦ (let count = ap length is ∙ length-take n (head digest) in
           let all = length-append (head digest) [] in
           let enough : length (head digest ++ []) ≤ n = omega (arith, count, all, before, long) in
-          inl (subst (λ (b : List ℕ). LeavesTexts digest b [] 0) (sym (is ∙ ap (take n) (sym (append-nil (head digest)))))
-          (every_front digest [] 0 n tt (omega arith) enough)))
+          inl (subst (λ (b : List ℕ). LeavesTexts digest b [] 0) (sym (is
+          ∙ ap (take n) (sym (append-nil (head digest))))) (every_front digest [] 0 n tt (omega arith) enough)))
     ]
 
 head_left : (digest written left : List ℕ) (synced : Option (List ℕ)) → length digest ≡ 32
@@ -80,14 +82,14 @@ pub through_cut : (first mid last : Option (List Moment)) (synced written synced
     → Passes mid last (up_to place synced_then) written_then → synced_then ≡ written → written_then ≡ written
     → written ≡ Some bytes → ((left : List ℕ) → MayBeLeft (Some (take place bytes)) (Some bytes) left → Leaves left)
     → LeaveOnly first last Leaves
-through_cut first mid last synced written synced_then written_then bytes place Leaves passes before cut same still is after =
-    leave_then first mid last Leaves (leave_one first mid synced written Leaves passes before)
+through_cut first mid last synced written synced_then written_then bytes place Leaves passes before cut same still is
+    after = leave_then first mid last Leaves (leave_one first mid synced written Leaves passes before)
     (leave_one mid last (Some (take place bytes)) (Some bytes) Leaves
     (cut_passes mid last synced_then written_then written bytes place same still is cut) after)
 
 -- a crash now may leave what is in the file
-pub now_left : (synced written : Option (List ℕ)) (on_disk bytes : List ℕ) → synced ≡ Some on_disk → written ≡ Some bytes
-    → MayBeLeft synced written bytes
+pub now_left : (synced written : Option (List ℕ)) (on_disk bytes : List ℕ) → synced ≡ Some on_disk
+    → written ≡ Some bytes → MayBeLeft synced written bytes
 now_left synced written on_disk bytes same is =
     subst (λ (s : Option (List ℕ)). MayBeLeft s written bytes) (sym same)
     (subst (λ (w : Option (List ℕ)). MayBeLeft (Some on_disk) w bytes) (sym is)
@@ -140,8 +142,8 @@ first_before digest bytes texts read recovered size begins headed =
     let first = reads_first digest texts more read rest begins.fit
     (subst (λ (b : List ℕ). Reads digest b read rest) (sym other ∙ one) (reads_records digest read rest headed.fit))
     (ends_stop _ _ headed.ends) in
-    let longer : length (records digest read) ≡ length (records digest texts) + length (records (last_link digest texts) first.0) =
-    ap length (ap (records digest) first.1 ∙ records-append digest texts first.0)
+    let longer : length (records digest read) ≡ length (records digest texts) + length (records
+    (last_link digest texts) first.0) = ap length (ap (records digest) first.1 ∙ records-append digest texts first.0)
     ∙ length-append (records digest texts) (records (last_link digest texts) first.0) in
     let file = length-append (head digest) (records digest texts) in
     let whole = length-append (head digest) (records digest read) in
@@ -183,7 +185,8 @@ begun_anew digest bytes read recovered size nowhere (inl headed) =
     absurd (omega (arith, long.1, nowhere))
 begun_anew digest bytes read recovered size nowhere (inr begun) = begun.short
 
-none_of_any : (digest left : List ℕ) (texts : List (List ℕ)) → LeavesTexts digest left [] 0 → LeavesTexts digest left texts 0
+none_of_any : (digest left : List ℕ) (texts : List (List ℕ)) → LeavesTexts digest left [] 0
+    → LeavesTexts digest left texts 0
 none_of_any digest left texts leaves =
     let some = leaves.reads in
     record {
@@ -193,20 +196,25 @@ none_of_any digest left texts leaves =
         rest = some.rest;
         enough = omega arith;
         most = omega arith;
-        reads = subst (λ (ts : List (List ℕ)). Reads digest (drop (length (head digest)) left) ts some.rest) (take_none some.count) some.reads;
+        reads = subst (λ (ts : List (List ℕ)). Reads digest (drop (length (head digest)) left) ts some.rest)
+            (take_none some.count) some.reads;
         ends = subst (λ (ts : List (List ℕ)). Ends (last_link digest ts) some.rest) (take_none some.count) some.ends;
       };
     }
 
 -- so none of its texts had a reply: what a crash leaves of an empty journal, it may leave of these texts
-pub anew_leaves : (digest bytes : List ℕ) (texts read : List (List ℕ)) (least : ℕ) (recovered : Recovered) (left : List ℕ)
-    → length digest ≡ 32 → recovered.end ≡ 0 → LeavesJournal digest bytes texts least
+pub anew_leaves : (digest bytes : List ℕ) (texts read : List (List ℕ)) (least : ℕ) (recovered : Recovered)
+    (left : List ℕ) → length digest ≡ 32 → recovered.end ≡ 0 → LeavesJournal digest bytes texts least
     → IsPlaced digest bytes read recovered → LeavesJournal digest left [] 0 → LeavesJournal digest left texts least
 anew_leaves digest bytes texts read least recovered left size nowhere leaves placed (inl now) =
-    let none = nothing_told digest bytes texts least size leaves (begun_anew digest bytes read recovered size nowhere placed) in
+    let none =
+    nothing_told digest bytes texts least size leaves (begun_anew digest bytes read recovered size nowhere placed) in
     inl (subst (λ (n : ℕ). LeavesTexts digest left texts n) (sym none) (none_of_any digest left texts now))
 anew_leaves digest bytes texts read least recovered left size nowhere leaves placed (inr now) =
-    inr (nothing_told digest bytes texts least size leaves (begun_anew digest bytes read recovered size nowhere placed), now.1)
+    inr (
+      nothing_told digest bytes texts least size leaves (begun_anew digest bytes read recovered size nowhere placed),
+      now.1,
+    )
 
 pub none_first : (digest bytes : List ℕ) (texts read : List (List ℕ)) (recovered : Recovered) → length digest ≡ 32
     → recovered.end ≡ 0 → BeginsWithTexts digest bytes texts → IsPlaced digest bytes read recovered → ⊥

@@ -1,5 +1,6 @@
 -- A file that begins with the journal of some texts, whatever follows.
-use Rattle.std.proofs.Common.{◌≡◌, ◌≤◌, ◌<◌, ◌+◌, ◌++◌, ℕ, List, [], ◌∷◌, length, get_or, take, drop, refl, sym, ap, ◌∙◌, subst, arith, length-append, length-drop}
+use Rattle.std.proofs.Common.{◌≡◌, ◌≤◌, ◌<◌, ◌+◌, ◌++◌, ℕ, List, [], ◌∷◌, length, get_or, take, drop, refl, sym, ap}
+use Rattle.std.proofs.Common.{◌∙◌, subst, arith, length-append, length-drop}
 use Rattle.std.proofs.lemmas.List.{append_assoc, take-append-drop, take_at, drop_at, get_or-drop}
 use Rattle.clock_journal.specs.Format.{head_length, head, link, record_of, records, last_link}
 use Rattle.clock_journal.specs.Headings.{Heading, headed, heading}
@@ -34,12 +35,11 @@ parts_of digest bytes texts begins =
 
 pub headed_front : (digest bytes : List ℕ) (texts : List (List ℕ)) → BeginsWithTexts digest bytes texts
     → take (length (head digest)) bytes ≡ head digest
-headed_front digest bytes texts begins =
-    ap (take (length (head digest))) (parts_of digest bytes texts begins)
-    ∙ take_at (head digest) (records digest texts ++ drop (length (file_of digest texts)) bytes) (length (head digest)) refl
+headed_front digest bytes texts begins = ap (take (length (head digest))) (parts_of digest bytes texts begins) ∙ take_at
+    (head digest) (records digest texts ++ drop (length (file_of digest texts)) bytes) (length (head digest)) refl
 
-pub long_front : (digest bytes : List ℕ) (texts : List (List ℕ)) → length digest ≡ 32 → BeginsWithTexts digest bytes texts
-    → head_length ≤ length bytes
+pub long_front : (digest bytes : List ℕ) (texts : List (List ℕ)) → length digest ≡ 32
+    → BeginsWithTexts digest bytes texts → head_length ≤ length bytes
 long_front digest bytes texts size begins =
     let more = drop (length (file_of digest texts)) bytes in
     omega (
@@ -62,8 +62,8 @@ texts_first digest bytes texts read rest small size begins reads stops =
     ap (drop head_length) parts ∙ drop_at (head digest) (records digest texts ++ more) head_length before in
     let first = reads_first digest texts more read rest begins.fit
     (subst (λ (b : List ℕ). Reads digest b read rest) behind reads) stops in
-    let back = read_back digest (drop head_length bytes) read rest
-    (λ place. subst (λ (n : ℕ). n < 256) (sym (get_or-drop head_length bytes place 0)) (small (head_length + place))) reads in
+    let back = read_back digest (drop head_length bytes) read rest (λ place. subst (λ (n : ℕ). n < 256)
+    (sym (get_or-drop head_length bytes place 0)) (small (head_length + place))) reads in
     let further = records (last_link digest texts) first.0 in
     let all : drop head_length bytes ≡ (records digest texts ++ further) ++ rest =
     back.0 ∙ ap (λ (b : List ℕ). b ++ rest) (ap (records digest) first.1 ∙ records-append digest texts first.0) in
@@ -84,15 +84,17 @@ told_of_front digest bytes texts told size begins is =
     (bytes_eq_same (take head_length bytes) (head digest) same)
 
 -- the texts are taken first
-pub has_taken_first : (old new : List Entry → Type 0) (digest bytes : List ℕ) (texts : List (List ℕ)) (recovered : Recovered)
-    → ((place : ℕ) → get_or bytes place 0 < 256) → length digest ≡ 32 → BeginsWithTexts digest bytes texts
-    → IsReplayed old new digest (drop head_length bytes) (length bytes) recovered
+pub has_taken_first : (old new : List Entry → Type 0) (digest bytes : List ℕ) (texts : List (List ℕ))
+    (recovered : Recovered) → ((place : ℕ) → get_or bytes place 0 < 256) → length digest ≡ 32
+    → BeginsWithTexts digest bytes texts → IsReplayed old new digest (drop head_length bytes) (length bytes) recovered
     → HasTakenFirst old new digest texts recovered
 has_taken_first old new digest bytes texts recovered small size begins done =
-    let first = texts_first digest bytes texts done.texts done.rest small size begins done.reads (ends_stop _ _ done.ends) in
+    let first =
+    texts_first digest bytes texts done.texts done.rest small size begins done.reads (ends_stop _ _ done.ends) in
     record {
       further = first.0.0;
-      stands = λ past was. subst (λ (all : List (List ℕ)). new (entries_onto digest [] all past)) first.0.1 (done.stands past was);
+      stands = λ past was. subst (λ (all : List (List ℕ)). new (entries_onto digest [] all past)) first.0.1
+          (done.stands past was);
       behind = omega (arith, first.1, done.end_is);
     }
 

@@ -1,6 +1,8 @@
 -- What is replayed from a file, and what from a file that a crash left.
-use Rattle.std.proofs.Common.{◌≡◌, ◌≤◌, ◌<◌, ◌+◌, ◌++◌, ℕ, Bool, true, false, List, [], length, get_or, take, drop, bytes_eq, refl, sym, ap, ◌∙◌, subst, arith, length-append, inl, inr}
-use Rattle.std.proofs.lemmas.List.{length-take, append_assoc, take-append-drop, take_at, drop_at, get_or-drop, take-take}
+use Rattle.std.proofs.Common.{◌≡◌, ◌≤◌, ◌<◌, ◌+◌, ◌++◌, ℕ, Bool, true, false, List, [], length, get_or, take, drop}
+use Rattle.std.proofs.Common.{bytes_eq, refl, sym, ap, ◌∙◌, subst, arith, length-append, inl, inr}
+use Rattle.std.proofs.lemmas.List.{length-take, append_assoc, take-append-drop, take_at, drop_at, get_or-drop}
+use Rattle.std.proofs.lemmas.List.{take-take}
 use Rattle.clock_journal.specs.Format.{head_length, head, kind, records, last_link}
 use Rattle.clock_journal.specs.Reading.{Ends, next, damaged}
 use Rattle.clock_journal.specs.Entries.{Entry, entries_onto}
@@ -17,12 +19,13 @@ use Rattle.clock_journal.proofs.Tested.{bytes_eq_same, same_where, lt_true, lt_f
 
 -- ---- how a file begins, by what is compared
 
-pub short_unknown : (digest bytes : List ℕ) → length bytes < head_length → bytes_eq bytes (take (length bytes) (head digest)) ≡ false → heading digest bytes ≡ unknown
+pub short_unknown : (digest bytes : List ℕ) → length bytes < head_length
+    → bytes_eq bytes (take (length bytes) (head digest)) ≡ false → heading digest bytes ≡ unknown
 unfolding heading
 short_unknown digest bytes short other = rw (lt_true (length bytes) head_length short, other) refl
 
-pub headed_is : (digest bytes : List ℕ) → head_length ≤ length bytes → bytes_eq (take head_length bytes) (head digest) ≡ true
-    → heading digest bytes ≡ headed (drop head_length bytes)
+pub headed_is : (digest bytes : List ℕ) → head_length ≤ length bytes
+    → bytes_eq (take head_length bytes) (head digest) ≡ true → heading digest bytes ≡ headed (drop head_length bytes)
 unfolding heading
 headed_is digest bytes long same = rw (lt_false (length bytes) head_length long, same) refl
 
@@ -34,42 +37,46 @@ another_is digest bytes long same other = rw (lt_false (length bytes) head_lengt
 -- a head begins with its kind
 kind_of_head : (digest bytes : List ℕ) → take head_length bytes ≡ head digest → take (length kind) bytes ≡ kind
 unfolding head kind
-kind_of_head digest bytes same =
-    sym (take-take (length kind) head_length bytes (omega arith)) ∙ ap (take (length kind)) same ∙ take_at kind digest (length kind) refl
+kind_of_head digest bytes same = sym (take-take (length kind) head_length bytes (omega arith))
+    ∙ ap (take (length kind)) same ∙ take_at kind digest (length kind) refl
 
-not_headed : (digest bytes : List ℕ) (right : Bool) → bytes_eq (take head_length bytes) (head digest) ≡ right → bytes_eq (take (length kind) bytes) kind ≡ false
-    → right ≡ false
+not_headed : (digest bytes : List ℕ) (right : Bool) → bytes_eq (take head_length bytes) (head digest) ≡ right
+    → bytes_eq (take (length kind) bytes) kind ≡ false → right ≡ false
 not_headed digest bytes true is other =
-    let same = bytes_eq_same (take (length kind) bytes) kind (kind_of_head digest bytes (same_where _ _ is)) in sym same ∙ other
+    let same =
+    bytes_eq_same (take (length kind) bytes) kind (kind_of_head digest bytes (same_where _ _ is)) in sym same ∙ other
 not_headed digest bytes false is other = refl
 
-pub kind_unknown : (digest bytes : List ℕ) → head_length ≤ length bytes → bytes_eq (take (length kind) bytes) kind ≡ false → heading digest bytes ≡ unknown
+pub kind_unknown : (digest bytes : List ℕ) → head_length ≤ length bytes
+    → bytes_eq (take (length kind) bytes) kind ≡ false → heading digest bytes ≡ unknown
 unfolding heading
 kind_unknown digest bytes long other =
     rw (lt_false (length bytes) head_length long, not_headed digest bytes _ refl other, other) refl
 
 -- the head is found
-pub heading_of_left : (digest left : List ℕ) (texts : List (List ℕ)) (least : ℕ) → length digest ≡ 32 → LeavesTexts digest left texts least
-    → heading digest left ≡ headed (drop head_length left)
+pub heading_of_left : (digest left : List ℕ) (texts : List (List ℕ)) (least : ℕ) → length digest ≡ 32
+    → LeavesTexts digest left texts least → heading digest left ≡ headed (drop head_length left)
 heading_of_left digest left texts least size leaves =
     let e = length-head digest size in
     let same : take head_length left ≡ head digest = ap (λ (n : ℕ). take n left) (sym e) ∙ leaves.headed in
-    headed_is digest left (omega (arith, ap length same, length-take head_length left, e)) (bytes_eq_same (take head_length left) (head digest) same)
+    headed_is digest left (omega (arith, ap length same, length-take head_length left, e))
+    (bytes_eq_same (take head_length left) (head digest) same)
 
 -- so no other heading is found
-pub told_of_left : (digest left : List ℕ) (texts : List (List ℕ)) (least : ℕ) (told : Heading) → length digest ≡ 32 → LeavesTexts digest left texts least
-    → told ≡ heading digest left → told ≡ headed (drop head_length left)
+pub told_of_left : (digest left : List ℕ) (texts : List (List ℕ)) (least : ℕ) (told : Heading) → length digest ≡ 32
+    → LeavesTexts digest left texts least → told ≡ heading digest left → told ≡ headed (drop head_length left)
 told_of_left digest left texts least told size leaves is = is ∙ heading_of_left digest left texts least size leaves
 
 -- up to the end of its last whole record, the file is the journal of its texts
-pub headed_at : (old new : List Entry → Type 0) (digest bytes : List ℕ) (recovered : Recovered) → ((place : ℕ) → get_or bytes place 0 < 256)
-    → head_length ≤ length bytes → take head_length bytes ≡ head digest
-    → (done : IsReplayed old new digest (drop head_length bytes) (length bytes) recovered) → BeginsWithHead digest bytes done.texts recovered
+pub headed_at : (old new : List Entry → Type 0) (digest bytes : List ℕ) (recovered : Recovered)
+    → ((place : ℕ) → get_or bytes place 0 < 256) → head_length ≤ length bytes → take head_length bytes ≡ head digest
+    → (done : IsReplayed old new digest (drop head_length bytes) (length bytes) recovered)
+    → BeginsWithHead digest bytes done.texts recovered
 headed_at old new digest bytes recovered small long same done =
-    let back = read_back digest (drop head_length bytes) done.texts done.rest
-    (λ place. subst (λ (n : ℕ). n < 256) (sym (get_or-drop head_length bytes place 0)) (small (head_length + place))) done.reads in
-    let all : bytes ≡ file_of digest done.texts ++ done.rest =
-    sym (take-append-drop head_length bytes) ∙ (ap (λ (b : List ℕ). b ++ drop head_length bytes) same ∙ (ap (λ (b : List ℕ). head digest ++ b) back.0
+    let back = read_back digest (drop head_length bytes) done.texts done.rest (λ place. subst (λ (n : ℕ). n < 256)
+    (sym (get_or-drop head_length bytes place 0)) (small (head_length + place))) done.reads in
+    let all : bytes ≡ file_of digest done.texts ++ done.rest = sym (take-append-drop head_length bytes)
+    ∙ (ap (λ (b : List ℕ). b ++ drop head_length bytes) same ∙ (ap (λ (b : List ℕ). head digest ++ b) back.0
     ∙ sym (append_assoc (head digest) (records digest done.texts) done.rest))) in
     let size = ap length all ∙ length-append (file_of digest done.texts) done.rest in
     let at : length (file_of digest done.texts) ≡ recovered.end = omega (arith, done.end_is) in
@@ -79,25 +86,29 @@ headed_at old new digest bytes recovered small long same done =
       fit = back.1;
       chain_is = done.chain_is;
       count_is = done.count_is;
-      ends = subst (λ (b : List ℕ). Ends (last_link digest done.texts) b) (sym (ap (drop recovered.end) all ∙ drop_at (file_of digest done.texts) done.rest recovered.end at)) done.ends;
+      ends = subst (λ (b : List ℕ). Ends (last_link digest done.texts) b) (sym (ap (drop recovered.end) all
+          ∙ drop_at (file_of digest done.texts) done.rest recovered.end at)) done.ends;
     }
 
 -- all that was on the disk is taken
-pub has_taken : (old new : List Entry → Type 0) (digest left : List ℕ) (texts : List (List ℕ)) (least : ℕ) (recovered : Recovered)
-    → ((place : ℕ) → get_or left place 0 < 256) → length digest ≡ 32 → head_length ≤ length left
+pub has_taken : (old new : List Entry → Type 0) (digest left : List ℕ) (texts : List (List ℕ)) (least : ℕ)
+    (recovered : Recovered) → ((place : ℕ) → get_or left place 0 < 256) → length digest ≡ 32 → head_length ≤ length left
     → LeavesTexts digest left texts least → IsReplayed old new digest (drop head_length left) (length left) recovered
     → HasTaken old new digest left texts least recovered
 has_taken old new digest left texts least recovered small size long leaves done =
     let some = subst (λ (n : ℕ). ReadsSome digest (drop n left) texts least) (length-head digest size) leaves.reads in
-    let same = reads_once digest (drop head_length left) (take some.count texts) done.texts some.rest done.rest some.reads (ends_stop _ _ some.ends) done.reads (ends_stop _ _ done.ends) in
-    let front : take head_length left ≡ head digest = ap (λ (n : ℕ). take n left) (sym (length-head digest size)) ∙ leaves.headed in
+    let same = reads_once digest (drop head_length left) (take some.count texts) done.texts some.rest done.rest
+    some.reads (ends_stop _ _ some.ends) done.reads (ends_stop _ _ done.ends) in
+    let front : take head_length left ≡ head digest =
+    ap (λ (n : ℕ). take n left) (sym (length-head digest size)) ∙ leaves.headed in
     record {
       count = some.count;
       enough = some.enough;
       most = some.most;
       placed = inl (subst (λ (all : List (List ℕ)). BeginsWithHead digest left all recovered) same.0
           (headed_at old new digest left recovered small long front done));
-      stands = λ past was. subst (λ (all : List (List ℕ)). new (entries_onto digest [] all past)) same.0 (done.stands past was);
+      stands = λ past was. subst (λ (all : List (List ℕ)). new (entries_onto digest [] all past)) same.0
+          (done.stands past was);
     }
 
 -- the journal of a file with less than a head begins again
@@ -113,7 +124,8 @@ has_taken_none same digest left texts least size (inr part) short = record {
   count = 0;
   enough = omega (arith, part.0);
   most = omega arith;
-  placed = inr (record { none = refl; short = short; front = part.1.front; chain_is = refl; end_is = refl; count_is = refl });
+  placed = inr
+      (record { none = refl; short = short; front = part.1.front; chain_is = refl; end_is = refl; count_is = refl });
   stands = λ past was. was;
 }
 
@@ -121,7 +133,8 @@ has_taken_none same digest left texts least size (inr part) short = record {
 begun_is : (digest left : List ℕ) → IsPartOfHead digest left → heading digest left ≡ begun
 unfolding heading
 begun_is digest left part =
-    rw (lt_true (length left) head_length part.short, bytes_eq_same left (take (length left) (head digest)) part.front) refl
+    rw (lt_true (length left) head_length part.short, bytes_eq_same left (take (length left) (head digest)) part.front)
+    refl
 
 pub none_unknown : (digest left : List ℕ) (texts : List (List ℕ)) (least : ℕ) → length digest ≡ 32
     → LeavesJournal digest left texts least → length left < head_length → heading digest left ≡ unknown → ⊥
@@ -144,6 +157,8 @@ pub is_undamaged : (digest left : List ℕ) (texts : List (List ℕ)) (least siz
     → LeavesTexts digest left texts least → IsFoundAt digest (drop head_length left) size place damaged → ⊥
 is_undamaged digest left texts least size place long leaves found =
     let some = subst (λ (n : ℕ). ReadsSome digest (drop n left) texts least) (length-head digest long) leaves.reads in
-    let same = reads_once digest (drop head_length left) (take some.count texts) found.texts some.rest found.rest some.reads (ends_stop _ _ some.ends) found.reads (damage_stops _ _ found.found_is) in
-    ends_undamaged _ _ some.ends (subst (λ (rest : List ℕ). next (last_link digest (take some.count texts)) rest ≡ damaged) same.1
+    let same = reads_once digest (drop head_length left) (take some.count texts) found.texts some.rest found.rest
+    some.reads (ends_stop _ _ some.ends) found.reads (damage_stops _ _ found.found_is) in
+    ends_undamaged _ _ some.ends
+    (subst (λ (rest : List ℕ). next (last_link digest (take some.count texts)) rest ≡ damaged) same.1
     (subst (λ (all : List (List ℕ)). next (last_link digest all) found.rest ≡ damaged) same.0 found.found_is))

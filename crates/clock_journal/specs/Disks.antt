@@ -8,12 +8,14 @@
 --     up_to place bytes      the first `place` bytes
 --     IsCut old new place      the file was truncated to `place` bytes
 --     CutsTo old new place result      how truncating ends
-use Rattle.std.specs.Prelude.{◌≡◌, ◌≤◌, ◌⊎◌, ◌++◌, ℕ, List, [], ◌∷◌, length, take, Option, Some, None, Result, Ok, Err}
+use Rattle.std.specs.Prelude.{◌≡◌, ◌≤◌, ◌⊎◌, ◌++◌, ℕ, List, [], ◌∷◌, length, take, Option, Some}
+use Rattle.std.specs.Prelude.{None, Result, Ok, Err}
 
 -- all synced bytes, and a prefix of the rest; this says nothing of a file whose bytes contracts do
 -- not see
 abbrev pub MayBeLeft : Option (List ℕ) → Option (List ℕ) → List ℕ → Type 0
-MayBeLeft (Some synced) (Some written) left = (count : ℕ) × (length synced ≤ count) × (left ≡ take count written)
+MayBeLeft (Some synced) (Some written) left =
+    (count : ℕ) × (length synced ≤ count) × (left ≡ take count written)
 MayBeLeft (Some synced) None left = ⊥
 MayBeLeft None written left = ⊥
 
@@ -25,17 +27,20 @@ pub record Moment : Type 0 where
 -- a crash at one of the moments may leave this
 abbrev pub CouldBeLeft : List Moment → List ℕ → Type 0
 CouldBeLeft [] left = ⊥
-CouldBeLeft (moment ∷ moments) left = MayBeLeft moment.synced moment.written left ⊎ CouldBeLeft moments left
+CouldBeLeft (moment ∷ moments) left =
+    MayBeLeft moment.synced moment.written left ⊎ CouldBeLeft moments left
 
 -- a call passed one more moment, if contracts see the moments
-abbrev pub Passes : Option (List Moment) → Option (List Moment) → Option (List ℕ) → Option (List ℕ) → Type 0
-Passes (Some old) new synced written = new ≡ Some (record { synced = synced; written = written } ∷ old)
+abbrev pub Passes : Option (List Moment) → Option (List Moment) → Option (List ℕ)
+    → Option (List ℕ) → Type 0
+Passes (Some old) new synced written =
+    new ≡ Some (record { synced = synced; written = written } ∷ old)
 Passes None new synced written = Unit {0}
 
 -- it holds of whatever a crash since then could have left, if contracts see the moments
 abbrev pub LeaveOnly : Option (List Moment) → Option (List Moment) → (List ℕ → Type 0) → Type 0
-LeaveOnly (Some old) new Leaves =
-    (since : List Moment) × (new ≡ Some (since ++ old)) × ((left : List ℕ) → CouldBeLeft since left → Leaves left)
+LeaveOnly (Some old) new Leaves = (since : List Moment) × (new ≡ Some (since ++ old))
+    × ((left : List ℕ) → CouldBeLeft since left → Leaves left)
 LeaveOnly None new Leaves = Unit {0}
 
 -- the first `place` bytes, if contracts see them

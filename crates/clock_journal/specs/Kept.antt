@@ -13,7 +13,8 @@ abbrev pub file_of : List ℕ → List (List ℕ) → List ℕ
 file_of digest texts = head digest ++ records digest texts
 
 -- the file is the journal of the texts, all of it synced, and the chain is the last digest
-pub record Keeps (digest : List ℕ) (texts : List (List ℕ)) (written synced : Option (List ℕ)) (chain : List ℕ) : Type 0 where
+pub record Keeps (digest : List ℕ) (texts : List (List ℕ)) (written synced : Option (List ℕ))
+    (chain : List ℕ) : Type 0 where
   pub file : written ≡ Some (file_of digest texts)
   pub synced_is : synced ≡ written
   pub chain_is : chain ≡ last_link digest texts

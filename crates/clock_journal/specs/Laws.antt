@@ -15,23 +15,27 @@ use Rattle.clock_journal.specs.Crash.{LeavesTexts, BeginsWith}
 -- a prefix that has all bytes of the first `least` texts reads as these, and perhaps further ones
 -- in order
 abbrev pub EveryFront : Type 0
-EveryFront = (digest : List ℕ) (texts : List (List ℕ)) (least count : ℕ) → AllFit texts → least ≤ length texts
-    → length (file_of digest (take least texts)) ≤ count → LeavesTexts digest (take count (file_of digest texts)) texts least
+EveryFront = (digest : List ℕ) (texts : List (List ℕ)) (least count : ℕ) → AllFit texts
+    → least ≤ length texts → length (file_of digest (take least texts)) ≤ count
+    → LeavesTexts digest (take count (file_of digest texts)) texts least
 
 -- what is read of the records of some texts and any bytes after them begins with the texts
 abbrev pub WhateverFollows : Type 0
-WhateverFollows = (digest : List ℕ) (texts : List (List ℕ)) (more : List ℕ) (read : List (List ℕ)) (rest : List ℕ) → AllFit texts
-    → Reads digest (records digest texts ++ more) read rest → Stops (last_link digest read) rest → BeginsWith texts read
+WhateverFollows = (digest : List ℕ) (texts : List (List ℕ)) (more : List ℕ) (read : List (List ℕ))
+    (rest : List ℕ) → AllFit texts → Reads digest (records digest texts ++ more) read rest
+    → Stops (last_link digest read) rest → BeginsWith texts read
 
 -- bytes that read as some texts are the records of these texts, and what is left: there is no other
 -- encoding
 abbrev pub ReadsBack : Type 0
-ReadsBack = (chain bytes : List ℕ) (texts : List (List ℕ)) (rest : List ℕ) → ((place : ℕ) → get_or bytes place 0 < 256) → Reads chain bytes texts rest
+ReadsBack = (chain bytes : List ℕ) (texts : List (List ℕ)) (rest : List ℕ)
+    → ((place : ℕ) → get_or bytes place 0 < 256) → Reads chain bytes texts rest
     → (bytes ≡ records chain texts ++ rest) × AllFit texts
 
 -- if what a crash left is synced and truncated after its last whole record, a crash during that
 -- leaves all of its texts
 abbrev pub CutLeaves : Type 0
-CutLeaves = (digest bytes : List ℕ) (texts read : List (List ℕ)) (least : ℕ) (recovered : Recovered) (left : List ℕ) → length digest ≡ 32
-    → LeavesTexts digest bytes texts least → IsPlaced digest bytes read recovered → MayBeLeft (Some (take recovered.end bytes)) (Some bytes) left
-    → LeavesTexts digest left texts least
+CutLeaves = (digest bytes : List ℕ) (texts read : List (List ℕ)) (least : ℕ) (recovered : Recovered)
+    (left : List ℕ) → length digest ≡ 32 → LeavesTexts digest bytes texts least
+    → IsPlaced digest bytes read recovered → MayBeLeft (Some (take recovered.end bytes))
+    (Some bytes) left → LeavesTexts digest left texts least

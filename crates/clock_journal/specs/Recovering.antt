@@ -25,7 +25,8 @@ use Rattle.clock_journal.specs.declared.recovery.JournalFault.TheVariants as fau
 
 -- the machine stands for what it stood for, then these texts, and perhaps further ones; the records
 -- of these texts are before the end
-pub record HasTakenFirst (old new : List Entry → Type 0) (digest : List ℕ) (texts : List (List ℕ)) (recovered : Recovered) : Type 0 where
+pub record HasTakenFirst (old new : List Entry → Type 0) (digest : List ℕ) (texts : List (List ℕ))
+    (recovered : Recovered) : Type 0 where
   pub further : List (List ℕ)
   pub stands : (past : List Entry) → old past → new (entries_onto digest [] (texts ++ further) past)
   pub behind : length (file_of digest texts) ≤ recovered.end
@@ -49,7 +50,8 @@ IsDamagedAfter count fault.NoMemory = Unit {0}
 
 -- the file is the journal of the texts up to the end that was recovered; what follows is nothing or
 -- a torn record
-pub record BeginsWithHead (digest bytes : List ℕ) (texts : List (List ℕ)) (recovered : Recovered) : Type 0 where
+pub record BeginsWithHead (digest bytes : List ℕ) (texts : List (List ℕ))
+    (recovered : Recovered) : Type 0 where
   pub file : take recovered.end bytes ≡ file_of digest texts
   pub within : recovered.end ≤ length bytes
   pub fit : AllFit texts
@@ -58,7 +60,8 @@ pub record BeginsWithHead (digest bytes : List ℕ) (texts : List (List ℕ)) (r
   pub ends : Ends (last_link digest texts) (drop recovered.end bytes)
 
 -- the file is less than a head, and the journal begins again
-pub record IsBegun (digest bytes : List ℕ) (texts : List (List ℕ)) (recovered : Recovered) : Type 0 where
+pub record IsBegun (digest bytes : List ℕ) (texts : List (List ℕ))
+    (recovered : Recovered) : Type 0 where
   pub none : texts ≡ []
   pub short : length bytes < head_length
   pub front : bytes ≡ take (length bytes) (head digest)
@@ -67,12 +70,13 @@ pub record IsBegun (digest bytes : List ℕ) (texts : List (List ℕ)) (recovere
   pub count_is : recovered.texts ≡ 0
 
 abbrev pub IsPlaced : List ℕ → List ℕ → List (List ℕ) → Recovered → Type 0
-IsPlaced digest bytes texts recovered = BeginsWithHead digest bytes texts recovered ⊎ IsBegun digest bytes texts recovered
+IsPlaced digest bytes texts recovered =
+    BeginsWithHead digest bytes texts recovered ⊎ IsBegun digest bytes texts recovered
 
 -- the machine stands for what it stood for, and then a prefix of the texts, at least `least` of
 -- them; up to the end that was recovered, the file has these
-pub record HasTaken (old new : List Entry → Type 0) (digest bytes : List ℕ) (texts : List (List ℕ)) (least : ℕ)
-    (recovered : Recovered) : Type 0 where
+pub record HasTaken (old new : List Entry → Type 0) (digest bytes : List ℕ) (texts : List (List ℕ))
+    (least : ℕ) (recovered : Recovered) : Type 0 where
   pub count : ℕ
   pub enough : least ≤ count
   pub most : count ≤ length texts
@@ -80,7 +84,8 @@ pub record HasTaken (old new : List Entry → Type 0) (digest bytes : List ℕ) 
   pub stands : (past : List Entry) → old past → new (entries_onto digest [] (take count texts) past)
 
 -- the machine stands for what it stood for, and then the texts of the file
-pub record IsRecovered (old new : List Entry → Type 0) (digest bytes : List ℕ) (recovered : Recovered) : Type 0 where
+pub record IsRecovered (old new : List Entry → Type 0) (digest bytes : List ℕ)
+    (recovered : Recovered) : Type 0 where
   pub texts : List (List ℕ)
   pub placed : IsPlaced digest bytes texts recovered
   pub stands : (past : List Entry) → old past → new (entries_onto digest [] texts past)
@@ -98,21 +103,26 @@ abbrev pub IsJournalRefusal : List ℕ → List ℕ → JournalFault → Type 0
 IsJournalRefusal digest bytes fault.Unknown = heading digest bytes ≡ unknown
 IsJournalRefusal digest bytes fault.Setup = heading digest bytes ≡ of_another
 IsJournalRefusal digest bytes (fault.Damaged place) =
-    (heading digest bytes ≡ headed (drop head_length bytes)) × IsFoundAt digest (drop head_length bytes) (length bytes) place damaged
+    (heading digest bytes ≡ headed (drop head_length bytes))
+    × IsFoundAt digest (drop head_length bytes) (length bytes) place damaged
 IsJournalRefusal digest bytes (fault.Refused place) =
-    (heading digest bytes ≡ headed (drop head_length bytes)) × ((text : List ℕ) × IsFoundAt digest (drop head_length bytes) (length bytes) place (whole text))
+    (heading digest bytes ≡ headed (drop head_length bytes)) × ((text : List ℕ)
+    × IsFoundAt digest (drop head_length bytes) (length bytes) place (whole text))
 IsJournalRefusal digest bytes fault.NoMemory = Unit {0}
 
 -- all before `place` reads as texts, and then comes one that the machine refuses after them,
 -- whatever it stood for
-pub record IsRefusedAt (refuses : List (List ℕ) → List ℕ → Type 0) (old : List Entry → Type 0) (first bytes : List ℕ) (size place : ℕ) : Type 0 where
+pub record IsRefusedAt (refuses : List (List ℕ) → List ℕ → Type 0) (old : List Entry → Type 0)
+    (first bytes : List ℕ) (size place : ℕ) : Type 0 where
   pub text : List ℕ
   pub found : IsFoundAt first bytes size place (whole text)
   pub refused : (past : List Entry) → old past → refuses (onto found.texts (texts_in past)) text
 
-abbrev pub IsRefusedRightly : (List (List ℕ) → List ℕ → Type 0) → (List Entry → Type 0) → List ℕ → List ℕ → ℕ → JournalFault → Type 0
+abbrev pub IsRefusedRightly : (List (List ℕ) → List ℕ → Type 0) → (List Entry → Type 0) → List ℕ
+    → List ℕ → ℕ → JournalFault → Type 0
 IsRefusedRightly refuses old first bytes size fault.Unknown = Unit {0}
 IsRefusedRightly refuses old first bytes size fault.Setup = Unit {0}
 IsRefusedRightly refuses old first bytes size (fault.Damaged place) = Unit {0}
-IsRefusedRightly refuses old first bytes size (fault.Refused place) = IsRefusedAt refuses old first bytes size place
+IsRefusedRightly refuses old first bytes size (fault.Refused place) =
+    IsRefusedAt refuses old first bytes size place
 IsRefusedRightly refuses old first bytes size fault.NoMemory = Unit {0}

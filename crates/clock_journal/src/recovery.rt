@@ -3,7 +3,8 @@
 ghost use Rattle.std.specs.Prelude.{◌≡◌, ◌∷◌, List, ℕ, Err, MatchResult, OnOk, drop, length};
 ghost use Rattle.clock_journal.specs.{Crash.{BeginsWithTexts, LeavesJournal}, Kept.{file_of}};
 ghost use Rattle.clock_journal.specs.{Entries.{Entry, texts_in}, Format.{head_length}};
-ghost use Rattle.clock_journal.specs.Recovering.{HasTaken, HasTakenFirst, IsDamagedAfter, IsRecovered};
+ghost use Rattle.clock_journal.specs.Recovering.{HasTaken, HasTakenFirst, IsDamagedAfter};
+ghost use Rattle.clock_journal.specs.Recovering.{IsRecovered};
 ghost use Rattle.clock_journal.specs.Recovering.{IsJournalRefusal, IsRefusedRightly, IsTakeFault};
 
 use crate::format::{

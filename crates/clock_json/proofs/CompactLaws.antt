@@ -1,5 +1,6 @@
 -- Laws of bids that are written without white space.
-use Rattle.std.proofs.Common.{◌≡◌, ℕ, ◌+◌, ◌<◌, ◌≤◌, ◌^◌, true, List, ◌∷◌, ◌++◌, length, take, drop, get_or, decimal, codes, [], replicate, zero, suc, ◌*◌, refl, sym, ap, ap₂, ◌∙◌, arith}
+use Rattle.std.proofs.Common.{◌≡◌, ℕ, ◌+◌, ◌<◌, ◌≤◌, ◌^◌, true, List, ◌∷◌, ◌++◌, length, take, drop, get_or, decimal}
+use Rattle.std.proofs.Common.{codes, [], replicate, zero, suc, ◌*◌, refl, sym, ap, ap₂, ◌∙◌, arith}
 use Rattle.std.proofs.Common.{Bool, false, Option, IfSome, subst}
 use Rattle.std.specs.Bool.{then_some}
 use Rattle.std.proofs.Math.Nat.{pow-suc, pow-le-pow_right}
@@ -22,62 +23,72 @@ passed : {A : Type 0} (P : A → Type 0) (is : Bool) (x : A) → (is ≡ true �
 passed P true x has = has refl
 passed P false x has = tt
 
-pub given : {A : Type 0} (P : A → Type 0) (is : Bool) (x : A) (result : Option A) → result ≡ then_some is x → (is ≡ true → P x) → IfSome result P
+pub given : {A : Type 0} (P : A → Type 0) (is : Bool) (x : A) (result : Option A) → result ≡ then_some is x
+    → (is ≡ true → P x) → IfSome result P
 given P is x result same has = subst (λ r. IfSome r P) (sym same) (passed P is x has)
 
 -- eight known bytes, and those after them
-eight_then : (bytes word : List ℕ) (at : ℕ) → take 8 (drop at bytes) ≡ word → drop at bytes ≡ word ++ drop (at + 8) bytes
-eight_then bytes word at is = sym (take-append-drop 8 (drop at bytes)) ∙ ap₂ (λ front rest. front ++ rest) is (drop-drop 8 at bytes)
+eight_then : (bytes word : List ℕ) (at : ℕ) → take 8 (drop at bytes) ≡ word
+    → drop at bytes ≡ word ++ drop (at + 8) bytes
+eight_then bytes word at is =
+    sym (take-append-drop 8 (drop at bytes)) ∙ ap₂ (λ front rest. front ++ rest) is (drop-drop 8 at bytes)
 
 -- one known byte, and those after it
-pub one_then : (bytes : List ℕ) (at next x : ℕ) → at < length bytes → get_or bytes at 0 ≡ x → next ≡ at + 1 → drop at bytes ≡ x ∷ drop next bytes
+pub one_then : (bytes : List ℕ) (at next x : ℕ) → at < length bytes → get_or bytes at 0 ≡ x → next ≡ at + 1
+    → drop at bytes ≡ x ∷ drop next bytes
 one_then bytes at next x lt is there = at_byte bytes at x lt is ∙ ap (λ n. x ∷ drop n bytes) (sym there)
 
 module _ (bytes : List ℕ) (at : ℕ) where
   -- a first part of eight known bytes, and the eight that begin after it
-  pub eights_then : (part : ℕ) (first second : List ℕ) → take 8 (drop at bytes) ≡ first → take 8 (drop (at + part) bytes) ≡ second
+  pub eights_then : (part : ℕ) (first second : List ℕ) → take 8 (drop at bytes) ≡ first
+      → take 8 (drop (at + part) bytes) ≡ second
       → drop at bytes ≡ take part (first ++ drop (at + 8) bytes) ++ (second ++ drop (at + part + 8) bytes)
-  eights_then part first second is more =
-      sym (take-append-drop part (drop at bytes))
-      ∙ ap₂ (λ front rest. front ++ rest) (ap (take part) (eight_then bytes first at is)) (drop-drop part at bytes ∙ eight_then bytes second (at + part) more)
+  eights_then part first second is more = sym (take-append-drop part (drop at bytes))
+      ∙ ap₂ (λ front rest. front ++ rest) (ap (take part) (eight_then bytes first at is))
+      (drop-drop part at bytes ∙ eight_then bytes second (at + part) more)
 
   -- bytes that begin a bid, with the first key
-  pub price_stands : drop at bytes ≡ take 1 (codes "{\"price\"" ++ drop (at + 8) bytes) ++ (codes "\"price\":" ++ drop (at + 1 + 8) bytes)
-      → lex between (drop at bytes) ≡ token begin_object ∷ token (string (codes "price")) ∷ colon ∷ lex between (drop (at + 9) bytes)
+  pub price_stands : drop at bytes ≡ take 1 (codes "{\"price\"" ++ drop (at + 8) bytes)
+      ++ (codes "\"price\":" ++ drop (at + 1 + 8) bytes) → lex between (drop at bytes)
+      ≡ token begin_object ∷ token (string (codes "price")) ∷ colon ∷ lex between (drop (at + 9) bytes)
   unfolding lex content
-  price_stands is =
-      ap (lex between) is
-      ∙ ap (λ n. token begin_object ∷ token (string (codes "price")) ∷ colon ∷ lex between (drop n bytes)) (let same : at + 1 + 8 ≡ at + 9 = omega arith in same)
+  price_stands is = ap (lex between) is ∙ ap (λ n. token begin_object ∷ token (string (codes "price")) ∷ colon
+      ∷ lex between (drop n bytes)) (let same : at + 1 + 8 ≡ at + 9 = omega arith in same)
 
   -- bytes that begin with a known text, which is read as these lexemes whatever follows it
-  known_first : (text : List ℕ) (found behind : ℕ) (read : List Lexeme → List Lexeme) → drop at bytes ≡ text ++ drop found bytes → found ≡ behind
-      → ((rest : List ℕ) → ends_word (text ++ rest) ≡ true) → ((rest : List ℕ) → lex between (text ++ rest) ≡ read (lex between rest))
+  known_first : (text : List ℕ) (found behind : ℕ) (read : List Lexeme → List Lexeme)
+      → drop at bytes ≡ text ++ drop found bytes → found ≡ behind → ((rest : List ℕ) → ends_word (text ++ rest) ≡ true)
+      → ((rest : List ℕ) → lex between (text ++ rest) ≡ read (lex between rest))
       → (ends_word (drop at bytes) ≡ true) × (lex between (drop at bytes) ≡ read (lex between (drop behind bytes)))
   known_first text found behind read is same ends reads =
       let all : drop at bytes ≡ text ++ drop behind bytes = is ∙ ap (λ n. text ++ drop n bytes) same in
       (ap ends_word all ∙ ends (drop behind bytes), ap (lex between) all ∙ reads (drop behind bytes))
 
   -- bytes that begin with the second key
-  pub product_stands : drop at bytes ≡ take 3 (codes ",\"produc" ++ drop (at + 8) bytes) ++ (codes "roduct\":" ++ drop (at + 3 + 8) bytes)
-      → (ends_word (drop at bytes) ≡ true) × (lex between (drop at bytes) ≡ comma ∷ token (string (codes "product")) ∷ colon ∷ lex between (drop (at + 11) bytes))
+  pub product_stands : drop at bytes ≡ take 3 (codes ",\"produc" ++ drop (at + 8) bytes)
+      ++ (codes "roduct\":" ++ drop (at + 3 + 8) bytes) → (ends_word (drop at bytes) ≡ true) × (lex between
+      (drop at bytes) ≡ comma ∷ token (string (codes "product")) ∷ colon ∷ lex between (drop (at + 11) bytes))
   unfolding lex content
-  product_stands is =
-      known_first (codes ",\"product\":") (at + 3 + 8) (at + 11) (λ r. comma ∷ token (string (codes "product")) ∷ colon ∷ r) is (omega arith) (λ _. refl) (λ _. refl)
+  product_stands is = known_first (codes ",\"product\":") (at + 3 + 8) (at + 11)
+      (λ r. comma ∷ token (string (codes "product")) ∷ colon ∷ r) is (omega arith) (λ _. refl) (λ _. refl)
 
   -- bytes that begin with the third key
-  pub quantity_stands : drop at bytes ≡ take 4 (codes ",\"quanti" ++ drop (at + 8) bytes) ++ (codes "antity\":" ++ drop (at + 4 + 8) bytes)
-      → (ends_word (drop at bytes) ≡ true) × (lex between (drop at bytes) ≡ comma ∷ token (string (codes "quantity")) ∷ colon ∷ lex between (drop (at + 12) bytes))
+  pub quantity_stands : drop at bytes ≡ take 4 (codes ",\"quanti" ++ drop (at + 8) bytes)
+      ++ (codes "antity\":" ++ drop (at + 4 + 8) bytes) → (ends_word (drop at bytes) ≡ true) × (lex between
+      (drop at bytes) ≡ comma ∷ token (string (codes "quantity")) ∷ colon ∷ lex between (drop (at + 12) bytes))
   unfolding lex content
-  quantity_stands is =
-      known_first (codes ",\"quantity\":") (at + 4 + 8) (at + 12) (λ r. comma ∷ token (string (codes "quantity")) ∷ colon ∷ r) is (omega arith) (λ _. refl) (λ _. refl)
+  quantity_stands is = known_first (codes ",\"quantity\":") (at + 4 + 8) (at + 12)
+      (λ r. comma ∷ token (string (codes "quantity")) ∷ colon ∷ r) is (omega arith) (λ _. refl) (λ _. refl)
 
-  pub end_bytes : at + 2 ≤ length bytes → get_or bytes at 0 ≡ 125 → get_or bytes (at + 1) 0 ≡ 44 → drop at bytes ≡ 125 ∷ 44 ∷ drop (at + 2) bytes
+  pub end_bytes : at + 2 ≤ length bytes → get_or bytes at 0 ≡ 125 → get_or bytes (at + 1) 0 ≡ 44
+      → drop at bytes ≡ 125 ∷ 44 ∷ drop (at + 2) bytes
   end_bytes room brace mark =
       one_then bytes at (at + 1) 125 (omega (arith, room)) brace (omega arith)
       ∙ ap (λ rest. 125 ∷ rest) (one_then bytes (at + 1) (at + 2) 44 (omega (arith, room)) mark (omega arith))
 
 -- bytes that begin with the end of a bid
-pub end_follows : (bytes rest : List ℕ) → bytes ≡ 125 ∷ 44 ∷ rest → (ends_word bytes ≡ true) × (lex between bytes ≡ token end_object ∷ comma ∷ lex between rest)
+pub end_follows : (bytes rest : List ℕ) → bytes ≡ 125 ∷ 44 ∷ rest
+    → (ends_word bytes ≡ true) × (lex between bytes ≡ token end_object ∷ comma ∷ lex between rest)
 unfolding lex
 end_follows bytes rest is = (ap ends_word is, ap (lex between) is)
 
@@ -101,9 +112,8 @@ lexemes_of bid rest =
 
 -- the tokens of a bid
 abbrev pub tokens_of : CompactBid → List Token → List Token
-tokens_of bid rest =
-    begin_object ∷ key (codes "price") ∷ number (decimal bid.price) ∷ key (codes "product") ∷ number (decimal bid.product)
-    ∷ key (codes "quantity") ∷ number (decimal bid.quantity) ∷ end_object ∷ rest
+tokens_of bid rest = begin_object ∷ key (codes "price") ∷ number (decimal bid.price) ∷ key (codes "product")
+    ∷ number (decimal bid.product) ∷ key (codes "quantity") ∷ number (decimal bid.quantity) ∷ end_object ∷ rest
 
 -- where a value may begin, the lexemes are the tokens
 pub punctuated : (p : Place) (bid : CompactBid) (ls rest : List Lexeme) → may_begin p ≡ true → ls ≡ lexemes_of bid rest
@@ -112,8 +122,8 @@ unfolding punctuate
 punctuated p bid ls rest h is = begun p ls _ h (ap (punctuate lexer.fresh) is) (ap (punctuate lexer.after_comma) is)
 
 -- the tokens are read as the bid
-pub bid_reads : (bid : CompactBid) (old new : List Token) → (bid.price < 2 ^ 64) × (bid.product < 2 ^ 64) × (bid.quantity < 2 ^ 64)
-    → old ≡ tokens_of bid new → Reads 1 old (compact_bid bid) new
+pub bid_reads : (bid : CompactBid) (old new : List Token) → (bid.price < 2 ^ 64) × (bid.product < 2 ^ 64)
+    × (bid.quantity < 2 ^ 64) → old ≡ tokens_of bid new → Reads 1 old (compact_bid bid) new
 bid_reads bid old new small is =
     let last = end_object ∷ new in
     let third = number (decimal bid.quantity) ∷ last in
@@ -125,9 +135,8 @@ bid_reads bid old new small is =
     let found_1 = put (codes "price") (whole bid.price) no_members in
     let found_2 = put (codes "product") (whole bid.product) found_1 in
     let found_3 = put (codes "quantity") (whole bid.quantity) found_2 in
-    let has_1 : HasMembers 0 start found_1 second_key =
-    members_next 0 start start first second_key no_members (codes "price") (whole bid.price) (members_start 0 start) refl
-    (number_reads bid.price first second_key small.0 refl) in
+    let has_1 : HasMembers 0 start found_1 second_key = members_next 0 start start first second_key no_members (codes
+    "price") (whole bid.price) (members_start 0 start) refl (number_reads bid.price first second_key small.0 refl) in
     let has_2 : HasMembers 0 start found_2 third_key =
     members_next 0 start second_key second third_key found_1 (codes "product") (whole bid.product) has_1 refl
     (number_reads bid.product second third_key small.1 refl) in
@@ -137,8 +146,8 @@ bid_reads bid old new small is =
     members_end 0 old start last new found_3 is has_3 refl
 
 -- a number and the comma after it
-pub number_and_comma : (p : Place) (ls rest : List Lexeme) (s : List ℕ) → may_begin p ≡ true → ls ≡ token (number s) ∷ comma ∷ rest
-    → punctuate p ls ≡ number s ∷ punctuate lexer.after_comma rest
+pub number_and_comma : (p : Place) (ls rest : List Lexeme) (s : List ℕ) → may_begin p ≡ true
+    → ls ≡ token (number s) ∷ comma ∷ rest → punctuate p ls ≡ number s ∷ punctuate lexer.after_comma rest
 unfolding punctuate
 number_and_comma p ls rest s h is = begun p ls _ h (ap (punctuate lexer.fresh) is) (ap (punctuate lexer.after_comma) is)
 
@@ -148,17 +157,20 @@ unfolding lex
 comma_first rest = refl
 
 -- bytes that begin with a comma
-pub comma_stands : (bytes rest : List ℕ) → bytes ≡ 44 ∷ rest → (ends_word bytes ≡ true) × (lex between bytes ≡ comma ∷ lex between rest)
+pub comma_stands : (bytes rest : List ℕ) → bytes ≡ 44 ∷ rest
+    → (ends_word bytes ≡ true) × (lex between bytes ≡ comma ∷ lex between rest)
 unfolding lex
 comma_stands bytes rest is = (ap ends_word is, ap (lex between) is)
 
 -- a number and its comma, after a comma, are read
 pub separated_reads : (ls rest : List Lexeme) (n : ℕ) → n < 2 ^ 64 → ls ≡ token (number (decimal n)) ∷ comma ∷ rest
     → Reads 0 (punctuate lexer.after_comma ls) (whole n) (punctuate lexer.after_comma rest)
-separated_reads ls rest n small is = number_reads n _ _ small (number_and_comma lexer.after_comma ls rest (decimal n) refl is)
+separated_reads ls rest n small is =
+    number_reads n _ _ small (number_and_comma lexer.after_comma ls rest (decimal n) refl is)
 
 -- bytes that are an empty list and its comma
-pub empty_at : (bytes : List ℕ) (at : ℕ) → at + 3 ≤ length bytes → get_or bytes at 0 ≡ 91 → get_or bytes (at + 1) 0 ≡ 93 → get_or bytes (at + 2) 0 ≡ 44
+pub empty_at : (bytes : List ℕ) (at : ℕ) → at + 3 ≤ length bytes → get_or bytes at 0 ≡ 91 → get_or bytes (at + 1) 0 ≡ 93
+    → get_or bytes (at + 2) 0 ≡ 44
     → lex between (drop at bytes) ≡ token begin_array ∷ token end_array ∷ comma ∷ lex between (drop (at + 3) bytes)
 unfolding lex
 empty_at bytes at room opens closes mark =
@@ -173,7 +185,8 @@ pub empty_reads : (ls rest : List Lexeme) → ls ≡ token begin_array ∷ token
 unfolding punctuate
 empty_reads ls rest is =
     let new = punctuate lexer.after_comma rest in
-    items_end 0 _ (Token.end_array ∷ new) (Token.end_array ∷ new) new [] (ap (punctuate lexer.after_comma) is) (items_start 0 _) refl
+    items_end 0 _ (Token.end_array ∷ new) (Token.end_array ∷ new) new [] (ap (punctuate lexer.after_comma) is)
+    (items_start 0 _) refl
 
 -- one more that is the same
 pub replicate_push : {A : Type 0} (n : ℕ) (x : A) → replicate (n + 1) x ≡ replicate n x ++ x ∷ []

@@ -1,4 +1,5 @@
--- The tokens that a text has left, by the lexer of JSON (RFC 8259, as serde_json's reading definition has it).
+-- The tokens that a text has left, by the lexer of JSON (RFC 8259, as serde_json's reading
+-- definition has it).
 use Rattle.std.specs.Prelude.{ℕ, List}
 use Rattle.json.specs.Token.{Token}
 use Rattle.json.specs.Lex as lexer

@@ -5,7 +5,8 @@ use Rattle.json.specs.Token.{Token, begin_array, begin_object, end_array, end_ob
 
 -- [ and {
 abbrev pub opening : ℕ → Option Token
-opening mark = if mark == 91 then Some begin_array else if mark == 123 then Some begin_object else None
+opening mark =
+    if mark == 91 then Some begin_array else if mark == 123 then Some begin_object else None
 
 -- ] and }
 abbrev pub closing : ℕ → Option Token

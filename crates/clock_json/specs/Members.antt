@@ -14,7 +14,8 @@ use Rattle.clock_json.specs.Reading.{Fields, Reads}
 -- what was found at a key
 abbrev pub value_at : List ℕ → Fields → Option Data
 value_at key [] = None
-value_at key (field ∷ fields) = match_ordering (slice_cmp nat_cmp key field.0) (value_at key fields) field.1 (value_at key fields)
+value_at key (field ∷ fields) = match_ordering (slice_cmp nat_cmp key field.0)
+    (value_at key fields) field.1 (value_at key fields)
 
 -- the fields with this found at a key
 abbrev pub with_field : List ℕ → Option Data → Fields → Fields
@@ -28,14 +29,17 @@ with_field key value (field ∷ fields) =
 -- a key comes before all keys of the fields
 abbrev pub is_before : List ℕ → Fields → Bool
 is_before key [] = true
-is_before key (field ∷ fields) = match_ordering (slice_cmp nat_cmp key field.0) (is_before key fields) false false
+is_before key (field ∷ fields) =
+    match_ordering (slice_cmp nat_cmp key field.0) (is_before key fields) false false
 
 -- a key is one of the fields', whose keys ascend from there on
 abbrev pub is_field : List ℕ → Fields → Bool
 is_field key [] = false
-is_field key (field ∷ fields) = match_ordering (slice_cmp nat_cmp key field.0) false (is_before key fields) (is_field key fields)
+is_field key (field ∷ fields) = match_ordering (slice_cmp nat_cmp key field.0) false
+    (is_before key fields) (is_field key fields)
 
--- the value under a key was read, which is one of the fields', and nothing else is found now that was not before
+-- the value under a key was read, which is one of the fields', and nothing else is found now
+-- that was not before
 abbrev pub ReadsField : ℕ → List ℕ → List Token → Fields → List Token → Fields → Type 0
 ReadsField levels key old before new after =
     (is_field key before ≡ true)

@@ -1,13 +1,15 @@
 -- What the tokens of a JSON text are read as, by serde_json's reading definition.
 --     whole n      a whole number, as a value
 --     numbers, rows      lists of numbers, and lists of such lists, as values
---     items_of, members_of      the items of a list, and the members of an object some of whose keys were not found
+--     items_of, members_of      the items of a list, and the members of an object some of whose
+--         keys were not found
 --     Reads levels old value new      the tokens begin with the value, and new ones follow
 --     ReadsAll levels old values new      they begin with these values, one after the other
 use Rattle.std.specs.Prelude.{◌≡◌, ℕ, ◌≤◌, List, [], ◌∷◌, map, Option, Some, None}
 pub use Rattle.json.specs.Token.{Token}
 use Rattle.json.specs.Json as json
-use Rattle.serde_json.specs.Data.{Data, number, unsigned, array, Items, no_items, item, Members, no_members, member}
+use Rattle.serde_json.specs.Data.{Data, number, unsigned, array, Items, no_items, item, Members}
+use Rattle.serde_json.specs.Data.{no_members, member}
 use Rattle.serde_json.specs.Read.{of_json, converted}
 
 -- a whole number
@@ -45,11 +47,14 @@ abbrev pub members_of : Fields → Members
 members_of [] = no_members
 members_of (field ∷ fields) = field_before field.0 field.1 (members_of fields)
 
--- if `levels` levels of nesting are allowed, the old tokens begin with this value, and the new ones follow
+-- if `levels` levels of nesting are allowed, the old tokens begin with this value, and
+-- the new ones follow
 abbrev pub Reads : ℕ → List Token → Data → List Token → Type 0
-Reads levels old value new = (depth : ℕ) → levels ≤ depth → converted of_json (json.value depth old) ≡ Some (value, new)
+Reads levels old value new =
+    (depth : ℕ) → levels ≤ depth → converted of_json (json.value depth old) ≡ Some (value, new)
 
 -- the old tokens begin with these values, one after the other, and the new ones follow
 unfoldable pub ReadsAll : ℕ → List Token → List Data → List Token → Type 0
 ReadsAll levels old [] new = new ≡ old
-ReadsAll levels old (value ∷ values) new = (behind : List Token) × Reads levels old value behind × ReadsAll levels behind values new
+ReadsAll levels old (value ∷ values) new =
+    (behind : List Token) × Reads levels old value behind × ReadsAll levels behind values new

@@ -1,7 +1,9 @@
 //! Reads a bid as most programs write it: without white space, and with its keys in order of their
 //! bytes. Compares eight bytes at once.
-ghost use Rattle.std.specs.Prelude.{◌≡◌, ◌+◌, ◌≤◌, ◌<◌, ◌^◌, ◌∷◌, ◌++◌, length, take, drop, codes, decimal, IsTrue, IfSome};
-ghost use Rattle.json.specs.{Token.{begin_object, end_object, number, string}, Lex.{lex, between, token, comma, colon}};
+ghost use Rattle.std.specs.Prelude.{◌≡◌, ◌+◌, ◌≤◌, ◌<◌, ◌^◌, ◌∷◌, ◌++◌, length, take, drop, codes};
+ghost use Rattle.std.specs.Prelude.{decimal, IsTrue, IfSome};
+ghost use Rattle.json.specs.Token.{begin_object, end_object, number, string};
+ghost use Rattle.json.specs.Lex.{lex, between, token, comma, colon};
 ghost use Rattle.clock_json.specs.inside.Digits.{IsNumberUpTo};
 
 use crate::digits::{digit_before, digits_up_to, uneven_digits_at};
@@ -31,8 +33,8 @@ pub(crate) fn has_room(bytes: &[u8], at: usize, count: usize) -> bool
 fn has_both(bytes: &[u8], at: usize, first: &[u8; 8], part: usize, second: &[u8; 8]) -> bool
     requires first { at + 8 ≤ length bytes.now }
     requires second { at + part + 8 ≤ length bytes.now }
-    ensures { IsTrue result → drop at bytes.now
-        ≡ take part (first.now ++ drop (at + 8) bytes.now) ++ (second.now ++ drop (at + part + 8) bytes.now) }
+    ensures { IsTrue result → drop at bytes.now ≡ take part (first.now ++ drop (at + 8) bytes.now)
+        ++ (second.now ++ drop (at + part + 8) bytes.now) }
 {
     has_eight(bytes, at, first) && has_eight(bytes, at + part, second)
 }
@@ -66,11 +68,12 @@ const MOST_BYTES: usize = 82;
 /// Reads a bid and a comma at an index. Returns the bid, and the index after the comma.
 #[inline(always)]
 pub(crate) fn compact_bid_at(bytes: &[u8], start: usize) -> Option<(CompactBid, usize)>
-    ensures small { IfSome result (λ r. (r.0.price < 2 ^ 64) × (r.0.product < 2 ^ 64) × (r.0.quantity < 2 ^ 64)) }
-    ensures value { IfSome result (λ r. lex between (drop start bytes.now)
-        ≡ token begin_object ∷ token (string (codes "price")) ∷ colon ∷ token (number (decimal r.0.price))
-        ∷ comma ∷ token (string (codes "product")) ∷ colon ∷ token (number (decimal r.0.product))
-        ∷ comma ∷ token (string (codes "quantity")) ∷ colon ∷ token (number (decimal r.0.quantity))
+    ensures small { IfSome result (λ r. (r.0.price < 2 ^ 64) × (r.0.product < 2 ^ 64)
+        × (r.0.quantity < 2 ^ 64)) }
+    ensures value { IfSome result (λ r. lex between (drop start bytes.now) ≡ token begin_object
+        ∷ token (string (codes "price")) ∷ colon ∷ token (number (decimal r.0.price)) ∷ comma
+        ∷ token (string (codes "product")) ∷ colon ∷ token (number (decimal r.0.product)) ∷ comma
+        ∷ token (string (codes "quantity")) ∷ colon ∷ token (number (decimal r.0.quantity))
         ∷ token end_object ∷ comma ∷ lex between (drop r.1 bytes.now)) }
 {
     if !has_room(bytes, start, MOST_BYTES) {

@@ -1,6 +1,7 @@
 //! Reads numbers that have only digits, sixteen digits at a time, and lists of such numbers with
 //! only a comma between two of them.
-ghost use Rattle.std.specs.Prelude.{◌≡◌, ◌+◌, ◌≤◌, ◌<◌, ◌^◌, ◌∷◌, drop, get_or, length, take, IfSome, decimal};
+ghost use Rattle.std.specs.Prelude.{◌≡◌, ◌+◌, ◌≤◌, ◌<◌, ◌^◌, ◌∷◌, drop, get_or, length, take};
+ghost use Rattle.std.specs.Prelude.{IfSome, decimal};
 ghost use Rattle.std.specs.Str.Parse.{AllDigits, digits_value};
 ghost use Rattle.json.specs.{Token.{number}, Lex.{lex, between, token, comma}};
 ghost use Rattle.clock_json.specs.inside.Digits.{AreDigits, IsNumberUpTo};

@@ -1,7 +1,10 @@
 //! Reads lists of parts, a part that is a whole text, and objects of known keys in any order.
-ghost use Rattle.std.specs.{Prelude.{◌≡◌, ◌<◌, ◌≤◌, ℕ, suc, length, map, Some, IfSome, OnSome, IfOk, OnOk}, Str.{IsUtf8}};
+ghost use Rattle.std.specs.Prelude.{◌≡◌, ◌<◌, ◌≤◌, ℕ, suc, length, map, Some, IfSome, OnSome, IfOk};
+ghost use Rattle.std.specs.Prelude.{OnOk};
+ghost use Rattle.std.specs.Str.{IsUtf8};
 ghost use Rattle.serde_json.specs.{Data.{Data, array, no_members, object}, Read.{read}};
-ghost use Rattle.clock_json.specs.{Reading.{items_of, Reads, Fields, members_of}, Members.{ReadsField}};
+ghost use Rattle.clock_json.specs.Reading.{items_of, Reads, Fields, members_of};
+ghost use Rattle.clock_json.specs.Members.{ReadsField};
 
 use crate::room::with_room;
 use crate::scan::{Scan, ScanStop};
@@ -52,7 +55,8 @@ pub fn scanned_text<'v, R: PartReader<'v>>(
 ) -> Result<Option<R::Part>, NoMemory>
     requires { R.levels ≤ 127 }
     ensures text { IfOk result (λ part. OnSome part (IsUtf8 bytes.now)) }
-    ensures value { IfOk result (λ part. IfSome part (λ part. read bytes.now ≡ Some (R.shown part))) }
+    ensures value { IfOk result
+        (λ part. IfSome part (λ part. read bytes.now ≡ Some (R.shown part))) }
 {
     let Some(text) = text_of(bytes) else {
         return Ok(None);
@@ -85,7 +89,8 @@ pub trait ScannedMembers<'v>: Sized + Drop {
 
     /// Reads the next value, which is that of `key`, if the object has this key.
     fn read(&mut self, alloc: Global, key: &[u8], scan: &mut Scan<'v>) -> Result<(), ScanStop>
-        ensures value { OnOk result (ReadsField levels key.now scan.old (fields self.old) scan.new (fields self.new)) }
+        ensures value { OnOk result
+            (ReadsField levels key.now scan.old (fields self.old) scan.new (fields self.new)) }
         ensures shorter { OnOk result (length scan.new < length scan.old) };
 
     /// Returns the object, if all of it was read.

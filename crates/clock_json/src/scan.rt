@@ -1,9 +1,12 @@
 //! Reads a text from its start to its end, one mark or value at a time.
-ghost use Rattle.std.specs.Prelude.{◌≡◌, ◌∷◌, ◌++◌, [], ◌<◌, ℕ, List, drop, length, map, replicate, IsTrue, IfSome, IfNone, IfOk, OnOk, true, false};
+ghost use Rattle.std.specs.Prelude.{◌≡◌, ◌∷◌, ◌++◌, [], ◌<◌, ℕ, List, drop, length, map, replicate};
+ghost use Rattle.std.specs.Prelude.{IsTrue, IfSome, IfNone, IfOk, OnOk, true, false};
 ghost use Rattle.std.specs.Bool.{MatchBool};
-ghost use Rattle.json.specs.{Token.{Token, key as key_token, tokens_code}, Lex.{may_begin, may_close, tokens}};
+ghost use Rattle.json.specs.Token.{Token, key as key_token, tokens_code};
+ghost use Rattle.json.specs.Lex.{may_begin, may_close, tokens};
 ghost use Rattle.serde_json.specs.Data.{null, string};
-ghost use Rattle.clock_json.specs.{Compact.{compact_bid}, Left.{left, place_of}, Marks.{opening, closing}};
+ghost use Rattle.clock_json.specs.{Compact.{compact_bid}, Left.{left, place_of}};
+ghost use Rattle.clock_json.specs.Marks.{opening, closing};
 ghost use Rattle.clock_json.specs.Reading.{whole, numbers, rows, Reads, ReadsAll};
 ghost use Rattle.clock_json.specs.declared.scan.ScanStop.TheVariants as stops;
 
@@ -118,7 +121,8 @@ impl<'a> Scan<'a> {
     /// Reads a mark that closes, `]` or `}`, if it comes next.
     #[inline(always)]
     pub fn closes(&mut self, mark: u8) -> bool
-        ensures { MatchBool result (IfSome (closing mark) (λ token. self.old ≡ token ∷ self.new)) (self.new ≡ self.old) }
+        ensures { MatchBool result (IfSome (closing mark) (λ token. self.old ≡ token ∷ self.new))
+            (self.new ≡ self.old) }
     {
         if self.expected.is_after_comma() {
             return false;

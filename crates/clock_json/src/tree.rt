@@ -76,7 +76,8 @@ pub fn each_of<'v, R: ValueReader<'v>>(
     reader: &R,
     items: &'v [Value],
 ) -> Result<Option<Items<R::Part>>, NoMemory>
-    ensures { IfOk result (λ parts. parts ≡ members.each (R.meaning reader.now) (items_view items.now)) }
+    ensures { IfOk result
+        (λ parts. parts ≡ members.each (R.meaning reader.now) (items_view items.now)) }
 {
     let mut parts = Items::new(alloc);
     for item in items {
@@ -96,8 +97,8 @@ pub fn each_at<'v, R: ValueReader<'v>>(
     key: &str,
     reader: &R,
 ) -> Result<Option<Items<R::Part>>, NoMemory>
-    ensures { IfOk result (λ parts. parts
-        ≡ option_and_then (members.each (R.meaning reader.now)) (members.items_at key.now (view value.now))) }
+    ensures { IfOk result (λ parts. parts ≡ option_and_then (members.each (R.meaning reader.now))
+        (members.items_at key.now (view value.now))) }
 {
     match value.get(key).and_then(Value::as_array) {
         Some(items) => each_of(alloc, reader, items.as_slice()),

@@ -2,10 +2,13 @@
 //!
 //! Plain text ends at a quote, a backslash, or a control character. Its end is searched in sixteen
 //! bytes at once.
-ghost use Rattle.std.specs.Prelude.{◌≡◌, ◌∷◌, ◌<◌, ◌^◌, ◌||◌, ◌+◌, ◌≤◌, ℕ, true, false, None, IsTrue, drop, length, get_or, decimal, IfSome, IfOk, map};
+ghost use Rattle.std.specs.Prelude.{◌≡◌, ◌∷◌, ◌<◌, ◌^◌, ◌||◌, ◌+◌, ◌≤◌, ℕ, true, false, None};
+ghost use Rattle.std.specs.Prelude.{IsTrue, drop, length, get_or, decimal, IfSome, IfOk, map};
 ghost use Rattle.std.specs.{Str.{IsUtf8}, List.{prefix_len}, Simd.Lanes.{mask_l}};
-ghost use Rattle.json.specs.Lex.{lex, between, token, class, begins_colon, after_value as past_value, punctuate};
-ghost use Rattle.json.specs.{Token.{number, string}, Run.{is_stop, is_plain}, Word.{is_operator, is_space as is_blank_byte}};
+ghost use Rattle.json.specs.Lex.{lex, between, token, class, begins_colon};
+ghost use Rattle.json.specs.Lex.{after_value as past_value, punctuate};
+ghost use Rattle.json.specs.{Token.{number, string}, Run.{is_stop, is_plain}};
+ghost use Rattle.json.specs.Word.{is_operator, is_space as is_blank_byte};
 ghost use Rattle.json.specs.Align.{is_blank as is_blank_class};
 ghost use Rattle.serde_json.specs.Read.{read};
 ghost use Rattle.clock_json.specs.{Left.{left}, inside.Quotes.{IsQuoted}};
@@ -84,7 +87,8 @@ pub fn is_key(key: &[u8], word: &str) -> bool
 /// Reads the comma that may follow a value. Returns what may come next, and its index.
 #[inline(always)]
 pub(crate) fn after_value(bytes: &[u8], start: usize) -> (Expected, usize)
-    ensures { left result.0 (drop result.1 bytes.now) ≡ punctuate past_value (lex between (drop start bytes.now)) }
+    ensures { left result.0 (drop result.1 bytes.now)
+        ≡ punctuate past_value (lex between (drop start bytes.now)) }
 {
     let at = after_space(bytes, start);
     if is_at(bytes, at, b',') {
@@ -144,7 +148,8 @@ fn plain_end(bytes: &[u8], start: usize) -> usize
 pub(crate) fn quoted(bytes: &[u8], at: usize) -> Result<(&[u8], usize), ScanStop>
     ensures lexes { IfOk result (λ r. lex between (drop at bytes.now)
         ≡ token (string r.0.now) ∷ lex between (drop r.1 bytes.now)) }
-    ensures quotes { IfOk result (λ r. (last : ℕ) × (r.1 ≡ last + 1) × IsQuoted bytes.now at last r.0.now) }
+    ensures quotes { IfOk result (λ r. (last : ℕ) × (r.1 ≡ last + 1)
+        × IsQuoted bytes.now at last r.0.now) }
 {
     if !is_at(bytes, at, b'"') {
         return Err(ScanStop::Unusual);

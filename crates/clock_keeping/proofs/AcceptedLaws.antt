@@ -71,8 +71,8 @@ found_among chain bytes (first ∷ all) [] rest other_rest text reads stops othe
 found_among chain bytes (first ∷ all) (one ∷ before) rest other_rest text reads stops others is =
     let twice : whole one ≡ whole first = sym others.0 ∙ reads.0 in
     let same : one ≡ first = cc in
-    let later =
-    subst (λ (t : List ℕ). Reads (link chain t) (drop (before_text + length t) bytes) before other_rest) same others.1 in
+    let later = subst
+    (λ (t : List ℕ). Reads (link chain t) (drop (before_text + length t) bytes) before other_rest) same others.1 in
     let now = subst (λ (t : List ℕ). next (last_link (link chain t) before) other_rest ≡ whole text) same is in
     let inner = found_among (link chain first) (drop (before_text + length first) bytes) all before rest other_rest text
     reads.1 stops later now in
@@ -96,8 +96,8 @@ whole_head : (digest bytes found : List ℕ) → heading digest bytes ≡ headed
 unfolding heading
 whole_head digest bytes found is =
     let parts = headed_where (nat_lt (length bytes) head_length) (bytes_eq bytes (take (length bytes) (head digest)))
-    (bytes_eq (take head_length bytes) (head digest)) (bytes_eq (take (length kind) bytes) kind) (drop head_length bytes)
-    found is in
+    (bytes_eq (take head_length bytes) (head digest)) (bytes_eq (take (length kind) bytes) kind)
+    (drop head_length bytes) found is in
     sym (ap length (same_where (take head_length bytes) (head digest) parts.1))
     ∙ length-take-le head_length bytes (not_less (length bytes) head_length parts.0)
 

@@ -14,7 +14,8 @@ use Rattle.clock_keeping.specs.Keeping.{IsRefused, is_change}
 use Rattle.clock_keeping.specs.inside.Taken.{taken_as, take_error_as}
 use Rattle.clock_keeping.proofs.EffectLaws.{IsAfter, right_after, right_where}
 
-took_by : (one : Effect) (code : Code) (P : Effect → Type 0) → (is_change one ≡ true → P one) → IfOk (taken_as one code) P
+took_by : (one : Effect) (code : Code) (P : Effect → Type 0) → (is_change one ≡ true → P one)
+    → IfOk (taken_as one code) P
 took_by Nothing code P holds = tt
 took_by Sheet code P holds = holds refl
 took_by (Closing round) code P holds = holds refl
@@ -33,12 +34,14 @@ module _ (texts : List (List ℕ)) (text : List ℕ) (response : Response) (old 
 
   pub took : (result : Result Effect TakeError) → result ≡ taken_as response.effect code
       → IfOk result (λ changed. changed ≡ effect old.setup texts text)
-  took result is = subst (λ (one : Result Effect TakeError). IfOk one (λ changed. changed ≡ effect old.setup texts text)) (sym is)
-      (took_by response.effect code (λ changed. changed ≡ effect old.setup texts text) (λ change. (after change).changed))
+  took result is = subst (λ (one : Result Effect TakeError). IfOk one
+      (λ changed. changed ≡ effect old.setup texts text)) (sym is) (took_by response.effect code
+      (λ changed. changed ≡ effect old.setup texts text) (λ change. (after change).changed))
 
   pub stands_after : (result : Result Effect TakeError) → result ≡ taken_as response.effect code
       → IfOk result (λ changed. StandsForTexts (text ∷ texts) new)
-  stands_after result is = subst (λ (one : Result Effect TakeError). IfOk one (λ changed. StandsForTexts (text ∷ texts) new)) (sym is)
+  stands_after result is =
+      subst (λ (one : Result Effect TakeError). IfOk one (λ changed. StandsForTexts (text ∷ texts) new)) (sym is)
       (took_by response.effect code (λ changed. StandsForTexts (text ∷ texts) new) (λ change. (after change).stands))
 
   refused_here : RespondsTo text response old new → is_change response.effect ≡ false → take_error_as code ≡ Refused

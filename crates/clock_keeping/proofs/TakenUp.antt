@@ -3,7 +3,8 @@ use Rattle.std.proofs.Common.{◌≡◌, ◌++◌, List, [], ℕ, take, Result, 
 use Rattle.clock_house.specs.House.{HouseFields}
 use Rattle.clock_front.specs.Fronts.{StandsForTexts}
 use Rattle.clock_journal.specs.Entries.{Entry, texts_in}
-use Rattle.clock_journal.specs.Recovering.{HasTaken, HasTakenFirst, IsDamagedAfter, IsRecovered, IsJournalRefusal, IsRefusedRightly, IsTakeFault}
+use Rattle.clock_journal.specs.Recovering.{HasTaken, HasTakenFirst, IsDamagedAfter, IsRecovered, IsJournalRefusal}
+use Rattle.clock_journal.specs.Recovering.{IsRefusedRightly, IsTakeFault}
 use Rattle.clock_journal.specs.declared.recovery.JournalFault.{JournalFault}
 use Rattle.clock_journal.specs.declared.recovery.Recovered.{Recovered}
 use Rattle.clock_journal.specs.declared.recovery.JournalFault.TheVariants.{Unknown, Setup, Damaged, Refused, NoMemory}
@@ -17,27 +18,27 @@ IsAt house entries = StandsForTexts (texts_in entries) house
 
 module _ (old : List Entry → Type 0) (begun : old []) where
   -- for what a crash left
-  pub has_taken_up : (new : HouseFields) (digest bytes : List ℕ) (texts : List (List ℕ)) (least : ℕ) (result : Result Recovered JournalFault)
-      → MatchResult result (HasTaken old (IsAt new) digest bytes texts least) IsTakeFault
-      → MatchResult result (HasReplayedAtLeast digest bytes texts least new) IsTakeFault
+  pub has_taken_up : (new : HouseFields) (digest bytes : List ℕ) (texts : List (List ℕ)) (least : ℕ)
+      (result : Result Recovered JournalFault) → MatchResult result (HasTaken old (IsAt new) digest bytes texts least)
+      IsTakeFault → MatchResult result (HasReplayedAtLeast digest bytes texts least new) IsTakeFault
   has_taken_up new digest bytes texts least (Ok recovered) taken = record {
     count = taken.count;
     enough = taken.enough;
     most = taken.most;
     placed = taken.placed;
-    stands = subst (λ (all : List (List ℕ)). StandsForTexts all new) (texts_in-onto digest [] (take taken.count texts) [])
-        (taken.stands [] begun);
+    stands = subst (λ (all : List (List ℕ)). StandsForTexts all new)
+        (texts_in-onto digest [] (take taken.count texts) []) (taken.stands [] begun);
   }
   has_taken_up new digest bytes texts least (Err fault) taken = taken
 
   -- for a file that begins with some texts
-  pub has_taken_up_first : (new : HouseFields) (digest : List ℕ) (texts : List (List ℕ)) (size : ℕ) (result : Result Recovered JournalFault)
-      → MatchResult result (HasTakenFirst old (IsAt new) digest texts) (IsDamagedAfter size)
-      → MatchResult result (HasReplayedFirst digest texts new) (IsDamagedAfter size)
+  pub has_taken_up_first : (new : HouseFields) (digest : List ℕ) (texts : List (List ℕ)) (size : ℕ)
+      (result : Result Recovered JournalFault) → MatchResult result (HasTakenFirst old (IsAt new) digest texts)
+      (IsDamagedAfter size) → MatchResult result (HasReplayedFirst digest texts new) (IsDamagedAfter size)
   has_taken_up_first new digest texts size (Ok recovered) taken = record {
     further = taken.further;
-    stands = subst (λ (all : List (List ℕ)). StandsForTexts all new) (texts_in-onto digest [] (texts ++ taken.further) [])
-        (taken.stands [] begun);
+    stands = subst (λ (all : List (List ℕ)). StandsForTexts all new)
+        (texts_in-onto digest [] (texts ++ taken.further) []) (taken.stands [] begun);
     behind = taken.behind;
   }
   has_taken_up_first new digest texts size (Err fault) behind = behind
@@ -55,8 +56,9 @@ module _ (old : List Entry → Type 0) (begun : old []) where
   is_taken_up new digest bytes (Err fault) refusal = refusal
 
   -- a refused text, by whatever refuses it
-  pub refused_first : (refuses : List (List ℕ) → List ℕ → Type 0) (first bytes : List ℕ) (size : ℕ) (fault : JournalFault)
-      → IsRefusedRightly refuses old first bytes size fault → IsRefusedRightly refuses (λ (past : List Entry). past ≡ []) first bytes size fault
+  pub refused_first : (refuses : List (List ℕ) → List ℕ → Type 0) (first bytes : List ℕ) (size : ℕ)
+      (fault : JournalFault) → IsRefusedRightly refuses old first bytes size fault
+      → IsRefusedRightly refuses (λ (past : List Entry). past ≡ []) first bytes size fault
   refused_first refuses first bytes size Unknown refused = tt
   refused_first refuses first bytes size Setup refused = tt
   refused_first refuses first bytes size (Damaged place) refused = tt
@@ -67,8 +69,9 @@ module _ (old : List Entry → Type 0) (begun : old []) where
   }
   refused_first refuses first bytes size NoMemory refused = tt
 
-  pub refused_in : (refuses : List (List ℕ) → List ℕ → Type 0) (first bytes : List ℕ) (size : ℕ) (result : Result Recovered JournalFault)
-      → MatchResult result (λ _. Unit {0}) (IsRefusedRightly refuses old first bytes size)
-      → MatchResult result (λ _. Unit {0}) (IsRefusedRightly refuses (λ (past : List Entry). past ≡ []) first bytes size)
+  pub refused_in : (refuses : List (List ℕ) → List ℕ → Type 0) (first bytes : List ℕ) (size : ℕ)
+      (result : Result Recovered JournalFault)
+      → MatchResult result (λ _. Unit {0}) (IsRefusedRightly refuses old first bytes size) → MatchResult result
+      (λ _. Unit {0}) (IsRefusedRightly refuses (λ (past : List Entry). past ≡ []) first bytes size)
   refused_in refuses first bytes size (Ok recovered) refused = tt
   refused_in refuses first bytes size (Err fault) refused = refused_first refuses first bytes size fault refused

@@ -1,5 +1,6 @@
 -- What a crash leaves of a journal to which nothing was appended.
-use Rattle.std.proofs.Common.{◌≡◌, ◌≤◌, ◌++◌, ℕ, List, [], ◌∷◌, Option, Some, length, take, refl, sym, ap, ◌∙◌, subst, arith, length-append}
+use Rattle.std.proofs.Common.{◌≡◌, ◌≤◌, ◌++◌, ℕ, List, [], ◌∷◌, Option, Some, length, take, refl, sym, ap, ◌∙◌, subst}
+use Rattle.std.proofs.Common.{arith, length-append}
 use Rattle.std.proofs.lemmas.List.{take-append-le}
 use Rattle.clock_journal.specs.Format.{last_link}
 use Rattle.clock_journal.specs.Reading.{Reads, Ends}
@@ -18,7 +19,8 @@ take_more : {A : Type 0} (count : ℕ) (xs more : List A) → count ≤ length x
 take_more count xs more few = take-append-le count xs more few
 
 -- with one more text in the list
-wider : (chain bytes : List ℕ) (texts more : List (List ℕ)) (least : ℕ) → ReadsSome chain bytes texts least → ReadsSome chain bytes (texts ++ more) least
+wider : (chain bytes : List ℕ) (texts more : List (List ℕ)) (least : ℕ) → ReadsSome chain bytes texts least
+    → ReadsSome chain bytes (texts ++ more) least
 wider chain bytes texts more least some =
     let same = sym (take_more some.count texts more some.most) in
     record {
@@ -30,16 +32,17 @@ wider chain bytes texts more least some =
       ends = subst (λ (read : List (List ℕ)). Ends (last_link chain read) some.rest) same some.ends;
     }
 
-left_of_file : (digest : List ℕ) (texts : List (List ℕ)) (journal : JournalState) (left : List ℕ) → HasTexts digest texts journal
-    → MayBeLeft (Some (file_of digest texts)) (Some (file_of digest texts)) left → LeavesTexts digest left texts (length texts)
+left_of_file : (digest : List ℕ) (texts : List (List ℕ)) (journal : JournalState) (left : List ℕ)
+    → HasTexts digest texts journal → MayBeLeft (Some (file_of digest texts)) (Some (file_of digest texts)) left
+    → LeavesTexts digest left texts (length texts)
 left_of_file digest texts journal left has (count, enough, is) =
     subst (λ (bytes : List ℕ). LeavesTexts digest bytes texts (length texts)) (sym is)
     (every_front digest texts (length texts) count has.fit (omega arith)
     (subst (λ (all : List (List ℕ)). length (file_of digest all) ≤ count) (sym (take_all texts)) enough))
 
 -- all of its texts
-pub left_all : (digest : List ℕ) (texts : List (List ℕ)) (journal : JournalState) (left : List ℕ) → HasTexts digest texts journal
-    → MayBeLeft journal.synced journal.written left → LeavesTexts digest left texts (length texts)
+pub left_all : (digest : List ℕ) (texts : List (List ℕ)) (journal : JournalState) (left : List ℕ) → HasTexts digest
+    texts journal → MayBeLeft journal.synced journal.written left → LeavesTexts digest left texts (length texts)
 left_all digest texts journal left has may =
     left_of_file digest texts journal left has
     (subst (λ (bytes : Option (List ℕ)). MayBeLeft bytes (Some (file_of digest texts)) left) (has.synced_is ∙ has.file)

@@ -4,18 +4,20 @@
 --     IsAccepted setup texts text, IsRefused setup texts text      after these texts, a text
 --         changes the auction, or not
 --     logged_after setup past text      the logged texts after one more text
---     IsNextLogged setup past text answer texts      how a text is answered, and what is logged then
+--     IsNextLogged setup past text answer texts      how a text is answered, and
+--         what is logged then
 --     LeavesOneMore text old new      the file was only appended to, and a crash leaves the texts
 --         before, and at most this one more
 --     IsInStep digest texts journal house      the journal has these texts on its disk, and the
 --         house stands for them
 --     IsLogged digest past text answer journal old new      how a text is answered and logged
 --     HasReplayedFile digest bytes recovered house      the house stands for all texts of a file
---     HasReplayedAtLeast digest bytes texts least house recovered      it stands for a prefix of the texts,
---         at least `least` of them, and the file has these
+--     HasReplayedAtLeast digest bytes texts least house recovered      it stands for a prefix of
+--         the texts, at least `least` of them, and the file has these
 --     GrowsBy old new more      exactly these were appended, if contracts see the list
 --     no_journal      the journal of a server that logs nothing
-use Rattle.std.specs.Prelude.{◌≡◌, ◌⊎◌, ◌≤◌, ◌++◌, ℕ, Bool, true, false, List, [], ◌∷◌, Option, Some, None}
+use Rattle.std.specs.Prelude.{◌≡◌, ◌⊎◌, ◌≤◌, ◌++◌, ℕ, Bool, true, false, List, [], ◌∷◌, Option}
+use Rattle.std.specs.Prelude.{Some, None}
 use Rattle.std.specs.Prelude.{if◌then◌else◌, length, take}
 use Rattle.clock_terms.specs.Limits.{SetupFields}
 use Rattle.clock_house.specs.House.{HouseFields}
@@ -68,29 +70,32 @@ StandsForLogged texts house = StandsForTexts (onto texts []) house
 pub record LeavesOneMore (text : List ℕ) (old new : JournalState) : Type 0 where
   pub added_to : new.uncut ≡ old.uncut
   pub moments : (digest : List ℕ) (texts : List (List ℕ)) → HasTexts digest texts old
-      → (left : List ℕ) → MayBeLeft old.synced new.written left → LeavesTexts digest left (texts ++ text ∷ []) (length texts)
+      → (left : List ℕ) → MayBeLeft old.synced new.written left
+      → LeavesTexts digest left (texts ++ text ∷ []) (length texts)
 
 -- the journal has these texts, the oldest first, all on its disk, and the house stands for them
-pub record IsInStep (digest : List ℕ) (texts : List (List ℕ)) (journal : JournalState) (house : HouseFields) : Type 0 where
+pub record IsInStep (digest : List ℕ) (texts : List (List ℕ)) (journal : JournalState)
+    (house : HouseFields) : Type 0 where
   pub has : HasTexts digest texts journal
   pub stands : StandsForLogged texts house
 
 -- the text is answered, and logged if it changes the auction; journal and house stay in step
-pub record IsLogged (digest : List ℕ) (past : List (List ℕ)) (text : List ℕ) (answer : Answer) (journal : JournalState)
-    (old new : HouseFields) : Type 0 where
+pub record IsLogged (digest : List ℕ) (past : List (List ℕ)) (text : List ℕ) (answer : Answer)
+    (journal : JournalState) (old new : HouseFields) : Type 0 where
   pub texts : List (List ℕ)
   pub next : IsNextLogged old.setup past text answer texts
   pub in_step : IsInStep digest texts journal new
 
 -- the house stands for all texts of the file, and the file has them as it was recovered
-pub record HasReplayedFile (digest bytes : List ℕ) (recovered : Recovered) (house : HouseFields) : Type 0 where
+pub record HasReplayedFile (digest bytes : List ℕ) (recovered : Recovered)
+    (house : HouseFields) : Type 0 where
   pub texts : List (List ℕ)
   pub placed : IsPlaced digest bytes texts recovered
   pub stands : StandsForLogged texts house
 
 -- the house stands for a prefix of the texts, at least `least` of them, and the file has these
-pub record HasReplayedAtLeast (digest bytes : List ℕ) (texts : List (List ℕ)) (least : ℕ) (house : HouseFields)
-    (recovered : Recovered) : Type 0 where
+pub record HasReplayedAtLeast (digest bytes : List ℕ) (texts : List (List ℕ)) (least : ℕ)
+    (house : HouseFields) (recovered : Recovered) : Type 0 where
   pub count : ℕ
   pub enough : least ≤ count
   pub most : count ≤ length texts
@@ -104,4 +109,11 @@ GrowsBy None new more = Unit {0}
 
 -- a journal that shows nothing and has not failed: nothing is logged
 abbrev pub no_journal : JournalState
-no_journal = record { written = None; synced = None; has_failed = false; chain = []; uncut = 0; moments = None }
+no_journal = record {
+  written = None;
+  synced = None;
+  has_failed = false;
+  chain = [];
+  uncut = 0;
+  moments = None;
+}

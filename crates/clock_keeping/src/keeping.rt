@@ -4,7 +4,8 @@ ghost use Rattle.clock_http.specs.Shown.{Knows};
 ghost use Rattle.clock_front.specs.{Effects.{RespondsTo}, Private.{IsPrivateReply}};
 ghost use Rattle.clock_front.specs.Fronts.{AnswersText, IsOutOfMemoryReply, StandsForTexts};
 ghost use Rattle.clock_journal.specs.{Format.{most_text}, Kept.{JournalState}};
-ghost use Rattle.clock_keeping.specs.Keeping.{GrowsBy, IsAccepted, IsInStep, IsLogged, LeavesOneMore};
+ghost use Rattle.clock_keeping.specs.Keeping.{GrowsBy, IsAccepted, IsInStep, IsLogged};
+ghost use Rattle.clock_keeping.specs.Keeping.{LeavesOneMore};
 ghost use Rattle.clock_keeping.specs.Keeping.{is_change as is_change_of, no_journal};
 
 use clock_device::Failed;

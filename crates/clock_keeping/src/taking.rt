@@ -2,7 +2,8 @@ ghost use Rattle.std.specs.Prelude.{◌≡◌, [], ◌∷◌, List, ℕ, MatchRe
 ghost use Rattle.std.specs.Prelude.{IfErr, IfOk, OnOk, Some, false};
 ghost use Rattle.clock_journal.specs.{Entries.{texts_in}, Kept.{file_of}};
 ghost use Rattle.clock_journal.specs.Crash.{BeginsWithTexts, LeavesJournal, StaysSo};
-ghost use Rattle.clock_journal.specs.Recovering.{IsDamagedAfter, IsJournalRefusal, IsRefusedRightly, IsTakeFault};
+ghost use Rattle.clock_journal.specs.Recovering.{IsDamagedAfter, IsJournalRefusal};
+ghost use Rattle.clock_journal.specs.Recovering.{IsRefusedRightly, IsTakeFault};
 ghost use Rattle.clock_terms.specs.Limits.{SetupFields};
 ghost use Rattle.clock_front.specs.{Effects.{effect as effect_of}, Fronts.{StandsForTexts}};
 ghost use Rattle.clock_keeping.specs.Keeping.{HasReplayedAtLeast, IsRefused, HasReplayedFile};

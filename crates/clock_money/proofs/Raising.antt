@@ -15,22 +15,28 @@ whole over price h = omega (arith, h)
 high_enough : (over price : ℕ) → rounded_up over 100 ≤ price → over ≤ 100 * price
 high_enough over price h = omega (arith, h)
 
-lowest : (start percent granule m : ℕ) → 1 ≤ granule → IsHighEnough start percent granule m → raised start percent granule ≤ m
+lowest : (start percent granule m : ℕ) → 1 ≤ granule → IsHighEnough start percent granule m
+    → raised start percent granule ≤ m
 lowest start percent granule m some h =
     let over = start * (100 + percent) in
     let needed : rounded_up over 100 ≤ granule * h.0.0 = omega (arith, whole over m h.1, h.0.1) in
     let count = (rounded_up_least (rounded_up over 100) granule (omega (arith, some))).1 h.0.0 needed in
-    let product : granule * rounded_up (rounded_up over 100) granule ≤ granule * h.0.0 = mul-le-mul_left granule count in
+    let product : granule * rounded_up (rounded_up over 100) granule ≤ granule * h.0.0 =
+    mul-le-mul_left granule count in
     omega (arith, product, h.0.1)
 
-pub raised_is_raised : (start percent granule : ℕ) → 1 ≤ granule → IsRaised start percent granule (raised start percent granule)
+pub raised_is_raised : (start percent granule : ℕ) → 1 ≤ granule
+    → IsRaised start percent granule (raised start percent granule)
 raised_is_raised start percent granule some =
     let over = start * (100 + percent) in
-    let enough = (rounded_up_least (rounded_up over 100) granule (omega (arith, some))).0 in
-    (((rounded_up (rounded_up over 100) granule, refl), high_enough over (raised start percent granule) enough), λ m h. lowest start percent granule m some h)
+    let enough = (rounded_up_least (rounded_up over 100) granule (omega (arith, some))).0 in (
+      ((rounded_up (rounded_up over 100) granule, refl), high_enough over (raised start percent granule) enough),
+      λ m h. lowest start percent granule m some h,
+    )
 
 -- the clock price is above the start-of-round price
-pub above-raised : (start percent granule : ℕ) → 1 ≤ start → 1 ≤ percent → 1 ≤ granule → start < raised start percent granule
+pub above-raised : (start percent granule : ℕ) → 1 ≤ start → 1 ≤ percent → 1 ≤ granule
+    → start < raised start percent granule
 above-raised start percent granule some rise unit =
     let parts : start * (100 + percent) ≡ 100 * start + start * percent = omega arith in
     let more : 1 ≤ start * percent = mul-le-mul some rise in
@@ -41,12 +47,13 @@ some_price : (P : ℕ → Type 0) (price : ℕ) (b : Bool) → P price → IfSom
 some_price P price true is = is
 some_price P price false is = tt
 
-pub raise_some : (start percent granule : ℕ) → 1 ≤ granule → IfSome (raise start percent granule) (IsRaised start percent granule)
-raise_some start percent granule unit =
-    some_price (IsRaised start percent granule) (raised start percent granule) (nat_le (raised start percent granule) highest_price)
-    (raised_is_raised start percent granule unit)
+pub raise_some : (start percent granule : ℕ) → 1 ≤ granule
+    → IfSome (raise start percent granule) (IsRaised start percent granule)
+raise_some start percent granule unit = some_price (IsRaised start percent granule) (raised start percent granule)
+    (nat_le (raised start percent granule) highest_price) (raised_is_raised start percent granule unit)
 
-no_price : (price : ℕ) (P : Type 0) (b : Bool) → nat_le price highest_price ≡ b → (highest_price < price → P) → IfNone (if b then Some price else None) P
+no_price : (price : ℕ) (P : Type 0) (b : Bool) → nat_le price highest_price ≡ b → (highest_price < price → P)
+    → IfNone (if b then Some price else None) P
 no_price price P true is holds = tt
 no_price price P false is holds = holds (leb-false price highest_price is)
 
@@ -61,16 +68,18 @@ raise_none start percent granule unit =
 is_least : (start percent granule price : ℕ) → 1 ≤ granule → raise start percent granule ≡ Some price
     → IsRaised start percent granule price × (price ≤ highest_price)
 is_least start percent granule price unit given =
-    let both = cond_some (nat_le (raised start percent granule) highest_price) (raised start percent granule) price given in
+    let both =
+    cond_some (nat_le (raised start percent granule) highest_price) (raised start percent granule) price given in
     subst (λ p. IsRaised start percent granule p × (p ≤ highest_price)) both.1
     (raised_is_raised start percent granule unit, leb-true (raised start percent granule) highest_price both.0)
 
 -- there is only one least price, and `raise` gives it if it is at most the highest price
-is_given : (start percent granule price : ℕ) → 1 ≤ granule → IsRaised start percent granule price → price ≤ highest_price
-    → raise start percent granule ≡ Some price
+is_given : (start percent granule price : ℕ) → 1 ≤ granule → IsRaised start percent granule price
+    → price ≤ highest_price → raise start percent granule ≡ Some price
 is_given start percent granule price unit is high =
     let least = raised_is_raised start percent granule unit in
-    let same : raised start percent granule ≡ price = omega (arith, least.1 price is.0, is.1 (raised start percent granule) least.0) in
+    let same : raised start percent granule ≡ price =
+    omega (arith, least.1 price is.0, is.1 (raised start percent granule) least.0) in
     ap (λ b. if b then Some (raised start percent granule) else None)
     (le-leb (raised start percent granule) highest_price (omega (arith, same, high)))
     ∙ ap (λ p. Some p) same

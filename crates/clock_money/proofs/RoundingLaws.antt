@@ -10,11 +10,8 @@ enough : (n r : ℕ) → 0 < r → n ≤ r * rounded_up n r
 enough n r h = omega arith
 
 least : (n r m : ℕ) → 0 < r → n ≤ r * m → rounded_up n r ≤ m
-least n r m h k =
-    ⊎_elim
-    (λ (above : m < rounded_up n r). let step : r * (m + 1) ≤ r * rounded_up n r = mul-le-mul_left r (omega arith) in absurd (omega arith))
-    (λ below. below)
-    (cases_lt m (rounded_up n r))
+least n r m h k = ⊎_elim (λ (above : m < rounded_up n r). let step : r * (m + 1) ≤ r * rounded_up n
+    r = mul-le-mul_left r (omega arith) in absurd (omega arith)) (λ below. below) (cases_lt m (rounded_up n r))
 
 pub rounded_up_least : (n r : ℕ) → 0 < r → IsLeastWith (λ k. n ≤ r * k) (rounded_up n r)
 rounded_up_least n r h = (enough n r h, λ m k. least n r m h k)

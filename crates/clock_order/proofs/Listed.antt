@@ -1,6 +1,7 @@
 -- A look-up in the hash map finds what a search of the list of tie-breaking numbers finds: entries are in the order of
 -- insertion, and both compare bidder and product.
-use Rattle.std.proofs.Common.{◌≡◌, ℕ, List, [], ◌∷◌, Bool, true, false, cond, ◌&&◌, ◌||◌, ◌==◌, map, find, Option, Some, is_some, unwrap_or, refl, sym, ap, ◌∙◌}
+use Rattle.std.proofs.Common.{◌≡◌, ℕ, List, [], ◌∷◌, Bool, true, false, cond, ◌&&◌, ◌||◌, ◌==◌, map, find, Option, Some}
+use Rattle.std.proofs.Common.{is_some, unwrap_or, refl, sym, ap, ◌∙◌}
 use Rattle.std.specs.Cmp.{nat_eq_equiv}
 use Rattle.std.specs.List.{list_any}
 use Rattle.std.specs.Map.{lookup}
@@ -14,12 +15,13 @@ abbrev pub is_key : ℕ → ℕ → ℕ × ℕ → Bool
 is_key bidder product key = (bidder == key.0) && (product == key.1)
 
 -- both compare bidder and product
-is_tie_of-tie_of : (bidder product : ℕ) (entry : (ℕ × ℕ) × ℕ) → is_tie_of bidder product (tie_of entry) ≡ is_key bidder product entry.0
-is_tie_of-tie_of bidder product entry =
-    ap (λ x. x && (entry.0.1 == product)) (nat_eq_equiv.symm entry.0.0 bidder) ∙ ap (λ x. (bidder == entry.0.0) && x) (nat_eq_equiv.symm entry.0.1 product)
+is_tie_of-tie_of : (bidder product : ℕ) (entry : (ℕ × ℕ) × ℕ)
+    → is_tie_of bidder product (tie_of entry) ≡ is_key bidder product entry.0
+is_tie_of-tie_of bidder product entry = ap (λ x. x && (entry.0.1 == product)) (nat_eq_equiv.symm entry.0.0 bidder)
+    ∙ ap (λ x. (bidder == entry.0.0) && x) (nat_eq_equiv.symm entry.0.1 product)
 
-found : (test other : Bool) (number : ℕ) (tie : Tie) (rest : Option ℕ) (others : Option Tie) → other ≡ test → tie.number ≡ number
-    → unwrap_or rest 0 ≡ option_map_or (λ t. t.number) others 0
+found : (test other : Bool) (number : ℕ) (tie : Tie) (rest : Option ℕ) (others : Option Tie) → other ≡ test
+    → tie.number ≡ number → unwrap_or rest 0 ≡ option_map_or (λ t. t.number) others 0
     → unwrap_or (cond test (Some number) rest) 0 ≡ option_map_or (λ t. t.number) (cond other (Some tie) others) 0
 found true true number tie rest others e f g = sym f
 found false false number tie rest others e f g = g
@@ -30,10 +32,9 @@ found false true number tie rest others e f g = let bad : true ≡ false = e in 
 pub tie_number-entries : (bidder product : ℕ) (entries : List ((ℕ × ℕ) × ℕ)) →
     unwrap_or (lookup (is_key bidder product) entries) 0 ≡ tie_number (map tie_of entries) bidder product
 tie_number-entries bidder product [] = refl
-tie_number-entries bidder product (entry ∷ entries) =
-    found (is_key bidder product entry.0) (is_tie_of bidder product (tie_of entry)) entry.1 (tie_of entry) (lookup (is_key bidder product) entries)
-    (find (is_tie_of bidder product) (map tie_of entries))
-    (is_tie_of-tie_of bidder product entry) refl (tie_number-entries bidder product entries)
+tie_number-entries bidder product (entry ∷ entries) = found (is_key bidder product entry.0) (is_tie_of bidder product
+    (tie_of entry)) entry.1 (tie_of entry) (lookup (is_key bidder product) entries) (find (is_tie_of bidder product)
+    (map tie_of entries)) (is_tie_of-tie_of bidder product entry) refl (tie_number-entries bidder product entries)
 
 present : (test other : Bool) (number : ℕ) (rest : Option ℕ) (others : Bool) → other ≡ test → is_some rest ≡ others
     → is_some (cond test (Some number) rest) ≡ other || others
@@ -46,7 +47,6 @@ present false true number rest others e f = let bad : true ≡ false = e in cc
 pub list_any-entries : (bidder product : ℕ) (entries : List ((ℕ × ℕ) × ℕ)) →
     is_some (lookup (is_key bidder product) entries) ≡ list_any (is_tie_of bidder product) (map tie_of entries)
 list_any-entries bidder product [] = refl
-list_any-entries bidder product (entry ∷ entries) =
-    present (is_key bidder product entry.0) (is_tie_of bidder product (tie_of entry)) entry.1 (lookup (is_key bidder product) entries)
-    (list_any (is_tie_of bidder product) (map tie_of entries))
-    (is_tie_of-tie_of bidder product entry) (list_any-entries bidder product entries)
+list_any-entries bidder product (entry ∷ entries) = present (is_key bidder product entry.0) (is_tie_of bidder product
+    (tie_of entry)) entry.1 (lookup (is_key bidder product) entries) (list_any (is_tie_of bidder product)
+    (map tie_of entries)) (is_tie_of-tie_of bidder product entry) (list_any-entries bidder product entries)

@@ -20,8 +20,9 @@ abbrev pub tie_at : List Tie → ℕ → Tie
 tie_at ties i = slice_index_or ties i (record { bidder = 0; product = 0; number = 0 })
 
 -- the map with one more entry at the end
-pub listed_more : (ties : List Tie) (i : ℕ) (entries : List ((ℕ × ℕ) × ℕ)) → i < length ties → map tie_of entries ≡ take i ties
-    → map tie_of (entries ++ (((tie_at ties i).bidder, (tie_at ties i).product), (tie_at ties i).number) ∷ []) ≡ take (i + 1) ties
+pub listed_more : (ties : List Tie) (i : ℕ) (entries : List ((ℕ × ℕ) × ℕ)) → i < length ties
+    → map tie_of entries ≡ take i ties → map tie_of
+    (entries ++ (((tie_at ties i).bidder, (tie_at ties i).product), (tie_at ties i).number) ∷ []) ≡ take (i + 1) ties
 listed_more ties i entries lt same =
     map-append tie_of entries ((((tie_at ties i).bidder, (tie_at ties i).product), (tie_at ties i).number) ∷ [])
     ∙ ap (λ l. l ++ tie_at ties i ∷ []) same
@@ -30,8 +31,8 @@ listed_more ties i entries lt same =
 module _ (bidders products : ℕ) (ties : List Tie) where
   -- the entries from index i on decide the first fault of the list
   abbrev pub AreAhead : ℕ → Type 0
-  AreAhead i = first_fault (in_turn (λ i tie. tie_checks bidders products (take i ties) i tie) i (drop i ties)) ≡ first_fault
-      (checks_of_ties bidders products ties)
+  AreAhead i = first_fault (in_turn (λ i tie. tie_checks bidders products (take i ties) i tie) i (drop i ties))
+      ≡ first_fault (checks_of_ties bidders products ties)
 
   abbrev earlier_fault : ℕ → Bool → Bool → Option TieFault
   earlier_fault i within fresh = if within then (if fresh then None else Some (Repeated i)) else Some (Range i)
@@ -44,8 +45,8 @@ module _ (bidders products : ℕ) (ties : List Tie) where
       list_any-entries (tie_at ties i).bidder (tie_at ties i).product entries
       ∙ ap (list_any (is_tie_of (tie_at ties i).bidder (tie_at ties i).product)) same
 
-  fails : (i : ℕ) (fault : TieFault) → i < length ties → AreAhead i → first_fault (tie_checks bidders products (take i ties) i (tie_at ties i)) ≡ Some fault
-      → first_fault (checks_of_ties bidders products ties) ≡ Some fault
+  fails : (i : ℕ) (fault : TieFault) → i < length ties → AreAhead i → first_fault (tie_checks bidders products
+      (take i ties) i (tie_at ties i)) ≡ Some fault → first_fault (checks_of_ties bidders products ties) ≡ Some fault
   fails i fault within ahead is =
       sym ahead
       ∙ turn_failed (λ i tie. tie_checks bidders products (take i ties) i tie) ties i (tie_at ties i) fault within
@@ -58,24 +59,26 @@ module _ (bidders products : ℕ) (ties : List Tie) where
       fails i (Range i) within ahead (ap (λ b. earlier_fault i b (is_new (take i ties) (tie_at ties i))) (sym out))
 
   -- the first fault of the entry at index i, if its bidder and product exist
-  in_range_at : (i : ℕ) (entries : List ((ℕ × ℕ) × ℕ)) (old : Option ℕ) → map tie_of entries ≡ take i ties → true ≡ is_in_range bidders products (tie_at ties i)
-      → old ≡ lookup (is_key (tie_at ties i).bidder (tie_at ties i).product) entries
-      → first_fault (tie_checks bidders products (take i ties) i (tie_at ties i)) ≡ earlier_fault i true (not (is_some old))
+  in_range_at : (i : ℕ) (entries : List ((ℕ × ℕ) × ℕ)) (old : Option ℕ) → map tie_of entries ≡ take i ties
+      → true ≡ is_in_range bidders products (tie_at ties i)
+      → old ≡ lookup (is_key (tie_at ties i).bidder (tie_at ties i).product) entries → first_fault
+      (tie_checks bidders products (take i ties) i (tie_at ties i)) ≡ earlier_fault i true (not (is_some old))
   in_range_at i entries old same range was =
       ap (λ b. earlier_fault i b (is_new (take i ties) (tie_at ties i))) (sym range)
       ∙ ap (λ b. earlier_fault i true (not b)) (sym (ap is_some was ∙ pair_listed i entries same))
 
   -- the entry at index i has the first fault: an earlier entry has its pair
-  pub repeated_first : (i : ℕ) (entries : List ((ℕ × ℕ) × ℕ)) (old : Option ℕ) → i < length ties → AreAhead i → map tie_of entries ≡ take i ties
-      → true ≡ is_in_range bidders products (tie_at ties i) → old ≡ lookup (is_key (tie_at ties i).bidder (tie_at ties i).product) entries → true ≡ is_some old
+  pub repeated_first : (i : ℕ) (entries : List ((ℕ × ℕ) × ℕ)) (old : Option ℕ) → i < length ties → AreAhead i
+      → map tie_of entries ≡ take i ties → true ≡ is_in_range bidders products (tie_at ties i)
+      → old ≡ lookup (is_key (tie_at ties i).bidder (tie_at ties i).product) entries → true ≡ is_some old
       → first_fault (checks_of_ties bidders products ties) ≡ Some (Repeated i)
-  repeated_first i entries old within ahead same range was some =
-      fails i (Repeated i) within ahead (in_range_at i entries old same range was ∙ ap (λ b. earlier_fault i true (not b)) (sym some))
+  repeated_first i entries old within ahead same range was some = fails i (Repeated i) within ahead
+      (in_range_at i entries old same range was ∙ ap (λ b. earlier_fault i true (not b)) (sym some))
 
   -- the entry at index i has no fault
-  pub ahead_more : (i : ℕ) (entries : List ((ℕ × ℕ) × ℕ)) (old : Option ℕ) → i < length ties → AreAhead i → map tie_of entries ≡ take i ties
-      → true ≡ is_in_range bidders products (tie_at ties i) → old ≡ lookup (is_key (tie_at ties i).bidder (tie_at ties i).product) entries → false ≡ is_some old
-      → AreAhead (i + 1)
+  pub ahead_more : (i : ℕ) (entries : List ((ℕ × ℕ) × ℕ)) (old : Option ℕ) → i < length ties → AreAhead i
+      → map tie_of entries ≡ take i ties → true ≡ is_in_range bidders products (tie_at ties i) → old
+      ≡ lookup (is_key (tie_at ties i).bidder (tie_at ties i).product) entries → false ≡ is_some old → AreAhead (i + 1)
   ahead_more i entries old within ahead same range was none =
       sym (turn_passed (λ i tie. tie_checks bidders products (take i ties) i tie) ties i (tie_at ties i) within
       (get_or_default ties i (record { bidder = 0; product = 0; number = 0 }) (tie_at ties i) within)

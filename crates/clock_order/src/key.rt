@@ -28,7 +28,8 @@ pub struct OrderKey {
 impl Ord for OrderKey {
     ghost use Rattle.std.proofs.Common.{rules};
     ghost use Rattle.std.specs.Cmp.Rules.{comparing};
-    ghost use Rattle.clock_order.specs.{OrderKeys.{order_key_cmp}, inside.OrderKeyLaws.{order_key_total, order_key_equal}};
+    ghost use Rattle.clock_order.specs.OrderKeys.{order_key_cmp};
+    ghost use Rattle.clock_order.specs.inside.OrderKeyLaws.{order_key_total, order_key_equal};
 
     ghost cmp = { order_key_cmp };
 
@@ -54,12 +55,15 @@ impl Ord for OrderKey {
 }
 
 impl PartialOrd for OrderKey {
-    ghost use Rattle.std.specs.{Prelude.{refl}, Ordering.{as_partial_cmp}, Cmp.{partial_order_from_agreeing_total}};
-    ghost use Rattle.clock_order.specs.{OrderKeys.{order_key_cmp}, inside.OrderKeyLaws.{order_key_total, order_key_equal}};
+    ghost use Rattle.std.specs.{Prelude.{refl}, Ordering.{as_partial_cmp}};
+    ghost use Rattle.std.specs.Cmp.{partial_order_from_agreeing_total};
+    ghost use Rattle.clock_order.specs.OrderKeys.{order_key_cmp};
+    ghost use Rattle.clock_order.specs.inside.OrderKeyLaws.{order_key_total, order_key_equal};
 
     ghost partial_cmp = { as_partial_cmp order_key_cmp };
 
-    ghost laws = { partial_order_from_agreeing_total order_key_cmp order_key_total (λ x y. refl) order_key_equal };
+    ghost laws = { partial_order_from_agreeing_total order_key_cmp order_key_total
+        (λ x y. refl) order_key_equal };
 
     fn partial_cmp(&self, other: &OrderKey) -> Option<Ordering> {
         Some(self.cmp(other))

@@ -2,15 +2,16 @@
 use Rattle.std.proofs.Common.{◌≡◌, List, ℕ, ◌++◌, codes, ap, append_assoc, ◌∙◌}
 use Rattle.std.specs.Prelude.{Result, Ok, Err, OnOk}
 
-in_order : (text name a b c d e : List ℕ)
-    → (text ++ name) ++ (codes " " ++ (a ++ (codes " " ++ (b ++ (codes " " ++ (c ++ (codes " " ++ (d ++ (codes " " ++ (e ++ codes "\n"))))))))))
-    ≡ text ++ (name ++ codes " " ++ a ++ codes " " ++ b ++ codes " " ++ c ++ codes " " ++ d ++ codes " " ++ e ++ codes "\n")
+in_order : (text name a b c d e : List ℕ) → (text ++ name) ++ (codes " "
+    ++ (a ++ (codes " " ++ (b ++ (codes " " ++ (c ++ (codes " " ++ (d ++ (codes " " ++ (e ++ codes "\n")))))))))) ≡ text
+    ++ (name ++ codes " " ++ a ++ codes " " ++ b ++ codes " " ++ c ++ codes " " ++ d ++ codes " " ++ e ++ codes "\n")
 in_order text name a b c d e = simp append_assoc
 
 -- The numbers come after the name.
-pub line_added : {T E : Type 0} (text name next written a b c d e : List ℕ) (result : Result T E) → OnOk result (next ≡ (text ++ name) ++ written)
-    → written ≡ codes " " ++ (a ++ (codes " " ++ (b ++ (codes " " ++ (c ++ (codes " " ++ (d ++ (codes " " ++ (e ++ codes "\n")))))))))
-    → OnOk result (next ≡ text ++ (name ++ codes " " ++ a ++ codes " " ++ b ++ codes " " ++ c ++ codes " " ++ d ++ codes " " ++ e ++ codes "\n"))
+pub line_added : {T E : Type 0} (text name next written a b c d e : List ℕ) (result : Result T E)
+    → OnOk result (next ≡ (text ++ name) ++ written) → written ≡ codes " " ++ (a ++ (codes " "
+    ++ (b ++ (codes " " ++ (c ++ (codes " " ++ (d ++ (codes " " ++ (e ++ codes "\n"))))))))) → OnOk result (next ≡ text
+    ++ (name ++ codes " " ++ a ++ codes " " ++ b ++ codes " " ++ c ++ codes " " ++ d ++ codes " " ++ e ++ codes "\n"))
 line_added text name next written a b c d e (Ok done) added is =
     added ∙ ap (λ (numbers : List ℕ). (text ++ name) ++ numbers) is ∙ in_order text name a b c d e
 line_added text name next written a b c d e (Err fault) added is = tt

@@ -1,7 +1,8 @@
 -- The posted prices of a round after round 1.
 --     posted_prices products prices changes left grid      the posted price of each product
 --     IsWithinPrices prices change      the request is at a price of this round for its product
-use Rattle.std.specs.Prelude.{ℕ, ◌≤◌, ◌<◌, List, [], ◌∷◌, Bool, true, false, ◌&&◌, ◌==◌, nat_lt, if◌then◌else◌, length, map, max, filter, fold, zip}
+use Rattle.std.specs.Prelude.{ℕ, ◌≤◌, ◌<◌, List, [], ◌∷◌, Bool, true, false, ◌&&◌, ◌==◌, nat_lt}
+use Rattle.std.specs.Prelude.{if◌then◌else◌, length, map, max, filter, fold, zip}
 use Rattle.std.specs.List.{range_with_len}
 use Rattle.clock_terms.specs.declared.setup.Product.{Product}
 use Rattle.clock_terms.specs.declared.prices.PricePair.{PricePair}
@@ -27,13 +28,14 @@ highest_or other (price ∷ prices) = fold max price prices
 
 -- The clock price with excess demand. Without, the highest price of a reduction that was applied at
 -- least in part, or the start-of-round price if there is none, which is our own rule.
-abbrev pub posted_price : List Product → List PricePair → List Change → List ℕ → List (List ℕ) → ℕ → ℕ
-posted_price products prices changes left grid product =
-    if has_excess products grid product then (prices_at prices product).clock
-    else highest_or (prices_at prices product).start
-    (map (λ line. line.0.price) (filter (λ line. is_applied_reduction product line.0 line.1) (zip changes left)))
+abbrev pub posted_price : List Product → List PricePair → List Change → List ℕ
+    → List (List ℕ) → ℕ → ℕ
+posted_price products prices changes left grid product = if has_excess products grid product then
+    (prices_at prices product).clock else highest_or (prices_at prices product).start (map (λ line.
+    line.0.price) (filter (λ line. is_applied_reduction product line.0 line.1) (zip changes left)))
 
-abbrev pub posted_prices : List Product → List PricePair → List Change → List ℕ → List (List ℕ) → List ℕ
+abbrev pub posted_prices : List Product → List PricePair → List Change → List ℕ
+    → List (List ℕ) → List ℕ
 posted_prices products prices changes left grid =
     map (posted_price products prices changes left grid) (range_with_len 0 (length products))
 

@@ -10,8 +10,8 @@ use Rattle.clock_posting.specs.declared.sheet.RoundSheet.{RoundSheet}
 -- A product's line: its name, start-of-round price, clock price, posted price, aggregate demand,
 -- and next clock price, with a space between them.
 abbrev pub line_text : Product → Line → List ℕ
-line_text product line =
-    product.name ++ codes " " ++ decimal line.start ++ codes " " ++ decimal line.clock ++ codes " " ++ decimal line.posted ++ codes " "
+line_text product line = product.name ++ codes " " ++ decimal line.start ++ codes " "
+    ++ decimal line.clock ++ codes " " ++ decimal line.posted ++ codes " "
     ++ number_or_dash line.demand ++ codes " " ++ number_or_dash line.next ++ codes "\n"
 
 -- The lines of the products.
@@ -20,4 +20,5 @@ lines_text products lines = flat_map (λ row. line_text row.0 row.1) (zip produc
 
 -- The number of the round, then a line for each product.
 abbrev pub sheet_text : List Product → RoundSheet → List ℕ
-sheet_text products sheet = codes "round " ++ decimal sheet.round ++ codes "\n" ++ lines_text products sheet.lines
+sheet_text products sheet =
+    codes "round " ++ decimal sheet.round ++ codes "\n" ++ lines_text products sheet.lines

@@ -1,9 +1,13 @@
-ghost use Rattle.std.specs.Prelude.{◌≡◌, ◌<◌, ◌≤◌, ℕ, if◌then◌else◌, None, length, map, max, slice_index, All, Any};
+ghost use Rattle.std.specs.Prelude.{◌≡◌, ◌<◌, ◌≤◌, ℕ, if◌then◌else◌, None, length, map, max};
+ghost use Rattle.std.specs.Prelude.{slice_index, All, Any};
 ghost use Rattle.std.specs.{Prelude.{IfOk, IfErr, IfSome}, List.{range_with_len}};
-ghost use Rattle.clock_terms.specs.{Demands.{IsGrid}, Faults.{IsFirstFault}, Increments.{AreIncrements}, Prices.{opening_prices}};
-ghost use Rattle.clock_posting.specs.PostedPrice.{IsWithinPrices, is_applied_reduction, posted_prices};
+ghost use Rattle.clock_terms.specs.{Demands.{IsGrid}, Faults.{IsFirstFault}};
+ghost use Rattle.clock_terms.specs.{Increments.{AreIncrements}, Prices.{opening_prices}};
+ghost use Rattle.clock_posting.specs.PostedPrice.{IsWithinPrices, is_applied_reduction};
+ghost use Rattle.clock_posting.specs.PostedPrice.{posted_prices};
 ghost use Rattle.clock_posting.specs.inside.Parts.{least_price};
-ghost use Rattle.clock_posting.specs.inside.RoundEnd.{FitsTogether, HasClocksOf, IsPostingOf, limit_of, lines_of, next_of};
+ghost use Rattle.clock_posting.specs.inside.RoundEnd.{FitsTogether, HasClocksOf, IsPostingOf};
+ghost use Rattle.clock_posting.specs.inside.RoundEnd.{limit_of, lines_of, next_of};
 ghost use Rattle.clock_posting.specs.Posting as rules;
 ghost use Rattle.clock_posting.specs.declared.posting.PostFault.TheVariants as faults;
 
@@ -67,8 +71,10 @@ pub fn post_first(
     requires increments { AreIncrements (length setup.now.products) increments.now }
     requires grid { IsGrid (length setup.now.bidders) (length setup.now.products) grid.now }
     ensures ok { let products = setup.now.products in let posted = rules.opening_posted products in
-        IfOk result (rules.IsPosting 1 products (opening_prices products) grid.now posted increments.now) }
-    ensures lines { IfOk result (λ posting. length posting.sheet.lines ≡ length setup.now.products) }
+        IfOk result
+        (rules.IsPosting 1 products (opening_prices products) grid.now posted increments.now) }
+    ensures lines { IfOk result
+        (λ posting. length posting.sheet.lines ≡ length setup.now.products) }
     ensures err { let products = setup.now.products in let posted = rules.opening_posted products in
         IfErr result (IsFirstFault PostFault.NoMemory
         (rules.post_fault (rules.price_limit_fault products grid.now posted increments.now))) }
@@ -122,7 +128,8 @@ pub fn post(
     ensures laws { IfOk result rules.IsConsistent }
     // If the auction continues, some posted price is a clock price. So prices rise, and it must
     // end.
-    ensures clock { IfOk result (λ posting. IfSome posting.next (λ _. Any rules.IsAtClock posting.sheet.lines)) }
+    ensures clock { IfOk result
+        (λ posting. IfSome posting.next (λ _. Any rules.IsAtClock posting.sheet.lines)) }
 {
     let products = setup.products.as_slice();
     let posted = posted_prices(
@@ -154,8 +161,8 @@ fn least_prices(
 ) -> Result<Items<Price>, NoMemory>
     requires rows { All (λ row. length row ≡ length products.now) grid.now }
     requires prices { length prices.now ≡ length products.now }
-    ensures { IfOk result (λ least. least
-        ≡ map (least_price products.now prices.now grid.now) (range_with_len 0 (length products.now))) }
+    ensures { IfOk result (λ least. least ≡ map (least_price products.now prices.now grid.now)
+        (range_with_len 0 (length products.now))) }
 {
     let mut least = Items::with_capacity(alloc, products.len())?;
     for (i, product) in products.iter().enumerate() {
@@ -179,7 +186,8 @@ fn posted_prices(
     requires prices { length prices.now ≡ length products.now }
     requires changes { All (IsWithinPrices prices.now) changes.now }
     requires left { length left.now ≡ length changes.now }
-    ensures { IfOk result (λ posted. posted ≡ posted_prices products.now prices.now changes.now left.now grid.now) }
+    ensures { IfOk result
+        (λ posted. posted ≡ posted_prices products.now prices.now changes.now left.now grid.now) }
 {
     let mut posted = least_prices(alloc, products, prices, grid)?;
     for (i, change) in changes.iter().enumerate() {
@@ -194,8 +202,9 @@ fn note(posted: &mut Items<Price>, prices: &[PricePair], change: &Change, left: 
     requires lengths { length posted.old ≡ length prices.now }
     requires priced { IsWithinPrices prices.now change.now }
     ensures lengths { length posted.new ≡ length posted.old }
-    ensures price { (p : ℕ) → p < length posted.old → slice_index posted.new p ≡ (if is_applied_reduction
-        p change.now left then max (slice_index posted.old p) change.now.price else slice_index posted.old p) }
+    ensures price { (p : ℕ) → p < length posted.old
+        → slice_index posted.new p ≡ (if is_applied_reduction p change.now left
+        then max (slice_index posted.old p) change.now.price else slice_index posted.old p) }
 {
     let product = change.product as usize;
     if change.kind == Kind::Reduction && left < change.amount {
@@ -226,8 +235,10 @@ impl RoundEnd<'_> {
     fn posting(&self, alloc: Global) -> Result<Posting, PostFault>
         requires { FitsTogether self.now }
         ensures ok { IfOk result (IsPostingOf self.now) }
-        ensures lines { IfOk result (λ posting. length posting.sheet.lines ≡ length self.now.products.now) }
-        ensures err { IfErr result (IsFirstFault PostFault.NoMemory (rules.post_fault (limit_of self.now))) }
+        ensures lines { IfOk result
+            (λ posting. length posting.sheet.lines ≡ length self.now.products.now) }
+        ensures err { IfErr result
+            (IsFirstFault PostFault.NoMemory (rules.post_fault (limit_of self.now))) }
         ensures laws { IfOk result rules.IsConsistent }
     {
         let next = self.prices_after(alloc)?;
@@ -249,7 +260,8 @@ impl RoundEnd<'_> {
         ensures clocks { IfOk result (λ next. IfSome next (HasClocksOf self.now)) }
         ensures rising { IfOk result (λ next. IfSome next (All rules.IsRising)) }
         ensures possible { IfOk result (λ _. limit_of self.now ≡ None) }
-        ensures err { IfErr result (IsFirstFault PostFault.NoMemory (rules.post_fault (limit_of self.now))) }
+        ensures err { IfErr result
+            (IsFirstFault PostFault.NoMemory (rules.post_fault (limit_of self.now))) }
     {
         if has_ended(self.products, self.grid) {
             return Ok(None);
@@ -297,7 +309,8 @@ impl RoundEnd<'_> {
         requires next { next.now ≡ next_of self.now }
         requires clocks { IfSome next.now (HasClocksOf self.now) }
         ensures { result ≡ (if rules.has_ended self.now.products.now self.now.grid.now then None
-            else rules.next_clock self.now.products.now self.now.increments.now self.now.posted.now product) }
+            else rules.next_clock self.now.products.now self.now.increments.now
+            self.now.posted.now product) }
     {
         Some(next.as_ref()?.as_slice()[product].clock.get())
     }

@@ -95,7 +95,8 @@ fn put_field(bytes: &mut [u8], end: usize, number: Option<u64>) -> usize
     ensures start { end ≤ result + 21 }
     ensures order { result ≤ end }
     ensures kept { length bytes.new ≡ length bytes.old }
-    ensures put { drop result bytes.new ≡ codes " " ++ (number_or_dash number ++ drop end bytes.old) }
+    ensures put { drop result bytes.new
+        ≡ codes " " ++ (number_or_dash number ++ drop end bytes.old) }
 {
     let start = match number {
         Some(number) => write_digits(number, bytes, end),

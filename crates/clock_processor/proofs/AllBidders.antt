@@ -1,5 +1,6 @@
 -- The requests of all bidders, in any order, meet the condition of `settle`.
-use Rattle.std.proofs.Common.{◌≡◌, ℕ, zero, suc, ◌+◌, ◌*◌, ◌<◌, ◌≤◌, inl, inr, List, [], ◌∷◌, ◌++◌, cond, refl, ap, sym, ◌∙◌, arith, length, ne_eqb, All}
+use Rattle.std.proofs.Common.{◌≡◌, ℕ, zero, suc, ◌+◌, ◌*◌, ◌<◌, ◌≤◌, inl, inr, List, [], ◌∷◌, ◌++◌, cond, refl, ap, sym}
+use Rattle.std.proofs.Common.{◌∙◌, arith, length, ne_eqb, All}
 use Rattle.std.specs.Prelude.{flat_map}
 use Rattle.std.specs.List.{range_with_len}
 use Rattle.std.specs.List.Sorted.{IsPermutation}
@@ -39,7 +40,8 @@ pub asked_of-other : (kind : Kind) (b p owner : ℕ) (changes : List Change) →
 asked_of-other kind b p owner [] differ all = refl
 asked_of-other kind b p owner (x ∷ xs) differ all =
     let first : x.bidder ≡ owner = All-head (λ (change : Change). change.bidder ≡ owner) x xs all in
-    let none : part kind b p x ≡ 0 = first_fails (same_kind kind x.kind) _ _ x.amount (ne_eqb x.bidder b (λ e. differ (sym first ∙ e))) in
+    let none : part kind b p x ≡ 0 =
+    first_fails (same_kind kind x.kind) _ _ x.amount (ne_eqb x.bidder b (λ e. differ (sym first ∙ e))) in
     omega (
       arith,
       sum_by-cons (part kind b p) x xs,
@@ -50,12 +52,14 @@ asked_of-other kind b p owner (x ∷ xs) differ all =
 
 -- a number at least as great as one that it does not equal is above it
 above : (a b : ℕ) → a ≤ b → (a ≡ b → ⊥) → a + 1 ≤ b
-above a b most differ = elim (cases_lt a b) as (λ _. a + 1 ≤ b) [ inl below ↦ omega (arith, below) | inr over ↦ absurd (differ (omega (arith, most, over))) ]
+above a b most differ = elim (cases_lt a b) as
+    (λ _. a + 1 ≤ b) [ inl below ↦ omega (arith, below) | inr over ↦ absurd (differ (omega (arith, most, over))) ]
 
 module _ (requests_of : ℕ → List Change) (bidders : ℕ) (own : (bidder : ℕ) → bidder < bidders →
     All (λ (change : Change). change.bidder ≡ bidder) (requests_of bidder)) (kind : Kind) (b p : ℕ) where
   -- bidders with higher numbers add nothing
-  asked_of-later : (a n : ℕ) → a + n ≤ bidders → b < a → asked_of kind b p (flat_map requests_of (range_with_len a n)) ≡ 0
+  asked_of-later : (a n : ℕ) → a + n ≤ bidders → b < a
+      → asked_of kind b p (flat_map requests_of (range_with_len a n)) ≡ 0
   asked_of-later a zero within later = refl
   asked_of-later a (suc n) within later =
       omega (
@@ -73,7 +77,8 @@ module _ (requests_of : ℕ → List Change) (bidders : ℕ) (own : (bidder : �
       let parts : asked_of kind b p (flat_map requests_of (range_with_len a (suc n)))
       ≡ asked_of kind b p (requests_of a) + asked_of kind b p (flat_map requests_of (range_with_len (a + 1) n)) =
       asked_of-append kind b p (requests_of a) (flat_map requests_of (range_with_len (a + 1) n)) in
-      elim (cases_eq a b) as (λ _. asked_of kind b p (flat_map requests_of (range_with_len a (suc n))) ≡ asked_of kind b p (requests_of b)) [
+      elim (cases_eq a b) as
+      (λ _. asked_of kind b p (flat_map requests_of (range_with_len a (suc n))) ≡ asked_of kind b p (requests_of b)) [
         | inl same ↦ omega (
           arith,
           parts,
@@ -89,8 +94,8 @@ module _ (requests_of : ℕ → List Change) (bidders : ℕ) (own : (bidder : �
       ]
 
 module _ (requests_of : ℕ → List Change) (bidders : ℕ) where
-  length_all : (most a n : ℕ) → ((bidder : ℕ) → bidder < bidders → length (requests_of bidder) ≤ most) → a + n ≤ bidders →
-      length (flat_map requests_of (range_with_len a n)) ≤ most * n
+  length_all : (most a n : ℕ) → ((bidder : ℕ) → bidder < bidders → length (requests_of bidder) ≤ most) → a + n ≤ bidders
+      → length (flat_map requests_of (range_with_len a n)) ≤ most * n
   length_all most a zero few within = omega arith
   length_all most a (suc n) few within =
       omega (
@@ -100,27 +105,28 @@ module _ (requests_of : ℕ → List Change) (bidders : ℕ) where
         length_all most (a + 1) n few (omega (arith, within)),
       )
 
-  All-all : (P : Change → Type 0) (a n : ℕ) → ((bidder : ℕ) → bidder < bidders → All P (requests_of bidder)) → a + n ≤ bidders →
-      All P (flat_map requests_of (range_with_len a n))
+  All-all : (P : Change → Type 0) (a n : ℕ) → ((bidder : ℕ) → bidder < bidders → All P (requests_of bidder))
+      → a + n ≤ bidders → All P (flat_map requests_of (range_with_len a n))
   All-all P a zero each within = All-nil P
   All-all P a (suc n) each within =
       All-append P (requests_of a) (flat_map requests_of (range_with_len (a + 1) n)) (each a (omega (arith, within)))
       (All-all P (a + 1) n each (omega (arith, within)))
 
 -- If each bidder's requests are those of a good sheet, bid processing can take all of them in any order.
-module _ (products : List Product) (prices : List PricePair) (eligibilities : List ℕ) (grid : List (List ℕ)) (requests_of : ℕ → List Change)
-    (bidders : ℕ) (few : bidders ≤ most_bidders)
-    (rows : length grid ≡ bidders) (each : length eligibilities ≡ bidders)
-    (asked : (bidder : ℕ) → bidder < bidders → AreChangesOf products prices (row_of grid bidder) bidder (requests_of bidder)) where
-  own_requests : (bidder : ℕ) → bidder < bidders → All (λ (change : Change). change.bidder ≡ bidder) (requests_of bidder)
-  own_requests bidder lt =
-      All-weaker (IsChangeOf products prices bidder) (λ (change : Change). change.bidder ≡ bidder) (λ change is. is.bidder)
-      (requests_of bidder) (asked bidder lt).all
+module _ (products : List Product) (prices : List PricePair) (eligibilities : List ℕ) (grid : List (List ℕ))
+    (requests_of : ℕ → List Change) (bidders : ℕ) (few : bidders ≤ most_bidders) (rows : length grid ≡ bidders)
+    (each : length eligibilities ≡ bidders) (asked : (bidder : ℕ) → bidder < bidders
+    → AreChangesOf products prices (row_of grid bidder) bidder (requests_of bidder)) where
+  own_requests : (bidder : ℕ) → bidder < bidders
+      → All (λ (change : Change). change.bidder ≡ bidder) (requests_of bidder)
+  own_requests bidder lt = All-weaker (IsChangeOf products prices bidder) (λ (change : Change). change.bidder ≡ bidder)
+      (λ change is. is.bidder) (requests_of bidder) (asked bidder lt).all
 
-  limited : (bidder : ℕ) → bidder < bidders → All (IsRequest (length eligibilities) (length products)) (requests_of bidder)
+  limited : (bidder : ℕ) → bidder < bidders
+      → All (IsRequest (length eligibilities) (length products)) (requests_of bidder)
   limited bidder lt =
-      All-weaker (IsChangeOf products prices bidder) (IsRequest (length eligibilities) (length products))
-      (λ change is. record { bidder = omega (arith, is.bidder, lt, each); product = is.product; least = is.least; most = is.most })
+      All-weaker (IsChangeOf products prices bidder) (IsRequest (length eligibilities) (length products)) (λ change is.
+      record { bidder = omega (arith, is.bidder, lt, each); product = is.product; least = is.least; most = is.most })
       (requests_of bidder) (asked bidder lt).all
 
   pub can_settle_all : (list : List Change) → IsPermutation (flat_map requests_of (range_with_len 0 bidders)) list →
@@ -134,15 +140,19 @@ module _ (products : List Product) (prices : List PricePair) (eligibilities : Li
           arith,
           few,
           length_permutation all list same,
-          length_all requests_of bidders (most_bids + most_products) 0 bidders (λ bidder lt. (asked bidder lt).count) (omega arith),
+          length_all requests_of bidders (most_bids + most_products) 0 bidders
+              (λ bidder lt. (asked bidder lt).count) (omega arith),
         );
-        requests = All-permutation (IsRequest (length eligibilities) (length products)) all list same
-            (All-all requests_of bidders (IsRequest (length eligibilities) (length products)) 0 bidders limited (omega arith));
+        requests = All-permutation (IsRequest (length eligibilities) (length products)) all list same (All-all
+            requests_of bidders (IsRequest (length eligibilities) (length products)) 0 bidders limited (omega arith));
         caps = λ b p b_in p_in.
             (let lt : b < bidders = omega (arith, b_in, rows) in
             let keep : KeepWithinCap products (row_of grid b) b (requests_of b) p = (asked b lt).capped p p_in in
             let total : (kind : Kind) → asked_of kind b p list ≡ asked_of kind b p (requests_of b) =
-            λ kind. asked_of-permutation kind b p all list same
-            ∙ asked_of-all requests_of bidders own_requests kind b p 0 bidders (omega arith) (omega arith) (omega (arith, lt)) in
-            record { raised = omega (arith, keep.raised, total Increase); reduced = omega (arith, keep.reduced, total Reduction) });
+            λ kind. asked_of-permutation kind b p all list same ∙ asked_of-all requests_of bidders own_requests kind b p
+            0 bidders (omega arith) (omega arith) (omega (arith, lt)) in
+            record {
+              raised = omega (arith, keep.raised, total Increase);
+              reduced = omega (arith, keep.reduced, total Reduction);
+            });
       }

@@ -17,5 +17,6 @@ nothing_demanded products eligibilities =
       bidders = length-replicate bidders none;
       rows = All-replicate (IsRow products) bidders none (zeros_row products);
       within = λ bidder below.
-          rw (get_or-replicate bidders bidder none [] (omega (arith, length-replicate bidders none)), activity_zeros) (omega arith);
+          rw (get_or-replicate bidders bidder none [] (omega (arith, length-replicate bidders none)), activity_zeros)
+          (omega arith);
     }

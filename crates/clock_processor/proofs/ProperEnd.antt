@@ -25,18 +25,19 @@ use Rattle.clock_processor.proofs.Apply.{may_apply, caps_after, caps_at_start, l
 
 -- if a search finds nothing, the test fails at each index that it reads
 module _ {A B : Type 0} (test : A × B → Bool) (d : A) (e : B) where
-  here_fails : (passes : Bool) (k : ℕ) (rest : Option ℕ) → cond passes (Some k) rest ≡ None → (passes ≡ false) × (rest ≡ None)
+  here_fails : (passes : Bool) (k : ℕ) (rest : Option ℕ) → cond passes (Some k) rest ≡ None
+      → (passes ≡ false) × (rest ≡ None)
   here_fails true k rest h = absurd (none-some k (sym h))
   here_fails false k rest h = (refl, h)
 
-  fails_at : (k n : ℕ) (xs : List A) (ys : List B) → position_from test k (take n (zip xs ys)) ≡ None → (j : ℕ) → j < n → j < length xs →
-      j < length ys → test (get_or xs j d, get_or ys j e) ≡ false
+  fails_at : (k n : ℕ) (xs : List A) (ys : List B) → position_from test k (take n (zip xs ys)) ≡ None → (j : ℕ) → j < n
+      → j < length xs → j < length ys → test (get_or xs j d, get_or ys j e) ≡ false
   fails_at k zero xs ys h j a b c = absurd (omega (arith, a))
   fails_at k (suc n) [] ys h j a b c = absurd (omega (arith, b))
   fails_at k (suc n) (x ∷ xs) [] h j a b c = absurd (omega (arith, c))
   fails_at k (suc n) (x ∷ xs) (y ∷ ys) h zero a b c = (here_fails (test (x, y)) k _ h).0
-  fails_at k (suc n) (x ∷ xs) (y ∷ ys) h (suc j) a b c =
-      fails_at (k + 1) n xs ys (here_fails (test (x, y)) k _ h).1 j (omega (arith, a)) (omega (arith, b)) (omega (arith, c))
+  fails_at k (suc n) (x ∷ xs) (y ∷ ys) h (suc j) a b c = fails_at (k + 1) n xs ys (here_fails (test (x, y)) k _ h).1 j
+      (omega (arith, a)) (omega (arith, b)) (omega (arith, c))
 
 module _ (products : List Product) (eligibilities : List ℕ) (changes : List Change) where
   -- at the end, all requests are admitted and none has room
@@ -44,17 +45,18 @@ module _ (products : List Product) (eligibilities : List ℕ) (changes : List Ch
       nat_lt s.admitted (length changes) ≡ more →
       (choice ≡ None) × (length changes ≤ s.admitted)
   ended_by s (Some i) more ended is = absurd (none-some _ (sym ended))
-  ended_by s None true ended is = absurd (none-some _ (sym (ap (λ b. cond b (Some (with_admission products eligibilities changes s)) None) (sym is) ∙ ended)))
+  ended_by s None true ended is = absurd (none-some _
+      (sym (ap (λ b. cond b (Some (with_admission products eligibilities changes s)) None) (sym is) ∙ ended)))
   ended_by s None false ended is = (refl, ltb-false s.admitted (length changes) is)
 
-  no_room : (s : Progress) → HasEnded products eligibilities changes s → length s.left ≡ length changes → (i : ℕ) → i < length changes →
-      room_at products eligibilities changes s i ≡ 0
+  no_room : (s : Progress) → HasEnded products eligibilities changes s → length s.left ≡ length changes → (i : ℕ)
+      → i < length changes → room_at products eligibilities changes s i ≡ 0
   no_room s ended each i lt =
       let done : (first_with_room products eligibilities changes s ≡ None) × (length changes ≤ s.admitted) =
       ended_by s (first_with_room products eligibilities changes s) (nat_lt s.admitted (length changes)) ended refl in
       let fails : nat_lt 0 (room_at products eligibilities changes s i) ≡ false =
-      fails_at (λ line. nat_lt 0 (room products eligibilities s.grid line.0 line.1)) no_change 0 0 s.admitted changes s.left done.0 i
-      (omega (arith, done.1, lt)) lt (omega (arith, each, lt)) in
+      fails_at (λ line. nat_lt 0 (room products eligibilities s.grid line.0 line.1)) no_change 0 0 s.admitted changes
+      s.left done.0 i (omega (arith, done.1, lt)) lt (omega (arith, each, lt)) in
       omega (arith, ltb-false 0 (room_at products eligibilities changes s i) fails)
 
   -- each request has at most its amount left, in blocks
@@ -66,26 +68,26 @@ module _ (products : List Product) (eligibilities : List ℕ) (changes : List Ch
   left_reduced : (left : List ℕ) (i r : ℕ) → i < length left → IsLeft left → IsLeft (set left i (get_or left i 0 - r))
   left_reduced left i r lt was = record {
     lengths = length-set left i (get_or left i 0 - r) ∙ was.lengths;
-    within = set_cases (λ j n. j < length changes → n ≤ (get_or changes j no_change).amount) left i (get_or left i 0 - r) 0 lt
-        (λ i_in. omega (arith, was.within i i_in)) (λ j _. was.within j);
+    within = set_cases (λ j n. j < length changes → n ≤ (get_or changes j no_change).amount) left i
+        (get_or left i 0 - r) 0 lt (λ i_in. omega (arith, was.within i i_in)) (λ j _. was.within j);
   }
 
-  amount_at : (list : List Change) (i : ℕ) → i < length list → get_or (map (λ change. change.amount) list) i 0 ≡ (get_or list i no_change).amount
+  amount_at : (list : List Change) (i : ℕ) → i < length list
+      → get_or (map (λ change. change.amount) list) i 0 ≡ (get_or list i no_change).amount
   amount_at [] i lt = absurd (omega (arith, lt))
   amount_at (x ∷ xs) zero lt = refl
   amount_at (x ∷ xs) (suc i) lt = amount_at xs i (omega (arith, lt))
 
   pub settled_left : (grid : List (List ℕ)) → IsLeft (settled products eligibilities changes grid).left
-  settled_left grid =
-      settled_keep products eligibilities changes (λ s. IsLeft s.left)
-      (λ s i chosen was. left_reduced s.left i (room_at products eligibilities changes s i) (has_room products eligibilities changes s i chosen).1 was)
-      (λ s more was. was)
-      grid (record { lengths = length_amounts changes; within = λ i lt. omega (arith, amount_at changes i lt) })
+  settled_left grid = settled_keep products eligibilities changes (λ s. IsLeft s.left)
+      (λ s i chosen was. left_reduced s.left i (room_at products eligibilities changes s i)
+      (has_room products eligibilities changes s i chosen).1 was) (λ s more was. was) grid
+      (record { lengths = length_amounts changes; within = λ i lt. omega (arith, amount_at changes i lt) })
 
   pub settled_no_room : (grid : List (List ℕ)) (i : ℕ) → i < length changes →
       room_at products eligibilities changes (settled products eligibilities changes grid) i ≡ 0
-  settled_no_room grid i lt = no_room (settled products eligibilities changes grid) (settled_ended products eligibilities changes grid)
-      (settled_left grid).lengths i lt
+  settled_no_room grid i lt = no_room (settled products eligibilities changes grid)
+      (settled_ended products eligibilities changes grid) (settled_left grid).lengths i lt
 
   settled_admitted : (grid : List (List ℕ)) → (settled products eligibilities changes grid).admitted ≤ length changes
   settled_admitted grid =
@@ -118,13 +120,13 @@ proper_end board changes end is held =
       applied = is.applied k;
     } in
     record {
-      settles = subst (Settles board.products board.eligibilities changes (start_of board.products board.eligibilities changes board.grid))
-          (sym is_end) (settled_settles board.products board.eligibilities changes board.grid);
+      settles = subst (Settles board.products board.eligibilities changes (start_of board.products board.eligibilities
+          changes board.grid)) (sym is_end) (settled_settles board.products board.eligibilities changes board.grid);
       lengths = left.lengths;
       left = left.within;
-      no_room = λ i lt.
-          ap (λ grid. room board.products board.eligibilities grid (get_or changes i no_change) (get_or end.left i 0)) is.grid
-          ∙ ap (λ (list : List ℕ). room board.products board.eligibilities final.grid (get_or changes i no_change) (get_or list i 0)) is.left
+      no_room = λ i lt. ap (λ grid. room board.products board.eligibilities grid (get_or changes i no_change)
+          (get_or end.left i 0)) is.grid ∙ ap (λ (list : List ℕ). room board.products board.eligibilities final.grid
+          (get_or changes i no_change) (get_or list i 0)) is.left
           ∙ settled_no_room board.products board.eligibilities changes board.grid i lt;
       supply = λ product. omega (
         arith,
@@ -148,11 +150,13 @@ module _ (products : List Product) (eligibilities : List ℕ) (changes : List Ch
   held_applied s i chosen was =
       let found : (i < length changes) × (i < length s.left) × (0 < room_at products eligibilities changes s i) =
       has_room products eligibilities changes s i chosen in
-      let board : BoardFields = record { products = products; eligibilities = eligibilities; grid = s.grid; applied = 0; tests = 0 } in
+      let board : BoardFields =
+      record { products = products; eligibilities = eligibilities; grid = s.grid; applied = 0; tests = 0 } in
       let may : MayApply board (get_or changes i no_change) (room_at products eligibilities changes s i) =
       may_apply board changes s.left i found.0 was.lengths requests was.is_board was.caps found.2 in
       record {
-        is_board = board_applied board (get_or changes i no_change) (room_at products eligibilities changes s i) was.is_board may;
+        is_board = board_applied board (get_or changes i no_change)
+            (room_at products eligibilities changes s i) was.is_board may;
         lengths = length-set s.left i (get_or s.left i 0 - room_at products eligibilities changes s i) ∙ was.lengths;
         caps = caps_after board changes s.left i found.0 was.lengths requests was.is_board was.caps;
       }
@@ -165,14 +169,16 @@ module _ (products : List Product) (eligibilities : List ℕ) (changes : List Ch
       (λ s more was. record { is_board = was.is_board; lengths = was.lengths; caps = was.caps }) grid
       (record { is_board = is; lengths = length_amounts changes; caps = caps })).is_board
 
-pub settled_board : (board : BoardFields) (changes : List Change) → IsBoard board.products board.eligibilities board.grid → CanSettle board changes →
-    IsBoard board.products board.eligibilities (settled board.products board.eligibilities changes board.grid).grid
-settled_board board changes is can =
-    settled_held board.products board.eligibilities changes can.requests board.grid is (caps_at_start board.products board.grid changes can.caps)
+pub settled_board : (board : BoardFields) (changes : List Change)
+    → IsBoard board.products board.eligibilities board.grid → CanSettle board changes
+    → IsBoard board.products board.eligibilities (settled board.products board.eligibilities changes board.grid).grid
+settled_board board changes is can = settled_held board.products board.eligibilities changes can.requests board.grid is
+    (caps_at_start board.products board.grid changes can.caps)
 
 -- the end has the demands of a board with the same products and eligibilities
-pub held_at_end : (old new : BoardFields) (grid : List (List ℕ)) → (new.products ≡ old.products) × (new.eligibilities ≡ old.eligibilities) →
-    grid ≡ new.grid → IsBoard new.products new.eligibilities new.grid → IsWithinEligibility old.products old.eligibilities grid
+pub held_at_end : (old new : BoardFields) (grid : List (List ℕ))
+    → (new.products ≡ old.products) × (new.eligibilities ≡ old.eligibilities) → grid ≡ new.grid
+    → IsBoard new.products new.eligibilities new.grid → IsWithinEligibility old.products old.eligibilities grid
 held_at_end old new grid terms same is =
     subst (λ products. IsWithinEligibility products old.eligibilities grid) terms.0
     (subst (λ eligibilities. IsWithinEligibility new.products eligibilities grid) terms.1

@@ -23,8 +23,8 @@ pub record IsRequest (bidders products : ℕ) (change : Change) : Type 0 where
 -- For each bidder and product, the demand plus all increases is at most the cap, and all reductions
 -- together are at most the demand.
 abbrev pub AskWithinCaps : List Product → List (List ℕ) → List Change → Type 0
-AskWithinCaps products grid changes =
-    (bidder product : ℕ) → bidder < length grid → product < length products → KeepWithinCap products (row_of grid bidder) bidder changes product
+AskWithinCaps products grid changes = (bidder product : ℕ) → bidder < length grid
+    → product < length products → KeepWithinCap products (row_of grid bidder) bidder changes product
 
 -- the most requests of a round: each bid is a request, and so is each demand without a bid
 abbrev pub most_requests : ℕ

@@ -26,9 +26,10 @@ impl Processor for Plain {
 /// all are admitted and none has room.
 fn rescan(board: &mut Board, changes: &[Change], left: &mut Amounts)
     requires { IsUnderWay board.old changes.now left.old 0 }
-    ensures ended { (n : ℕ) × settling.Settles board.old.products board.old.eligibilities changes.now (progress_of board.old 0 left.old)
-        (progress_of board.new n left.new) }
-    ensures terms { (board.new.products ≡ board.old.products) × (board.new.eligibilities ≡ board.old.eligibilities) }
+    ensures ended { (n : ℕ) × settling.Settles board.old.products board.old.eligibilities
+        changes.now (progress_of board.old 0 left.old) (progress_of board.new n left.new) }
+    ensures terms { (board.new.products ≡ board.old.products)
+        × (board.new.eligibilities ≡ board.old.eligibilities) }
 {
     let mut admitted: usize = 0;
     'rescan: loop {
@@ -55,10 +56,13 @@ fn first_with_room(
 ) -> Option<usize>
     requires admitted { admitted ≤ length changes.now }
     requires left { length left.now ≡ length changes.now }
-    requires requests { All (IsRequest (length board.old.eligibilities) (length board.old.products)) changes.now }
-    ensures found { result ≡ settling.first_with_room board.old.products board.old.eligibilities changes.now (progress_of board.old admitted left.now) }
+    requires requests { All
+        (IsRequest (length board.old.eligibilities) (length board.old.products)) changes.now }
+    ensures found { result ≡ settling.first_with_room board.old.products board.old.eligibilities
+        changes.now (progress_of board.old admitted left.now) }
     ensures same { SameButTests board.old board.new }
-    ensures kept { OnSome result (IsBoard board.new.products board.new.eligibilities board.new.grid) }
+    ensures kept { OnSome result
+        (IsBoard board.new.products board.new.eligibilities board.new.grid) }
 {
     for i in 0..admitted {
         if board.room(&changes[i], left[i]) > 0 {

@@ -17,7 +17,8 @@ fold_start : {X : Type 0} (f : X → ℕ) (a : ℕ) (xs : List X) → a ≤ fold
 fold_start f a [] = omega arith
 fold_start f a (x ∷ xs) = omega (arith, fold_start f (max a (f x)) xs)
 
-fold_value : {X : Type 0} (f : X → ℕ) (a : ℕ) (xs : List X) (i : ℕ) (d : X) → i < length xs → f (get_or xs i d) ≤ fold (λ most x. max most (f x)) a xs
+fold_value : {X : Type 0} (f : X → ℕ) (a : ℕ) (xs : List X) (i : ℕ) (d : X) → i < length xs
+    → f (get_or xs i d) ≤ fold (λ most x. max most (f x)) a xs
 fold_value f a [] i d lt = absurd (omega (arith, lt))
 fold_value f a (x ∷ xs) zero d lt = omega (arith, fold_start f (max a (f x)) xs)
 fold_value f a (x ∷ xs) (suc i) d lt = fold_value f (max a (f x)) xs i d (omega (arith, lt))
@@ -26,30 +27,44 @@ fold_value f a (x ∷ xs) (suc i) d lt = fold_value f (max a (f x)) xs i d (omeg
 abbrev greater_of : List Change → Change → ℕ
 greater_of changes change = max (count_of_product changes change.product) (count_of_bidder changes change.bidder)
 
-of_product : (changes : List Change) (i : ℕ) → i < length changes → count_of_product changes (get_or changes i no_change).product ≤ most_of_one changes
+of_product : (changes : List Change) (i : ℕ) → i < length changes
+    → count_of_product changes (get_or changes i no_change).product ≤ most_of_one changes
 of_product changes i lt = omega (arith, fold_value (greater_of changes) 0 changes i no_change lt)
 
-of_bidder : (changes : List Change) (i : ℕ) → i < length changes → count_of_bidder changes (get_or changes i no_change).bidder ≤ most_of_one changes
+of_bidder : (changes : List Change) (i : ℕ) → i < length changes
+    → count_of_bidder changes (get_or changes i no_change).bidder ≤ most_of_one changes
 of_bidder changes i lt = omega (arith, fold_value (greater_of changes) 0 changes i no_change lt)
 
 -- one element that passes counts as 1, and two as 2
 counted_here : (b : Bool) → b ≡ true → ◌≡◌ {A = ℕ} (cond b 1 0) 1
 counted_here b is = ap (λ (v : Bool). cond {A = ℕ} v 1 0) is
 
-one_counted : {X : Type 0} (p : X → Bool) (xs : List X) (i : ℕ) (d : X) → i < length xs → p (get_or xs i d) ≡ true → 1 ≤ count_by p xs
+one_counted : {X : Type 0} (p : X → Bool) (xs : List X) (i : ℕ) (d : X) → i < length xs
+    → p (get_or xs i d) ≡ true → 1 ≤ count_by p xs
 one_counted p [] i d lt passes = absurd (omega (arith, lt))
-one_counted p (x ∷ xs) zero d lt passes = omega (arith, sum_by-cons (λ y. cond (p y) 1 0) x xs, counted_here (p x) passes)
+one_counted p (x ∷ xs) zero d lt passes =
+    omega (arith, sum_by-cons (λ y. cond (p y) 1 0) x xs, counted_here (p x) passes)
 one_counted p (x ∷ xs) (suc i) d lt passes =
     omega (arith, sum_by-cons (λ y. cond (p y) 1 0) x xs, one_counted p xs i d (omega (arith, lt)) passes)
 
-two_counted : {X : Type 0} (p : X → Bool) (xs : List X) (i j : ℕ) (d : X) → i < length xs → j < length xs → (i ≡ j → ⊥) →
-    p (get_or xs i d) ≡ true → p (get_or xs j d) ≡ true → 2 ≤ count_by p xs
+two_counted : {X : Type 0} (p : X → Bool) (xs : List X) (i j : ℕ) (d : X) → i < length xs → j < length xs → (i ≡ j → ⊥)
+    → p (get_or xs i d) ≡ true → p (get_or xs j d) ≡ true → 2 ≤ count_by p xs
 two_counted p [] i j d lt lt' differ passes passes' = absurd (omega (arith, lt))
 two_counted p (x ∷ xs) zero zero d lt lt' differ passes passes' = absurd (differ refl)
 two_counted p (x ∷ xs) zero (suc j) d lt lt' differ passes passes' =
-    omega (arith, sum_by-cons (λ y. cond (p y) 1 0) x xs, counted_here (p x) passes, one_counted p xs j d (omega (arith, lt')) passes')
+    omega (
+      arith,
+      sum_by-cons (λ y. cond (p y) 1 0) x xs,
+      counted_here (p x) passes,
+      one_counted p xs j d (omega (arith, lt')) passes',
+    )
 two_counted p (x ∷ xs) (suc i) zero d lt lt' differ passes passes' =
-    omega (arith, sum_by-cons (λ y. cond (p y) 1 0) x xs, counted_here (p x) passes', one_counted p xs i d (omega (arith, lt)) passes)
+    omega (
+      arith,
+      sum_by-cons (λ y. cond (p y) 1 0) x xs,
+      counted_here (p x) passes',
+      one_counted p xs i d (omega (arith, lt)) passes,
+    )
 two_counted p (x ∷ xs) (suc i) (suc j) d lt lt' differ passes passes' =
     omega (
       arith,
@@ -67,10 +82,9 @@ some_of_one changes i lt = omega (
 )
 
 -- two requests of one product, or of one bidder, make most_of_one at least 2
-two_of : (f : Change → ℕ) (changes : List Change) →
-    ((i : ℕ) → i < length changes → count_by (λ change. f change == f (get_or changes i no_change)) changes ≤ most_of_one changes) →
-    (i j : ℕ) → i < length changes → j < length changes → (i ≡ j → ⊥) → f (get_or changes j no_change) ≡ f (get_or changes i no_change) →
-    2 ≤ most_of_one changes
+two_of : (f : Change → ℕ) (changes : List Change) → ((i : ℕ) → i < length changes → count_by (λ change. f change == f
+    (get_or changes i no_change)) changes ≤ most_of_one changes) → (i j : ℕ) → i < length changes → j < length changes
+    → (i ≡ j → ⊥) → f (get_or changes j no_change) ≡ f (get_or changes i no_change) → 2 ≤ most_of_one changes
 two_of f changes most i j lt lt' differ same = omega (
   arith,
   most i lt,
@@ -114,6 +128,7 @@ two_of_one changes i x y lt x_in y_in of_x of_y =
 -- has more than m requests.
 pub each_line : BoundsEachLine
 each_line changes end within =
-    let few : end.applied * most_woken changes ≤ end.applied * most_of_one changes = mul-le-mul_left end.applied (omega arith) in
+    let few : end.applied * most_woken changes ≤ end.applied * most_of_one changes =
+    mul-le-mul_left end.applied (omega arith) in
     let two : end.applied * most_woken changes ≤ end.applied * 2 = mul-le-mul_left end.applied (omega arith) in
     (omega (arith, within, few), omega (arith, within, two))

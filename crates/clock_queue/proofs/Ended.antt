@@ -15,7 +15,8 @@ use Rattle.clock_queue.proofs.Steps.{ends}
 
 -- what bid processing returns at its end
 abbrev pub handed_on : Queue → SettledFields
-handed_on queue = record { grid = queue.board.grid; left = queue.left; applied = queue.board.applied; tests = queue.board.tests }
+handed_on queue =
+    record { grid = queue.board.grid; left = queue.left; applied = queue.board.applied; tests = queue.board.tests }
 
 -- what holds of a queue when every request is admitted
 pub record IsDone (board : BoardFields) (changes : List Change) (queue : Queue) : Type 0 where
@@ -26,10 +27,11 @@ pub record IsDone (board : BoardFields) (changes : List Change) (queue : Queue) 
   pub admitted : queue.admitted ≡ length changes
   pub products : queue.board.products ≡ board.products
   pub eligibilities : queue.board.eligibilities ≡ board.eligibilities
-  pub reached : Reaches board.products board.eligibilities changes (progress_of board 0 (map (λ change. change.amount) changes)) (progress queue)
+  pub reached : Reaches board.products board.eligibilities changes
+      (progress_of board 0 (map (λ change. change.amount) changes)) (progress queue)
 
-module _ (board : BoardFields) (changes : List Change) (queue : Queue) (end : SettledFields) (done : IsDone board changes queue)
-    (is : end ≡ handed_on queue) where
+module _ (board : BoardFields) (changes : List Change) (queue : Queue) (end : SettledFields)
+    (done : IsDone board changes queue) (is : end ≡ handed_on queue) where
   has_ended : HasEnded board.products board.eligibilities changes (progress queue)
   has_ended =
       subst (λ products. HasEnded products board.eligibilities changes (progress queue)) done.products
@@ -37,12 +39,13 @@ module _ (board : BoardFields) (changes : List Change) (queue : Queue) (end : Se
       (ends changes queue done.kept done.tracked done.none done.admitted))
 
   pub is_settlement : CanSettle board changes → IsSettlement board changes end
-  is_settlement can = settlement_reached board changes queue.board queue.left queue.admitted end can.applied (done.reached, has_ended) is
+  is_settlement can = settlement_reached board changes queue.board queue.left queue.admitted end can.applied
+      (done.reached, has_ended) is
 
-  pub is_proper : CanSettle board changes → IsBoard queue.board.products queue.board.eligibilities queue.board.grid → IsProperEnd board changes end
-  is_proper can kept =
-      proper_end board changes end (is_settlement can)
-      (held_at_end board queue.board end.grid (done.products, done.eligibilities) (ap (λ (one : SettledFields). one.grid) is) kept)
+  pub is_proper : CanSettle board changes → IsBoard queue.board.products queue.board.eligibilities queue.board.grid
+      → IsProperEnd board changes end
+  is_proper can kept = proper_end board changes end (is_settlement can) (held_at_end board queue.board end.grid
+      (done.products, done.eligibilities) (ap (λ (one : SettledFields). one.grid) is) kept)
 
   pub is_within : IsWithinTests changes end
   is_within = subst (IsWithinTests changes) (sym is) (omega (arith, done.counts, done.admitted, ap length done.none))

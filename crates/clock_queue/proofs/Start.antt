@@ -17,7 +17,8 @@ nobody zero line = refl
 nobody (suc n) zero = refl
 nobody (suc n) (suc line) = nobody n line
 
-empty : (changes : List Change) (products : List Product) (left : List ℕ) (line : ℕ) → IsLine changes products left 0 line empty_line
+empty : (changes : List Change) (products : List Product) (left : List ℕ) (line : ℕ)
+    → IsLine changes products left 0 line empty_line
 empty changes products left line = record {
   lengths = refl;
   members = λ at lt. absurd (omega (arith, lt));
@@ -25,22 +26,29 @@ empty changes products left line = record {
   costs = λ at lt. absurd (omega (arith, lt));
 }
 
-kept_at_start : (board : BoardFields) (changes : List Change) (n : ℕ) → CanSettle board changes → All (HasLines n) changes →
-    HasSoundLines changes (record { board = board; left = map (λ change. change.amount) changes; admitted = 0; ready = []; lines = replicate n empty_line })
+kept_at_start : (board : BoardFields) (changes : List Change) (n : ℕ) → CanSettle board changes
+    → All (HasLines n) changes →
+    HasSoundLines changes (record {
+      board = board;
+      left = map (λ change. change.amount) changes;
+      admitted = 0;
+      ready = [];
+      lines = replicate n empty_line;
+    })
 kept_at_start board changes n can lines = record {
   under_way = under_way_start board changes can;
   lines = subst (λ count. All (HasLines count) changes) (sym (length-replicate n empty_line)) lines;
   ready = All-nil (λ place. place < 0);
-  each = λ line. subst (IsLine changes board.products (map (λ change. change.amount) changes) 0 line) (sym (nobody n line))
-      (empty changes board.products (map (λ change. change.amount) changes) line);
+  each = λ line. subst (IsLine changes board.products (map (λ change. change.amount) changes) 0 line)
+      (sym (nobody n line)) (empty changes board.products (map (λ change. change.amount) changes) line);
   waiting = λ place lt. absurd (omega (arith, lt));
 }
 
 -- the invariants hold of the lists that `settle` makes
-pub started : (board : BoardFields) (changes : List Change) (n : ℕ) (left ready : List ℕ) (lines : List LineFields) → CanSettle board changes →
-    All (HasLines n) changes →
-    left ≡ map (λ change. change.amount) changes → ready ≡ [] → lines ≡ replicate n empty_line →
-    HasSoundLines changes (record { board = board; left = left; admitted = 0; ready = ready; lines = lines })
+pub started : (board : BoardFields) (changes : List Change) (n : ℕ) (left ready : List ℕ) (lines : List LineFields)
+    → CanSettle board changes → All (HasLines n) changes → left ≡ map (λ change. change.amount) changes → ready ≡ []
+    → lines ≡ replicate n empty_line
+    → HasSoundLines changes (record { board = board; left = left; admitted = 0; ready = ready; lines = lines })
 started board changes n left ready lines can enough left_is ready_is lines_are =
     let same : ◌≡◌ {A = Queue} (record {
       board = board;
@@ -49,9 +57,11 @@ started board changes n left ready lines can enough left_is ready_is lines_are =
       ready = [];
       lines = replicate n empty_line;
     }) (record { board = board; left = left; admitted = 0; ready = ready; lines = lines }) =
-    λ k. record { board = board; left = sym left_is k; admitted = 0; ready = sym ready_is k; lines = sym lines_are k } in
+    λ k.
+    record { board = board; left = sym left_is k; admitted = 0; ready = sym ready_is k; lines = sym lines_are k } in
     subst (HasSoundLines changes) same (kept_at_start board changes n can enough)
 
 -- no request is admitted, so none has to be ready
-pub nothing_tracked : (changes : List Change) (queue : Queue) → queue.admitted ≡ 0 → IsTracking changes queue queue.ready
+pub nothing_tracked : (changes : List Change) (queue : Queue) → queue.admitted ≡ 0
+    → IsTracking changes queue queue.ready
 nothing_tracked changes queue none = λ place lt. absurd (omega (arith, lt, none))

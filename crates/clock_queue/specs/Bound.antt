@@ -19,7 +19,8 @@ count_of_bidder changes bidder = count_by (λ (change : Change). change.bidder =
 
 -- the most requests that one product or one bidder has
 abbrev pub most_of_one : List Change → ℕ
-most_of_one changes = fold (λ most change. max most (max (count_of_product changes change.product) (count_of_bidder changes change.bidder))) 0 changes
+most_of_one changes = fold (λ most change. max most (max (count_of_product changes change.product)
+    (count_of_bidder changes change.bidder))) 0 changes
 
 -- The most requests that an application makes the event queue test again: one of its product and
 -- one of its bidder. It is less than 2 only if no product and no bidder has two requests.
@@ -33,5 +34,6 @@ IsWithinTests changes end = end.tests ≤ length changes + end.applied * most_wo
 -- The bound implies two simpler ones: for each application at most two tests, and at most m if no
 -- product and no bidder has more than m requests.
 abbrev pub BoundsEachLine : Type 0
-BoundsEachLine = (changes : List Change) (end : SettledFields) → IsWithinTests changes end →
-    (end.tests ≤ length changes + end.applied * most_of_one changes) × (end.tests ≤ length changes + end.applied * 2)
+BoundsEachLine = (changes : List Change) (end : SettledFields) → IsWithinTests changes end
+    → (end.tests ≤ length changes + end.applied * most_of_one changes)
+    × (end.tests ≤ length changes + end.applied * 2)

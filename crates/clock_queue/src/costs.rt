@@ -1,7 +1,9 @@
 //! A list of costs that finds the first one within a limit without reading each.
 
-ghost use Rattle.std.specs.Prelude.{◌≡◌, ◌<◌, ◌≤◌, ◌+◌, ◌*◌, [], ◌∷◌, ◌++◌, ℕ, List, length, All, IfSome, IfNone, OnOk, OnErr, slice_index, slice_set};
-ghost use Rattle.clock_queue.specs.inside.Costs.{AreAbove, AreFrom, HasBounds, IsFirstWithin, spent};
+ghost use Rattle.std.specs.Prelude.{◌≡◌, ◌<◌, ◌≤◌, ◌+◌, ◌*◌, [], ◌∷◌, ◌++◌, ℕ, List, length, All};
+ghost use Rattle.std.specs.Prelude.{IfSome, IfNone, OnOk, OnErr, slice_index, slice_set};
+ghost use Rattle.clock_queue.specs.inside.Costs.{AreAbove, AreFrom, HasBounds, IsFirstWithin};
+ghost use Rattle.clock_queue.specs.inside.Costs.{spent};
 
 use clock_device::NoMemory;
 use smallvec::SmallVec;
@@ -95,9 +97,11 @@ impl Costs {
 /// The index of the first cost of a block that is at most `limit`.
 fn first_in(costs: &[u32], block: usize, limit: u32) -> Option<usize>
     requires { BLOCK * block ≤ length costs.now }
-    ensures within { IfSome result (λ place. (place < length costs.now) × (slice_index costs.now place ≤ limit)) }
+    ensures within { IfSome result (λ place. (place < length costs.now)
+        × (slice_index costs.now place ≤ limit)) }
     ensures before { IfSome result (λ place. AreAbove limit costs.now (BLOCK * block) place) }
-    ensures none { IfNone result (AreAbove limit costs.now (BLOCK * block) (BLOCK * block + BLOCK)) }
+    ensures none { IfNone result
+        (AreAbove limit costs.now (BLOCK * block) (BLOCK * block + BLOCK)) }
 {
     let from = BLOCK * block;
     for place in from..(from + BLOCK).min(costs.len()) {

@@ -1,6 +1,7 @@
 //! The lines in which requests wait for room, and the indices of the requests to be tested next.
 
-ghost use Rattle.std.specs.Prelude.{◌≡◌, ◌<◌, [], ◌∷◌, ◌++◌, ◌≤◌, ℕ, List, length, replicate, All, IfOk, OnOk, slice_index_or, slice_set, IfSome, IfNone};
+ghost use Rattle.std.specs.Prelude.{◌≡◌, ◌<◌, [], ◌∷◌, ◌++◌, ◌≤◌, ℕ, List, length, replicate, All};
+ghost use Rattle.std.specs.Prelude.{IfOk, OnOk, slice_index_or, slice_set, IfSome, IfNone};
 ghost use Rattle.std.specs.Prelude.{false};
 ghost use Rattle.std.specs.{BinaryHeap.{heap_items}, List.Sorted.{IsPermutation}};
 ghost use Rattle.clock_queue.specs.inside.Costs.{spent};
@@ -116,7 +117,8 @@ impl WaitingLines {
     /// Appends the request with an index to a line.
     pub(crate) fn add(&mut self, line: usize, place: usize, cost: u32) -> Result<(), NoMemory>
         requires { line < length self.old }
-        ensures { OnOk result (self.new ≡ slice_set self.old line (lines.with_waiting (slice_index_or self.old line lines.empty_line) place cost)) }
+        ensures { OnOk result (self.new ≡ slice_set self.old line
+            (lines.with_waiting (slice_index_or self.old line lines.empty_line) place cost)) }
     {
         let at = self.index[line];
         if at < self.lists.len() {
@@ -135,11 +137,16 @@ impl WaitingLines {
     pub(crate) fn first_waiting(&mut self, line: usize, left: &[u64], limit: u32) -> Option<usize>
         requires line { line < length self.old }
         requires limit { limit < spent }
-        requires places { All (λ place. place < length left.now) (slice_index_or self.old line lines.empty_line).places }
-        ensures others { self.new ≡ slice_set self.old line (slice_index_or self.new line lines.empty_line) }
-        ensures spent { lines.IsSpent left.now (slice_index_or self.old line lines.empty_line) (slice_index_or self.new line lines.empty_line) }
-        ensures found { IfSome result (lines.IsFirstWaiting left.now (slice_index_or self.new line lines.empty_line) limit) }
-        ensures none { IfNone result (All (λ cost. limit < cost) (slice_index_or self.new line lines.empty_line).costs) }
+        requires places { All (λ place. place < length left.now)
+            (slice_index_or self.old line lines.empty_line).places }
+        ensures others { self.new
+            ≡ slice_set self.old line (slice_index_or self.new line lines.empty_line) }
+        ensures spent { lines.IsSpent left.now (slice_index_or self.old line lines.empty_line)
+            (slice_index_or self.new line lines.empty_line) }
+        ensures found { IfSome result
+            (lines.IsFirstWaiting left.now (slice_index_or self.new line lines.empty_line) limit) }
+        ensures none { IfNone result
+            (All (λ cost. limit < cost) (slice_index_or self.new line lines.empty_line).costs) }
     {
         let at = self.index[line];
         if at < self.lists.len() {

@@ -1,9 +1,12 @@
 ghost use Rattle.std.specs.Prelude.{◌≡◌, ◌+◌, ◌<◌, ◌≤◌, [], ◌∷◌, length, IfOk, OnOk, All};
-ghost use Rattle.clock_processor.specs.{Board.{IsBoard}, Requests.{CanSettle}, Settlement.{IsSettlement, IsProperEnd}};
+ghost use Rattle.clock_processor.specs.{Board.{IsBoard}, Requests.{CanSettle}};
+ghost use Rattle.clock_processor.specs.Settlement.{IsSettlement, IsProperEnd};
 ghost use Rattle.clock_queue.specs.Bound.{BoundsEachLine, IsWithinTests};
 ghost use Rattle.clock_queue.specs.inside.Costs.{spent};
 ghost use Rattle.clock_queue.specs.inside.Lines as lines;
-ghost use Rattle.clock_queue.specs.inside.Queue.{GoesOn, HasWoken, HasWokenProduct, IsAppliedWhole, HasSoundLines, IsTested, IsTracking, StaysWithinTests, after_test, line_in, room_in};
+ghost use Rattle.clock_queue.specs.inside.Queue.{GoesOn, HasWoken, HasWokenProduct, IsAppliedWhole};
+ghost use Rattle.clock_queue.specs.inside.Queue.{HasSoundLines, IsTested, IsTracking};
+ghost use Rattle.clock_queue.specs.inside.Queue.{StaysWithinTests, after_test, line_in, room_in};
 
 use crate::lines::{Ready, WaitingLines, bidder_line, line_of, lines_for, product_line};
 use clock_device::NoMemory;
@@ -107,7 +110,8 @@ impl<'a> Queue<'a> {
         requires within { place < length changes.now }
         ensures room { result ≡ room_in changes.now self.old place }
         ensures counted { self.new ≡ after_test self.old }
-        ensures is_board { IsBoard self.new.board.products self.new.board.eligibilities self.new.board.grid }
+        ensures is_board { IsBoard self.new.board.products self.new.board.eligibilities
+            self.new.board.grid }
     {
         let left = self.left.as_slice()[place];
         self.board.room(&changes[place], left)
@@ -119,7 +123,8 @@ impl<'a> Queue<'a> {
         requires kept { HasSoundLines changes.now self.old }
         requires tracked { IsTracking changes.now self.old (place ∷ self.old.ready) }
         requires within { place < length changes.now }
-        requires is_board { IsBoard self.old.board.products self.old.board.eligibilities self.old.board.grid }
+        requires is_board { IsBoard self.old.board.products self.old.board.eligibilities
+            self.old.board.grid }
         requires room { room ≡ room_in changes.now self.old place }
         requires positive { 0 < room }
         ensures { OnOk result (IsAppliedWhole changes.now place self.old self.new) }
@@ -138,7 +143,8 @@ impl<'a> Queue<'a> {
     /// demand of its product, so no other reduction of the product has room.
     fn wake_product(&mut self, change: &Change, rest: u64) -> Result<(), NoMemory>
         requires line { lines.product_line change.now.product < length self.old.lines }
-        requires places { All (λ place. place < length self.old.left) (line_in self.old (lines.product_line change.now.product)).places }
+        requires places { All (λ place. place < length self.old.left)
+            (line_in self.old (lines.product_line change.now.product)).places }
         ensures { OnOk result (HasWokenProduct change.now rest self.old self.new) }
     {
         if change.kind == Kind::Reduction && rest > 0 {
@@ -151,7 +157,8 @@ impl<'a> Queue<'a> {
     fn wake(&mut self, line: usize, limit: u32) -> Result<(), NoMemory>
         requires line { line < length self.old.lines }
         requires limit { limit < spent }
-        requires places { All (λ place. place < length self.old.left) (line_in self.old line).places }
+        requires places { All (λ place. place < length self.old.left)
+            (line_in self.old line).places }
         ensures { OnOk result (HasWoken line limit self.old self.new) }
     {
         if let Some(place) = self.lines.first_waiting(line, self.left.as_slice(), limit) {
@@ -169,7 +176,8 @@ impl<'a> Queue<'a> {
         requires no_room { room_in changes.now self.old self.old.admitted ≡ 0 }
         ensures kept { OnOk result (HasSoundLines changes.now self.new) }
         ensures tracked { OnOk result (IsTracking changes.now self.new self.new.ready) }
-        ensures same { OnOk result (self.new ≡ record self.old { admitted = self.old.admitted + 1; lines = self.new.lines }) }
+        ensures same { OnOk result (self.new
+            ≡ record self.old { admitted = self.old.admitted + 1; lines = self.new.lines }) }
     {
         let place = self.admitted;
         self.admitted += 1;

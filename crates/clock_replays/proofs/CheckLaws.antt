@@ -1,6 +1,7 @@
 -- The checks of a replay document, one by one as the code makes them, are those of the definition, and a document that
 -- passes all is a replay. Comparing each price with the next shows that none is above an earlier one.
-use Rattle.std.proofs.Common.{◌≡◌, ℕ, ◌+◌, ◌<◌, ◌≤◌, All, ◌&&◌, ◌==◌, Bool, true, false, nat_le, if◌then◌else◌, List, [], ◌∷◌, zero, suc, length}
+use Rattle.std.proofs.Common.{◌≡◌, ℕ, ◌+◌, ◌<◌, ◌≤◌, All, ◌&&◌, ◌==◌, Bool, true, false, nat_le, if◌then◌else◌, List}
+use Rattle.std.proofs.Common.{[], ◌∷◌, zero, suc, length}
 use Rattle.std.proofs.Common.{get_or, drop, zip, None, Some, refl, sym, ap, subst, ◌∙◌, arith}
 use Rattle.std.specs.Prelude.{EachIndex}
 use Rattle.std.specs.List.{IsAllAdjacentAnswer, list_all}
@@ -22,22 +23,25 @@ use Rattle.clock_replays.specs.declared.replay.Script.TheVariants.{Literal, Sinc
 use Rattle.clock_replays.specs.declared.replay.Closing.{Closing}
 use Rattle.clock_replays.specs.declared.replay.ScriptFault.TheVariants.{Shape, Scripts, Limits}
 use Rattle.clock_replays.specs.Replays.{NeverRises, IsScript, ReplayFields, IsReplay, is_of_version}
-use Rattle.clock_replays.specs.ReplayChecks.{never_rises, are_of_version, has_lists, limit_checks, script_checks, replay_checks}
+use Rattle.clock_replays.specs.ReplayChecks.{never_rises, are_of_version, has_lists, limit_checks, script_checks}
+use Rattle.clock_replays.specs.ReplayChecks.{replay_checks}
 
 same_count : (a b : ℕ) → a ≡ b → (a == b) ≡ true
 same_count a b h = grind (arith, nat_tests)
 
 -- if the closings and the counts have no fault, the scripts decide
-pub scripts_decide : (setup : SetupFields) (scripts : List Script) (closings : List Closing) {products : List Product} {bidders : List Bidder}
-    → products ≡ setup.products → bidders ≡ setup.bidders → are_of_version setup.version closings ≡ true → length scripts ≡ length bidders
-    → list_all (has_lists (length products)) scripts ≡ true
-    → first_fault (in_turn (script_checks products) 0 scripts) ≡ first_fault (replay_checks (record { setup = setup; scripts = scripts; closings = closings }))
+pub scripts_decide : (setup : SetupFields) (scripts : List Script) (closings : List Closing) {products : List Product}
+    {bidders : List Bidder} → products ≡ setup.products → bidders ≡ setup.bidders
+    → are_of_version setup.version closings ≡ true → length scripts ≡ length bidders
+    → list_all (has_lists (length products)) scripts ≡ true → first_fault (in_turn (script_checks products) 0 scripts)
+    ≡ first_fault (replay_checks (record { setup = setup; scripts = scripts; closings = closings }))
 unfolding replay_checks
 scripts_decide setup scripts closings {products} {bidders} same_products same_bidders of_version counted lists =
     let count = same_count _ _ (counted ∙ ap length same_bidders) in
     let each : list_all (has_lists (length setup.products)) scripts ≡ true =
     subst (λ (list : List Product). list_all (has_lists (length list)) scripts ≡ true) same_products lists in
-    ap (λ (list : List Product). first_fault (in_turn (script_checks list) 0 scripts)) same_products ∙ rw (of_version, count, each) refl
+    ap (λ (list : List Product). first_fault (in_turn (script_checks list) 0 scripts)) same_products
+    ∙ rw (of_version, count, each) refl
 
 -- ---- prices that never rise
 
@@ -58,31 +62,31 @@ absorbed false true c h = let e = h refl in cc
 absorbed false false c h = refl
 
 -- a price that is not above the one before it is not above any earlier one
-no_rise : (price next : ℕ) (rest : List ℕ) → nat_le next price ≡ true → never_rises (price ∷ next ∷ rest) ≡ never_rises (next ∷ rest)
-no_rise price next rest h =
-    ap (λ test. (test && list_all (λ p. nat_le p price) rest) && (list_all (λ p. nat_le p next) rest && never_rises rest)) h
-    ∙ absorbed _ _ _ (all_below next price rest (leb-true next price h))
+no_rise : (price next : ℕ) (rest : List ℕ) → nat_le next price ≡ true
+    → never_rises (price ∷ next ∷ rest) ≡ never_rises (next ∷ rest)
+no_rise price next rest h = ap (λ test. (test && list_all (λ p. nat_le p price) rest) && (list_all (λ p. nat_le p next)
+    rest && never_rises rest)) h ∙ absorbed _ _ _ (all_below next price rest (leb-true next price h))
 
 no_test : (test : Bool) → (test && false) ≡ false
 no_test true = refl
 no_test false = refl
 
 -- two prices after the first
-behind : (price : ℕ) (prices : List ℕ) (k d : ℕ) (test : Bool)
-    → test ≡ nat_le (get_or (price ∷ prices) (suc k + 1) d) (get_or (price ∷ prices) (suc k) d) → test ≡ nat_le (get_or prices (k + 1) d) (get_or prices k d)
+behind : (price : ℕ) (prices : List ℕ) (k d : ℕ) (test : Bool) → test ≡ nat_le (get_or (price ∷ prices) (suc k + 1) d)
+    (get_or (price ∷ prices) (suc k) d) → test ≡ nat_le (get_or prices (k + 1) d) (get_or prices k d)
 behind price prices k d test is =
     let on : suc k + 1 ≡ suc (k + 1) = omega arith in
     subst (λ (n : ℕ). test ≡ nat_le (get_or (price ∷ prices) n d) (get_or prices k d)) on is
 
 -- no price is above an earlier one exactly if none is above the one before it
-pub told_by_next : (prices : List ℕ) (told : Bool) → IsAllAdjacentAnswer (λ earlier later b. b ≡ nat_le later earlier) prices told → told ≡ never_rises prices
+pub told_by_next : (prices : List ℕ) (told : Bool)
+    → IsAllAdjacentAnswer (λ earlier later b. b ≡ nat_le later earlier) prices told → told ≡ never_rises prices
 told_by_next [] true each = refl
 told_by_next [] false rise = absurd (omega (arith, rise.1))
 told_by_next (price ∷ []) true each = refl
 told_by_next (price ∷ []) false rise = absurd (omega (arith, rise.1))
-told_by_next (price ∷ next ∷ rest) true each =
-    told_by_next (next ∷ rest) true (λ k d within. behind price (next ∷ rest) k d true (each (suc k) d (omega (arith, within))))
-    ∙ sym (no_rise price next rest (sym (each 0 0 (omega arith))))
+told_by_next (price ∷ next ∷ rest) true each = told_by_next (next ∷ rest) true (λ k d within. behind price (next ∷ rest)
+    k d true (each (suc k) d (omega (arith, within)))) ∙ sym (no_rise price next rest (sym (each 0 0 (omega arith))))
 told_by_next (price ∷ next ∷ rest) false (zero, within, rise) =
     ap (λ test. (test && list_all (λ p. nat_le p price) rest) && never_rises (next ∷ rest)) (rise 0)
 told_by_next (price ∷ next ∷ rest) false (suc k, within, rise) =
@@ -96,7 +100,8 @@ falling_of_test [] h = λ i j d lt within. absurd (omega arith)
 falling_of_test (price ∷ prices) h =
     let both = and_parts _ _ h in
     let each = AllPass-from_list_all (λ later. nat_le later price) prices both.0 in
-    AllPairs-cons (λ earlier later. later ≤ earlier) price prices (λ k d lt. leb-true _ price (each k d lt)) (falling_of_test prices both.1)
+    AllPairs-cons (λ earlier later. later ≤ earlier) price prices (λ k d lt. leb-true _ price (each k d lt))
+    (falling_of_test prices both.1)
 
 -- ---- limits
 
@@ -104,9 +109,9 @@ falling_of_test (price ∷ prices) h =
 abbrev pub are_limits : Product → List ℕ → Bool
 are_limits product prices = nat_le (length prices) product.cap && never_rises prices
 
-zip_at : (products : List Product) (limits : List (List ℕ)) (i : ℕ) (product : Product) (prices : List ℕ) → length limits ≡ length products → i < length limits
-    → product ≡ get_or products i product → prices ≡ get_or limits i prices
-    → (product, prices) ≡ get_or (zip products limits) i (product, prices)
+zip_at : (products : List Product) (limits : List (List ℕ)) (i : ℕ) (product : Product) (prices : List ℕ)
+    → length limits ≡ length products → i < length limits → product ≡ get_or products i product
+    → prices ≡ get_or limits i prices → (product, prices) ≡ get_or (zip products limits) i (product, prices)
 zip_at products limits i product prices same h first second =
     let within : i < length products = omega arith in
     ap (λ x. (x, prices)) first ∙ ap (λ y. (get_or products i product, y)) second
@@ -118,30 +123,29 @@ unfolding limit_checks
 one_list bidder i product prices b is = rw is refl
 
 -- the next limits have a fault
-pub limits_failed : (bidder : ℕ) (products : List Product) (limits : List (List ℕ)) (i : ℕ) (product : Product) (prices : List ℕ)
-    → length limits ≡ length products → i < length limits → product ≡ get_or products i product → prices ≡ row_of limits i
-    → are_limits product prices ≡ false
+pub limits_failed : (bidder : ℕ) (products : List Product) (limits : List (List ℕ)) (i : ℕ) (product : Product)
+    (prices : List ℕ) → length limits ≡ length products → i < length limits → product ≡ get_or products i product
+    → prices ≡ row_of limits i → are_limits product prices ≡ false
     → first_fault (in_turn (limit_checks bidder) i (drop i (zip products limits))) ≡ Some (Limits bidder i)
 limits_failed bidder products limits i product prices same h first listed is =
     turn_failed (limit_checks bidder) (zip products limits) i (product, prices) (Limits bidder i)
-    (omega (arith, length-zip products limits)) (zip_at products limits i product prices same h first (listed ∙ get_or_default limits i [] prices h))
-    (one_list bidder i product prices false is)
+    (omega (arith, length-zip products limits)) (zip_at products limits i product prices same h first
+    (listed ∙ get_or_default limits i [] prices h)) (one_list bidder i product prices false is)
 
 -- the next limits have no fault
-pub limits_passed : (bidder : ℕ) (products : List Product) (limits : List (List ℕ)) (i : ℕ) (product : Product) (prices : List ℕ)
-    → length limits ≡ length products → i < length limits → product ≡ get_or products i product → prices ≡ row_of limits i
-    → are_limits product prices ≡ true
-    → first_fault (in_turn (limit_checks bidder) i (drop i (zip products limits)))
-    ≡ first_fault (in_turn (limit_checks bidder) (i + 1) (drop (i + 1) (zip products limits)))
-limits_passed bidder products limits i product prices same h first listed is =
-    turn_passed (limit_checks bidder) (zip products limits) i (product, prices)
-    (omega (arith, length-zip products limits)) (zip_at products limits i product prices same h first (listed ∙ get_or_default limits i [] prices h))
-    (one_list bidder i product prices true is)
+pub limits_passed : (bidder : ℕ) (products : List Product) (limits : List (List ℕ)) (i : ℕ) (product : Product)
+    (prices : List ℕ) → length limits ≡ length products → i < length limits → product ≡ get_or products i product
+    → prices ≡ row_of limits i → are_limits product prices ≡ true → first_fault (in_turn (limit_checks bidder) i (drop i
+    (zip products limits))) ≡ first_fault (in_turn (limit_checks bidder) (i + 1) (drop (i + 1) (zip products limits)))
+limits_passed bidder products limits i product prices same h first listed is = turn_passed (limit_checks bidder) (zip
+    products limits) i (product, prices) (omega (arith, length-zip products limits)) (zip_at products limits i product
+    prices same h first (listed ∙ get_or_default limits i [] prices h)) (one_list bidder i product prices true is)
 
 -- no limits are left
 pub limits_end : (bidder : ℕ) (products : List Product) (limits : List (List ℕ)) (i : ℕ) → length limits ≤ i
     → first_fault (in_turn (limit_checks bidder) i (drop i (zip products limits))) ≡ None
-limits_end bidder products limits i h = turn_none (limit_checks bidder) (zip products limits) i (omega (arith, length-zip products limits))
+limits_end bidder products limits i h =
+    turn_none (limit_checks bidder) (zip products limits) i (omega (arith, length-zip products limits))
 
 -- ---- what passes the checks
 
@@ -154,8 +158,8 @@ three_passed first second third true true false rest h = cc
 three_passed first second third true false c rest h = cc
 three_passed first second third false b c rest h = cc
 
-limits_of_checks : (bidder i : ℕ) (product : Product) (prices : List ℕ) → first_fault (limit_checks bidder i (product, prices)) ≡ None
-    → are_limits product prices ≡ true
+limits_of_checks : (bidder i : ℕ) (product : Product) (prices : List ℕ)
+    → first_fault (limit_checks bidder i (product, prices)) ≡ None → are_limits product prices ≡ true
 unfolding limit_checks
 limits_of_checks bidder i product prices h = only (are_limits product prices) h
   where
@@ -168,15 +172,16 @@ pub record AreWithin (products : List Product) (limits : List (List ℕ)) : Type
   pub capped : EachIndex limits (λ product. length (row_of limits product) ≤ cap_of products product)
   pub falling : All NeverRises limits
 
-one_more : (product : Product) (products : List Product) (prices : List ℕ) (limits : List (List ℕ)) → are_limits product prices ≡ true
-    → AreWithin products limits → AreWithin (product ∷ products) (prices ∷ limits)
+one_more : (product : Product) (products : List Product) (prices : List ℕ) (limits : List (List ℕ))
+    → are_limits product prices ≡ true → AreWithin products limits → AreWithin (product ∷ products) (prices ∷ limits)
 one_more product products prices limits is others =
     let both = and_parts _ _ is in record {
       capped = capped_at;
       falling = All-cons NeverRises prices limits (falling_of_test prices both.1) others.falling;
     }
   where
-    capped_at : (k : ℕ) → k < length (prices ∷ limits) → length (row_of (prices ∷ limits) k) ≤ cap_of (product ∷ products) k
+    capped_at : (k : ℕ) → k < length (prices ∷ limits)
+        → length (row_of (prices ∷ limits) k) ≤ cap_of (product ∷ products) k
     capped_at zero h = leb-true _ _ (and_parts (nat_le (length prices) product.cap) (never_rises prices) is).0
     capped_at (suc k) h = others.capped k (omega arith)
 
@@ -199,8 +204,8 @@ script_within products bidder (Sincere limits) lists h =
     let within = limits_within bidder 0 products limits same h in
     record { each = same; capped = within.capped; falling = within.falling }
 
-scripts_within : (products : List Product) (i : ℕ) (scripts : List Script) → list_all (has_lists (length products)) scripts ≡ true
-    → first_fault (in_turn (script_checks products) i scripts) ≡ None → All (IsScript products) scripts
+scripts_within : (products : List Product) (i : ℕ) (scripts : List Script) → list_all (has_lists (length products))
+    scripts ≡ true → first_fault (in_turn (script_checks products) i scripts) ≡ None → All (IsScript products) scripts
 scripts_within products i [] lists h = All-nil (IsScript products)
 scripts_within products i (script ∷ scripts) lists h =
     let lists_both = and_parts _ _ lists in
@@ -209,12 +214,15 @@ scripts_within products i (script ∷ scripts) lists h =
     (scripts_within products (i + 1) scripts lists_both.1 both.1)
 
 -- a document that passes the checks is a replay
-pub replay_within : (replay : ReplayFields) → IsSetup replay.setup → first_fault (replay_checks replay) ≡ None → IsReplay replay
+pub replay_within : (replay : ReplayFields) → IsSetup replay.setup
+    → first_fault (replay_checks replay) ≡ None → IsReplay replay
 unfolding replay_checks
 replay_within replay limits h =
-    let passed = three_passed Shape Scripts Shape (are_of_version replay.setup.version replay.closings) (length replay.scripts == length replay.setup.bidders)
-    (list_all (has_lists (length replay.setup.products)) replay.scripts) (in_turn (script_checks replay.setup.products) 0 replay.scripts) h in
-    let each = AllPass-from_list_all (λ closing. is_of_version replay.setup.version closing.increments) replay.closings passed.0 in
+    let passed = three_passed Shape Scripts Shape (are_of_version replay.setup.version replay.closings)
+    (length replay.scripts == length replay.setup.bidders) (list_all (has_lists (length replay.setup.products))
+    replay.scripts) (in_turn (script_checks replay.setup.products) 0 replay.scripts) h in
+    let each =
+    AllPass-from_list_all (λ closing. is_of_version replay.setup.version closing.increments) replay.closings passed.0 in
     record {
       setup = limits;
       each = eqb-true _ _ passed.1;

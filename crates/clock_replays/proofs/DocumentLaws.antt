@@ -18,7 +18,8 @@ use Rattle.clock_replays.specs.ReplayChecks.{replay_checks}
 use Rattle.clock_replays.specs.ReplayDocument.{replay_with, in_replay, replay_of}
 
 -- a document with its shape and a set-up is decided by its other checks
-pub replay_at : (value : Data) (parts : ReplayParts) (setup : SetupFields) → parts_of value ≡ Some parts → setup_of parts.setup ≡ Ok setup
+pub replay_at : (value : Data) (parts : ReplayParts) (setup : SetupFields) → parts_of value ≡ Some parts
+    → setup_of parts.setup ≡ Ok setup
     → replay_of value ≡ unless (first_fault (replay_checks (replay_with setup parts))) (replay_with setup parts)
 unfolding replay_of
 replay_at value parts setup read held = rw (read, held) refl
@@ -46,32 +47,37 @@ pub no_setup : (value : Data) → get (codes "setup") value ≡ None → replay_
 unfolding parts_of
 no_setup value none = replay_shape value (rw none refl)
 
-pub no_scripts : (value setup : Data) → get (codes "setup") value ≡ Some setup → scripts_in value ≡ None → replay_of value ≡ Err Shape
+pub no_scripts : (value setup : Data) → get (codes "setup") value ≡ Some setup → scripts_in value ≡ None
+    → replay_of value ≡ Err Shape
 unfolding parts_of
 no_scripts value setup held none = replay_shape value (rw (held, none) refl)
 
-pub no_closings : (value setup : Data) (scripts : List Script) → get (codes "setup") value ≡ Some setup → scripts_in value ≡ Some scripts
-    → closings_in value ≡ None → replay_of value ≡ Err Shape
+pub no_closings : (value setup : Data) (scripts : List Script) → get (codes "setup") value ≡ Some setup
+    → scripts_in value ≡ Some scripts → closings_in value ≡ None → replay_of value ≡ Err Shape
 unfolding parts_of
 no_closings value setup scripts held known none = replay_shape value (rw (held, known, none) refl)
 
-pub other_members : (value setup : Data) (scripts : List Script) (closings : List Closing) → get (codes "setup") value ≡ Some setup
-    → scripts_in value ≡ Some scripts → closings_in value ≡ Some closings → has_members 3 value ≡ false → replay_of value ≡ Err Shape
+pub other_members : (value setup : Data) (scripts : List Script) (closings : List Closing)
+    → get (codes "setup") value ≡ Some setup → scripts_in value ≡ Some scripts → closings_in value ≡ Some closings
+    → has_members 3 value ≡ false → replay_of value ≡ Err Shape
 unfolding parts_of
-other_members value setup scripts closings held known last other = replay_shape value (rw (held, known, last, other) refl)
+other_members value setup scripts closings held known last other =
+    replay_shape value (rw (held, known, last, other) refl)
 
 -- the parts of a document that has its shape
-pub parts_read : (value setup : Data) (scripts : List Script) (closings : List Closing) → get (codes "setup") value ≡ Some setup
-    → scripts_in value ≡ Some scripts → closings_in value ≡ Some closings → has_members 3 value ≡ true
+pub parts_read : (value setup : Data) (scripts : List Script) (closings : List Closing) → get (codes "setup") value
+    ≡ Some setup → scripts_in value ≡ Some scripts → closings_in value ≡ Some closings → has_members 3 value ≡ true
     → parts_of value ≡ Some (record { setup = setup; scripts = scripts; closings = closings })
 unfolding parts_of
 parts_read value setup scripts closings held known last whole = rw (held, known, last, whole) refl
 
 -- if `ok_or` returns an error, there was no value
-pub not_there : {A E : Type 0} (read : Option A) (told fault : E) → Err fault ≡ ok_or read told → (read ≡ None) × (fault ≡ told)
+pub not_there : {A E : Type 0} (read : Option A) (told fault : E) → Err fault ≡ ok_or read told
+    → (read ≡ None) × (fault ≡ told)
 not_there None told fault is = (refl, cc)
 not_there (Some found) told fault is = absurd (cc)
 
 -- a set-up that is refused
-pub in_setup : (answer : Result SetupFields SetupFault) (fault : SetupFault) → answer ≡ Err fault → in_replay answer ≡ Err (Setup fault)
+pub in_setup : (answer : Result SetupFields SetupFault) (fault : SetupFault) → answer ≡ Err fault
+    → in_replay answer ≡ Err (Setup fault)
 in_setup answer fault is = ap in_replay is

@@ -1,6 +1,7 @@
 -- Rows in one list, with the index at which each ends: where the row at an index begins and ends, and what one more row
 -- adds. By induction over the ends.
-use Rattle.std.proofs.Common.{◌≡◌, ℕ, ◌+◌, ◌-◌, ◌<◌, ◌≤◌, zero, suc, List, [], ◌∷◌, ◌++◌, length, take, drop, get_or, refl, sym, ap, subst, ◌∙◌, arith}
+use Rattle.std.proofs.Common.{◌≡◌, ℕ, ◌+◌, ◌-◌, ◌<◌, ◌≤◌, zero, suc, List, [], ◌∷◌, ◌++◌, length, take, drop, get_or}
+use Rattle.std.proofs.Common.{refl, sym, ap, subst, ◌∙◌, arith}
 use Rattle.std.proofs.lemmas.List.{take_all, drop_all, take-append-le, drop-append-le, length-append, length-drop}
 use Rattle.clock_replays.specs.EndedRows.{rows_from}
 use Rattle.clock_replays.specs.inside.EndedRows.{AreEnds}
@@ -13,7 +14,8 @@ length-rows start (end ∷ ends) numbers = ap (λ n. suc n) (length-rows end end
 
 -- a row begins where the one before it ends, and the first at start
 pub row_at : (start : ℕ) (ends numbers : List ℕ) (place : ℕ) → place < length ends
-    → get_or (rows_from start ends numbers) place [] ≡ take (get_or ends place 0 - get_or (start ∷ ends) place 0) (drop (get_or (start ∷ ends) place 0) numbers)
+    → get_or (rows_from start ends numbers) place []
+    ≡ take (get_or ends place 0 - get_or (start ∷ ends) place 0) (drop (get_or (start ∷ ends) place 0) numbers)
 unfolding rows_from
 row_at start [] numbers place within = absurd (omega arith)
 row_at start (end ∷ ends) numbers zero within = refl
@@ -39,8 +41,8 @@ pub rows_more : (start : ℕ) (ends numbers row : List ℕ) → AreEnds start en
 unfolding rows_from AreEnds
 rows_more start [] numbers row are =
     let whole : length (numbers ++ row) ≡ length numbers + length row = length-append numbers row in
-    let behind : drop start (numbers ++ row) ≡ row =
-    drop-append-le start numbers row (omega (arith, are)) ∙ ap (λ none. none ++ row) (drop_all start numbers (omega (arith, are))) in
+    let behind : drop start (numbers ++ row) ≡ row = drop-append-le start numbers row (omega (arith, are))
+    ∙ ap (λ none. none ++ row) (drop_all start numbers (omega (arith, are))) in
     ap (λ rest. take (length (numbers ++ row) - start) rest ∷ []) behind
     ∙ ap (λ all. all ∷ []) (take_all (length (numbers ++ row) - start) row (omega (arith, whole, are)))
 rows_more start (end ∷ ends) numbers row are =
@@ -53,22 +55,27 @@ rows_more start (end ∷ ends) numbers row are =
     ∙ ap (λ rows. take (end - start) (drop start numbers) ∷ rows) (rows_more end ends numbers row are.1)
 
 -- one more end may follow, if it is not before the last
-pub ends_more : (start : ℕ) (ends : List ℕ) (whole more : ℕ) → AreEnds start ends whole → whole ≤ more → AreEnds start (ends ++ more ∷ []) more
+pub ends_more : (start : ℕ) (ends : List ℕ) (whole more : ℕ) → AreEnds start ends whole → whole ≤ more
+    → AreEnds start (ends ++ more ∷ []) more
 unfolding AreEnds
 ends_more start [] whole more are above = (omega (arith, are, above), refl)
 ends_more start (end ∷ ends) whole more are above = (are.0, ends_more end ends whole more are.1 above)
 
 -- no rows
-pub no_rows : (ends numbers : List ℕ) → ends ≡ [] → numbers ≡ [] → (rows_from 0 ends numbers ≡ []) × AreEnds 0 ends (length numbers)
+pub no_rows : (ends numbers : List ℕ) → ends ≡ [] → numbers ≡ []
+    → (rows_from 0 ends numbers ≡ []) × AreEnds 0 ends (length numbers)
 unfolding rows_from AreEnds
 no_rows ends numbers none empty = rw (none, empty) (refl, refl)
 
 -- one more row
-pub one_more : (ends numbers row after : List ℕ) (end : ℕ) → AreEnds 0 ends (length numbers) → after ≡ numbers ++ row → end ≡ length after
-    → (rows_from 0 (ends ++ end ∷ []) after ≡ rows_from 0 ends numbers ++ row ∷ []) × AreEnds 0 (ends ++ end ∷ []) (length after)
+pub one_more : (ends numbers row after : List ℕ) (end : ℕ) → AreEnds 0 ends (length numbers) → after ≡ numbers ++ row
+    → end ≡ length after → (rows_from 0 (ends ++ end ∷ []) after ≡ rows_from 0 ends numbers ++ row ∷ [])
+    × AreEnds 0 (ends ++ end ∷ []) (length after)
 one_more ends numbers row after end are is last =
     let whole : length after ≡ length numbers + length row = ap length is ∙ length-append numbers row in
     let ending : end ≡ length (numbers ++ row) = last ∙ ap length is in (
-      ap (λ n. rows_from 0 (ends ++ n ∷ []) after) ending ∙ ap (rows_from 0 (ends ++ length (numbers ++ row) ∷ [])) is ∙ rows_more 0 ends numbers row are,
-      subst (λ n. AreEnds 0 (ends ++ n ∷ []) (length after)) (sym last) (ends_more 0 ends (length numbers) (length after) are (omega (arith, whole))),
+      ap (λ n. rows_from 0 (ends ++ n ∷ []) after) ending ∙ ap (rows_from 0 (ends ++ length (numbers ++ row) ∷ [])) is
+          ∙ rows_more 0 ends numbers row are,
+      subst (λ n. AreEnds 0 (ends ++ n ∷ []) (length after)) (sym last)
+          (ends_more 0 ends (length numbers) (length after) are (omega (arith, whole))),
     )

@@ -1,6 +1,7 @@
 -- Version 2 did not change what a set-up of version 1 means. Each part of the law computes, case by case, to what
 -- version 1 says.
-use Rattle.std.proofs.Common.{◌≡◌, ℕ, suc, zero, ◌≤◌, Bool, true, false, List, ◌∷◌, Option, Some, None, Err, codes, refl, ap, ◌∙◌, replicate, arith}
+use Rattle.std.proofs.Common.{◌≡◌, ℕ, suc, zero, ◌≤◌, Bool, true, false, List, ◌∷◌, Option, Some, None, Err, codes}
+use Rattle.std.proofs.Common.{refl, ap, ◌∙◌, replicate, arith}
 use Rattle.std.specs.Prelude.{if◌then◌else◌, option_and_then, option_map}
 use Rattle.serde_json.specs.Data.{Data, Items, no_items, item}
 use Rattle.clock_money.proofs.PriceLaws.{raises_by_dollars}
@@ -25,20 +26,29 @@ product_same value = refl
 
 products_same : (items : Items) → each (product_of 1) items ≡ each first_product items
 products_same no_items = refl
-products_same (item value items) =
-    ap (λ (first : Option Product). first >>= λ first. (each (product_of 1) items >>= λ rest. Some (first ∷ rest))) (product_same value)
-    ∙ ap (λ (rest : Option (List Product)). first_product value >>= λ first. (rest >>= λ rest. Some (first ∷ rest))) (products_same items)
+products_same (item value items) = ap (λ (first : Option Product). first >>= λ first. (each (product_of 1) items
+    >>= λ rest. Some (first ∷ rest))) (product_same value) ∙ ap (λ (rest : Option (List Product)). first_product value
+    >>= λ first. (rest >>= λ rest. Some (first ∷ rest))) (products_same items)
 
-listed_same : (items : Option Items) → option_and_then (each (product_of 1)) items ≡ option_and_then (each first_product) items
+listed_same : (items : Option Items)
+    → option_and_then (each (product_of 1)) items ≡ option_and_then (each first_product) items
 listed_same None = refl
 listed_same (Some items) = products_same items
 
 setup_same : (value : Data) → number_at (codes "version") value ≡ Some 1 → fields_of value ≡ first_setup value
 unfolding fields_of first_setup
 setup_same value first = rw first (ap (λ (products : Option (List Product)).
-    number_at (codes "requirement") value >>= λ requirement. (text_at (codes "operator") value >>= λ operator. (products >>= λ products.
+    number_at (codes "requirement") value
+    >>= λ requirement. (text_at (codes "operator") value >>= λ operator. (products >>= λ products.
     (option_and_then (each bidder_of) (items_at (codes "bidders") value) >>= λ bidders. if has_members 5 value
-    then Some (record { version = 1; limit = 100; requirement = requirement; operator = operator; products = products; bidders = bidders })
+    then Some (record {
+      version = 1;
+      limit = 100;
+      requirement = requirement;
+      operator = operator;
+      products = products;
+      bidders = bidders;
+    })
     else None)))) (listed_same (items_at (codes "products") value)))
 
 -- a list of increments is not a closing of version 1
@@ -66,9 +76,8 @@ closing_same (Some round) (Some increment) items (Some ties) false = refl
 body_same : (value : Option Data) → in_version 1 (meant_by close_of value) ≡ meant_by first_closing value
 unfolding close_of first_closing
 body_same None = refl
-body_same (Some value) =
-    closing_same (number_at (codes "round") value) (number_at (codes "increment") value) (items_at (codes "increments") value)
-    (option_and_then (each tie_of) (items_at (codes "ties") value)) (has_members 3 value)
+body_same (Some value) = closing_same (number_at (codes "round") value) (number_at (codes "increment") value) (items_at
+    (codes "increments") value) (option_and_then (each tie_of) (items_at (codes "ties") value)) (has_members 3 value)
 
 bodies_same : (bytes : List ℕ) → in_version 1 (close_body bytes) ≡ first_body bytes
 unfolding close_body

@@ -50,13 +50,15 @@ script_means (Sincere limits) = rw (each_means row_of numbers row_means limits) 
 abbrev closing : Increments → List Tie → Closing
 closing increments ties = record { increments = increments; ties = ties }
 
-closing_means : (increments : Increments) (ties : List Tie) → closing_from (closing_data (closing increments ties)) ≡ Some (closing increments ties)
+closing_means : (increments : Increments) (ties : List Tie)
+    → closing_from (closing_data (closing increments ties)) ≡ Some (closing increments ties)
 unfolding closing_from
 closing_means (Single increment) ties = rw (each_means tie_of tie_data tie_means ties) refl
-closing_means (PerProduct increments) ties = rw (each_means number_from whole number_means increments, each_means tie_of tie_data tie_means ties) refl
+closing_means (PerProduct increments) ties =
+    rw (each_means number_from whole number_means increments, each_means tie_of tie_data tie_means ties) refl
 
-parts_mean : (setup : Data) (scripts : List Script) (closings : List Closing)
-    → parts_of (replay_data setup scripts closings) ≡ Some (record { setup = setup; scripts = scripts; closings = closings })
+parts_mean : (setup : Data) (scripts : List Script) (closings : List Closing) → parts_of
+    (replay_data setup scripts closings) ≡ Some (record { setup = setup; scripts = scripts; closings = closings })
 unfolding parts_of
 parts_mean setup scripts closings =
     rw (
@@ -65,9 +67,10 @@ parts_mean setup scripts closings =
     ) refl
 
 -- a document that is the value of a replay is decided by the checks after those of the set-up
-pub replay_read : (bytes : List ℕ) (found : NestedSetup × List Script × List Closing) → IsUtf8 bytes → read bytes ≡ Some (found_data found)
-    → document_replay bytes ≡ unless (first_fault (replay_checks (all_of found))) (all_of found)
+pub replay_read : (bytes : List ℕ) (found : NestedSetup × List Script × List Closing) → IsUtf8 bytes → read bytes ≡ Some
+    (found_data found) → document_replay bytes ≡ unless (first_fault (replay_checks (all_of found))) (all_of found)
 unfolding document_replay
 replay_read bytes found text is =
     let parts : ReplayParts = record { setup = setup_data found.0.setup; scripts = found.1; closings = found.2 } in
-    rw (json_value bytes (found_data found) text is) (replay_at (found_data found) parts found.0.setup (parts_mean (setup_data found.0.setup) found.1 found.2) found.0.accepted)
+    rw (json_value bytes (found_data found) text is) (replay_at (found_data found) parts found.0.setup
+    (parts_mean (setup_data found.0.setup) found.1 found.2) found.0.accepted)

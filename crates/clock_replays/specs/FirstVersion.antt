@@ -3,13 +3,15 @@
 --     first_closing value, first_body bytes      the closing that a JSON value means, and that the
 --         bytes of a body mean
 --     FirstVersion      the law: version 2 did not change what a set-up of version 1 means
-use Rattle.std.specs.Prelude.{◌≡◌, ◌↔◌, ℕ, ◌+◌, ◌*◌, ◌≤◌, ◌<◌, List, replicate, Option, Some, None, Result}
+use Rattle.std.specs.Prelude.{◌≡◌, ◌↔◌, ℕ, ◌+◌, ◌*◌, ◌≤◌, ◌<◌, List, replicate, Option, Some, None}
+use Rattle.std.specs.Prelude.{Result}
 use Rattle.std.specs.Prelude.{option_and_then, if◌then◌else◌, codes}
 use Rattle.serde_json.specs.Data.{Data}
 use Rattle.clock_money.specs.Price.{IsLeastWith, highest_price, raise}
 use Rattle.clock_terms.specs.declared.setup.Product.{Product}
 use Rattle.clock_terms.specs.declared.increments.Increments.TheVariants.{Single, PerProduct}
-use Rattle.clock_terms.specs.Limits.{SetupFields, PublicSetup, IsSetup, IsOfFirstVersion, first_granule, first_limit}
+use Rattle.clock_terms.specs.Limits.{SetupFields, PublicSetup, IsSetup, IsOfFirstVersion}
+use Rattle.clock_terms.specs.Limits.{first_granule, first_limit}
 use Rattle.clock_terms.specs.Increments.{increment_at, are_increments}
 use Rattle.clock_json.specs.Tree.{number_at, text_at, items_at, has_members, each, json, ◌>>=◌}
 use Rattle.clock_bids.specs.Holding.{activity_limit}
@@ -28,7 +30,14 @@ first_product value = do
   cap ← number_at (codes "cap") value
   opening ← number_at (codes "opening") value
   if has_members 5 value
-      then Some (record { name = name; units = units; supply = supply; cap = cap; opening = opening; granule = 1 })
+      then Some (record {
+        name = name;
+        units = units;
+        supply = supply;
+        cap = cap;
+        opening = opening;
+        granule = 1;
+      })
       else None
 
 -- {"version":1,"requirement":N,"operator":T,"products":[PRODUCT,..],"bidders":[BIDDER,..]}
@@ -39,7 +48,14 @@ first_setup value = do
   products ← option_and_then (each first_product) (items_at (codes "products") value)
   bidders ← option_and_then (each bidder_of) (items_at (codes "bidders") value)
   if has_members 5 value
-      then Some (record { version = 1; limit = 100; requirement = requirement; operator = operator; products = products; bidders = bidders })
+      then Some (record {
+        version = 1;
+        limit = 100;
+        requirement = requirement;
+        operator = operator;
+        products = products;
+        bidders = bidders;
+      })
       else None
 
 -- {"increment":N,"round":N,"ties":[TIE,..]}
@@ -48,7 +64,8 @@ first_closing value = do
   round ← number_at (codes "round") value
   increment ← number_at (codes "increment") value
   ties ← option_and_then (each tie_of) (items_at (codes "ties") value)
-  if has_members 3 value then Some (record { round = round; increments = Single increment; ties = ties }) else None
+  if has_members 3 value
+      then Some (record { round = round; increments = Single increment; ties = ties }) else None
 
 -- the closing of version 1 that bytes mean, or their first fault
 abbrev pub first_body : List ℕ → Result CloseBody BodyFault
@@ -59,13 +76,15 @@ first_body bytes = meant_by first_closing (json bytes)
 -- whole price that is high enough, and one increment means a list of it for each product.
 pub record FirstVersion : Type 0 where
   pub setups : (setup : SetupFields) → IsSetup setup → setup.version ≡ 1 → IsOfFirstVersion setup
-  pub documents : (value : Data) → number_at (codes "version") value ≡ Some 1 → fields_of value ≡ first_setup value
+  pub documents : (value : Data) → number_at (codes "version") value ≡ Some 1
+      → fields_of value ≡ first_setup value
   pub bodies : (bytes : List ℕ) → in_version 1 (close_body bytes) ≡ first_body bytes
   pub limit : (setup : PublicSetup) (round eligibility : ℕ) → setup.limit ≡ first_limit
       → activity_limit setup round eligibility ≡ eligibility
   pub clock : (start percent price : ℕ) → (raise start percent first_granule ≡ Some price)
-      ↔ (IsLeastWith (λ whole. start * (100 + percent) ≤ 100 * whole) price × (price ≤ highest_price))
-  pub increment : (count increment product : ℕ) → product < count
-      → increment_at (PerProduct (replicate count increment)) product ≡ increment_at (Single increment) product
-  pub judged : (count increment : ℕ) → 1 ≤ count
-      → are_increments count (PerProduct (replicate count increment)) ≡ are_increments count (Single increment)
+      ↔ (IsLeastWith (λ whole. start * (100 + percent) ≤ 100 * whole) price
+      × (price ≤ highest_price))
+  pub increment : (count increment product : ℕ) → product < count → increment_at
+      (PerProduct (replicate count increment)) product ≡ increment_at (Single increment) product
+  pub judged : (count increment : ℕ) → 1 ≤ count → are_increments count
+      (PerProduct (replicate count increment)) ≡ are_increments count (Single increment)

@@ -8,7 +8,8 @@ use Rattle.std.specs.List.{range_with_len}
 unfoldable pub limits_for : List ℕ → List (List ℕ) → ℕ → List ℕ
 limits_for [] rows product = []
 limits_for (limited ∷ products) [] product = []
-limits_for (limited ∷ products) (row ∷ rows) product = if limited == product then row else limits_for products rows product
+limits_for (limited ∷ products) (row ∷ rows) product =
+    if limited == product then row else limits_for products rows product
 
 -- the limits for each of `count` products
 abbrev pub limits_of : ℕ → List ℕ → List (List ℕ) → List (List ℕ)

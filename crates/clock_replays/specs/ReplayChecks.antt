@@ -22,7 +22,8 @@ never_rises (price ∷ prices) = list_all (λ later. nat_le later price) prices 
 
 -- each closing has the form of the version
 abbrev pub are_of_version : ℕ → List Closing → Bool
-are_of_version version closings = list_all (λ closing. is_of_version version closing.increments) closings
+are_of_version version closings =
+    list_all (λ closing. is_of_version version closing.increments) closings
 
 -- a sincere script has `count` lists of limits, one for each product
 abbrev pub has_lists : ℕ → Script → Bool
@@ -31,12 +32,14 @@ has_lists count (Sincere limits) = length limits == count
 
 -- a list of limits is no longer than the product's cap, and never rises
 unfoldable pub limit_checks : ℕ → ℕ → Product × List ℕ → List (ScriptFault × Bool)
-limit_checks bidder product line = (Limits bidder product, nat_le (length line.1) line.0.cap && never_rises line.1) ∷ []
+limit_checks bidder product line =
+    (Limits bidder product, nat_le (length line.1) line.0.cap && never_rises line.1) ∷ []
 
 -- the limits of a sincere script, product by product
 unfoldable pub script_checks : List Product → ℕ → Script → List (ScriptFault × Bool)
 script_checks products bidder (Literal sheets) = []
-script_checks products bidder (Sincere limits) = in_turn (limit_checks bidder) 0 (zip products limits)
+script_checks products bidder (Sincere limits) =
+    in_turn (limit_checks bidder) 0 (zip products limits)
 
 -- in order: the form of closings, the number of scripts, the number of lists of limits, the limits
 unfoldable pub replay_checks : ReplayFields → List (ScriptFault × Bool)

@@ -16,7 +16,8 @@ use Rattle.clock_replays.specs.ReplayChecks.{replay_checks}
 
 -- the set-up with the other parts of its document
 abbrev pub replay_with : SetupFields → ReplayParts → ReplayFields
-replay_with setup parts = record { setup = setup; scripts = parts.scripts; closings = parts.closings }
+replay_with setup parts =
+    record { setup = setup; scripts = parts.scripts; closings = parts.closings }
 
 -- a fault of the set-up is one of the document
 abbrev pub in_replay : Result SetupFields SetupFault → Result SetupFields ScriptFault

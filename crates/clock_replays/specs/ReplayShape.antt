@@ -2,7 +2,8 @@
 --     sheet_of value      a sheet of a literal script, or none
 --     script_of value, closing_from value      an item of "scripts" and of "closings"
 --     parts_of value      the whole document, before its set-up is read or parts are compared
-use Rattle.std.specs.Prelude.{ℕ, List, Option, Some, None, option_and_then, option_map, is_some, if◌then◌else◌, codes}
+use Rattle.std.specs.Prelude.{ℕ, List, Option, Some, None, option_and_then, option_map, is_some}
+use Rattle.std.specs.Prelude.{if◌then◌else◌, codes}
 use Rattle.std.specs.Str.{bytes_eq}
 use Rattle.serde_json.specs.Data.{Data}
 use Rattle.serde_json.specs.Find.{get, as_null, as_array}
@@ -22,14 +23,15 @@ pub record ReplayParts : Type 0 where
 
 -- null for no sheet, or [BID,..]
 unfoldable pub sheet_of : Data → Option (Option (List Bid))
-sheet_of value =
-    if is_some (as_null value) then Some None else option_map Some (option_and_then (each bid_of) (as_array value))
+sheet_of value = if is_some (as_null value) then Some None
+    else option_map Some (option_and_then (each bid_of) (as_array value))
 
 -- the member that a kind requires: "sheets":[SHEET,..], or "limits":[[N,..],..]
 abbrev pub script_by_kind : List ℕ → Data → Option Script
-script_by_kind kind value =
-    if bytes_eq kind (codes "literal") then option_map Literal (option_and_then (each sheet_of) (items_at (codes "sheets") value))
-    else (if bytes_eq kind (codes "sincere") then option_map Sincere (option_and_then (each row_of) (items_at (codes "limits") value)) else None)
+script_by_kind kind value = if bytes_eq kind (codes "literal")
+    then option_map Literal (option_and_then (each sheet_of) (items_at (codes "sheets") value))
+    else (if bytes_eq kind (codes "sincere") then option_map Sincere
+    (option_and_then (each row_of) (items_at (codes "limits") value)) else None)
 
 -- {"kind":"literal","sheets":[SHEET,..]} or {"kind":"sincere","limits":[[N,..],..]}
 unfoldable pub script_of : Data → Option Script
@@ -50,4 +52,5 @@ parts_of value = do
   setup ← get (codes "setup") value
   scripts ← option_and_then (each script_of) (items_at (codes "scripts") value)
   closings ← option_and_then (each closing_from) (items_at (codes "closings") value)
-  if has_members 3 value then Some (record { setup = setup; scripts = scripts; closings = closings }) else None
+  if has_members 3 value
+      then Some (record { setup = setup; scripts = scripts; closings = closings }) else None

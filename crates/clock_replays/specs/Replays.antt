@@ -21,7 +21,8 @@ NeverRises prices = AllPairs (λ earlier later. later ≤ earlier) prices
 -- for each product a list of limits that never rises and is no longer than its cap
 pub record IsLimits (products : List Product) (limits : List (List ℕ)) : Type 0 where
   pub each : length limits ≡ length products
-  pub capped : EachIndex limits (λ product. length (row_of limits product) ≤ cap_of products product)
+  pub capped : EachIndex limits
+      (λ product. length (row_of limits product) ≤ cap_of products product)
   pub falling : All NeverRises limits
 
 -- a literal script may have any sheets; a sincere one has limits for the products
@@ -40,4 +41,5 @@ pub record IsReplay (replay : ReplayFields) : Type 0 where
   pub setup : IsSetup replay.setup
   pub each : length replay.scripts ≡ length replay.setup.bidders
   pub scripts : All (IsScript replay.setup.products) replay.scripts
-  pub closings : All (λ closing. is_of_version replay.setup.version closing.increments ≡ true) replay.closings
+  pub closings : All (λ closing. is_of_version replay.setup.version closing.increments
+      ≡ true) replay.closings

@@ -1,5 +1,6 @@
 //! The limits of a sincere script, packed, since a bidder has none for most products.
-ghost use Rattle.std.specs.Prelude.{◌≡◌, ℕ, ◌<◌, ◌≤◌, List, [], ◌++◌, ◌∷◌, length, replicate, slice_index, IfOk, OnOk};
+ghost use Rattle.std.specs.Prelude.{◌≡◌, ℕ, ◌<◌, ◌≤◌, List, [], ◌++◌, ◌∷◌, length, replicate};
+ghost use Rattle.std.specs.Prelude.{slice_index, IfOk, OnOk};
 ghost use Rattle.clock_terms.specs.Demands.{row_of};
 ghost use Rattle.clock_replays.specs.{EndedRows.{rows_from}, KeptLimits.{limits_of}};
 ghost use Rattle.clock_replays.specs.inside.KeptLimits.{AreKept, IsPlaceOf, kept_limits};
@@ -61,7 +62,8 @@ impl LimitRows {
     /// count.
     fn push_empty(&mut self, count: usize) -> Result<(), NoMemory>
         requires { AreKept self.old }
-        ensures limits { OnOk result (kept_limits self.new ≡ kept_limits self.old ++ replicate count []) }
+        ensures limits { OnOk result
+            (kept_limits self.new ≡ kept_limits self.old ++ replicate count []) }
         ensures kept { OnOk result (AreKept self.new) }
     {
         self.count = self.count.checked_add(count).ok_or(NoMemory)?;
@@ -72,7 +74,8 @@ impl LimitRows {
     /// prices than four bytes can count.
     fn push(&mut self, limits: &[u64]) -> Result<(), NoMemory>
         requires { AreKept self.old }
-        ensures limits { OnOk result (kept_limits self.new ≡ kept_limits self.old ++ limits.now ∷ []) }
+        ensures limits { OnOk result
+            (kept_limits self.new ≡ kept_limits self.old ++ limits.now ∷ []) }
         ensures kept { OnOk result (AreKept self.new) }
     {
         if limits.is_empty() {
@@ -94,7 +97,8 @@ impl LimitRows {
     fn place_of(&self, product: usize, from: usize) -> usize
         requires { AreKept self.now }
         ensures place { IsPlaceOf self.now.products.items product result }
-        ensures first { result < length self.now.products.items → product ≤ slice_index self.now.products.items result }
+        ensures first { result < length self.now.products.items
+            → product ≤ slice_index self.now.products.items result }
     {
         let products = self.products.as_slice();
         let mut place = from;
@@ -120,7 +124,8 @@ pub struct LimitLists {
 impl Model for LimitLists {
     ghost Value = { List (List ℕ) };
 
-    ghost view = { λ a. limits_of a.rows.count a.rows.products.items (rows_from 0 a.rows.ends.items a.rows.prices.items) };
+    ghost view = { λ a. limits_of a.rows.count a.rows.products.items
+        (rows_from 0 a.rows.ends.items a.rows.prices.items) };
 
     ghost invariant = { λ a. AreKept a.rows };
 }

@@ -1,12 +1,15 @@
 //! Reading replay documents: byte by byte, if no text has an escape and each number is written in
 //! digits only, and otherwise by a tree of JSON values, which decides every text.
-ghost use Rattle.std.specs.{Prelude.{◌≡◌, ◌≢◌, ◌&&◌, Ok, IfOk, IfErr, true, Some, length, nat_le}, List.{list_all}};
+ghost use Rattle.std.specs.Prelude.{◌≡◌, ◌≢◌, ◌&&◌, Ok, IfOk, IfErr, true, Some, length, nat_le};
+ghost use Rattle.std.specs.List.{list_all};
 ghost use Rattle.serde_json.specs.View.{view};
 ghost use Rattle.clock_terms.specs.{Faults.{IsRefusal, first_fault, unless}, Limits.{IsSetup}};
-ghost use Rattle.clock_replays.specs.{Replays.{IsReplay, ReplayFields}, ReplayDocument.{document_replay, replay_of}};
+ghost use Rattle.clock_replays.specs.Replays.{IsReplay, ReplayFields};
+ghost use Rattle.clock_replays.specs.ReplayDocument.{document_replay, replay_of};
 ghost use Rattle.clock_replays.specs.ReplayChecks as rules;
 ghost use Rattle.clock_replays.specs.ReplayShape as shape;
-ghost use Rattle.clock_replays.specs.inside.PartData.{sheet_data, found_script, script_data, closing_data};
+ghost use Rattle.clock_replays.specs.inside.PartData.{sheet_data, found_script, script_data};
+ghost use Rattle.clock_replays.specs.inside.PartData.{closing_data};
 ghost use Rattle.clock_replays.specs.inside.ReplayData.{found_replay, found_data};
 
 use crate::limit_lists::{LimitLists, limit_lists};
@@ -232,7 +235,8 @@ fn have_lists(count: usize, scripts: &[Script]) -> bool
 
 /// Returns whether limits never rise, and their number is at most the product's cap.
 fn are_limits(product: &Product, limits: &[u64]) -> bool
-    ensures { result ≡ (nat_le (length limits.now) product.now.cap && rules.never_rises limits.now) }
+    ensures { result
+        ≡ (nat_le (length limits.now) product.now.cap && rules.never_rises limits.now) }
 {
     limits.len() as u64 <= product.cap && limits.is_sorted_by(|earlier, later| later <= earlier)
 }
@@ -287,10 +291,19 @@ fn replay_fault(setup: &Setup, scripts: &[Script], closings: &[Closing]) -> Opti
 /// Makes the replay of these parts, or returns the first fault of the checks after those of the
 /// set-up.
 fn judged(setup: Setup, scripts: Scripts, closings: Closings) -> Result<Replay, ScriptFault>
-    ensures ok { let all : ReplayFields = record { setup = setup; scripts = scripts; closings = closings } in
+    ensures ok { let all : ReplayFields = record {
+      setup = setup;
+      scripts = scripts;
+      closings = closings;
+    } in
         IfOk result (λ replay. unless (first_fault (rules.replay_checks all)) all ≡ Ok replay) }
-    ensures err { let all : ReplayFields = record { setup = setup; scripts = scripts; closings = closings } in
-        IfErr result (IsRefusal ScriptFault.NoMemory (unless (first_fault (rules.replay_checks all)) all)) }
+    ensures err { let all : ReplayFields = record {
+      setup = setup;
+      scripts = scripts;
+      closings = closings;
+    } in
+        IfErr result
+        (IsRefusal ScriptFault.NoMemory (unless (first_fault (rules.replay_checks all)) all)) }
     ensures held { IfErr result (λ fault. fault ≢ ScriptFault.Setup SetupFault.NoMemory) }
 {
     match replay_fault(&setup, scripts.as_slice(), closings.as_slice()) {

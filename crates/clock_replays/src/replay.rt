@@ -64,7 +64,8 @@ impl Model for Replay {
 
     ghost view = { λ r. record { setup = r.setup; scripts = r.scripts; closings = r.closings } };
 
-    ghost invariant = { λ r. IsReplay (record { setup = r.setup; scripts = r.scripts; closings = r.closings }) };
+    ghost invariant = { λ r.
+        IsReplay (record { setup = r.setup; scripts = r.scripts; closings = r.closings }) };
 }
 
 /// Why a replay document is refused: its first fault. A fault of the set-up is never `NoMemory`.

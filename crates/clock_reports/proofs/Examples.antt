@@ -8,7 +8,11 @@ use Rattle.clock_reports.specs.ReportText.{report_text}
 bidders_pay_the_posted_price :
     report_text (record {
       setup = one_product;
-      sheets = record { round = 3; ended = true; lines = record { start = 110; clock = 121; posted = 115; demand = None; next = None } ∷ [] } ∷ [];
+      sheets = record {
+        round = 3;
+        ended = true;
+        lines = record { start = 110; clock = 121; posted = 115; demand = None; next = None } ∷ [];
+      } ∷ [];
       grid = (1 ∷ []) ∷ (1 ∷ []) ∷ [];
     })
     ≡ codes "round 3\nA 110 121 115 - -\nwon X 1 115\nwon Y 1 115\n"

@@ -1,6 +1,7 @@
 -- Text and price of a bidder's demands, computed from the positive ones only: demands of 0 between them cost nothing,
 -- and their text is a prefix of the text of a row of zeros.
-use Rattle.std.proofs.Common.{◌≡◌, ℕ, zero, suc, ◌+◌, ◌-◌, ◌*◌, ◌<◌, ◌≤◌, List, ◌∷◌, ◌++◌, flat_map, length, take, drop, get_or, None, refl, sym, ap, ap₂}
+use Rattle.std.proofs.Common.{◌≡◌, ℕ, zero, suc, ◌+◌, ◌-◌, ◌*◌, ◌<◌, ◌≤◌, List, ◌∷◌, ◌++◌, flat_map, length, take, drop}
+use Rattle.std.proofs.Common.{get_or, None, refl, sym, ap, ap₂}
 use Rattle.std.proofs.Common.{◌∙◌, append_assoc, arith}
 use Rattle.std.specs.Prelude.{codes, decimal, replicate, zip}
 use Rattle.std.specs.Fmt.{digits}
@@ -24,7 +25,8 @@ none_more n = ap (λ (first : List ℕ). first ++ none_held n) zero_text
 
 pub length-none_held : (n : ℕ) → length (none_held n) ≡ 2 * n
 length-none_held zero = refl
-length-none_held (suc n) = ap (λ (text : List ℕ). length text) (none_more n) ∙ (let rest = length-none_held n in omega arith)
+length-none_held (suc n) =
+    ap (λ (text : List ℕ). length text) (none_more n) ∙ (let rest = length-none_held n in omega arith)
 
 -- the text for fewer products is a prefix
 pub front_of_none : (many products : ℕ) → products ≤ many → take (2 * products) (none_held many) ≡ none_held products
@@ -39,8 +41,8 @@ front_of_none (suc many) (suc products) few =
 -- ---- skipped products
 
 -- the demands from an index on, if the first `count` of them are 0
-none_first : (row : List ℕ) (from count : ℕ) → from + count ≤ length row → AllWithin (λ demand. demand ≡ 0) row from (from + count)
-    → drop from row ≡ replicate count 0 ++ drop (from + count) row
+none_first : (row : List ℕ) (from count : ℕ) → from + count ≤ length row → AllWithin (λ demand. demand ≡ 0) row from
+    (from + count) → drop from row ≡ replicate count 0 ++ drop (from + count) row
 none_first row from zero within none =
     let same : from ≡ from + 0 = omega arith in
     ap (λ (n : ℕ). drop n row) same
@@ -53,18 +55,18 @@ none_first row from (suc count) within none =
     ∙ ap (λ (n : ℕ). replicate (suc count) 0 ++ drop n row) same
 
 -- the text of skipped demands, followed by that of the demands after them
-pub none_passed : (row : List ℕ) (from to : ℕ) → from ≤ to → to ≤ length row → AllWithin (λ demand. demand ≡ 0) row from to
-    → none_held (to - from) ++ flat_map demand_text (drop to row) ≡ flat_map demand_text (drop from row)
+pub none_passed : (row : List ℕ) (from to : ℕ) → from ≤ to → to ≤ length row → AllWithin (λ demand. demand ≡ 0) row from
+    to → none_held (to - from) ++ flat_map demand_text (drop to row) ≡ flat_map demand_text (drop from row)
 none_passed row from to order within none =
     let same : from + (to - from) ≡ to = omega (arith, order) in
     ap (λ (n : ℕ). none_held (to - from) ++ flat_map demand_text (drop n row)) (sym same)
     ∙ sym (flat_map-append demand_text (replicate (to - from) 0) (drop (from + (to - from)) row))
-    ∙ ap (λ (demands : List ℕ). flat_map demand_text demands)
-    (sym (none_first row from (to - from) (omega (arith, same, within)) (λ k d low high. none k d low (omega (arith, high, same)))))
+    ∙ ap (λ (demands : List ℕ). flat_map demand_text demands) (sym (none_first row from (to - from)
+    (omega (arith, same, within)) (λ k d low high. none k d low (omega (arith, high, same)))))
 
 -- a positive demand after skipped ones
-pub one_held : (row text passed number next all : List ℕ) (from product demand : ℕ) → from ≤ product → product < length row
-    → AllWithin (λ demand. demand ≡ 0) row from product → demand ≡ get_or row product 0
+pub one_held : (row text passed number next all : List ℕ) (from product demand : ℕ) → from ≤ product
+    → product < length row → AllWithin (λ demand. demand ≡ 0) row from product → demand ≡ get_or row product 0
     → passed ≡ text ++ none_held (product - from) → number ≡ passed ++ decimal demand → next ≡ number ++ codes " "
     → text ++ flat_map demand_text (drop from row) ≡ all → next ++ flat_map demand_text (drop (product + 1) row) ≡ all
 one_held row text passed number next all from product demand order within none is zeros digits_ space rest =
@@ -72,13 +74,12 @@ one_held row text passed number next all from product demand order within none i
     let more : flat_map demand_text (drop product row) ≡ demand_text demand ++ behind =
     ap (λ (demands : List ℕ). flat_map demand_text demands) (drop_more row product 0 within)
     ∙ ap (λ (first : ℕ). demand_text first ++ behind) (sym is) in
-    ap (λ (now : List ℕ). now ++ behind) (space ∙ ap (λ (now : List ℕ). now ++ codes " ") (digits_ ∙ ap (λ (now : List ℕ). now ++ decimal demand) zeros))
-    ∙ ap (λ (now : List ℕ). now ++ behind) (append_assoc (text ++ none_held (product - from)) (decimal demand) (codes " "))
-    ∙ append_assoc (text ++ none_held (product - from)) (demand_text demand) behind
-    ∙ ap (λ (left : List ℕ). (text ++ none_held (product - from)) ++ left) (sym more)
-    ∙ append_assoc text (none_held (product - from)) (flat_map demand_text (drop product row))
-    ∙ ap (λ (left : List ℕ). text ++ left) (none_passed row from product order (omega (arith, within)) none)
-    ∙ rest
+    ap (λ (now : List ℕ). now ++ behind) (space ∙ ap (λ (now : List ℕ). now ++ codes " ")
+    (digits_ ∙ ap (λ (now : List ℕ). now ++ decimal demand) zeros)) ∙ ap (λ (now : List ℕ). now ++ behind)
+    (append_assoc (text ++ none_held (product - from)) (decimal demand) (codes " ")) ∙ append_assoc (text ++ none_held
+    (product - from)) (demand_text demand) behind ∙ ap (λ (left : List ℕ). (text ++ none_held (product - from)) ++ left)
+    (sym more) ∙ append_assoc text (none_held (product - from)) (flat_map demand_text (drop product row))
+    ∙ ap (λ (left : List ℕ). text ++ left) (none_passed row from product order (omega (arith, within)) none) ∙ rest
 
 -- ---- prices of demands
 
@@ -88,18 +89,19 @@ no_line = record { start = 0; clock = 0; posted = 0; demand = None; next = None 
 -- one product more
 paid_more : (line : Line) (lines : List Line) (demand : ℕ) (row : List ℕ)
     → payment (line ∷ lines) (demand ∷ row) ≡ line.posted * demand + payment lines row
-paid_more line lines demand row = sum_by-cons (λ (pair : Line × ℕ). pair.0.posted * pair.1) (line, demand) (zip lines row)
+paid_more line lines demand row =
+    sum_by-cons (λ (pair : Line × ℕ). pair.0.posted * pair.1) (line, demand) (zip lines row)
 
-pub paid_at : (lines : List Line) (row : List ℕ) (product demand : ℕ) (line : Line) → length row ≡ length lines → product < length row
-    → line ≡ get_or lines product line → demand ≡ get_or row product 0
-    → payment (drop product lines) (drop product row) ≡ line.posted * demand + payment (drop (product + 1) lines) (drop (product + 1) row)
-paid_at lines row product demand line same within line_is is =
-    ap₂ (λ (left : List Line) (demands : List ℕ). payment left demands) (drop_more lines product line (omega (arith, within, same))) (drop_more row product 0 within)
-    ∙ ap₂ (λ (first : Line) (one : ℕ). payment (first ∷ drop (product + 1) lines) (one ∷ drop (product + 1) row)) (sym line_is) (sym is)
-    ∙ paid_more line (drop (product + 1) lines) demand (drop (product + 1) row)
+pub paid_at : (lines : List Line) (row : List ℕ) (product demand : ℕ) (line : Line) → length row ≡ length lines
+    → product < length row → line ≡ get_or lines product line → demand ≡ get_or row product 0 → payment (drop product
+    lines) (drop product row) ≡ line.posted * demand + payment (drop (product + 1) lines) (drop (product + 1) row)
+paid_at lines row product demand line same within line_is is = ap₂ (λ (left : List Line) (demands : List ℕ).
+    payment left demands) (drop_more lines product line (omega (arith, within, same))) (drop_more row product 0 within)
+    ∙ ap₂ (λ (first : Line) (one : ℕ). payment (first ∷ drop (product + 1) lines) (one ∷ drop (product + 1) row))
+    (sym line_is) (sym is) ∙ paid_more line (drop (product + 1) lines) demand (drop (product + 1) row)
 
-so_many_free : (lines : List Line) (row : List ℕ) (from count : ℕ) → length row ≡ length lines → from + count ≤ length row
-    → AllWithin (λ demand. demand ≡ 0) row from (from + count)
+so_many_free : (lines : List Line) (row : List ℕ) (from count : ℕ) → length row ≡ length lines
+    → from + count ≤ length row → AllWithin (λ demand. demand ≡ 0) row from (from + count)
     → payment (drop from lines) (drop from row) ≡ payment (drop (from + count) lines) (drop (from + count) row)
 so_many_free lines row from zero same within none =
     let end : from ≡ from + 0 = omega arith in
@@ -109,18 +111,18 @@ so_many_free lines row from (suc count) same within none =
     let line : Line = get_or lines from no_line in
     let rest : ℕ = payment (drop (from + 1) lines) (drop (from + 1) row) in
     let free : line.posted * 0 + rest ≡ rest = omega arith in
-    ap₂ (λ (left : List Line) (demands : List ℕ). payment left demands) (drop_more lines from no_line (omega (arith, within, same)))
-    (drop_more row from 0 (omega (arith, within)))
-    ∙ paid_more line (drop (from + 1) lines) (get_or row from 0) (drop (from + 1) row)
-    ∙ ap (λ (demand : ℕ). line.posted * demand + rest) (none from 0 (omega arith) (omega arith))
-    ∙ free
-    ∙ so_many_free lines row (from + 1) count same (omega (arith, within)) (λ k d low high. none k d (omega (arith, low)) (omega (arith, high)))
+    ap₂ (λ (left : List Line) (demands : List ℕ). payment left demands)
+    (drop_more lines from no_line (omega (arith, within, same))) (drop_more row from 0 (omega (arith, within)))
+    ∙ paid_more line (drop (from + 1) lines) (get_or row from 0) (drop (from + 1) row) ∙ ap (λ (demand : ℕ). line.posted
+    * demand + rest) (none from 0 (omega arith) (omega arith)) ∙ free ∙ so_many_free lines row (from + 1) count same
+    (omega (arith, within)) (λ k d low high. none k d (omega (arith, low)) (omega (arith, high)))
     ∙ ap (λ (n : ℕ). payment (drop n lines) (drop n row)) end
 
 -- demands of 0 cost nothing
 pub free : (lines : List Line) (row : List ℕ) (from to : ℕ) → length row ≡ length lines → from ≤ to → to ≤ length row
-    → AllWithin (λ demand. demand ≡ 0) row from to → payment (drop from lines) (drop from row) ≡ payment (drop to lines) (drop to row)
+    → AllWithin (λ demand. demand ≡ 0) row from to
+    → payment (drop from lines) (drop from row) ≡ payment (drop to lines) (drop to row)
 free lines row from to same order within none =
     let end : from + (to - from) ≡ to = omega (arith, order) in
-    so_many_free lines row from (to - from) same (omega (arith, end, within)) (λ k d low high. none k d low (omega (arith, high, end)))
-    ∙ ap (λ (n : ℕ). payment (drop n lines) (drop n row)) end
+    so_many_free lines row from (to - from) same (omega (arith, end, within))
+    (λ k d low high. none k d low (omega (arith, high, end))) ∙ ap (λ (n : ℕ). payment (drop n lines) (drop n row)) end

@@ -1,7 +1,8 @@
 //! The report of an auction so far: its round results, and the processed demands after its last
 //! closed round.
 
-ghost use Rattle.std.specs.Prelude.{◌≡◌, ◌<◌, ◌≤◌, Some, length, map, reverse, slice_get, All, IfOk};
+ghost use Rattle.std.specs.Prelude.{◌≡◌, ◌<◌, ◌≤◌, Some, length, map, reverse, slice_get, All};
+ghost use Rattle.std.specs.Prelude.{IfOk};
 ghost use Rattle.clock_reports.specs.Reports.{IsPricedLine, IsReport, ReportFields};
 ghost use Rattle.clock_reports.specs.FinalReport as rules;
 
@@ -34,7 +35,8 @@ impl Model for Report {
 
     ghost view = { λ r. record { setup = r.setup; sheets = r.sheets; grid = r.grid } };
 
-    ghost invariant = { λ r. IsReport (record { setup = r.setup; sheets = r.sheets; grid = r.grid }) };
+    ghost invariant = { λ r.
+        IsReport (record { setup = r.setup; sheets = r.sheets; grid = r.grid }) };
 }
 
 /// Gives its caller a law: the prices in the lines are from 1 to 10^12 dollars.
@@ -49,7 +51,8 @@ fn law_of_prices(lines: &[Line])
 /// Returns the results of a closed round, by its index from 0. Requires a closed round.
 pub(crate) fn sheet_at<P>(house: &House<P>, round: u64) -> &RoundSheet
     requires { round < length house.now.closed }
-    ensures is { slice_get (map (λ closed. closed.sheet) (reverse house.now.closed)) round ≡ Some result.now }
+    ensures is { slice_get
+        (map (λ closed. closed.sheet) (reverse house.now.closed)) round ≡ Some result.now }
     ensures lines { length result.now.lines ≡ length house.now.setup.products }
 {
     house.law_of_house();
@@ -58,7 +61,8 @@ pub(crate) fn sheet_at<P>(house: &House<P>, round: u64) -> &RoundSheet
 
 /// Returns the round results of all closed rounds, in order. May return `NoMemory`.
 fn sheets_of<P>(alloc: Global, house: &House<P>) -> Result<RoundSheets, NoMemory>
-    ensures same { IfOk result (λ sheets. sheets ≡ map (λ closed. closed.sheet) (reverse house.now.closed)) }
+    ensures same { IfOk result
+        (λ sheets. sheets ≡ map (λ closed. closed.sheet) (reverse house.now.closed)) }
     ensures priced { IfOk result (All (λ sheet. All IsPricedLine sheet.lines)) }
 {
     let mut sheets = RoundSheets::new(alloc);

@@ -1,6 +1,8 @@
 //! The texts of reports: of a rehearsal, of an auction that has ended, and of an audit.
 
-ghost use Rattle.std.specs.{Prelude.{◌≡◌, ◌≤◌, ◌++◌, All, IfOk, OnOk, length, decimal, codes, zip, true}, List.{flat_map}};
+ghost use Rattle.std.specs.Prelude.{◌≡◌, ◌≤◌, ◌++◌, All, IfOk, OnOk, length, decimal, codes, zip};
+ghost use Rattle.std.specs.Prelude.{true};
+ghost use Rattle.std.specs.List.{flat_map};
 ghost use Rattle.clock_terms.specs.Limits.{most_products};
 ghost use Rattle.clock_reports.specs.inside.WonLines.{none_held};
 ghost use Rattle.clock_house.specs.House.{standing_in};
@@ -65,7 +67,8 @@ fn none_held_text(alloc: Global, products: usize) -> Result<Text, NoMemory>
 /// Demands of 0 are copied from `none`, which is the text of a row of them. May return `NoMemory`.
 fn push_demands(text: &mut Text, none: &[u8], demands: &Row) -> Result<(), NoMemory>
     requires { none.now ≡ none_held (length demands.now) }
-    ensures { OnOk result (text.new ≡ text.old ++ flat_map (λ demand. decimal demand ++ codes " ") demands.now) }
+    ensures { OnOk result
+        (text.new ≡ text.old ++ flat_map (λ demand. decimal demand ++ codes " ") demands.now) }
 {
     let products = demands.len();
     let mut held = demands.held();
@@ -147,7 +150,8 @@ const LINE_ROOM: usize = 48;
 /// Requires that the auction has ended. May return `NoMemory`.
 pub fn final_text<P>(alloc: Global, house: &House<P>) -> Result<Text, NoMemory>
     requires { (standing_in house.now).ended ≡ true }
-    ensures { IfOk result (λ text. text ≡ words.report_text (rules.report_of house.now.setup house.now.closed)) }
+    ensures { IfOk result
+        (λ text. text ≡ words.report_text (rules.report_of house.now.setup house.now.closed)) }
 {
     let products = house.setup().products.as_slice().len();
     let count = products.saturating_mul(house.closed_rounds() as usize);

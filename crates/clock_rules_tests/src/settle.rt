@@ -1,8 +1,10 @@
 //! Requests as data, and their processing by any processor.
 
 ghost use Rattle.std.specs.Prelude.{◌≡◌, ◌≤◌, ◌<◌, ℕ, length, All, IfOk, IsTrue};
-ghost use Rattle.clock_terms.specs.{Limits.{most_supply}, Demands.{IsGrid}, Requests.{KeepWithinCap, asked_of, is_request_of}};
-ghost use Rattle.clock_processor.specs.{Board.{IsWithinEligibility}, Requests.{AskWithinCaps, IsRequest}};
+ghost use Rattle.clock_terms.specs.{Limits.{most_supply}, Demands.{IsGrid}};
+ghost use Rattle.clock_terms.specs.Requests.{KeepWithinCap, asked_of, is_request_of};
+ghost use Rattle.clock_processor.specs.Board.{IsWithinEligibility};
+ghost use Rattle.clock_processor.specs.Requests.{AskWithinCaps, IsRequest};
 
 use crate::comparing::assert_is;
 use clock_device::NoMemory;

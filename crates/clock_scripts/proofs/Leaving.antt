@@ -1,5 +1,6 @@
 -- The bids of blocks one by one are those at the different leaving prices.
-use Rattle.std.proofs.Common.{◌≡◌, ℕ, ◌+◌, ◌-◌, ◌<◌, ◌≤◌, zero, suc, max, List, [], ◌∷◌, ◌++◌, length, map, reverse, take, get_or, Bool, true, false}
+use Rattle.std.proofs.Common.{◌≡◌, ℕ, ◌+◌, ◌-◌, ◌<◌, ◌≤◌, zero, suc, max, List, [], ◌∷◌, ◌++◌, length, map, reverse}
+use Rattle.std.proofs.Common.{take, get_or, Bool, true, false}
 use Rattle.std.proofs.Common.{cond, not, Option, Some, None, min, append-nil, refl, sym, ◌∙◌, ap, ap₂, subst, arith}
 use Rattle.std.specs.Prelude.{nat_le, nat_lt, nat_eq, ◌==◌, if◌then◌else◌}
 use Rattle.std.specs.List.{filter_map, cons_option, count_by, dedup, dedup_from}
@@ -10,7 +11,8 @@ use Rattle.std.proofs.lemmas.List.Sums.{sum_by-cons}
 use Rattle.clock_terms.specs.declared.prices.PricePair.{PricePair}
 use Rattle.clock_bids.specs.declared.sheet.Bid.{Bid}
 use Rattle.clock_replays.specs.Replays.{NeverRises}
-use Rattle.clock_scripts.specs.Sincere.{leaving_price, leaving_prices, staying, bid_for, leaving_bids, keeping_or_leaving, later_bids}
+use Rattle.clock_scripts.specs.Sincere.{leaving_price, leaving_prices, staying, bid_for, leaving_bids}
+use Rattle.clock_scripts.specs.Sincere.{keeping_or_leaving, later_bids}
 use Rattle.clock_scripts.specs.inside.Blocks.{last_leaving, block_bid, block_bids}
 use Rattle.clock_scripts.specs.inside.Bodies.{bid_text, bids_text}
 
@@ -68,10 +70,11 @@ one_less n p q xs le = let more = one_more p q xs le in omega arith
 abbrev bids_at : ℕ → ℕ → List ℕ → List ℕ → List Bid
 bids_at product held leaving prices = map (λ price. bid_for product (staying held leaving price) price) prices
 
-same_bids : (product n p : ℕ) (xs prices : List ℕ) → AtLeast p prices → bids_at product (suc n) (p ∷ xs) prices ≡ bids_at product n xs prices
+same_bids : (product n p : ℕ) (xs prices : List ℕ) → AtLeast p prices
+    → bids_at product (suc n) (p ∷ xs) prices ≡ bids_at product n xs prices
 same_bids product n p xs [] h = refl
-same_bids product n p xs (q ∷ prices) h =
-    ap₂ (λ (k : ℕ) (bids : List Bid). bid_for product k q ∷ bids) (one_less n p q xs h.0) (same_bids product n p xs prices h.1)
+same_bids product n p xs (q ∷ prices) h = ap₂ (λ (k : ℕ) (bids : List Bid). bid_for product k q ∷ bids)
+    (one_less n p q xs h.0) (same_bids product n p xs prices h.1)
 
 -- one block more, from the last on
 abbrev first_of : List ℕ → Option ℕ
@@ -103,17 +106,21 @@ add_price product n p (x ∷ xs) least rises = add_by product n p x xs least.0 l
 
 -- ---- blocks
 
-none_leaves : (pair : PricePair) (limit : ℕ) (limits : List ℕ) → pair.clock ≤ limit → AtLeast limit limits → filter_map (leaving_price pair) limits ≡ []
+none_leaves : (pair : PricePair) (limit : ℕ) (limits : List ℕ) → pair.clock ≤ limit → AtLeast limit limits
+    → filter_map (leaving_price pair) limits ≡ []
 none_leaves pair limit [] le h = refl
 none_leaves pair limit (x ∷ xs) le h =
     let more = h.0 in
     let stays : nat_lt x pair.clock ≡ false = grind (arith, nat_tests) in
-    ap (λ b. cons_option (cond b (Some (max pair.start x)) None) (filter_map (leaving_price pair) xs)) stays ∙ none_leaves pair limit xs le h.1
+    ap (λ b. cons_option (cond b (Some (max pair.start x)) None) (filter_map (leaving_price pair) xs)) stays
+    ∙ none_leaves pair limit xs le h.1
 
-prices_least : (pair : PricePair) (limit : ℕ) (limits : List ℕ) → AtLeast limit limits → AtLeast (max pair.start limit) (filter_map (leaving_price pair) limits)
+prices_least : (pair : PricePair) (limit : ℕ) (limits : List ℕ) → AtLeast limit limits
+    → AtLeast (max pair.start limit) (filter_map (leaving_price pair) limits)
 prices_least pair limit [] h = tt
 prices_least pair limit (x ∷ xs) h =
-    let P : Bool → Type 0 = λ b. AtLeast (max pair.start limit) (cons_option (cond b (Some (max pair.start x)) None) (filter_map (leaving_price pair) xs)) in
+    let P : Bool → Type 0 = λ b. AtLeast (max pair.start limit)
+    (cons_option (cond b (Some (max pair.start x)) None) (filter_map (leaving_price pair) xs)) in
     elim (nat_lt x pair.clock) as P [
       | true ↦ (omega (arith, h.0), prices_least pair limit xs h.1)
       | false ↦ prices_least pair limit xs h.1
@@ -122,7 +129,8 @@ prices_least pair limit (x ∷ xs) h =
 prices_rise : (pair : PricePair) (limits : List ℕ) → Rises limits → Rises (filter_map (leaving_price pair) limits)
 prices_rise pair [] h = tt
 prices_rise pair (x ∷ xs) h =
-    let P : Bool → Type 0 = λ b. Rises (cons_option (cond b (Some (max pair.start x)) None) (filter_map (leaving_price pair) xs)) in
+    let P : Bool → Type 0 =
+    λ b. Rises (cons_option (cond b (Some (max pair.start x)) None) (filter_map (leaving_price pair) xs)) in
     elim (nat_lt x pair.clock) as P [
       | true ↦ (prices_least pair x xs h.0, prices_rise pair xs h.1)
       | false ↦ prices_rise pair xs h.1
@@ -137,15 +145,16 @@ first_by pair x xs h false e =
     sym (ap first_of (none_leaves pair x xs stays h))
 
 -- the first block of a rising list leaves first
-pub first_leaves : (pair : PricePair) (limits : List ℕ) → Rises limits → last_leaving pair limits ≡ first_of (filter_map (leaving_price pair) limits)
+pub first_leaves : (pair : PricePair) (limits : List ℕ) → Rises limits
+    → last_leaving pair limits ≡ first_of (filter_map (leaving_price pair) limits)
 first_leaves pair [] h = refl
 first_leaves pair (x ∷ xs) h = first_by pair x xs h.0 (nat_lt x pair.clock) refl
 
-law_by : (product past : ℕ) (pair : PricePair) (x : ℕ) (xs : List ℕ) → Rises (x ∷ xs)
-    → block_bids product past pair xs ≡ leaving_bids product (past + length xs) (filter_map (leaving_price pair) xs)
-    → (b : Bool) → nat_lt x pair.clock ≡ b
-    → block_bid product (past + length xs) (cond b (Some (max pair.start x)) None) (last_leaving pair xs) ++ block_bids product past pair xs
-    ≡ leaving_bids product (past + suc (length xs)) (cons_option (cond b (Some (max pair.start x)) None) (filter_map (leaving_price pair) xs))
+law_by : (product past : ℕ) (pair : PricePair) (x : ℕ) (xs : List ℕ) → Rises (x ∷ xs) → block_bids product past pair xs
+    ≡ leaving_bids product (past + length xs) (filter_map (leaving_price pair) xs) → (b : Bool)
+    → nat_lt x pair.clock ≡ b → block_bid product (past + length xs) (cond b (Some (max pair.start x)) None)
+    (last_leaving pair xs) ++ block_bids product past pair xs ≡ leaving_bids product (past + suc (length xs))
+    (cons_option (cond b (Some (max pair.start x)) None) (filter_map (leaving_price pair) xs))
 law_by product past pair x xs h rest true e =
     let prices = filter_map (leaving_price pair) xs in
     let price = max pair.start x in
@@ -156,41 +165,50 @@ law_by product past pair x xs h rest true e =
 law_by product past pair x xs h rest false e =
     let stays : pair.clock ≤ x = grind (arith, nat_tests) in
     let none = none_leaves pair x xs stays h.0 in
-    rest ∙ ap (leaving_bids product (past + length xs)) none ∙ sym (ap (leaving_bids product (past + suc (length xs))) none)
+    rest ∙ ap (leaving_bids product (past + length xs)) none
+    ∙ sym (ap (leaving_bids product (past + suc (length xs))) none)
 
 -- the bids of the blocks are a bid at each different leaving price
-pub bids_of_blocks : (product past : ℕ) (pair : PricePair) (limits : List ℕ) → Rises limits
-    → block_bids product past pair limits ≡ leaving_bids product (past + length limits) (filter_map (leaving_price pair) limits)
+pub bids_of_blocks : (product past : ℕ) (pair : PricePair) (limits : List ℕ) → Rises limits → block_bids product past
+    pair limits ≡ leaving_bids product (past + length limits) (filter_map (leaving_price pair) limits)
 bids_of_blocks product past pair [] h = refl
-bids_of_blocks product past pair (x ∷ xs) h = law_by product past pair x xs h (bids_of_blocks product past pair xs h.1) (nat_lt x pair.clock) refl
+bids_of_blocks product past pair (x ∷ xs) h =
+    law_by product past pair x xs h (bids_of_blocks product past pair xs h.1) (nat_lt x pair.clock) refl
 
 -- ---- the limits from the last on
 
 -- one block more
-pub one_back : (limits : List ℕ) (k : ℕ) → k < length limits → reverse (take (suc k) limits) ≡ get_or limits k 0 ∷ reverse (take k limits)
-one_back limits k below = ap reverse (take-suc limits k 0 below) ∙ reverse-append (take k limits) (get_or limits k 0 ∷ [])
+pub one_back : (limits : List ℕ) (k : ℕ) → k < length limits
+    → reverse (take (suc k) limits) ≡ get_or limits k 0 ∷ reverse (take k limits)
+one_back limits k below =
+    ap reverse (take-suc limits k 0 below) ∙ reverse-append (take k limits) (get_or limits k 0 ∷ [])
 
-least_reversed : (limits : List ℕ) (low k : ℕ) → k ≤ length limits → ((i : ℕ) → i < k → low ≤ get_or limits i 0) → AtLeast low (reverse (take k limits))
+least_reversed : (limits : List ℕ) (low k : ℕ) → k ≤ length limits → ((i : ℕ) → i < k → low ≤ get_or limits i 0)
+    → AtLeast low (reverse (take k limits))
 least_reversed limits low zero within h = tt
 least_reversed limits low (suc k) within h =
     subst (AtLeast low) (sym (one_back limits k (omega arith)))
     (h k (omega arith), least_reversed limits low k (omega arith) (λ i lt. h i (omega arith)))
 
-pub rises_reversed : (limits : List ℕ) → NeverRises limits → (k : ℕ) → k ≤ length limits → Rises (reverse (take k limits))
+pub rises_reversed : (limits : List ℕ) → NeverRises limits → (k : ℕ) → k ≤ length limits
+    → Rises (reverse (take k limits))
 rises_reversed limits falls zero within = tt
 rises_reversed limits falls (suc k) within =
-    subst Rises (sym (one_back limits k (omega arith)))
-    (least_reversed limits (get_or limits k 0) k (omega arith) (λ i lt. falls i k 0 lt (omega arith)), rises_reversed limits falls k (omega arith))
+    subst Rises (sym (one_back limits k (omega arith))) (
+      least_reversed limits (get_or limits k 0) k (omega arith) (λ i lt. falls i k 0 lt (omega arith)),
+      rises_reversed limits falls k (omega arith),
+    )
 
 -- ---- all bids for a product
 
 rises_back : (limits : List ℕ) → NeverRises limits → Rises (reverse limits)
-rises_back limits falls =
-    subst (λ (ls : List ℕ). Rises (reverse ls)) (take_all (length limits) limits (omega arith)) (rises_reversed limits falls (length limits) (omega arith))
+rises_back limits falls = subst (λ (ls : List ℕ). Rises (reverse ls)) (take_all (length limits) limits (omega arith))
+    (rises_reversed limits falls (length limits) (omega arith))
 
 -- the bids of all blocks with a limit
 pub all_blocks : (product held : ℕ) (pair : PricePair) (limits : List ℕ) → NeverRises limits → length limits ≤ held
-    → block_bids product (held - length limits) pair (reverse limits) ≡ leaving_bids product held (leaving_prices pair limits)
+    → block_bids product (held - length limits) pair (reverse limits)
+    ≡ leaving_bids product held (leaving_prices pair limits)
 all_blocks product held pair limits falls within =
     let all : held - length limits + length (reverse limits) ≡ held = omega (arith, length-reverse limits) in
     bids_of_blocks product (held - length limits) pair (reverse limits) (rises_back limits falls)
@@ -207,10 +225,11 @@ some_first product held pair [] price e = absurd (cc)
 some_first product held pair (x ∷ xs) price e = refl
 
 -- where the last block stays, all do
-pub all_stay : (product held : ℕ) (pair : PricePair) (limits : List ℕ) → NeverRises limits → last_leaving pair (reverse limits) ≡ None
+pub all_stay : (product held : ℕ) (pair : PricePair) (limits : List ℕ) → NeverRises limits
+    → last_leaving pair (reverse limits) ≡ None
     → keeping_or_leaving product pair held (leaving_prices pair limits) ≡ bid_for product held pair.clock ∷ []
-all_stay product held pair limits falls none =
-    none_first product held pair (leaving_prices pair limits) (sym (first_leaves pair (reverse limits) (rises_back limits falls)) ∙ none)
+all_stay product held pair limits falls none = none_first product held pair (leaving_prices pair limits)
+    (sym (first_leaves pair (reverse limits) (rises_back limits falls)) ∙ none)
 
 -- the first of some limits never rise either
 pub first_never_rise : (limits : List ℕ) (n : ℕ) → NeverRises limits → NeverRises (take n limits)
@@ -223,12 +242,15 @@ first_never_rise limits n falls i j d before within =
     omega arith
 
 -- the bids of the processed demand's blocks that have a limit, if there is a processed demand
-of_blocks : (product held : ℕ) (pair : PricePair) (limits : List ℕ) (blocks : ℕ) → 0 < held → blocks ≡ min held (length limits)
-    → later_bids product pair held limits ≡ keeping_or_leaving product pair held (leaving_prices pair (take blocks limits))
+of_blocks : (product held : ℕ) (pair : PricePair) (limits : List ℕ) (blocks : ℕ) → 0 < held
+    → blocks ≡ min held (length limits) → later_bids product pair held limits
+    ≡ keeping_or_leaving product pair held (leaving_prices pair (take blocks limits))
 of_blocks product held pair limits blocks some least =
     let held_some : (held == 0) ≡ false = grind (arith, nat_tests) in
-    let same : take held limits ≡ take blocks limits = sym (ap (λ (n : ℕ). take n limits) least ∙ take_min held limits) in
-    ap (λ (zero_held : Bool). if zero_held then [] else keeping_or_leaving product pair held (leaving_prices pair (take held limits))) held_some
+    let same : take held limits ≡ take blocks limits =
+    sym (ap (λ (n : ℕ). take n limits) least ∙ take_min held limits) in
+    ap (λ (zero_held : Bool). if zero_held then []
+    else keeping_or_leaving product pair held (leaving_prices pair (take held limits))) held_some
     ∙ ap (λ (list : List ℕ). keeping_or_leaving product pair held (leaving_prices pair list)) same
 
 -- where all stay, the bid that keeps them is all
@@ -241,8 +263,8 @@ all_kept product held pair limits blocks falls some least none =
     ∙ append-nil (bid_text (bid_for product held pair.clock))
 
 -- where the last one leaves, there are those of the blocks that leave
-pub some_left : (product held : ℕ) (pair : PricePair) (limits : List ℕ) (blocks price : ℕ) → NeverRises limits → 0 < held
-    → blocks ≡ min held (length limits) → last_leaving pair (reverse (take blocks limits)) ≡ Some price
+pub some_left : (product held : ℕ) (pair : PricePair) (limits : List ℕ) (blocks price : ℕ) → NeverRises limits
+    → 0 < held → blocks ≡ min held (length limits) → last_leaving pair (reverse (take blocks limits)) ≡ Some price
     → later_bids product pair held limits ≡ leaving_bids product held (leaving_prices pair (take blocks limits))
 some_left product held pair limits blocks price falls some least leaves =
     let left = take blocks limits in

@@ -1,5 +1,6 @@
 -- The head of a request that puts a sheet needs more just where its body needs to come.
-use Rattle.std.proofs.Common.{◌≡◌, ℕ, ◌+◌, ◌-◌, ◌≤◌, ◌<◌, ◌^◌, zero, suc, Bool, true, false, cond, not, ◌&&◌, List, [], ◌∷◌, ◌++◌, length, take, drop, reverse}
+use Rattle.std.proofs.Common.{◌≡◌, ℕ, ◌+◌, ◌-◌, ◌≤◌, ◌<◌, ◌^◌, zero, suc, Bool, true, false, cond, not, ◌&&◌, List, []}
+use Rattle.std.proofs.Common.{◌∷◌, ◌++◌, length, take, drop, reverse}
 use Rattle.std.proofs.Common.{Some, Ok, Err, codes, refl, sym, ◌∙◌, ap, arith, append_assoc, append-nil, length-append}
 use Rattle.std.specs.Prelude.{◌==◌, ◌||◌, nat_lt, nat_le, nat_eq, decimal, option_map}
 use Rattle.std.specs.List.{list_all, starts_with}
@@ -17,7 +18,8 @@ use Rattle.std.proofs.lemmas.Str.{IsUtf8-from_ascii}
 use Rattle.std.specs.Str.{IsAscii}
 use Rattle.std.proofs.lemmas.Str.Parse.{digit_from_value}
 use Rattle.httparse.specs.Ascii.{crlf_bytes}
-use Rattle.httparse.specs.Grammar.{crlf, Field, IsField, RequestHead, IsRequestHead, print_request, is_token_byte, is_uri_byte, is_value_byte, is_ows}
+use Rattle.httparse.specs.Grammar.{crlf, Field, IsField, RequestHead, IsRequestHead, print_request, is_token_byte}
+use Rattle.httparse.specs.Grammar.{is_uri_byte, is_value_byte, is_ows}
 use Rattle.httparse.specs.Grammar.{skip_ows, trim_ows}
 use Rattle.httparse.proofs.TrimLemmas.{AllPass-reverse, trim_ows_space}
 use Rattle.clock_terms.specs.Limits.{IsToken, is_letter_or_digit}
@@ -26,7 +28,8 @@ use Rattle.clock_http.specs.Scans.{head_length, line_ends, has_bare_line_feed, i
 use Rattle.clock_http.specs.Heads.{head_of}
 use Rattle.clock_http.specs.Decimals.{is_number}
 use Rattle.clock_http.specs.HeaderLines.{pairs_of, body_length, body_limit, length_from, within_limit}
-use Rattle.clock_http.specs.Framing.{head_limit, Head, stored_head, or_bad_head, ended_head, and_length, length_read, incomplete, whole, framed_at, framed_head, framing}
+use Rattle.clock_http.specs.Framing.{head_limit, Head, stored_head, or_bad_head, ended_head, and_length, length_read}
+use Rattle.clock_http.specs.Framing.{incomplete, whole, framed_at, framed_head, framing}
 use Rattle.clock_http.specs.Framing.{is_incomplete, needs_more}
 use Rattle.clock_http.specs.FramingLaws.{IsHeadOfGrammar}
 use Rattle.clock_views.specs.inside.Values.{Adds}
@@ -47,7 +50,8 @@ abbrev is_seen : ℕ → Bool
 is_seen b = nat_lt 32 b && nat_lt b 127
 
 -- a test that another implies
-implied : (p q : ℕ → Bool) → ((b : ℕ) → p b ≡ true → q b ≡ true) → (bytes : List ℕ) → list_all p bytes ≡ true → list_all q bytes ≡ true
+implied : (p q : ℕ → Bool) → ((b : ℕ) → p b ≡ true → q b ≡ true) → (bytes : List ℕ) → list_all p bytes ≡ true
+    → list_all q bytes ≡ true
 implied p q step [] all = refl
 implied p q step (b ∷ bytes) all =
     ap (λ t. t && list_all q bytes) (step b (first_so _ _ all)) ∙ implied p q step bytes (second_so _ _ all)
@@ -62,10 +66,12 @@ seen_of b low high =
     both _ _ first second
 
 low_of : (b : ℕ) → is_seen b ≡ true → 32 < b
-low_of b seen = (let first : nat_lt 32 b ≡ true = first_so (nat_lt 32 b) (nat_lt b 127) seen in grind (arith, nat_tests))
+low_of b seen =
+    (let first : nat_lt 32 b ≡ true = first_so (nat_lt 32 b) (nat_lt b 127) seen in grind (arith, nat_tests))
 
 high_of : (b : ℕ) → is_seen b ≡ true → b < 127
-high_of b seen = (let second : nat_lt b 127 ≡ true = second_so (nat_lt 32 b) (nat_lt b 127) seen in grind (arith, nat_tests))
+high_of b seen =
+    (let second : nat_lt b 127 ≡ true = second_so (nat_lt 32 b) (nat_lt b 127) seen in grind (arith, nat_tests))
 
 not_equal : (b c : ℕ) → c ≤ 32 → is_seen b ≡ true → (b == c) ≡ false
 not_equal b c le seen = ne_eqb b c (λ same. omega (arith, le, low_of b seen, same))
@@ -114,7 +120,8 @@ not_skipped [] all = refl
 not_skipped (b ∷ bytes) all = ap (λ t. cond t (skip_ows bytes) (b ∷ bytes)) (digit_no_space b (first_so _ _ all))
 
 reversed_seen : (bytes : List ℕ) → list_all is_seen bytes ≡ true → list_all is_seen (reverse bytes) ≡ true
-reversed_seen bytes all = list_all-from_AllPass is_seen (reverse bytes) (AllPass-reverse is_seen bytes (AllPass-from_list_all is_seen bytes all))
+reversed_seen bytes all = list_all-from_AllPass is_seen (reverse bytes)
+    (AllPass-reverse is_seen bytes (AllPass-from_list_all is_seen bytes all))
 
 -- what is seen is read after a space as it is
 trimmed : (bytes : List ℕ) → list_all is_seen bytes ≡ true → trim_ows (32 ∷ bytes) ≡ bytes
@@ -137,9 +144,10 @@ byte_before b rest lines inner is =
     let feed : (b == 10) ≡ false = not_of (b == 10) (second_so (not (b == 13)) (not (b == 10)) inner) in
     let other : nat_eq 13 b ≡ false = grind (arith, nat_tests) in
     record {
-      ends = ap (λ t. cond (t && pointwise nat_eq (10 ∷ 13 ∷ 10 ∷ []) (take 3 rest)) (Some 4) (option_map (λ k. suc k) (head_length rest))) other
-          ∙ ap (option_map (λ k. suc k)) is.ends;
-      count = ap (λ t. cond (t && pointwise nat_eq (10 ∷ []) (take 1 rest)) 1 0 + line_ends rest) other ∙ omega (arith, is.count);
+      ends = ap (λ t. cond (t && pointwise nat_eq (10 ∷ 13 ∷ 10 ∷ []) (take 3 rest)) (Some 4)
+          (option_map (λ k. suc k) (head_length rest))) other ∙ ap (option_map (λ k. suc k)) is.ends;
+      count = ap (λ t. cond (t && pointwise nat_eq (10 ∷ []) (take 1 rest)) 1 0 + line_ends rest) other
+          ∙ omega (arith, is.count);
       tight = λ before. ap (λ t. (t && not (before == 13)) || has_bare_line_feed b rest) feed ∙ is.tight b;
     }
   where
@@ -147,12 +155,14 @@ byte_before b rest lines inner is =
     not_of true e = absurd cc
     not_of false e = refl
 
-bytes_before : (bytes rest : List ℕ) (lines : ℕ) → list_all in_line bytes ≡ true → IsRest rest lines → IsRest (bytes ++ rest) lines
+bytes_before : (bytes rest : List ℕ) (lines : ℕ) → list_all in_line bytes ≡ true → IsRest rest lines
+    → IsRest (bytes ++ rest) lines
 bytes_before [] rest lines inner is = is
 bytes_before (b ∷ bytes) rest lines inner is =
     byte_before b (bytes ++ rest) lines (first_so _ _ inner) (bytes_before bytes rest lines (second_so _ _ inner) is)
 
-line_end_before : (rest : List ℕ) (lines : ℕ) → starts_with nat_eq rest crlf_bytes ≡ false → IsRest rest lines → IsRest (13 ∷ 10 ∷ rest) (suc lines)
+line_end_before : (rest : List ℕ) (lines : ℕ) → starts_with nat_eq rest crlf_bytes ≡ false → IsRest rest lines
+    → IsRest (13 ∷ 10 ∷ rest) (suc lines)
 line_end_before rest lines begins is = record {
   ends = ap (λ t. cond t (Some 4) (option_map (λ k. suc k) (option_map (λ k. suc k) (head_length rest)))) begins
       ∙ ap (λ o. option_map (λ k. suc k) (option_map (λ k. suc k) o)) is.ends;
@@ -173,7 +183,8 @@ module _ (token : List ℕ) (is_token : IsToken token) (n : ℕ) (fits : n < 2 ^
   read_back = (decimal_is_IsNumeral n fits).1
 
   token_seen : list_all is_seen token ≡ true
-  token_seen = implied is_letter_or_digit is_seen letter_seen token (list_all-from_AllPass is_letter_or_digit token is_token.1)
+  token_seen =
+      implied is_letter_or_digit is_seen letter_seen token (list_all-from_AllPass is_letter_or_digit token is_token.1)
 
   size_seen : list_all is_seen (decimal n) ≡ true
   size_seen = digits_seen (decimal n) numeral.1
@@ -181,13 +192,14 @@ module _ (token : List ℕ) (is_token : IsToken token) (n : ℕ) (fits : n < 2 ^
   -- four of its lines end
   text_rest : IsRest text 4
   text_rest =
-      let last : IsRest (decimal n ++ codes "\r\n\r\n") 2 =
-      bytes_before (decimal n) (codes "\r\n\r\n") 2 (implied is_seen in_line seen_in_line (decimal n) size_seen) last_rest in
-      let size : IsRest (codes "content-length: " ++ (decimal n ++ codes "\r\n\r\n")) 2 = bytes_before (codes "content-length: ") _ 2 refl last in
+      let last : IsRest (decimal n ++ codes "\r\n\r\n") 2 = bytes_before (decimal n) (codes "\r\n\r\n") 2
+      (implied is_seen in_line seen_in_line (decimal n) size_seen) last_rest in
+      let size : IsRest (codes "content-length: " ++ (decimal n ++ codes "\r\n\r\n")) 2 =
+      bytes_before (codes "content-length: ") _ 2 refl last in
       let behind : IsRest (token ++ (codes "\r\n" ++ (codes "content-length: " ++ (decimal n ++ codes "\r\n\r\n")))) 3 =
       bytes_before token _ 3 (implied is_seen in_line seen_in_line token token_seen) (line_end_before _ 2 refl size) in
-      let name : IsRest (codes "authorization: Bearer " ++ (token ++ (codes "\r\n" ++ (codes "content-length: " ++ (decimal n ++ codes "\r\n\r\n"))))) 3 =
-      bytes_before (codes "authorization: Bearer ") _ 3 refl behind in
+      let name : IsRest (codes "authorization: Bearer " ++ (token ++ (codes "\r\n" ++ (codes "content-length: "
+      ++ (decimal n ++ codes "\r\n\r\n"))))) 3 = bytes_before (codes "authorization: Bearer ") _ 3 refl behind in
       bytes_before (codes "PUT /v1/me/bids HTTP/1.1") _ 4 refl (line_end_before _ 3 refl name)
 
   -- the head by its parts
@@ -219,21 +231,24 @@ module _ (token : List ℕ) (is_token : IsToken token) (n : ℕ) (fits : n < 2 ^
       first : IsField (record { name = codes "authorization"; raw = codes " Bearer " ++ token; end = crlf })
       first = record {
         name = (omega arith, AllPass-from_list_all is_token_byte (codes "authorization") refl);
-        raw = AllPass-from_list_all is_value_byte (codes " Bearer " ++ token) (implied is_seen is_value_byte seen_in_value token token_seen);
+        raw = AllPass-from_list_all is_value_byte (codes " Bearer " ++ token)
+            (implied is_seen is_value_byte seen_in_value token token_seen);
       }
 
       second : IsField (record { name = codes "content-length"; raw = 32 ∷ decimal n; end = crlf })
       second = record {
         name = (omega arith, AllPass-from_list_all is_token_byte (codes "content-length") refl);
-        raw = AllPass-from_list_all is_value_byte (32 ∷ decimal n) (implied is_seen is_value_byte seen_in_value (decimal n) size_seen);
+        raw = AllPass-from_list_all is_value_byte (32 ∷ decimal n)
+            (implied is_seen is_value_byte seen_in_value (decimal n) size_seen);
       }
 
   prints : text ≡ print_request head ++ []
   unfolding print_request
-  prints = sym (append-nil (print_request head)
-      ∙ ap (λ t. codes "PUT /v1/me/bids HTTP/1.1\r\n" ++ t) (regroup (codes "authorization: Bearer ") token crlf_bytes (codes "content-length: ") (decimal n)))
+  prints = sym (append-nil (print_request head) ∙ ap (λ t. codes "PUT /v1/me/bids HTTP/1.1\r\n" ++ t)
+      (regroup (codes "authorization: Bearer ") token crlf_bytes (codes "content-length: ") (decimal n)))
     where
-      regroup : (a t e c d : List ℕ) → ((a ++ (t ++ e)) ++ ((c ++ (d ++ e)) ++ [])) ++ e ≡ a ++ (t ++ (e ++ (c ++ (d ++ (e ++ e)))))
+      regroup : (a t e c d : List ℕ)
+          → ((a ++ (t ++ e)) ++ ((c ++ (d ++ e)) ++ [])) ++ e ≡ a ++ (t ++ (e ++ (c ++ (d ++ (e ++ e)))))
       regroup a t e c d = simp (append-nil, append_assoc)
 
   tight : is_loose text ≡ false
@@ -272,15 +287,18 @@ module _ (token : List ℕ) (is_token : IsToken token) (n : ℕ) (fits : n < 2 ^
         length-append token ((codes "\r\ncontent-length: " ++ decimal n) ++ codes "\r\n\r\n"),
         length-append (decimal n) (codes "\r\n\r\n"),
       ) in
-      let end : head_length (take head_limit text) ≡ Some (length text) = ap head_length (take_all head_limit text few) ∙ text_rest.ends in
-      let read : length_read (ended_head (take (length text) text)) ≡ and_length head (cond (nat_lt body_limit n) (Err LongBody) (Ok n)) =
+      let end : head_length (take head_limit text) ≡ Some (length text) =
+      ap head_length (take_all head_limit text few) ∙ text_rest.ends in
+      let read : length_read (ended_head (take (length text) text))
+      ≡ and_length head (cond (nat_lt body_limit n) (Err LongBody) (Ok n)) =
       ap (λ t. length_read (ended_head t)) (take_all (length text) text (omega arith))
       ∙ ap length_read (ended law) ∙ ap (and_length head) sized in
       ap (λ o. is_incomplete (framed_at o text)) end
       ∙ ap (λ r. is_incomplete (framed_head (length text) text r)) read
       ∙ by_length (nat_lt body_limit n) refl
     where
-      short_of : (short : Bool) (read : Head) (body : List ℕ) → is_incomplete (cond short incomplete (whole read body)) ≡ short
+      short_of : (short : Bool) (read : Head) (body : List ℕ)
+          → is_incomplete (cond short incomplete (whole read body)) ≡ short
       short_of true read body = refl
       short_of false read body = refl
 
@@ -296,20 +314,23 @@ module _ (token : List ℕ) (is_token : IsToken token) (n : ℕ) (fits : n < 2 ^
       none true = refl
       none false = refl
 
-      by_length : (long : Bool) → nat_lt body_limit n ≡ long
-          → is_incomplete (framed_head (length text) text (and_length head (cond long (Err LongBody) (Ok n)))) ≡ is_awaited n
+      by_length : (long : Bool) → nat_lt body_limit n ≡ long → is_incomplete
+          (framed_head (length text) text (and_length head (cond long (Err LongBody) (Ok n)))) ≡ is_awaited n
       by_length true is =
           let no : nat_le n body_limit ≡ false = grind (arith, nat_tests) in
           sym (ap (λ t. nat_le 1 n && t) no ∙ none (nat_le 1 n))
       by_length false is =
           let within : n ≤ body_limit = grind (arith, nat_tests) in
-          short_of (nat_lt (length text) (length text + n)) (stored_head head) (take n (drop (length text) text)) ∙ some_left (length text) n within
+          short_of (nat_lt (length text) (length text + n)) (stored_head head) (take n (drop (length text) text))
+          ∙ some_left (length text) n within
 
 -- so does the head of a request that was written
-pub put_awaits : IsHeadOfGrammar → (token : List ℕ) → IsToken token → (old pushed new body : List ℕ) (from : ℕ) (written : Written) → Adds body old pushed
-    → from ≡ length old → length pushed < 2 ^ 64 → HasRequestHead (codes "PUT /v1/me/bids") token from pushed new written → AwaitsBody new written
+pub put_awaits : IsHeadOfGrammar → (token : List ℕ) → IsToken token → (old pushed new body : List ℕ) (from : ℕ)
+    (written : Written) → Adds body old pushed → from ≡ length old → length pushed < 2 ^ 64
+    → HasRequestHead (codes "PUT /v1/me/bids") token from pushed new written → AwaitsBody new written
 put_awaits law token is_token old pushed new body from written added start few headed =
     let line = codes "PUT /v1/me/bids" in
     let fits : length pushed - from < 2 ^ 64 = omega (arith, few) in
-    ap needs_more (is_head old pushed new line token body from written added start headed) ∙ put_waits token is_token (length pushed - from) fits law
+    ap needs_more (is_head old pushed new line token body from written added start headed)
+    ∙ put_waits token is_token (length pushed - from) fits law
     ∙ ap is_awaited (sym (size old pushed new line token body from written added start headed))

@@ -4,7 +4,8 @@ use Rattle.clock_bids.specs.declared.sheet.Bid.{Bid}
 use Rattle.clock_scripts.specs.Sincere.{bid_for, sincere_sheet}
 
 abbrev sheet_at : ℕ → ℕ → ℕ → ℕ → List Bid
-sheet_at round start clock held = sincere_sheet round (record { start = start; clock = clock } ∷ []) (held ∷ []) ((120 ∷ 115 ∷ []) ∷ [])
+sheet_at round start clock held =
+    sincere_sheet round (record { start = start; clock = clock } ∷ []) (held ∷ []) ((120 ∷ 115 ∷ []) ∷ [])
 
 -- both are wanted at the opening price
 wants_both : sheet_at 1 100 100 0 ≡ bid_for 0 2 100 ∷ []

@@ -16,14 +16,14 @@ use Rattle.clock_scripts.specs.inside.Bodies.{bid_text}
 use Rattle.clock_scripts.specs.inside.RequestTexts.{increments_text}
 
 -- a piece, and what the last call adds after it
-pub before_ok : {T E : Type 0} {piece text next : List ℕ} (rest whole : List ℕ) (result : Result T E) → Adds piece text next → OnOk result (Adds rest next whole)
-    → OnOk result (Adds (piece ++ rest) text whole)
+pub before_ok : {T E : Type 0} {piece text next : List ℕ} (rest whole : List ℕ) (result : Result T E)
+    → Adds piece text next → OnOk result (Adds rest next whole) → OnOk result (Adds (piece ++ rest) text whole)
 before_ok rest whole (Ok done) first others = before first others
 before_ok rest whole (Err fault) first others = tt
 
 -- and pieces that are together a text
-pub together_ok : {T E : Type 0} {pieces piece : List ℕ} (text whole : List ℕ) (result : Result T E) → piece ≡ pieces → OnOk result (Adds pieces text whole)
-    → OnOk result (Adds piece text whole)
+pub together_ok : {T E : Type 0} {pieces piece : List ℕ} (text whole : List ℕ) (result : Result T E) → piece ≡ pieces
+    → OnOk result (Adds pieces text whole) → OnOk result (Adds piece text whole)
 together_ok text whole (Ok done) is added = together is added
 together_ok text whole (Err fault) is added = tt
 

@@ -1,11 +1,15 @@
--- Requests that were written one after the other into one text: of each the body, and then the head.
---     head_in text written, body_in text written, text_at text written      the two pieces of a request, and the request
+-- Requests that were written one after the other into one text: of each the body,
+-- and then the head.
+--     head_in text written, body_in text written, text_at text written      the two pieces of a
+--         request, and the request
 --     IsWrittenIn text written      its pieces are in the text
 --     Grows old text      what was in the text is still there
---     Writes old text request written, WritesIf old text request written      a request was written, if there is one
---     is_awaited count, AwaitsBody text written      a body of `count` bytes must follow; its head needs it just if
---         it does
-use Rattle.std.specs.Prelude.{◌≡◌, ◌≤◌, ◌-◌, ◌&&◌, ℕ, Bool, List, ◌++◌, nat_le, length, take, drop, Option, Some, None}
+--     Writes old text request written, WritesIf old text request written      a request was
+--         written, if there is one
+--     is_awaited count, AwaitsBody text written      a body of `count` bytes must follow; its head
+--         needs it just if it does
+use Rattle.std.specs.Prelude.{◌≡◌, ◌≤◌, ◌-◌, ◌&&◌, ℕ, Bool, List, ◌++◌, nat_le, length, take, drop}
+use Rattle.std.specs.Prelude.{Option, Some, None}
 use Rattle.clock_http.specs.HeaderLines.{body_limit}
 use Rattle.clock_http.specs.Framing.{needs_more}
 use Rattle.clock_scripts.specs.declared.requests.Written.{Written}
@@ -42,7 +46,8 @@ pub record Writes (old text request : List ℕ) (written : Written) : Type 0 whe
 -- a request was written, if there is one
 abbrev pub WritesIf : List ℕ → List ℕ → Option (List ℕ) → Option Written → Type 0
 WritesIf old text request None = (request ≡ None) × (text ≡ old)
-WritesIf old text request (Some written) = (request ≡ Some (text_at text written)) × Writes old text (text_at text written) written
+WritesIf old text request (Some written) =
+    (request ≡ Some (text_at text written)) × Writes old text (text_at text written) written
 
 -- a body of `count` bytes must follow its head: there is one, and it is not too long
 abbrev pub is_awaited : ℕ → Bool
@@ -50,4 +55,5 @@ is_awaited count = nat_le 1 count && nat_le count body_limit
 
 -- the head of a request needs more just where its body needs to come
 abbrev pub AwaitsBody : List ℕ → Written → Type 0
-AwaitsBody text written = needs_more (head_in text written) ≡ is_awaited (written.head - written.body)
+AwaitsBody text written =
+    needs_more (head_in text written) ≡ is_awaited (written.head - written.body)

@@ -1,9 +1,10 @@
--- The texts of the requests that are played, byte for byte those of a live bidder and operator (RFC 9112 for the head).
--- A body is the compact text of a value of JSON.
---     request_head line token count, request_text line token body      a request of a line, by the holder of a token
+-- The texts of the requests that are played, byte for byte those of a live bidder and operator (RFC
+-- 9112 for the head). A body is the compact text of a value of JSON.
+--     request_head line token count, request_text line token body      a request of a line, by the
+--         holder of a token
 --     put_text token round bids      the request by which a bidder puts a sheet
---     close_value round increments ties, close_text token round increments ties      the request by which the operator
---         closes a round
+--     close_value round increments ties, close_text token round increments ties      the request by
+--         which the operator closes a round
 use Prim.Native.String.{String}
 use Rattle.std.specs.Prelude.{ℕ, List, [], ◌∷◌, ◌++◌, length, codes, decimal, Some}
 use Rattle.serde_json.specs.Data.{Data}
@@ -17,8 +18,8 @@ use Rattle.clock_views.specs.BidderPages.{bids_value}
 
 -- the line, the token, the length of the body and an empty line
 abbrev pub request_head : List ℕ → List ℕ → ℕ → List ℕ
-request_head line token count =
-    line ++ (codes " HTTP/1.1\r\nauthorization: Bearer " ++ (token ++ ((codes "\r\ncontent-length: " ++ decimal count) ++ codes "\r\n\r\n")))
+request_head line token count = line ++ (codes " HTTP/1.1\r\nauthorization: Bearer "
+    ++ (token ++ ((codes "\r\ncontent-length: " ++ decimal count) ++ codes "\r\n\r\n")))
 
 -- the head, and the body after it
 abbrev pub request_text : List ℕ → List ℕ → List ℕ → List ℕ
@@ -50,4 +51,5 @@ abbrev pub written_close : ℕ → Increments → List Tie → List ℕ
 written_close round increments ties = compact_text (close_value round increments ties)
 
 abbrev pub close_text : List ℕ → ℕ → Increments → List Tie → List ℕ
-close_text token round increments ties = request_text (codes "POST /v1/close") token (written_close round increments ties)
+close_text token round increments ties =
+    request_text (codes "POST /v1/close") token (written_close round increments ties)

@@ -14,10 +14,12 @@ use Rattle.clock_replays.specs.declared.replay.Closing.{Closing}
 use Rattle.clock_scripts.specs.Sincere.{sincere_sheet}
 use Rattle.clock_scripts.specs.RequestTexts.{put_text, close_text}
 
--- a literal script has a sheet or none for each round from 1 on, and none past its list; a sincere one always has one
+-- a literal script has a sheet or none for each round from 1 on, and none past its list; a sincere
+-- one always has one
 abbrev pub scripted_sheet : Script → Standing → Holding → Option (List Bid)
 scripted_sheet (Literal sheets) now held = slice_index_or sheets (now.round - 1) None
-scripted_sheet (Sincere limits) now held = Some (sincere_sheet now.round now.prices held.demands limits)
+scripted_sheet (Sincere limits) now held =
+    Some (sincere_sheet now.round now.prices held.demands limits)
 
 -- the bidder puts that sheet for the current round, if there is one
 unfoldable pub scripted_put : SetupFields → List ClosedRound → ℕ → Script → Option (List ℕ)

@@ -5,7 +5,8 @@ ghost use Rattle.std.specs.Prelude.{◌≡◌, ◌++◌, ℕ, List, codes, decim
 ghost use Rattle.serde_json.specs.Written.{compact_text};
 ghost use Rattle.clock_bids.specs.declared.sheet.Bid.{Bid};
 ghost use Rattle.clock_views.specs.{Values.{whole, list_of}, inside.Values.{Adds}};
-ghost use Rattle.clock_scripts.specs.{RequestTexts.{tie_value, written_put, written_close}, Sincere.{bid_for}};
+ghost use Rattle.clock_scripts.specs.RequestTexts.{tie_value, written_put, written_close};
+ghost use Rattle.clock_scripts.specs.Sincere.{bid_for};
 ghost use Rattle.clock_scripts.specs.inside.{Arrays.{array_ended}, Bodies.{bid_text, bids_text}};
 
 use clock_bids::Bid;
@@ -47,7 +48,8 @@ fn end_array(text: &mut Vec<u8>, start: usize) -> Result<(), NoMemory>
 
 /// Appends an array of numbers.
 fn push_numbers(text: &mut Vec<u8>, numbers: &[u64]) -> Result<(), NoMemory>
-    ensures { OnOk result (Adds (compact_text (list_of whole numbers.now)) text.old.items text.new.items) }
+    ensures { OnOk result
+        (Adds (compact_text (list_of whole numbers.now)) text.old.items text.new.items) }
 {
     let start = text.len();
     for number in numbers {
@@ -58,7 +60,8 @@ fn push_numbers(text: &mut Vec<u8>, numbers: &[u64]) -> Result<(), NoMemory>
 
 /// Appends an array of tie-breaking numbers.
 fn push_ties(text: &mut Vec<u8>, ties: &[Tie]) -> Result<(), NoMemory>
-    ensures { OnOk result (Adds (compact_text (list_of tie_value ties.now)) text.old.items text.new.items) }
+    ensures { OnOk result
+        (Adds (compact_text (list_of tie_value ties.now)) text.old.items text.new.items) }
 {
     let start = text.len();
     for tie in ties {
@@ -100,7 +103,8 @@ pub(crate) fn push_bid(
     quantity: u64,
     price: u64,
 ) -> Result<(), NoMemory>
-    ensures { OnOk result (Adds (bid_text (bid_for product quantity price)) text.old.items text.new.items) }
+    ensures { OnOk result
+        (Adds (bid_text (bid_for product quantity price)) text.old.items text.new.items) }
 {
     let mut line = [0; BID_ROOM];
     let end = put_before(&mut line, BID_ROOM, b"}");
@@ -115,8 +119,8 @@ pub(crate) fn push_bid(
 
 /// Ends the body of a sheet whose bids begin at index `start`.
 pub(crate) fn end_sheet(text: &mut Vec<u8>, start: usize, round: u64) -> Result<(), NoMemory>
-    ensures { (old begun : List ℕ) (bids : List Bid) → Adds (codes "{\"bids\":") old begun → start ≡ length begun
-        → Adds (bids_text bids) begun text.old.items
+    ensures { (old begun : List ℕ) (bids : List Bid) → Adds (codes "{\"bids\":") old begun
+        → start ≡ length begun → Adds (bids_text bids) begun text.old.items
         → OnOk result (Adds (written_put round bids) old text.new.items) }
 {
     end_array(text, start)?;

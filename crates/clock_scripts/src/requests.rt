@@ -4,7 +4,8 @@
 ghost use Rattle.std.specs.Prelude.{◌≡◌, ◌<◌, ◌≤◌, ◌-◌, false, length, IfOk, IfSome};
 ghost use Rattle.clock_house.specs.House.{standing_in};
 ghost use Rattle.clock_replays.specs.Replays.{IsScript};
-ghost use Rattle.clock_scripts.specs.{Pieces.{AwaitsBody, Writes, WritesIf, is_awaited}, inside.Heads.{HasRequestHead}};
+ghost use Rattle.clock_scripts.specs.Pieces.{AwaitsBody, Writes, WritesIf, is_awaited};
+ghost use Rattle.clock_scripts.specs.inside.Heads.{HasRequestHead};
 ghost use Rattle.clock_scripts.specs.ScriptedRequests as rules;
 
 use crate::bodies::{push_closing, push_label, push_number, push_sheet};
@@ -26,7 +27,8 @@ pub struct Written {
 }
 
 impl Written {
-    /// Returns whether the server reads the body. It does not read a body that is empty or too long.
+    /// Returns whether the server reads the body. It does not read a body that is
+    /// empty or too long.
     pub fn needs_body(&self) -> bool
         requires { self.now.body ≤ self.now.head }
         ensures { result ≡ is_awaited (self.now.head - self.now.body) }

@@ -4,7 +4,8 @@ ghost use Rattle.std.specs.Prelude.{◌≡◌, ◌≤◌, ◌<◌, [], All, fals
 ghost use Rattle.clock_house.specs.House.{standing_in, holding_in};
 ghost use Rattle.clock_views.specs.inside.Values.{Adds};
 ghost use Rattle.clock_replays.specs.Replays.{IsLimits, NeverRises};
-ghost use Rattle.clock_scripts.specs.{RequestTexts.{written_put}, Sincere.{sincere_sheet}, inside.Bodies.{bids_text}};
+ghost use Rattle.clock_scripts.specs.{RequestTexts.{written_put}, Sincere.{sincere_sheet}};
+ghost use Rattle.clock_scripts.specs.inside.Bodies.{bids_text};
 ghost use Rattle.clock_scripts.specs.inside.SincereSheets.{first_sheet, later_sheet};
 ghost use Rattle.clock_scripts.specs.Sincere as rules;
 ghost use Rattle.clock_scripts.specs.inside.Blocks as one_by_one;
@@ -69,7 +70,8 @@ fn push_held(
 /// Appends the bids of the first round, product by product.
 fn push_first(text: &mut Vec<u8>, prices: &[PricePair], limits: &LimitLists) -> Result<(), NoMemory>
     requires { length limits.now ≡ length prices.now }
-    ensures { OnOk result (Adds (bids_text (first_sheet prices.now limits.now)) text.old.items text.new.items) }
+    ensures { OnOk result
+        (Adds (bids_text (first_sheet prices.now limits.now)) text.old.items text.new.items) }
 {
     let mut from = 0;
     for (product, pair) in prices.iter().enumerate() {

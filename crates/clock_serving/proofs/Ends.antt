@@ -1,5 +1,6 @@
 -- How a run ends with one more connection: it was served, it could not be accepted, or its text could not be logged.
-use Rattle.std.proofs.Common.{◌≡◌, ◌<◌, ◌+◌, ℕ, List, [], ◌∷◌, ◌++◌, Option, Result, Ok, Err, length, refl, sym, ◌∙◌, subst, arith, length-append}
+use Rattle.std.proofs.Common.{◌≡◌, ◌<◌, ◌+◌, ℕ, List, [], ◌∷◌, ◌++◌, Option, Result, Ok, Err, length, refl, sym, ◌∙◌}
+use Rattle.std.proofs.Common.{subst, arith, length-append}
 use Rattle.clock_terms.specs.Limits.{IsSetup, SetupFields}
 use Rattle.clock_house.specs.House.{HouseFields}
 use Rattle.clock_journal.specs.Disks.{MayBeLeft}
@@ -17,7 +18,8 @@ use Rattle.clock_serving.proofs.Walking.{came_more, grown_more}
 use Rattle.clock_serving.proofs.Served.{served_more}
 
 -- `count` connections were served
-pub record HasServed (count : ℕ) (coming_old coming_new : Option (List (List ℕ))) (closed_old closed_new : Option (List Exchange)) (told_old told_new : Option (List ℕ))
+pub record HasServed (count : ℕ) (coming_old coming_new : Option (List (List ℕ)))
+    (closed_old closed_new : Option (List Exchange)) (told_old told_new : Option (List ℕ))
     (journal_old journal_new : JournalState) (old new : HouseFields) : Type 0 where
   pub exchanges : List Exchange
   pub closed : HasClosedConnections closed_old closed_new exchanges
@@ -25,19 +27,21 @@ pub record HasServed (count : ℕ) (coming_old coming_new : Option (List (List �
   pub counted : length exchanges ≡ count
   pub served : AreServed exchanges told_old told_new journal_old journal_new old new
 
-module _ (count : ℕ) (coming_old coming_mid coming_new : Option (List (List ℕ))) (first mid last : Option (List Exchange)) (told_old told_mid told_new : Option (List ℕ))
-    (journal_old journal_mid journal_new : JournalState) (old now new : HouseFields) (limits : IsSetup old.setup) (same : now.setup ≡ old.setup)
+module _ (count : ℕ) (coming_old coming_mid coming_new : Option (List (List ℕ))) (first mid last : Option
+    (List Exchange)) (told_old told_mid told_new : Option (List ℕ)) (journal_old journal_mid journal_new : JournalState)
+    (old now new : HouseFields) (limits : IsSetup old.setup) (same : now.setup ≡ old.setup)
     (before : HasServed count coming_old coming_mid first mid told_old told_mid journal_old journal_mid old now) where
   -- one more was served
-  pub one_more : {U : Type 0} (done : U) → EndsOne coming_mid coming_new mid last told_mid told_new journal_mid journal_new now new (Ok done)
+  pub one_more : {U : Type 0} (done : U)
+      → EndsOne coming_mid coming_new mid last told_mid told_new journal_mid journal_new now new (Ok done)
       → HasServed (count + 1) coming_old coming_new first last told_old told_new journal_old journal_new old new
   one_more done ends = record {
     exchanges = before.exchanges ++ ends.0 ∷ [];
     closed = grown_more first mid last before.exchanges (ends.0 ∷ []) before.closed ends.1;
     came = came_more coming_old coming_mid coming_new before.exchanges ends.0 before.came ends.2;
     counted = omega (arith, length-append before.exchanges (ends.0 ∷ []), before.counted);
-    served = served_more before.exchanges ends.0 ends.3.0 told_old told_mid told_new journal_old journal_mid journal_new old
-        now new limits same before.served ends.3.1 ends.3.2;
+    served = served_more before.exchanges ends.0 ends.3.0 told_old told_mid told_new journal_old journal_mid journal_new
+        old now new limits same before.served ends.3.1 ends.3.2;
   }
 
   told_are_kept : (text : List ℕ) (digest : List ℕ) (past : List (List ℕ)) → IsInStep digest past journal_old old
@@ -69,25 +73,34 @@ module _ (count : ℕ) (coming_old coming_mid coming_new : Option (List (List �
     silent = unkept.1;
     added_to = unkept.0.moments.added_to ∙ before.served.added_to;
     replied = λ past stands.
-        let so_far = before.served.replied past stands in
-        (so_far.end, so_far.walks, subst (λ (told : Option (List ℕ)). ReportsClosings old.setup past so_far.end told_old told) (sym untold) so_far.tells);
+        let so_far = before.served.replied past stands in (
+          so_far.end,
+          so_far.walks,
+          subst (λ (told : Option (List ℕ)). ReportsClosings old.setup past so_far.end told_old told)
+              (sym untold) so_far.tells,
+        );
     kept = λ digest past in_step.
         told_are_kept unkept.0.text digest past in_step unkept.0.moments unkept.0.on_disk unkept.0.accepted;
   }
 
   -- this ends the run
-  pub ends_by : {U : Type 0} (result : Result U ServeFault) (most : ℕ) (fault : ServeFault) → count < most → EndsOne {U = U} coming_mid coming_new mid last told_mid told_new journal_mid journal_new now new (Err fault)
-      → (exchanges : List Exchange) × HasClosedConnections first last exchanges × Came coming_old coming_new (bytes_given exchanges)
+  pub ends_by : {U : Type 0} (result : Result U ServeFault) (most : ℕ) (fault : ServeFault) → count < most
+      → EndsOne {U = U} coming_mid coming_new mid last told_mid told_new journal_mid journal_new now new (Err fault)
+      → (exchanges : List Exchange) × HasClosedConnections first last exchanges
+      × Came coming_old coming_new (bytes_given exchanges)
       × EndsServing {U = U} most exchanges told_old told_new journal_old journal_new old new (Err fault)
   ends_by result most Accept below ends = (
     before.exchanges,
-    subst (λ (closed : Option (List Exchange)). HasClosedConnections first closed before.exchanges) (sym ends.0) before.closed,
-    subst (λ (coming : Option (List (List ℕ))). Came coming_old coming (bytes_given before.exchanges)) (sym ends.1) before.came,
+    subst (λ (closed : Option (List Exchange)). HasClosedConnections first closed before.exchanges)
+        (sym ends.0) before.closed,
+    subst (λ (coming : Option (List (List ℕ))). Came coming_old coming (bytes_given before.exchanges))
+        (sym ends.1) before.came,
     (
       omega (arith, before.counted, below),
-      subst (λ (house : HouseFields). AreServed before.exchanges told_old told_new journal_old journal_new old house) (sym ends.3)
-          (subst (λ (journal : JournalState). AreServed before.exchanges told_old told_new journal_old journal old now) (sym ends.2)
-          (subst (λ (told : Option (List ℕ)). AreServed before.exchanges told_old told journal_old journal_mid old now) (sym ends.4) before.served)),
+      subst (λ (house : HouseFields). AreServed before.exchanges told_old told_new journal_old journal_new old house)
+          (sym ends.3) (subst (λ (journal : JournalState). AreServed before.exchanges told_old told_new journal_old
+          journal old now) (sym ends.2) (subst (λ (told : Option (List ℕ)).
+          AreServed before.exchanges told_old told journal_old journal_mid old now) (sym ends.4) before.served)),
     ),
   )
   ends_by result most Journal below ends = (

@@ -17,7 +17,8 @@ use Rattle.clock_serving.specs.Generations.{IsGeneration, LeftSince, MayLeave, S
 use Rattle.clock_serving.specs.declared.generation.GenerationFault.TheVariants.{Serve}
 use Rattle.clock_serving.specs.declared.serving.ServeFault.{ServeFault}
 use Rattle.clock_serving.specs.declared.serving.ServeFault.TheVariants as fault
-use Rattle.clock_serving.specs.Serving.{AreServed, EndsServing, HasLoggedReplied, LogsText, LoggedTexts, RepliesOver, Walks}
+use Rattle.clock_serving.specs.Serving.{AreServed, EndsServing, HasLoggedReplied, LogsText, LoggedTexts, RepliesOver}
+use Rattle.clock_serving.specs.Serving.{Walks}
 use Rattle.clock_serving.proofs.Served.{left_since}
 
 -- ---- logged texts were accepted

@@ -1,5 +1,6 @@
 -- A run continues with one connection that was served.
-use Rattle.std.proofs.Common.{◌≡◌, ◌≤◌, inl, inr, ℕ, List, [], ◌∷◌, ◌++◌, Option, Some, length, refl, sym, ap, ◌∙◌, subst, arith, length-append, append-nil}
+use Rattle.std.proofs.Common.{◌≡◌, ◌≤◌, inl, inr, ℕ, List, [], ◌∷◌, ◌++◌, Option, Some, length, refl, sym, ap, ◌∙◌}
+use Rattle.std.proofs.Common.{subst, arith, length-append, append-nil}
 use Rattle.std.specs.Prelude.{◌||◌, Result, Ok, Err, false, is_err}
 use Rattle.std.proofs.Math.Seq.{take-append_seam}
 use Rattle.clock_device.specs.Streams.{WritesText}
@@ -37,8 +38,10 @@ use Rattle.clock_serving.proofs.Telling.{CountsOn, counts_text, tells_none, tell
 pub reply_written : {U E : Type 0} (writing : Writing) (answer : Answer) (result : Result U E)
     → WritesText writing.before.taken writing.after.taken answer.bytes result → writing.before.has_failed ≡ false
     → writing.after.has_failed ≡ (writing.before.has_failed || is_err result) → WritesReply writing answer
-reply_written writing answer (Ok done) bytes fresh failed = inl (record { bytes = bytes; unfailed = failed ∙ rw fresh refl })
-reply_written writing answer (Err fault) bytes fresh failed = inr (record { bytes = bytes; failed = failed ∙ rw fresh refl })
+reply_written writing answer (Ok done) bytes fresh failed =
+    inl (record { bytes = bytes; unfailed = failed ∙ rw fresh refl })
+reply_written writing answer (Err fault) bytes fresh failed =
+    inr (record { bytes = bytes; failed = failed ∙ rw fresh refl })
 
 -- no write was made
 pub nothing_written : (told : SinkReport) → IsUnused told → WritesNothing (record { before = told; after = told })
@@ -46,8 +49,8 @@ nothing_written told unused = record { unused = unused; bytes = same_bytes told.
 
 -- what holds of a response holds of an equal one
 pub answered_as : (reading : Reading) (told response : Response) (journal_old journal_new journal_mid : JournalState)
-    (old new mid : HouseFields) → response ≡ told → journal_mid ≡ journal_new → mid ≡ new
-    → IsAnswered reading told journal_old journal_new old new → IsAnswered reading response journal_old journal_mid old mid
+    (old new mid : HouseFields) → response ≡ told → journal_mid ≡ journal_new → mid ≡ new → IsAnswered reading told
+    journal_old journal_new old new → IsAnswered reading response journal_old journal_mid old mid
 answered_as reading told response journal_old journal_new journal_mid old new mid is kept same answered =
     subst (λ (one : Response). IsAnswered reading one journal_old journal_mid old mid) (sym is)
     (subst (λ (journal : JournalState). IsAnswered reading told journal_old journal old mid) (sym kept)
@@ -55,18 +58,19 @@ answered_as reading told response journal_old journal_new journal_mid old new mi
 
 -- of a journal to which texts were appended, a crash leaves the texts before, and a prefix of the others
 pub left_since : (digest : List ℕ) (past more : List (List ℕ)) (journal_old journal_new : JournalState) (left : List ℕ)
-    → HasTexts digest past journal_old → HasTexts digest (past ++ more) journal_new → MayBeLeft journal_old.synced journal_new.written left
-    → LeavesTexts digest left (past ++ more) (length past)
+    → HasTexts digest past journal_old → HasTexts digest (past ++ more) journal_new
+    → MayBeLeft journal_old.synced journal_new.written left → LeavesTexts digest left (past ++ more) (length past)
 left_since digest past more journal_old journal_new left has_old has_new may =
     let known : MayBeLeft (Some (file_of digest past)) (Some (file_of digest (past ++ more))) left =
-    subst (λ (bytes : Option (List ℕ)). MayBeLeft bytes (Some (file_of digest (past ++ more))) left) (has_old.synced_is ∙ has_old.file)
-    (subst (λ (bytes : Option (List ℕ)). MayBeLeft journal_old.synced bytes left) has_new.file may) in
+    subst (λ (bytes : Option (List ℕ)). MayBeLeft bytes (Some (file_of digest (past ++ more))) left) (has_old.synced_is
+    ∙ has_old.file) (subst (λ (bytes : Option (List ℕ)). MayBeLeft journal_old.synced bytes left) has_new.file may) in
     subst (λ (bytes : List ℕ). LeavesTexts digest bytes (past ++ more) (length past)) (sym known.2)
     (every_front digest (past ++ more) (length past) known.0 has_new.fit (omega (arith, length-append past more))
     (subst (λ (all : List (List ℕ)). length (file_of digest all) ≤ known.0) (sym (take-append_seam past more)) known.1))
 
 -- what one connection made of the texts that a front stands for
-pub record HasNext (setup : SetupFields) (past : List (List ℕ)) (one : Exchange) (changed : Effect) (new : HouseFields) : Type 0 where
+pub record HasNext (setup : SetupFields) (past : List (List ℕ)) (one : Exchange) (changed : Effect)
+    (new : HouseFields) : Type 0 where
   pub next : List (List ℕ)
   pub replies : RepliesTo setup past one next
   pub stands : StandsForTexts next new
@@ -82,10 +86,13 @@ pub record HasNextKept (digest : List ℕ) (setup : SetupFields) (past : List (L
 
 module _ (one : Exchange) (effect_is : Effect) (journal_old journal_new : JournalState) (old new : HouseFields)
     (setup : SetupFields) (limits : IsSetup setup) (same : old.setup ≡ setup) where
-  right_here : (past : List (List ℕ)) (text : List ℕ) (answer : Answer) → answer ≡ reply old.setup past text → IsRight setup past text answer
-  right_here past text answer is = right setup limits past text answer (is ∙ ap (λ (of_setup : SetupFields). reply of_setup past text) same)
+  right_here : (past : List (List ℕ)) (text : List ℕ) (answer : Answer) → answer ≡ reply old.setup past text
+      → IsRight setup past text answer
+  right_here past text answer is =
+      right setup limits past text answer (is ∙ ap (λ (of_setup : SetupFields). reply of_setup past text) same)
 
-  written_no_memory : (answer : Answer) → answer ≡ no_memory → WritesReply one.writing answer → WritesReply one.writing no_memory
+  written_no_memory : (answer : Answer) → answer ≡ no_memory → WritesReply one.writing answer
+      → WritesReply one.writing no_memory
   written_no_memory answer is written = subst (λ (a : Answer). WritesReply one.writing a) is written
 
   -- a connection that changed nothing closed no round
@@ -125,8 +132,8 @@ module _ (one : Exchange) (effect_is : Effect) (journal_old journal_new : Journa
     counts = counts_nothing past response.effect is nothing;
   }
 
-  replied_one : (past : List (List ℕ)) → StandsForTexts past old → IsServed one effect_is journal_old journal_new old new
-      → HasNext setup past one effect_is new
+  replied_one : (past : List (List ℕ)) → StandsForTexts past old
+      → IsServed one effect_is journal_old journal_new old new → HasNext setup past one effect_is new
   replied_one past stands (inl (response, inl told, written, is, seen)) =
       replied_text past told.text response stands told.arrived written is told.responds
   replied_one past stands (inl (response, inr (room, none, still, kept), written, is, seen)) = record {
@@ -142,17 +149,17 @@ module _ (one : Exchange) (effect_is : Effect) (journal_old journal_new : Journa
     counts = counts_nothing past Nothing is refl;
   }
 
-  in_step_still : (digest : List ℕ) (past : List (List ℕ)) → IsInStep digest past journal_old old → new ≡ old → journal_new ≡ journal_old
-      → IsInStep digest past journal_new new
+  in_step_still : (digest : List ℕ) (past : List (List ℕ)) → IsInStep digest past journal_old old → new ≡ old
+      → journal_new ≡ journal_old → IsInStep digest past journal_new new
   in_step_still digest past in_step still kept =
       subst (λ (house : HouseFields). IsInStep digest past journal_new house) (sym still)
       (subst (λ (journal : JournalState). IsInStep digest past journal old) (sym kept) in_step)
 
   -- what is on the disk then, and what a crash until then leaves
   has_next : (digest : List ℕ) (past : List (List ℕ)) → IsInStep digest past journal_old old → (next : List (List ℕ))
-      → IsInStep digest next journal_new new
-      → RepliesOver setup (record { texts = past; journal = journal_old }) one (record { texts = next; journal = journal_new })
-      → (more : List (List ℕ)) → next ≡ past ++ more → HasNextKept digest setup past one journal_old journal_new new
+      → IsInStep digest next journal_new new → RepliesOver setup (record { texts = past; journal = journal_old }) one
+      (record { texts = next; journal = journal_new }) → (more : List (List ℕ)) → next ≡ past ++ more
+      → HasNextKept digest setup past one journal_old journal_new new
   has_next digest past before next after replies more is = record {
     next = next;
     keeps = record {
@@ -175,8 +182,8 @@ module _ (one : Exchange) (effect_is : Effect) (journal_old journal_new : Journa
   kept_reply past text answer next (inr struck) = inr struck
 
   -- the texts of the journal
-  kept_one : (digest : List ℕ) (past : List (List ℕ)) → IsInStep digest past journal_old old
-      → IsServed one effect_is journal_old journal_new old new → HasNextKept digest setup past one journal_old journal_new new
+  kept_one : (digest : List ℕ) (past : List (List ℕ)) → IsInStep digest past journal_old old → IsServed one effect_is
+      journal_old journal_new old new → HasNextKept digest setup past one journal_old journal_new new
   kept_one digest past in_step (inl (response, inl told, written, is, seen)) =
       let kept : IsLogged digest past told.text response.reply journal_new old new = told.kept digest past in_step in
       let replies : RepliesOver setup (record { texts = past; journal = journal_old }) one
@@ -207,14 +214,17 @@ module _ (one : Exchange) (effect_is : Effect) (journal_old journal_new : Journa
   -- the file was only appended to
   added_one : IsServed one effect_is journal_old journal_new old new → journal_new.uncut ≡ journal_old.uncut
   added_one (inl (response, inl told, written, is, seen)) = told.added_to
-  added_one (inl (response, inr (room, none, still, kept), written, is, seen)) = ap (λ (journal : JournalState). journal.uncut) kept
+  added_one (inl (response, inr (room, none, still, kept), written, is, seen)) =
+      ap (λ (journal : JournalState). journal.uncut) kept
   added_one (inr ((unanswered, kept), silent, is)) = ap (λ (journal : JournalState). journal.uncut) kept
 
 -- no connection was served yet
-pub served_none : (told : Option (List ℕ)) (journal : JournalState) (house : HouseFields) → AreServed [] told told journal journal house house
+pub served_none : (told : Option (List ℕ)) (journal : JournalState) (house : HouseFields)
+    → AreServed [] told told journal journal house house
 served_none told journal house = record {
   added_to = refl;
-  replied = λ past stands. record { end = past; walks = refl; stands = stands; tells = tells_none house.setup past told };
+  replied =
+      λ past stands. record { end = past; walks = refl; stands = stands; tells = tells_none house.setup past told };
   kept = λ digest past in_step. record {
     end = past;
     walks = refl;
@@ -227,38 +237,42 @@ served_none told journal house = record {
 }
 
 -- one more was served
-pub served_more : (exchanges : List Exchange) (one : Exchange) (changed : Effect) (told_old told_mid told_new : Option (List ℕ))
-    (journal_old journal_mid journal_new : JournalState) (old mid new : HouseFields)
-    → IsSetup old.setup → mid.setup ≡ old.setup → AreServed exchanges told_old told_mid journal_old journal_mid old mid
+pub served_more : (exchanges : List Exchange) (one : Exchange) (changed : Effect) (told_old told_mid told_new : Option
+    (List ℕ)) (journal_old journal_mid journal_new : JournalState) (old mid new : HouseFields) → IsSetup old.setup
+    → mid.setup ≡ old.setup → AreServed exchanges told_old told_mid journal_old journal_mid old mid
     → IsServed one changed journal_mid journal_new mid new → GrowsBy told_mid told_new (round_closed changed)
     → AreServed (exchanges ++ one ∷ []) told_old told_new journal_old journal_new old new
-served_more exchanges one changed told_old told_mid told_new journal_old journal_mid journal_new old mid new limits same before served tells = record {
-  added_to = added_one one changed journal_mid journal_new mid new old.setup limits same served ∙ before.added_to;
-  replied = λ past stands.
-      let so_far = before.replied past stands in
-      let next = replied_one one changed journal_mid journal_new mid new old.setup limits same so_far.end so_far.stands served in
-      record {
-        end = next.next;
-        walks = walks_on (RepliesTo old.setup) past exchanges so_far.end one next.next so_far.walks next.replies;
-        stands = next.stands;
-        tells = tells_on old.setup past so_far.end next.next changed told_old told_mid told_new so_far.tells next.counts tells;
-      };
-  kept = λ digest past in_step.
-      let so_far = before.kept digest past in_step in
-      let next = kept_one one changed journal_mid journal_new mid new old.setup limits same digest so_far.end so_far.in_step served in
-      let first : LoggedTexts = record { texts = past; journal = journal_old } in
-      let last : LoggedTexts = record { texts = next.next; journal = journal_new } in
-      let walks : Walks (LogsText digest old.setup) first (exchanges ++ one ∷ []) last =
-      walks_on (LogsText digest old.setup) first exchanges (record { texts = so_far.end; journal = journal_mid }) one last
-      so_far.walks next.keeps in
-      let behind = all_behind digest old.setup first (exchanges ++ one ∷ []) last walks in
-      record {
-        end = next.next;
-        walks = walks;
-        in_step = next.in_step;
-        moments = λ left may.
-            subst (λ (texts : List (List ℕ)). LeavesTexts digest left texts (length past)) (sym behind.1)
-            (left_since digest past behind.0 journal_old journal_new left in_step.has
-            (subst (λ (texts : List (List ℕ)). HasTexts digest texts journal_new) behind.1 next.in_step.has) may);
-      };
-}
+served_more exchanges one changed told_old told_mid told_new journal_old journal_mid journal_new old mid new limits same
+    before served tells = record {
+      added_to = added_one one changed journal_mid journal_new mid new old.setup limits same served ∙ before.added_to;
+      replied = λ past stands.
+          let so_far = before.replied past stands in
+          let next = replied_one one changed journal_mid journal_new mid new old.setup limits same so_far.end
+          so_far.stands served in
+          record {
+            end = next.next;
+            walks = walks_on (RepliesTo old.setup) past exchanges so_far.end one next.next so_far.walks next.replies;
+            stands = next.stands;
+            tells = tells_on old.setup past so_far.end next.next changed told_old told_mid told_new
+                so_far.tells next.counts tells;
+          };
+      kept = λ digest past in_step.
+          let so_far = before.kept digest past in_step in
+          let next = kept_one one changed journal_mid journal_new mid new old.setup limits same digest so_far.end
+          so_far.in_step served in
+          let first : LoggedTexts = record { texts = past; journal = journal_old } in
+          let last : LoggedTexts = record { texts = next.next; journal = journal_new } in
+          let walks : Walks (LogsText digest old.setup) first (exchanges ++ one ∷ []) last =
+          walks_on (LogsText digest old.setup) first exchanges
+          (record { texts = so_far.end; journal = journal_mid }) one last so_far.walks next.keeps in
+          let behind = all_behind digest old.setup first (exchanges ++ one ∷ []) last walks in
+          record {
+            end = next.next;
+            walks = walks;
+            in_step = next.in_step;
+            moments = λ left may.
+                subst (λ (texts : List (List ℕ)). LeavesTexts digest left texts (length past)) (sym behind.1)
+                (left_since digest past behind.0 journal_old journal_new left in_step.has
+                (subst (λ (texts : List (List ℕ)). HasTexts digest texts journal_new) behind.1 next.in_step.has) may);
+          };
+    }

@@ -1,5 +1,6 @@
 -- Each closed round is reported once, in order: each text closes the next round or none.
-use Rattle.std.proofs.Common.{◌≡◌, ◌==◌, ◌≤◌, ◌+◌, ◌-◌, ℕ, true, zero, suc, List, [], ◌∷◌, ◌++◌, Option, Some, None, Result, Ok, Err}
+use Rattle.std.proofs.Common.{◌≡◌, ◌==◌, ◌≤◌, ◌+◌, ◌-◌, ℕ, true, zero, suc, List, [], ◌∷◌, ◌++◌, Option, Some, None}
+use Rattle.std.proofs.Common.{Result, Ok, Err}
 use Rattle.std.proofs.Common.{length, refl, sym, ap, ◌∙◌, subst, arith, append-nil}
 use Rattle.std.specs.List.{range_with_len}
 use Rattle.clock_terms.specs.declared.increments.Increments.{Increments}
@@ -53,8 +54,8 @@ counts_command : (setup : SetupFields) (commands : List Command) (command : Comm
     (length (after_command setup (history setup commands) command).closed)
 counts_command setup commands (put bidder round bids) =
     counts_put (put_fault_in (house_after setup commands) bidder round bids) (length (history setup commands).closed)
-counts_command setup commands (close round increments ties) =
-    counts_closing setup commands round increments ties (closing_of setup (history setup commands) round increments ties) refl
+counts_command setup commands (close round increments ties) = counts_closing setup commands round increments ties
+    (closing_of setup (history setup commands) round increments ties) refl
 counts_command setup commands other = refl
 
 -- so does a text, after others
@@ -96,18 +97,21 @@ rounds_on (Closing number) first before after more counts =
 -- ---- the reported rounds
 
 -- none was closed yet
-pub tells_none : (setup : SetupFields) (past : List (List ℕ)) (told : Option (List ℕ)) → ReportsClosings setup past past told told
+pub tells_none : (setup : SetupFields) (past : List (List ℕ)) (told : Option (List ℕ))
+    → ReportsClosings setup past past told told
 tells_none setup past told =
     let none : 0 ≡ closed_by setup past - closed_by setup past = omega arith in
     record {
       more = omega arith;
-      told = subst (λ (count : ℕ). GrowsBy told told (range_with_len (closed_by setup past + 1) count)) none (grown_none told);
+      told = subst
+          (λ (count : ℕ). GrowsBy told told (range_with_len (closed_by setup past + 1) count)) none (grown_none told);
     }
 
 -- one more connection
-pub tells_on : (setup : SetupFields) (past end next : List (List ℕ)) (one : Effect) (told_old told_mid told_new : Option (List ℕ))
-    → ReportsClosings setup past end told_old told_mid → CountsOn one (closed_by setup end) (closed_by setup next)
-    → GrowsBy told_mid told_new (round_closed one) → ReportsClosings setup past next told_old told_new
+pub tells_on : (setup : SetupFields) (past end next : List (List ℕ)) (one : Effect)
+    (told_old told_mid told_new : Option (List ℕ)) → ReportsClosings setup past end told_old told_mid
+    → CountsOn one (closed_by setup end) (closed_by setup next) → GrowsBy told_mid told_new (round_closed one)
+    → ReportsClosings setup past next told_old told_new
 tells_on setup past end next one told_old told_mid told_new before counts here =
     let after : closed_by setup end ≤ closed_by setup next =
     counts_more one (closed_by setup end) (closed_by setup next) counts in

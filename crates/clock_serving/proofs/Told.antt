@@ -10,7 +10,8 @@ use Rattle.clock_serving.specs.declared.serving.ServeFault.{ServeFault}
 use Rattle.clock_serving.specs.declared.serving.ServeFault.TheVariants.{Accept, Journal}
 use Rattle.clock_serving.specs.Exchanges.{Came, Exchange, HasClosedConnections, bytes_given}
 use Rattle.clock_serving.specs.Serving.{is_accept_fault}
-use Rattle.clock_serving.specs.inside.Served.{EndsOne, EndsTaken, IsServed, IsReported, IsReportedAs, IsUnlogged, round_closed}
+use Rattle.clock_serving.specs.inside.Served.{EndsOne, EndsTaken, IsServed, IsReported, IsReportedAs, IsUnlogged}
+use Rattle.clock_serving.specs.inside.Served.{round_closed}
 use Rattle.clock_serving.proofs.Walking.{grown_none}
 
 grows_by : (one : Effect) (told_old told_new : Option (List ℕ)) → IsReported told_old told_new one
@@ -51,17 +52,17 @@ module _ (coming_old coming_new : Option (List (List ℕ))) (closed_old closed_n
   )
 
 -- accepting the connection has not failed
-pub not_accept : {U E : Type 0} (told_old told_new : Option (List ℕ)) (served : Result Effect E) (result : Result U ServeFault)
-    → IsReportedAs told_old told_new served result → false ≡ is_accept_fault result
+pub not_accept : {U E : Type 0} (told_old told_new : Option (List ℕ)) (served : Result Effect E)
+    (result : Result U ServeFault) → IsReportedAs told_old told_new served result → false ≡ is_accept_fault result
 not_accept told_old told_new (Ok effect) (Ok done) told = refl
 not_accept told_old told_new (Ok effect) (Err fault) told = absurd told
 not_accept told_old told_new (Err failed) (Ok done) told = absurd told
 not_accept told_old told_new (Err failed) (Err Accept) told = absurd told
 not_accept told_old told_new (Err failed) (Err Journal) told = refl
 
-pub unfailed : {U E : Type 0} (told_old told_new : Option (List ℕ)) (served : Result Effect E) (result : Result U ServeFault)
-    (journal_mid journal_new : JournalState) → IsReportedAs told_old told_new served result → journal_new ≡ journal_mid
-    → OnOk served (journal_mid.has_failed ≡ false) → OnOk result (journal_new.has_failed ≡ false)
+pub unfailed : {U E : Type 0} (told_old told_new : Option (List ℕ)) (served : Result Effect E) (result : Result U
+    ServeFault) (journal_mid journal_new : JournalState) → IsReportedAs told_old told_new served result → journal_new
+    ≡ journal_mid → OnOk served (journal_mid.has_failed ≡ false) → OnOk result (journal_new.has_failed ≡ false)
 unfailed told_old told_new (Ok effect) (Ok done) journal_mid journal_new told kept fresh =
     subst (λ (journal : JournalState). journal.has_failed ≡ false) (sym kept) fresh
 unfailed told_old told_new (Ok effect) (Err fault) journal_mid journal_new told kept fresh = tt

@@ -16,8 +16,8 @@ grown_none None = tt
 grown_none (Some old) = ap Some (sym (append-nil old))
 
 -- these were appended, and then those
-pub grown_more : {A : Type 0} (first mid last : Option (List A)) (some others : List A) → GrowsBy first mid some → GrowsBy mid last others
-    → GrowsBy first last (some ++ others)
+pub grown_more : {A : Type 0} (first mid last : Option (List A)) (some others : List A) → GrowsBy first mid some
+    → GrowsBy mid last others → GrowsBy first last (some ++ others)
 grown_more None mid last some others before after = tt
 grown_more {A = A} (Some old) mid last some others before after =
     subst (λ (list : Option (List A)). GrowsBy list last others) before after ∙ ap Some (append_assoc old some others)
@@ -27,26 +27,29 @@ pub came_none : (coming : Option (List (List ℕ))) → Came coming coming []
 came_none None = tt
 came_none (Some coming) = (coming, refl, refl)
 
-came_then : (first mid last : Option (List (List ℕ))) (some others : List (Option (List ℕ))) → Came first mid some → Came mid last others
-    → Came first last (some ++ others)
+came_then : (first mid last : Option (List (List ℕ))) (some others : List (Option (List ℕ))) → Came first mid some
+    → Came mid last others → Came first last (some ++ others)
 came_then None mid last some others before after = tt
 came_then (Some coming) mid last some others before after =
-    let later : Came (Some before.0) last others = subst (λ (left : Option (List (List ℕ))). Came left last others) before.1 after in (
+    let later : Came (Some before.0) last others =
+    subst (λ (left : Option (List (List ℕ))). Came left last others) before.1 after in (
       later.0,
       later.1,
-      before.2 ∙ ap (λ (given : List (Option (List ℕ))). some ++ given) later.2 ∙ sym (append_assoc some others (map Some later.0)),
+      before.2 ∙ ap (λ (given : List (Option (List ℕ))). some ++ given) later.2
+          ∙ sym (append_assoc some others (map Some later.0)),
     )
 
 -- these came, and then one more
-pub came_more : (first mid last : Option (List (List ℕ))) (exchanges : List Exchange) (one : Exchange) → Came first mid (bytes_given exchanges)
-    → Came mid last (bytes_given (one ∷ [])) → Came first last (bytes_given (exchanges ++ one ∷ []))
-came_more first mid last exchanges one before after =
-    subst (λ (given : List (Option (List ℕ))). Came first last given) (sym (map-append (λ one. one.reading.before.left) exchanges (one ∷ [])))
+pub came_more : (first mid last : Option (List (List ℕ))) (exchanges : List Exchange) (one : Exchange)
+    → Came first mid (bytes_given exchanges) → Came mid last (bytes_given (one ∷ []))
+    → Came first last (bytes_given (exchanges ++ one ∷ []))
+came_more first mid last exchanges one before after = subst (λ (given : List (Option (List ℕ))). Came first last given)
+    (sym (map-append (λ one. one.reading.before.left) exchanges (one ∷ [])))
     (came_then first mid last (bytes_given exchanges) (bytes_given (one ∷ [])) before after)
 
 -- the accepted connection came
-pub came_one : (first mid last : Option (List (List ℕ))) (offer : Offer) (one : Exchange) → Came first mid (offer.source.left ∷ [])
-    → last ≡ mid → offer.source ≡ one.reading.before → Came first last (bytes_given (one ∷ []))
+pub came_one : (first mid last : Option (List (List ℕ))) (offer : Offer) (one : Exchange) → Came first mid
+    (offer.source.left ∷ []) → last ≡ mid → offer.source ≡ one.reading.before → Came first last (bytes_given (one ∷ []))
 came_one first mid last offer one came still from =
     subst (λ (left : Option (List (List ℕ))). Came first left (one.reading.before.left ∷ [])) (sym still)
     (subst (λ (told : SourceReport). Came first mid (told.left ∷ [])) from came)
@@ -55,7 +58,8 @@ came_one first mid last offer one came still from =
 pub walks_on : {A : Type 0} (step : A → Exchange → A → Type 0) (past : A) (exchanges : List Exchange) (end : A)
     (one : Exchange) (next : A) → Walks step past exchanges end → step end one next
     → Walks step past (exchanges ++ one ∷ []) next
-walks_on {A = A} step past [] end one next walks steps = (next, subst (λ (now : A). step now one next) walks steps, refl)
+walks_on {A = A} step past [] end one next walks steps =
+    (next, subst (λ (now : A). step now one next) walks steps, refl)
 walks_on step past (first ∷ others) end one next walks steps =
     (walks.0, walks.1, walks_on step walks.0 others end one next walks.2 steps)
 
@@ -75,8 +79,9 @@ kept_behind digest setup before one after (inl (text, answer, replied, inr (stru
 kept_behind digest setup before one after (inr (alone, is)) =
     ([], ap (λ (kept : LoggedTexts). kept.texts) is ∙ sym (append-nil before.texts))
 
-pub all_behind : (digest : List ℕ) (setup : SetupFields) (past : LoggedTexts) (exchanges : List Exchange) (end : LoggedTexts)
-    → Walks (LogsText digest setup) past exchanges end → (more : List (List ℕ)) × (end.texts ≡ past.texts ++ more)
+pub all_behind : (digest : List ℕ) (setup : SetupFields) (past : LoggedTexts) (exchanges : List Exchange)
+    (end : LoggedTexts) → Walks (LogsText digest setup) past exchanges end
+    → (more : List (List ℕ)) × (end.texts ≡ past.texts ++ more)
 all_behind digest setup past [] end walks =
     ([], ap (λ (kept : LoggedTexts). kept.texts) walks ∙ sym (append-nil past.texts))
 all_behind digest setup past (one ∷ others) end walks =
@@ -88,14 +93,13 @@ all_behind digest setup past (one ∷ others) end walks =
 
 -- the open connection was closed
 pub closed_one : (first mid last : Option (List Exchange)) (offer : Offer) (one : Exchange) → mid ≡ first
-    → offer.source ≡ one.reading.before → offer.sink ≡ one.writing.before
-    → Closes mid last (record one.reading { before = offer.source }) (record one.writing { before = offer.sink }) one.kept
-    → HasClosedConnections first last
-    (record { reading = one.reading; writing = one.writing; kept = one.kept } ∷ [])
+    → offer.source ≡ one.reading.before → offer.sink ≡ one.writing.before → Closes mid last
+    (record one.reading { before = offer.source }) (record one.writing { before = offer.sink }) one.kept
+    → HasClosedConnections first last (record { reading = one.reading; writing = one.writing; kept = one.kept } ∷ [])
 closed_one first mid last offer one same from to closes =
     let reading = one.reading in
     let writing = one.writing in
     subst (λ (closed : Option (List Exchange)). Closes closed last reading writing one.kept) same
     (subst (λ (told : SourceReport). Closes mid last (record reading { before = told }) writing one.kept) from
-    (subst (λ (told : SinkReport). Closes mid last (record reading { before = offer.source }) (record writing { before = told })
-    one.kept) to closes))
+    (subst (λ (told : SinkReport). Closes mid last (record reading { before = offer.source })
+    (record writing { before = told }) one.kept) to closes))

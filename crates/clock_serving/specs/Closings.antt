@@ -20,6 +20,7 @@ rounds_between before after = range_with_len (before + 1) (after - before)
 
 -- no closed round is open again; each round closed since then is appended to the reported ones,
 -- once and in order
-pub record ReportsClosings (setup : SetupFields) (past end : List (List ℕ)) (told_old told_new : Option (List ℕ)) : Type 0 where
+pub record ReportsClosings (setup : SetupFields) (past end : List (List ℕ))
+    (told_old told_new : Option (List ℕ)) : Type 0 where
   pub more : closed_by setup past ≤ closed_by setup end
   pub told : GrowsBy told_old told_new (rounds_between (closed_by setup past) (closed_by setup end))

@@ -26,20 +26,23 @@ pub record Exchange : Type 0 where
   pub kept : Option JournalState
 
 -- exactly these connections were closed, in order
-abbrev pub HasClosedConnections : Option (List Exchange) → Option (List Exchange) → List Exchange → Type 0
+abbrev pub HasClosedConnections : Option (List Exchange) → Option (List Exchange)
+    → List Exchange → Type 0
 HasClosedConnections old new exchanges = GrowsBy old new exchanges
 
 -- these were the first of the connections to come, in order; the rest is still to come
 abbrev pub Came : Option (List (List ℕ)) → Option (List (List ℕ)) → List (Option (List ℕ)) → Type 0
 Came None left given = Unit {0}
-Came (Some coming) left given = (rest : List (List ℕ)) × (left ≡ Some rest) × (map Some coming ≡ given ++ map Some rest)
+Came (Some coming) left given =
+    (rest : List (List ℕ)) × (left ≡ Some rest) × (map Some coming ≡ given ++ map Some rest)
 
 -- what the source of each had when the connection was accepted
 abbrev pub bytes_given : List Exchange → List (Option (List ℕ))
 bytes_given exchanges = map (λ one. one.reading.before.left) exchanges
 
 -- one connection was closed
-abbrev pub Closes : Option (List Exchange) → Option (List Exchange) → Reading → Writing → Option JournalState → Type 0
+abbrev pub Closes : Option (List Exchange) → Option (List Exchange) → Reading → Writing
+    → Option JournalState → Type 0
 Closes old new reading writing kept =
     HasClosedConnections old new (record { reading = reading; writing = writing; kept = kept } ∷ [])
 

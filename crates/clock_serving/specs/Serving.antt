@@ -15,7 +15,8 @@
 --         logged
 --     is_accept_fault result      a connection could not be accepted
 --     EndsServing count exchanges .. result      how serving `count` connections ends
-use Rattle.std.specs.Prelude.{◌≡◌, ◌<◌, ◌≤◌, ◌⊎◌, ◌++◌, ℕ, Bool, true, false, List, [], ◌∷◌, length, Option, Some, Result, Ok, Err}
+use Rattle.std.specs.Prelude.{◌≡◌, ◌<◌, ◌≤◌, ◌⊎◌, ◌++◌, ℕ, Bool, true, false, List, [], ◌∷◌, length}
+use Rattle.std.specs.Prelude.{Option, Some, Result, Ok, Err}
 use Rattle.clock_terms.specs.Limits.{SetupFields}
 use Rattle.clock_house.specs.House.{HouseFields}
 use Rattle.clock_http.specs.Replies.{Answer}
@@ -54,18 +55,18 @@ EndsUnanswered one =
 -- the step leads from `past` to `end`, connection by connection, in order
 abbrev pub Walks : {A : Type 0} → (A → Exchange → A → Type 0) → A → List Exchange → A → Type 0
 Walks step past [] end = end ≡ past
-Walks {A = A} step past (one ∷ others) end = (next : A) × step past one next × Walks step next others end
+Walks {A = A} step past (one ∷ others) end =
+    (next : A) × step past one next × Walks step next others end
 
 -- the right reply, and the text joins the others; or the out-of-memory reply, and it does not
 abbrev pub IsNextReply : SetupFields → List (List ℕ) → List ℕ → Answer → List (List ℕ) → Type 0
-IsNextReply setup past text answer next =
-    (IsRight setup past text answer × (next ≡ text ∷ past)) ⊎ (IsOutOfMemoryReply text answer × (next ≡ past))
+IsNextReply setup past text answer next = (IsRight setup past text answer × (next ≡ text ∷ past))
+    ⊎ (IsOutOfMemoryReply text answer × (next ≡ past))
 
 -- the request that was read got its reply; or none could be read
 abbrev pub RepliesTo : SetupFields → List (List ℕ) → Exchange → List (List ℕ) → Type 0
-RepliesTo setup past one next =
-    ((text : List ℕ) × (answer : Answer) × IsReplied one text answer × IsNextReply setup past text answer next)
-    ⊎ (EndsUnanswered one × (next ≡ past))
+RepliesTo setup past one next = ((text : List ℕ) × (answer : Answer) × IsReplied one text answer
+    × IsNextReply setup past text answer next) ⊎ (EndsUnanswered one × (next ≡ past))
 
 -- the right reply after the logged texts, and the text is logged if it changes the auction; or out
 -- of memory
@@ -89,7 +90,8 @@ RepliesOver setup before one after =
 
 -- the reply is right, and then all logged texts are on the disk. A crash since the connection
 -- before leaves the texts logged before, and at most the one logged now
-pub record LogsText (digest : List ℕ) (setup : SetupFields) (before : LoggedTexts) (one : Exchange) (after : LoggedTexts) : Type 0 where
+pub record LogsText (digest : List ℕ) (setup : SetupFields) (before : LoggedTexts) (one : Exchange)
+    (after : LoggedTexts) : Type 0 where
   pub replies : RepliesOver setup before one after
   pub has : HasTexts digest after.texts after.journal
   pub moments : (left : List ℕ) → MayBeLeft before.journal.synced after.journal.written left
@@ -97,50 +99,59 @@ pub record LogsText (digest : List ℕ) (setup : SetupFields) (before : LoggedTe
 
 -- what the connections made of the texts that the front stands for; each round that was closed was
 -- reported
-pub record HasReplied (past : List (List ℕ)) (exchanges : List Exchange) (told_old told_new : Option (List ℕ)) (old new : HouseFields) : Type 0 where
+pub record HasReplied (past : List (List ℕ)) (exchanges : List Exchange)
+    (told_old told_new : Option (List ℕ)) (old new : HouseFields) : Type 0 where
   pub end : List (List ℕ)
   pub walks : Walks (RepliesTo old.setup) past exchanges end
   pub stands : StandsForTexts end new
   pub tells : ReportsClosings old.setup past end told_old told_new
 
--- what each connection made of the logged texts was on the disk, and still is; a crash at any moment
--- since leaves a prefix of `end`, with all of `past`
+-- what each connection made of the logged texts was on the disk, and still is; a crash at any
+-- moment since leaves a prefix of `end`, with all of `past`
 pub record HasLogged (digest : List ℕ) (past : List (List ℕ)) (exchanges : List Exchange)
     (journal_old journal_new : JournalState) (old new : HouseFields) : Type 0 where
   pub end : List (List ℕ)
-  pub walks : Walks (LogsText digest old.setup) (record { texts = past; journal = journal_old }) exchanges
-      (record { texts = end; journal = journal_new })
+  pub walks : Walks (LogsText digest old.setup) (record { texts = past; journal = journal_old })
+      exchanges (record { texts = end; journal = journal_new })
   pub in_step : IsInStep digest end journal_new new
-  pub moments : (left : List ℕ) → MayBeLeft journal_old.synced journal_new.written left → LeavesTexts digest left end (length past)
+  pub moments : (left : List ℕ) → MayBeLeft journal_old.synced journal_new.written left
+      → LeavesTexts digest left end (length past)
 
 -- these connections were served in order, and the file was only appended to
-pub record AreServed (exchanges : List Exchange) (told_old told_new : Option (List ℕ)) (journal_old journal_new : JournalState) (old new : HouseFields) : Type 0 where
+pub record AreServed (exchanges : List Exchange) (told_old told_new : Option (List ℕ))
+    (journal_old journal_new : JournalState) (old new : HouseFields) : Type 0 where
   pub added_to : journal_new.uncut ≡ journal_old.uncut
-  pub replied : (past : List (List ℕ)) → StandsForTexts past old → HasReplied past exchanges told_old told_new old new
-  pub kept : (digest : List ℕ) (past : List (List ℕ)) → IsInStep digest past journal_old old → HasLogged digest past exchanges journal_old journal_new old new
+  pub replied : (past : List (List ℕ)) → StandsForTexts past old
+      → HasReplied past exchanges told_old told_new old new
+  pub kept : (digest : List ℕ) (past : List (List ℕ)) → IsInStep digest past journal_old old
+      → HasLogged digest past exchanges journal_old journal_new old new
 
 -- all texts with a reply are on the disk. A crash leaves these, and at most the one that could not
 -- be logged, which was accepted
-pub record HasLoggedReplied (digest : List ℕ) (past : List (List ℕ)) (served : List Exchange) (text : List ℕ)
-    (journal_old journal : JournalState) (old : HouseFields) : Type 0 where
+pub record HasLoggedReplied (digest : List ℕ) (past : List (List ℕ)) (served : List Exchange)
+    (text : List ℕ) (journal_old journal : JournalState) (old : HouseFields) : Type 0 where
   pub end : List (List ℕ)
   pub before : JournalState
-  pub walks : Walks (LogsText digest old.setup) (record { texts = past; journal = journal_old }) served
-      (record { texts = end; journal = before })
+  pub walks : Walks (LogsText digest old.setup) (record { texts = past; journal = journal_old })
+      served (record { texts = end; journal = before })
   pub accepted : IsAccepted old.setup (onto end []) text
   pub on_disk : journal.synced ≡ Some (file_of digest end)
-  pub left_ones : (left : List ℕ) → MayBeLeft (Some (file_of digest end)) journal.written left → LeavesTexts digest left (end ++ text ∷ []) (length end)
+  pub left_ones : (left : List ℕ) → MayBeLeft (Some (file_of digest end)) journal.written left
+      → LeavesTexts digest left (end ++ text ∷ []) (length end)
 
 -- after these, the disk failed to log the last text: it got no reply, and no round that it closed
 -- was reported
-pub record EndsUnlogged (served : List Exchange) (last : Exchange) (told_old told_new : Option (List ℕ)) (journal_old journal_new : JournalState) (old : HouseFields) : Type 0 where
+pub record EndsUnlogged (served : List Exchange) (last : Exchange) (told_old told_new : Option
+    (List ℕ)) (journal_old journal_new : JournalState) (old : HouseFields) : Type 0 where
   pub text : List ℕ
   pub arrived : HasArrived last.reading text
   pub failed : journal_new.has_failed ≡ true
   pub silent : WritesNothing last.writing
   pub added_to : journal_new.uncut ≡ journal_old.uncut
-  pub replied : (past : List (List ℕ)) → StandsForTexts past old → (end : List (List ℕ)) × Walks (RepliesTo old.setup) past served end × ReportsClosings old.setup past end told_old told_new
-  pub kept : (digest : List ℕ) (past : List (List ℕ)) → IsInStep digest past journal_old old → HasLoggedReplied digest past served text journal_old journal_new old
+  pub replied : (past : List (List ℕ)) → StandsForTexts past old → (end : List (List ℕ)) × Walks
+      (RepliesTo old.setup) past served end × ReportsClosings old.setup past end told_old told_new
+  pub kept : (digest : List ℕ) (past : List (List ℕ)) → IsInStep digest past journal_old old
+      → HasLoggedReplied digest past served text journal_old journal_new old
 
 -- a connection could not be accepted
 abbrev pub is_accept_fault : {U : Type 0} → Result U ServeFault → Bool
@@ -150,12 +161,13 @@ is_accept_fault (Err fault.Journal) = false
 
 -- all were served; or one could not be accepted, and those before it were served; or the last text
 -- could not be logged
-abbrev pub EndsServing : {U : Type 0} → ℕ → List Exchange → Option (List ℕ) → Option (List ℕ) → JournalState → JournalState
-    → HouseFields → HouseFields → Result U ServeFault → Type 0
-EndsServing count exchanges told_old told_new journal_old journal_new old new (Ok done) =
-    (length exchanges ≡ count) × AreServed exchanges told_old told_new journal_old journal_new old new
+abbrev pub EndsServing : {U : Type 0} → ℕ → List Exchange → Option (List ℕ) → Option (List ℕ)
+    → JournalState → JournalState → HouseFields → HouseFields → Result U ServeFault → Type 0
+EndsServing count exchanges told_old told_new journal_old journal_new old new (Ok done) = (length
+    exchanges ≡ count) × AreServed exchanges told_old told_new journal_old journal_new old new
 EndsServing count exchanges told_old told_new journal_old journal_new old new (Err fault.Accept) =
-    (length exchanges < count) × AreServed exchanges told_old told_new journal_old journal_new old new
+    (length exchanges < count)
+    × AreServed exchanges told_old told_new journal_old journal_new old new
 EndsServing count exchanges told_old told_new journal_old journal_new old new (Err fault.Journal) =
-    (served : List Exchange) × (last : Exchange) × (exchanges ≡ served ++ last ∷ []) × (length exchanges ≤ count)
-    × EndsUnlogged served last told_old told_new journal_old journal_new old
+    (served : List Exchange) × (last : Exchange) × (exchanges ≡ served ++ last ∷ []) × (length
+    exchanges ≤ count) × EndsUnlogged served last told_old told_new journal_old journal_new old

@@ -1,4 +1,5 @@
-ghost use Rattle.std.specs.Prelude.{◌≡◌, ◌||◌, ◌∷◌, [], ℕ, Bool, List, Option, IfOk, OnOk, OnErr, is_err, not, true, false, None};
+ghost use Rattle.std.specs.Prelude.{◌≡◌, ◌||◌, ◌∷◌, [], ℕ, Bool, List, Option, IfOk, OnOk, OnErr};
+ghost use Rattle.std.specs.Prelude.{is_err, not, true, false, None};
 ghost use Rattle.clock_device.specs.Told.{IsUnread, IsUnused, unread, unused};
 ghost use Rattle.clock_serving.specs.Exchanges.{Came, Closes, Exchange, Offer};
 
@@ -41,11 +42,13 @@ pub trait Acceptor {
     fn accept(&mut self) -> Result<Connection<Self::Reader, Self::Writer>, Failed>
         requires { is_open self.old ≡ false }
         ensures open { is_open self.new ≡ not (is_err result) }
-        ensures source { IfOk result (λ one. (offer self.new).source ≡ Self.Reader.told one.source) }
+        ensures source { IfOk result
+            (λ one. (offer self.new).source ≡ Self.Reader.told one.source) }
         ensures sink { IfOk result (λ one. (offer self.new).sink ≡ Self.Writer.told one.sink) }
         ensures unread { IfOk result (λ one. IsUnread (Self.Reader.told one.source)) }
         ensures unused { IfOk result (λ one. IsUnused (Self.Writer.told one.sink)) }
-        ensures came { OnOk result (Came (coming self.old) (coming self.new) ((offer self.new).source.left ∷ [])) }
+        ensures came { OnOk result
+            (Came (coming self.old) (coming self.new) ((offer self.new).source.left ∷ [])) }
         ensures still { OnErr result (coming self.new ≡ coming self.old) }
         ensures closed { closed self.new ≡ closed self.old }
         ensures failed { has_failed self.new ≡ (has_failed self.old || is_err result) };
@@ -56,8 +59,10 @@ pub trait Acceptor {
         ensures open { is_open self.new ≡ false }
         ensures coming { coming self.new ≡ coming self.old }
         ensures failed { has_failed self.new ≡ has_failed self.old }
-        ensures closed { Closes (closed self.old) (closed self.new)
-            (record { before = (offer self.old).source; after = Self.Reader.told connection.source })
+        ensures closed { Closes (closed self.old) (closed self.new) (record {
+          before = (offer self.old).source;
+          after = Self.Reader.told connection.source;
+        })
             (record { before = (offer self.old).sink; after = Self.Writer.told connection.sink })
             (Self.Writer.kept connection.sink) };
 }

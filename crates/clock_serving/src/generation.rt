@@ -17,8 +17,8 @@ pub enum GenerationFault {
     Serve(ServeFault),
 }
 
-/// Runs one generation of a server: resumes the journal of a file with [`resume_auction`], and serves
-/// `count` connections with [`serve_all`]. The program makes these two calls itself.
+/// Runs one generation of a server: resumes the journal of a file with [`resume_auction`], and
+/// serves `count` connections with [`serve_all`]. The program makes these two calls itself.
 ///
 /// If the file is what a crash left of this auction's journal, the start is not refused, and each
 /// reply is the right one after the logged texts. What a crash leaves after that is this auction's

@@ -22,7 +22,8 @@ pub trait Outlet {
     fn reply<K: RequestLog>(&mut self, log: &K, bytes: &[u8]) -> Result<(), Failed>
         requires unused { IsUnused (told self.old) }
         ensures bytes { WritesText (told self.old).taken (told self.new).taken bytes.now result }
-        ensures failed { (told self.new).has_failed ≡ ((told self.old).has_failed || is_err result) }
+        ensures failed { (told self.new).has_failed
+            ≡ ((told self.old).has_failed || is_err result) }
         ensures kept { IsSeen (kept self.new) (K.journal log.now) };
 }
 

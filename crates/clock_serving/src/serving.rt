@@ -2,14 +2,15 @@ ghost use Rattle.std.specs.Prelude.{◌≡◌, List, OnOk, None, false};
 ghost use Rattle.clock_device.specs.Told.{IsUnread, IsUnused};
 ghost use Rattle.clock_keeping.specs.Keeping.{no_journal};
 ghost use Rattle.clock_serving.specs.Exchanges.{Came, Exchange, HasClosedConnections, bytes_given};
-ghost use Rattle.clock_serving.specs.{Laws.{ReportedBytes}, Serving.{EndsServing, is_accept_fault}, inside.Served.{EndsOne, EndsTaken, IsReportedAs}};
+ghost use Rattle.clock_serving.specs.{Laws.{ReportedBytes}, Serving.{EndsServing, is_accept_fault}};
+ghost use Rattle.clock_serving.specs.inside.Served.{EndsOne, EndsTaken, IsReportedAs};
 
 use crate::acceptor::{Acceptor, PortAcceptor};
 use crate::outlet::Outlet;
 use clock_connections::{RequestReadError, read_request};
 use clock_device::{Failed, Source};
 use clock_front::{Effect, Front, Response, no_memory_reply};
-use clock_keeping::{RequestLog, NoLog};
+use clock_keeping::{NoLog, RequestLog};
 use clock_processor::Processor;
 use std::alloc::Global;
 use std::net::TcpListener;
@@ -72,9 +73,9 @@ fn serve_next<P: Processor, K: RequestLog, C: Acceptor>(
     requires unfailed { (K.journal log.old).has_failed ≡ false }
     requires closed { C.is_open connections.old ≡ false }
     requires taken { C.has_failed connections.old ≡ false }
-    ensures ends { EndsOne (C.coming connections.old) (C.coming connections.new) (C.closed connections.old)
-        (C.closed connections.new) (K.told log.old) (K.told log.new) (K.journal log.old)
-        (K.journal log.new) front.old front.new result }
+    ensures ends { EndsOne (C.coming connections.old) (C.coming connections.new)
+        (C.closed connections.old) (C.closed connections.new) (K.told log.old) (K.told log.new)
+        (K.journal log.old) (K.journal log.new) front.old front.new result }
     ensures unfailed { OnOk result ((K.journal log.new).has_failed ≡ false) }
     ensures closed { C.is_open connections.new ≡ false }
     ensures taken { C.has_failed connections.new ≡ is_accept_fault result }
@@ -89,7 +90,10 @@ fn serve_next<P: Processor, K: RequestLog, C: Acceptor>(
 }
 
 /// Reports the round that a request closed, if any, to the log.
-fn tell_closing<K: RequestLog>(log: &mut K, served: Result<Effect, Failed>) -> Result<(), ServeFault>
+fn tell_closing<K: RequestLog>(
+    log: &mut K,
+    served: Result<Effect, Failed>,
+) -> Result<(), ServeFault>
     ensures kept { K.journal log.new ≡ K.journal log.old }
     ensures told { IsReportedAs (K.told log.old) (K.told log.new) served result }
 {
@@ -144,8 +148,8 @@ pub fn serve_on<P: Processor>(
     listener: &TcpListener,
     connections: u64,
 ) -> Result<(), ServeFault>
-    ensures served { (exchanges : List Exchange)
-        × EndsServing connections exchanges None None no_journal no_journal front.old front.new result }
+    ensures served { (exchanges : List Exchange) × EndsServing connections exchanges None None
+        no_journal no_journal front.old front.new result }
     ensures setup { front.new.setup ≡ front.old.setup }
 {
     let mut port = PortAcceptor::new(listener);

@@ -1,6 +1,7 @@
 -- A document that was read by bytes has the JSON value of its set-up, and this value means the set-up: each key gives
 -- its value back, and the limits decide the rest.
-use Rattle.std.proofs.Common.{◌≡◌, ℕ, ◌⊎◌, inl, inr, Bool, true, false, ◌==◌, List, [], ◌∷◌, map, All, Option, Some, None, Result, Ok, Err, IfOk}
+use Rattle.std.proofs.Common.{◌≡◌, ℕ, ◌⊎◌, inl, inr, Bool, true, false, ◌==◌, List, [], ◌∷◌, map, All, Option, Some}
+use Rattle.std.proofs.Common.{None, Result, Ok, Err, IfOk}
 use Rattle.std.proofs.Common.{IfErr, codes, refl, sym, ap, ◌∙◌, subst}
 use Rattle.std.specs.Prelude.{⊤, if◌then◌else◌}
 use Rattle.std.proofs.lemmas.Bool.{eqb-true}
@@ -20,28 +21,30 @@ use Rattle.clock_json.specs.Tree.{each, number_at, ◌>>=◌}
 use Rattle.clock_setup.specs.SetupShape.{product_of, bidder_of, fields_of}
 use Rattle.clock_setup.specs.SetupDocument.{setup_checks, setup_of, document_setup}
 use Rattle.clock_json.proofs.JsonLaws.{json_value}
-use Rattle.clock_setup.specs.SetupData.{added, product_data, products_data, bidder_data, bidders_data, setup_fields, setup_data}
+use Rattle.clock_setup.specs.SetupData.{added, product_data, products_data, bidder_data, bidders_data, setup_fields}
+use Rattle.clock_setup.specs.SetupData.{setup_data}
 
 -- products so far, of the version of the next one or none, are products of that version
-pub of_common_version : (so_far next : ℕ) (products : List Product) → (so_far ≡ 0 → products ≡ []) → (so_far ≡ 0) ⊎ (so_far ≡ next)
-    → map (product_data so_far) products ≡ map (product_data next) products
-of_common_version so_far next products empty (inl none) = ap (map (product_data so_far)) (empty none) ∙ sym (ap (map (product_data next)) (empty none))
+pub of_common_version : (so_far next : ℕ) (products : List Product) → (so_far ≡ 0 → products ≡ [])
+    → (so_far ≡ 0) ⊎ (so_far ≡ next) → map (product_data so_far) products ≡ map (product_data next) products
+of_common_version so_far next products empty (inl none) =
+    ap (map (product_data so_far)) (empty none) ∙ sym (ap (map (product_data next)) (empty none))
 of_common_version so_far next products empty (inr same) = ap (λ v. map (product_data v) products) same
 
 -- if the next product is of version 1, all granules so far are one dollar
 pub of_first_version : (so_far next : ℕ) (products : List Product) → (so_far ≡ 0 → products ≡ [])
     → (so_far ≡ 1 → All (λ product. product.granule ≡ first_granule) products)
     → (so_far ≡ 0) ⊎ (so_far ≡ next) → next ≡ 1 → All (λ product. product.granule ≡ first_granule) products
-of_first_version so_far next products empty granules (inl none) one =
-    subst (All (λ (product : Product). product.granule ≡ first_granule)) (sym (empty none)) (All-nil (λ (product : Product). product.granule ≡ first_granule))
+of_first_version so_far next products empty granules (inl none) one = subst (All (λ (product : Product). product.granule
+    ≡ first_granule)) (sym (empty none)) (All-nil (λ (product : Product). product.granule ≡ first_granule))
 of_first_version so_far next products empty granules (inr same) one = granules (same ∙ one)
 
 -- a list of items, if each item's value means the item
-pub each_of : {A : Type 0} (meaning : Data → Option A) (data_of : A → Data) (P : A → Type 0) → ((x : A) → P x → meaning (data_of x) ≡ Some x)
-    → (xs : List A) → All P xs → each meaning (items_of (map data_of xs)) ≡ Some xs
+pub each_of : {A : Type 0} (meaning : Data → Option A) (data_of : A → Data) (P : A → Type 0) → ((x : A) → P x
+    → meaning (data_of x) ≡ Some x) → (xs : List A) → All P xs → each meaning (items_of (map data_of xs)) ≡ Some xs
 each_of meaning data_of P means [] h = refl
-each_of meaning data_of P means (x ∷ xs) h =
-    ap (λ o. o >>= λ first. (each meaning (items_of (map data_of xs)) >>= λ rest. Some (first ∷ rest))) (means x (All-head P x xs h))
+each_of meaning data_of P means (x ∷ xs) h = ap (λ o. o >>= λ first.
+    (each meaning (items_of (map data_of xs)) >>= λ rest. Some (first ∷ rest))) (means x (All-head P x xs h))
     ∙ ap (λ o. o >>= λ rest. Some (x ∷ rest)) (each_of meaning data_of P means xs (All-tail P x xs h))
 
 first_product : (version : ℕ) (product : Product) → (version == 1) ≡ true → product.granule ≡ first_granule
@@ -49,7 +52,8 @@ first_product : (version : ℕ) (product : Product) → (version == 1) ≡ true 
 unfolding product_of
 first_product version product is granule = rw (is, granule) refl
 
-later_product : (version : ℕ) (product : Product) → (version == 1) ≡ false → product_of version (product_data version product) ≡ Some product
+later_product : (version : ℕ) (product : Product) → (version == 1) ≡ false
+    → product_of version (product_data version product) ≡ Some product
 unfolding product_of
 later_product version product is = rw is refl
 
@@ -64,41 +68,49 @@ abbrev object_of : SetupFields → Option ℕ → Data
 object_of setup limit = object (members_of (setup_fields (Some (bidders_data setup.bidders)) limit (Some setup.operator)
     (Some (products_data setup.version setup.products)) (Some setup.requirement) (Some setup.version)))
 
-first_setup : (setup : SetupFields) → (setup.version == 1) ≡ true → IsOfFirstVersion setup → fields_of (object_of setup None) ≡ Some setup
+first_setup : (setup : SetupFields) → (setup.version == 1) ≡ true → IsOfFirstVersion setup
+    → fields_of (object_of setup None) ≡ Some setup
 unfolding fields_of
 first_setup setup is first =
-    let products : each (product_of setup.version) (items_of (map (product_data setup.version) setup.products)) ≡ Some setup.products =
+    let products : each (product_of setup.version) (items_of (map (product_data setup.version) setup.products))
+    ≡ Some setup.products =
     each_of (product_of setup.version) (product_data setup.version) (λ product. product.granule ≡ first_granule)
     (λ product granule. first_product setup.version product is granule) setup.products first.granules in
     rw (is, products, bidders_are setup.bidders, first.limit) refl
 
-later_setup : (setup : SetupFields) → (setup.version == 1) ≡ false → fields_of (object_of setup (Some setup.limit)) ≡ Some setup
+later_setup : (setup : SetupFields) → (setup.version == 1) ≡ false
+    → fields_of (object_of setup (Some setup.limit)) ≡ Some setup
 unfolding fields_of
 later_setup setup is =
-    let products : each (product_of setup.version) (items_of (map (product_data setup.version) setup.products)) ≡ Some setup.products =
-    each_of (product_of setup.version) (product_data setup.version) (λ _. ⊤)
+    let products : each (product_of setup.version) (items_of (map (product_data setup.version) setup.products))
+    ≡ Some setup.products = each_of (product_of setup.version) (product_data setup.version) (λ _. ⊤)
     (λ product _. later_product setup.version product is) setup.products (λ k d lt. tt) in
     rw (is, products, bidders_are setup.bidders) refl
 
 setup_at : (setup : SetupFields) (first : Bool) → (setup.version == 1) ≡ first → (first ≡ true → IsOfFirstVersion setup)
     → fields_of (setup_data setup) ≡ Some setup
-setup_at setup true is h = ap (λ b. fields_of (object_of setup (if b then None else Some setup.limit))) is ∙ first_setup setup is (h refl)
-setup_at setup false is h = ap (λ b. fields_of (object_of setup (if b then None else Some setup.limit))) is ∙ later_setup setup is
+setup_at setup true is h =
+    ap (λ b. fields_of (object_of setup (if b then None else Some setup.limit))) is ∙ first_setup setup is (h refl)
+setup_at setup false is h =
+    ap (λ b. fields_of (object_of setup (if b then None else Some setup.limit))) is ∙ later_setup setup is
 
 -- the value of a set-up has the shape of this set-up
-pub setup_is : (setup : SetupFields) → (setup.version ≡ 1 → IsOfFirstVersion setup) → fields_of (setup_data setup) ≡ Some setup
+pub setup_is : (setup : SetupFields) → (setup.version ≡ 1 → IsOfFirstVersion setup)
+    → fields_of (setup_data setup) ≡ Some setup
 setup_is setup first = setup_at setup (setup.version == 1) refl (λ is. first (eqb-true setup.version 1 is))
 
-version_in : (setup : SetupFields) (limit : Option ℕ) → number_at (codes "version") (object_of setup limit) ≡ Some setup.version
+version_in : (setup : SetupFields) (limit : Option ℕ)
+    → number_at (codes "version") (object_of setup limit) ≡ Some setup.version
 version_in setup None = refl
 version_in setup (Some limit) = refl
 
 -- for a set-up of version 1 or 2, only the limits decide what its value means
-pub setup_judged : (setup : SetupFields) → IsWithin 1 latest_version setup.version → (setup.version ≡ 1 → IsOfFirstVersion setup)
-    → setup_of (setup_data setup) ≡ unless (first_fault (setup_checks setup)) setup
+pub setup_judged : (setup : SetupFields) → IsWithin 1 latest_version setup.version → (setup.version ≡ 1
+    → IsOfFirstVersion setup) → setup_of (setup_data setup) ≡ unless (first_fault (setup_checks setup)) setup
 unfolding setup_of
 setup_judged setup within first =
-    let version : number_at (codes "version") (setup_data setup) ≡ Some setup.version = version_in setup (added setup.version setup.limit) in
+    let version : number_at (codes "version") (setup_data setup) ≡ Some setup.version =
+    version_in setup (added setup.version setup.limit) in
     rw (version, test_of_within 1 latest_version setup.version within, setup_is setup first) refl
 
 -- and what a document with this value means
@@ -109,14 +121,14 @@ document_is bytes setup text is = rw (json_value bytes (setup_data setup) text i
 
 -- if a check of the limits returns a set-up, the value means it
 pub judged_ok : (answer : Result SetupFields SetupFault) (setup : SetupFields) (result : Result SetupFields SetupFault)
-    → answer ≡ unless (first_fault (setup_checks setup)) setup → IfOk result (λ same. same ≡ setup) → IfOk result (λ _. first_fault (setup_checks setup) ≡ None)
-    → IfOk result (λ known. answer ≡ Ok known)
+    → answer ≡ unless (first_fault (setup_checks setup)) setup → IfOk result (λ same. same ≡ setup)
+    → IfOk result (λ _. first_fault (setup_checks setup) ≡ None) → IfOk result (λ known. answer ≡ Ok known)
 judged_ok answer setup (Err fault) is same none = tt
 judged_ok answer setup (Ok known) is same none = is ∙ ap (λ fault. unless fault setup) none ∙ ap Ok (sym same)
 
 -- if it returns a first fault, the value is refused for this fault
 pub judged_err : (answer : Result SetupFields SetupFault) (setup : SetupFields) (result : Result SetupFields SetupFault)
-    → answer ≡ unless (first_fault (setup_checks setup)) setup → IfErr result (IsFirstFault NoMemory (first_fault (setup_checks setup)))
-    → IfErr result (IsRefusal NoMemory answer)
+    → answer ≡ unless (first_fault (setup_checks setup)) setup
+    → IfErr result (IsFirstFault NoMemory (first_fault (setup_checks setup))) → IfErr result (IsRefusal NoMemory answer)
 judged_err answer setup (Ok known) is first = tt
 judged_err answer setup (Err fault) is first = λ known. is ∙ ap (λ fault. unless fault setup) (first known)

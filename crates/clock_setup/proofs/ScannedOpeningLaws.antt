@@ -27,15 +27,14 @@ rows_are : (demands : List (List ℕ)) → each row_of (items_of (map numbers de
 rows_are demands = each_of row_of numbers (λ _. ⊤) (λ row _. row_is row) demands (λ k d lt. tt)
 
 -- the value of an opening has its parts
-parts_are : (setup : Data) (demands : List (List ℕ)) (increment : ℕ)
-    → parts_of (opening_data setup demands increment) ≡ Some (record { setup = setup; demands = demands; increment = increment })
+parts_are : (setup : Data) (demands : List (List ℕ)) (increment : ℕ) → parts_of (opening_data setup demands increment)
+    ≡ Some (record { setup = setup; demands = demands; increment = increment })
 unfolding parts_of
 parts_are setup demands increment = rw (rows_are demands) refl
 
 -- a document with the value of an opening is decided by the checks after the set-up
-pub opening_read : (bytes : List ℕ) (found : NestedSetup × List (List ℕ) × ℕ) → IsUtf8 bytes → read bytes ≡ Some (scanned_data found)
-    → document_opening bytes ≡ opening_with found.0.setup found.1 found.2
+pub opening_read : (bytes : List ℕ) (found : NestedSetup × List (List ℕ) × ℕ) → IsUtf8 bytes
+    → read bytes ≡ Some (scanned_data found) → document_opening bytes ≡ opening_with found.0.setup found.1 found.2
 unfolding document_opening
-opening_read bytes found text is =
-    rw (json_value bytes (scanned_data found) text is)
-    (opening_at (scanned_data found) _ found.0.setup (parts_are (setup_data found.0.setup) found.1 found.2) found.0.accepted)
+opening_read bytes found text is = rw (json_value bytes (scanned_data found) text is) (opening_at
+    (scanned_data found) _ found.0.setup (parts_are (setup_data found.0.setup) found.1 found.2) found.0.accepted)

@@ -1,6 +1,7 @@
 -- Reading demands as 16-bit numbers changes no result: a demand that is changed is above its cap before and after, and
 -- so gives the same first fault.
-use Rattle.std.proofs.Common.{◌≡◌, ℕ, ◌+◌, ◌<◌, ◌≤◌, ◌⊎◌, inl, inr, ⊎_elim, Bool, true, false, All, List, [], ◌∷◌, ◌++◌, length, map}
+use Rattle.std.proofs.Common.{◌≡◌, ℕ, ◌+◌, ◌<◌, ◌≤◌, ◌⊎◌, inl, inr, ⊎_elim, Bool, true, false, All, List, [], ◌∷◌, ◌++◌}
+use Rattle.std.proofs.Common.{length, map}
 use Rattle.std.proofs.Common.{zip, Option, Some, None, Result, Ok, Err, IfOk, refl, sym, ap, ◌∙◌, subst, arith}
 use Rattle.std.specs.Prelude.{⊤, codes, option_and_then, option_map}
 use Rattle.std.specs.List.{AllByRecursion}
@@ -20,7 +21,8 @@ use Rattle.clock_terms.specs.Faults.{first_fault, in_turn, ◌>>=◌}
 use Rattle.clock_terms.specs.Limits.{SetupFields, IsProduct}
 use Rattle.clock_setup.specs.SetupDocument.{setup_of}
 use Rattle.clock_setup.specs.OpeningShape.{parts_of}
-use Rattle.clock_setup.specs.OpeningDocument.{has_counts, demand_checks, row_checks, opening_with, in_opening, opening_of}
+use Rattle.clock_setup.specs.OpeningDocument.{has_counts, demand_checks, row_checks, opening_with, in_opening}
+use Rattle.clock_setup.specs.OpeningDocument.{opening_of}
 use Rattle.clock_setup.specs.inside.OpeningData.{short_rows_in}
 use Rattle.clock_terms.proofs.FaultLaws.{failed}
 use Rattle.clock_setup.proofs.OpeningLaws.{one_demand, grid_of_counts, counts_refused, rows_refused}
@@ -30,55 +32,58 @@ abbrev BothFail : {F : Type 0} → List (F × Bool) → List (F × Bool) → Typ
 BothFail {F} first second = (fault : F) × (first_fault first ≡ Some fault) × (first_fault second ≡ Some fault)
 
 -- so they have after the same other checks
-behind : {F : Type 0} (checks first second : List (F × Bool)) → BothFail first second → BothFail (checks ++ first) (checks ++ second)
+behind : {F : Type 0} (checks first second : List (F × Bool)) → BothFail first second
+    → BothFail (checks ++ first) (checks ++ second)
 behind [] first second both = both
 behind ((fault, true) ∷ checks) first second both = behind checks first second both
 behind ((fault, false) ∷ checks) first second both = (fault, refl, refl)
 
 -- and before any other checks
-before : {F : Type 0} (first second more others : List (F × Bool)) → BothFail first second → BothFail (first ++ more) (second ++ others)
+before : {F : Type 0} (first second more others : List (F × Bool)) → BothFail first second
+    → BothFail (first ++ more) (second ++ others)
 before first second more others both = (both.0, failed first more both.0 both.1, failed second others both.0 both.2)
 
-module _ {K X F : Type 0} (checks : ℕ → K × X → List (F × Bool)) (change : X → X) (P : K → Type 0) (Q : X → Type 0) where
+module _ {K X F : Type 0} (checks : ℕ → K × X → List (F × Bool)) (change : X → X) (P : K → Type 0)
+    (Q : X → Type 0) where
   -- if an item changes only when it fails before and after the change, so does a list of items
-  each_kept : ((i : ℕ) (key : K) (item : X) → P key → Q item → (change item ≡ item) ⊎ BothFail (checks i (key, change item)) (checks i (key, item)))
-      → (i : ℕ) (keys : List K) (items : List X) → length items ≡ length keys → AllByRecursion P keys → AllByRecursion Q items
-      → (map change items ≡ items) ⊎ BothFail (in_turn checks i (zip keys (map change items))) (in_turn checks i (zip keys items))
+  each_kept : ((i : ℕ) (key : K) (item : X) → P key → Q item → (change item ≡ item)
+      ⊎ BothFail (checks i (key, change item)) (checks i (key, item))) → (i : ℕ) (keys : List K) (items : List X)
+      → length items ≡ length keys → AllByRecursion P keys → AllByRecursion Q items → (map change items ≡ items)
+      ⊎ BothFail (in_turn checks i (zip keys (map change items))) (in_turn checks i (zip keys items))
   each_kept one i [] [] same keys_are items_are = inl refl
   each_kept one i [] (item ∷ items) same keys_are items_are = absurd (omega (arith, same))
   each_kept one i (key ∷ keys) [] same keys_are items_are = absurd (omega (arith, same))
-  each_kept one i (key ∷ keys) (item ∷ items) same keys_are items_are =
-      ⊎_elim
-      (λ (kept : change item ≡ item).
-      ⊎_elim (λ (rest : map change items ≡ items). inl (ap (λ x. x ∷ map change items) kept ∙ ap (λ xs. item ∷ xs) rest))
-      (λ (rest : BothFail (in_turn checks (i + 1) (zip keys (map change items))) (in_turn checks (i + 1) (zip keys items))).
-      inr (subst (λ x. BothFail (checks i (key, x) ++ in_turn checks (i + 1) (zip keys (map change items)))
-      (checks i (key, item) ++ in_turn checks (i + 1) (zip keys items))) (sym kept) (behind (checks i (key, item)) _ _ rest)))
-      (each_kept one (i + 1) keys items (omega (arith, same)) keys_are.1 items_are.1))
-      (λ (fails : BothFail (checks i (key, change item)) (checks i (key, item))).
-      inr (before (checks i (key, change item)) (checks i (key, item)) _ _ fails))
-      (one i key item keys_are.0 items_are.0)
+  each_kept one i (key ∷ keys) (item ∷ items) same keys_are items_are = ⊎_elim (λ (kept : change item ≡ item). ⊎_elim
+      (λ (rest : map change items ≡ items). inl (ap (λ x. x ∷ map change items) kept ∙ ap (λ xs. item ∷ xs) rest))
+      (λ (rest : BothFail (in_turn checks (i + 1) (zip keys (map change items)))
+      (in_turn checks (i + 1) (zip keys items))). inr (subst (λ x. BothFail (checks i (key, x) ++ in_turn checks (i + 1)
+      (zip keys (map change items))) (checks i (key, item) ++ in_turn checks (i + 1) (zip keys items))) (sym kept)
+      (behind (checks i (key, item)) _ _ rest))) (each_kept one (i + 1) keys items (omega (arith, same)) keys_are.1
+      items_are.1)) (λ (fails : BothFail (checks i (key, change item)) (checks i (key, item))). inr
+      (before (checks i (key, change item)) (checks i (key, item)) _ _ fails)) (one i key item keys_are.0 items_are.0)
 
 -- a demand that changes is above its cap before and after
-demand_kept : (number i : ℕ) (product : Product) (demand : ℕ) → IsProduct product → ⊤
-    → (shortened demand ≡ demand) ⊎ BothFail (demand_checks number i (product, shortened demand)) (demand_checks number i (product, demand))
+demand_kept : (number i : ℕ) (product : Product) (demand : ℕ) → IsProduct product → ⊤ → (shortened demand ≡ demand)
+    ⊎ BothFail (demand_checks number i (product, shortened demand)) (demand_checks number i (product, demand))
 demand_kept number i product demand limits any =
     ⊎_elim
     (λ (above : product.cap < demand).
     inr (
       Demand number i,
-      one_demand number i product (shortened demand) false (lt-leb (shortened demand) product.cap (omega (arith, above, limits.cap.1, limits.supply.1))),
+      one_demand number i product (shortened demand) false
+          (lt-leb (shortened demand) product.cap (omega (arith, above, limits.cap.1, limits.supply.1))),
       one_demand number i product demand false (lt-leb demand product.cap above),
     ))
     (λ (within : demand ≤ product.cap). inl (omega (arith, within, limits.cap.1, limits.supply.1)))
     (cases_lt product.cap demand)
 
 -- a row that changes has a fault before and after
-row_kept : (products : List Product) → All IsProduct products → (number : ℕ) (bidder : Bidder) (row : List ℕ) → ⊤ → length row ≡ length products
-    → (map shortened row ≡ row) ⊎ BothFail (row_checks products number (bidder, map shortened row)) (row_checks products number (bidder, row))
+row_kept : (products : List Product) → All IsProduct products → (number : ℕ) (bidder : Bidder) (row : List ℕ) → ⊤
+    → length row ≡ length products → (map shortened row ≡ row)
+    ⊎ BothFail (row_checks products number (bidder, map shortened row)) (row_checks products number (bidder, row))
 unfolding row_checks
-row_kept products limits number bidder row any same =
-    ⊎_elim inl (λ fails. inr (before (in_turn (demand_checks number) 0 (zip products (map shortened row))) (in_turn (demand_checks number) 0 (zip products row)) _ _ fails))
+row_kept products limits number bidder row any same = ⊎_elim inl (λ fails. inr (before (in_turn (demand_checks number) 0
+    (zip products (map shortened row))) (in_turn (demand_checks number) 0 (zip products row)) _ _ fails))
     (each_kept (demand_checks number) shortened IsProduct (λ _. ⊤) (demand_kept number) 0 products row same
     (recursion_from_All IsProduct products limits) (recursion_from_All (λ _. ⊤) row (λ k d lt. tt)))
 
@@ -87,15 +92,17 @@ module _ (setup : SetupFields) (demands : List (List ℕ)) (increment : ℕ) (li
   counts_same : has_counts setup (map (map shortened) demands) ≡ has_counts setup demands
   counts_same = simp (length-map, list_all-map)
 
-  by_counts : (b : Bool) → has_counts setup demands ≡ b → opening_with setup (map (map shortened) demands) increment ≡ opening_with setup demands increment
-  by_counts false is = counts_refused setup _ increment (counts_same ∙ is) ∙ sym (counts_refused setup demands increment is)
+  by_counts : (b : Bool) → has_counts setup demands ≡ b
+      → opening_with setup (map (map shortened) demands) increment ≡ opening_with setup demands increment
+  by_counts false is =
+      counts_refused setup _ increment (counts_same ∙ is) ∙ sym (counts_refused setup demands increment is)
   by_counts true is =
       let grid = grid_of_counts setup demands is in
       ⊎_elim (λ (same : map (map shortened) demands ≡ demands). ap (λ rows. opening_with setup rows increment) same)
-      (λ fails. rows_refused setup _ increment fails.0 (counts_same ∙ is) fails.1 ∙ sym (rows_refused setup demands increment fails.0 is fails.2))
-      (each_kept (row_checks setup.products) (map shortened) (λ _. ⊤) (λ row. length row ≡ length setup.products) (row_kept setup.products limits) 0
-      setup.bidders demands grid.0 (recursion_from_All (λ _. ⊤) setup.bidders (λ k d lt. tt))
-      (recursion_from_All (λ row. length row ≡ length setup.products) demands grid.1))
+      (λ fails. rows_refused setup _ increment fails.0 (counts_same ∙ is) fails.1 ∙ sym (rows_refused setup demands
+      increment fails.0 is fails.2)) (each_kept (row_checks setup.products) (map shortened) (λ _. ⊤) (λ row. length row
+      ≡ length setup.products) (row_kept setup.products limits) 0 setup.bidders demands grid.0 (recursion_from_All (λ _.
+      ⊤) setup.bidders (λ k d lt. tt)) (recursion_from_All (λ row. length row ≡ length setup.products) demands grid.1))
 
   opening_shortened : opening_with setup (map (map shortened) demands) increment ≡ opening_with setup demands increment
   opening_shortened = by_counts (has_counts setup demands) refl
@@ -107,17 +114,18 @@ full_rows None short is = absurd cc
 full_rows (Some full) short is = (full, refl, cc)
 
 -- after a set-up within its limits, both forms of the rows give the same result
-held_shortened : (held : Result SetupFields OpeningFault) (full short : List (List ℕ)) (increment : ℕ) → map (map shortened) full ≡ short
-    → IfOk held (λ setup. All IsProduct setup.products)
+held_shortened : (held : Result SetupFields OpeningFault) (full short : List (List ℕ)) (increment : ℕ)
+    → map (map shortened) full ≡ short → IfOk held (λ setup. All IsProduct setup.products)
     → (held >>= λ setup. opening_with setup full increment) ≡ (held >>= λ setup. opening_with setup short increment)
 held_shortened (Err fault) full short increment is limits = refl
 held_shortened (Ok setup) full short increment is limits =
     sym (opening_shortened setup full increment limits) ∙ ap (λ rows. opening_with setup rows increment) is
 
 -- what a document of the right shape means, given what its set-up means
-pub opening_means : (value setup : Data) (demands : List (List ℕ)) (increment : ℕ) (held : Result SetupFields OpeningFault)
-    → get (codes "setup") value ≡ Some setup → short_rows_in value ≡ Some demands → number_at (codes "increment") value ≡ Some increment
-    → has_members 3 value ≡ true → in_opening (setup_of setup) ≡ held → IfOk held (λ setup. All IsProduct setup.products)
+pub opening_means : (value setup : Data) (demands : List (List ℕ)) (increment : ℕ)
+    (held : Result SetupFields OpeningFault) → get (codes "setup") value ≡ Some setup → short_rows_in value
+    ≡ Some demands → number_at (codes "increment") value ≡ Some increment → has_members 3 value ≡ true
+    → in_opening (setup_of setup) ≡ held → IfOk held (λ setup. All IsProduct setup.products)
     → opening_of value ≡ (held >>= λ setup. opening_with setup demands increment)
 unfolding opening_of parts_of
 opening_means value setup demands increment held there rows number whole is limits =

@@ -8,7 +8,8 @@
 --     in_opening setup      a fault of the set-up as a fault of the opening
 --     opening_of value      what a JSON value means as an opening
 --     document_opening bytes      what bytes mean as an opening
-use Rattle.std.specs.Prelude.{ℕ, Bool, ◌&&◌, ◌==◌, List, [], ◌∷◌, ◌++◌, length, zip, nat_le, Result, Ok, Err}
+use Rattle.std.specs.Prelude.{ℕ, Bool, ◌&&◌, ◌==◌, List, [], ◌∷◌, ◌++◌, length, zip, nat_le, Result}
+use Rattle.std.specs.Prelude.{Ok, Err}
 use Rattle.std.specs.List.{list_all}
 use Rattle.serde_json.specs.Data.{Data}
 use Rattle.clock_terms.specs.declared.setup.Product.{Product}
@@ -16,7 +17,8 @@ use Rattle.clock_terms.specs.declared.setup.Bidder.{Bidder}
 use Rattle.clock_setup.specs.declared.fault.SetupFault.{SetupFault}
 use Rattle.clock_setup.specs.declared.opening.Opening.{Opening}
 use Rattle.clock_setup.specs.declared.opening.OpeningFault.{OpeningFault}
-use Rattle.clock_setup.specs.declared.opening.OpeningFault.TheVariants.{NotJson, Shape, Setup, Demand, Activity, Increment}
+use Rattle.clock_setup.specs.declared.opening.OpeningFault.TheVariants.{NotJson, Shape, Setup}
+use Rattle.clock_setup.specs.declared.opening.OpeningFault.TheVariants.{Demand, Activity, Increment}
 use Rattle.clock_terms.specs.Limits.{SetupFields, is_within, least_increment, most_increment}
 use Rattle.clock_terms.specs.Eligibility.{activity}
 use Rattle.clock_terms.specs.Faults.{first_fault, in_turn, unless, or_fault, ◌>>=◌}
@@ -26,8 +28,8 @@ use Rattle.clock_setup.specs.OpeningShape.{parts_of}
 
 -- a row for each bidder, and in each row a number for each product
 abbrev pub has_counts : SetupFields → List (List ℕ) → Bool
-has_counts setup demands =
-    (length demands == length setup.bidders) && list_all (λ row. length row == length setup.products) demands
+has_counts setup demands = (length demands == length setup.bidders)
+    && list_all (λ row. length row == length setup.products) demands
 
 -- the demand is at most the product's cap
 unfoldable pub demand_checks : ℕ → ℕ → Product × ℕ → List (OpeningFault × Bool)
@@ -49,8 +51,8 @@ opening_checks setup demands increment =
 
 -- the opening with this set-up, or the first fault of the checks after the set-up
 abbrev pub opening_with : SetupFields → List (List ℕ) → ℕ → Result Opening OpeningFault
-opening_with setup demands increment =
-    unless (first_fault (opening_checks setup demands increment)) (record { setup = setup; grid = demands; increment = increment })
+opening_with setup demands increment = unless (first_fault (opening_checks setup demands increment))
+    (record { setup = setup; grid = demands; increment = increment })
 
 -- a fault of the set-up is a fault of the opening
 abbrev pub in_opening : Result SetupFields SetupFault → Result SetupFields OpeningFault

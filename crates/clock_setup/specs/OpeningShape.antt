@@ -20,4 +20,5 @@ parts_of value = do
   setup ← get (codes "setup") value
   demands ← option_and_then (each row_of) (items_at (codes "demands") value)
   increment ← number_at (codes "increment") value
-  if has_members 3 value then Some (record { setup = setup; demands = demands; increment = increment }) else None
+  if has_members 3 value
+      then Some (record { setup = setup; demands = demands; increment = increment }) else None

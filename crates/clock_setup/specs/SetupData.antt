@@ -6,7 +6,8 @@
 --     setup_data setup      the whole document
 --     product_fields, bidder_fields, setup_fields      the keys of an object, each with its value
 --         if there is one
-use Rattle.std.specs.Prelude.{ℕ, List, [], ◌∷◌, ◌==◌, map, Option, Some, None, option_map, if◌then◌else◌, codes}
+use Rattle.std.specs.Prelude.{ℕ, List, [], ◌∷◌, ◌==◌, map, Option, Some, None, option_map}
+use Rattle.std.specs.Prelude.{if◌then◌else◌, codes}
 use Rattle.serde_json.specs.Data.{Data, string, array, object}
 use Rattle.clock_json.specs.Reading.{whole, items_of, Fields, members_of}
 use Rattle.clock_terms.specs.declared.setup.Product.{Product}
@@ -18,7 +19,8 @@ abbrev pub added : ℕ → ℕ → Option ℕ
 added version n = if version == 1 then None else Some n
 
 -- the keys of a product, each with its value if there is one
-abbrev pub product_fields : Option ℕ → Option ℕ → Option (List ℕ) → Option ℕ → Option ℕ → Option ℕ → Fields
+abbrev pub product_fields : Option ℕ → Option ℕ → Option (List ℕ) → Option ℕ
+    → Option ℕ → Option ℕ → Fields
 product_fields cap granule name opening supply units =
     (codes "cap", option_map whole cap)
     ∷ (codes "granule", option_map whole granule)
@@ -30,8 +32,9 @@ product_fields cap granule name opening supply units =
 
 -- the JSON value of a product
 abbrev pub product_data : ℕ → Product → Data
-product_data version product = object (members_of (product_fields (Some product.cap) (added version product.granule) (Some product.name)
-    (Some product.opening) (Some product.supply) (Some product.units)))
+product_data version product =
+    object (members_of (product_fields (Some product.cap) (added version product.granule)
+    (Some product.name) (Some product.opening) (Some product.supply) (Some product.units)))
 
 -- the keys of a bidder, each with its value if there is one
 abbrev pub bidder_fields : Option ℕ → Option (List ℕ) → Option (List ℕ) → Fields
@@ -43,7 +46,8 @@ bidder_fields eligibility name token =
 
 -- the JSON value of a bidder
 abbrev pub bidder_data : Bidder → Data
-bidder_data bidder = object (members_of (bidder_fields (Some bidder.eligibility) (Some bidder.name) (Some bidder.token)))
+bidder_data bidder = object
+    (members_of (bidder_fields (Some bidder.eligibility) (Some bidder.name) (Some bidder.token)))
 
 -- the JSON value of a list of products
 abbrev pub products_data : ℕ → List Product → Data
@@ -54,7 +58,8 @@ abbrev pub bidders_data : List Bidder → Data
 bidders_data bidders = array (items_of (map bidder_data bidders))
 
 -- the keys of a set-up, each with its value if there is one
-abbrev pub setup_fields : Option Data → Option ℕ → Option (List ℕ) → Option Data → Option ℕ → Option ℕ → Fields
+abbrev pub setup_fields : Option Data → Option ℕ → Option (List ℕ) → Option Data
+    → Option ℕ → Option ℕ → Fields
 setup_fields bidders limit operator products requirement version =
     (codes "bidders", bidders)
     ∷ (codes "limit", option_map whole limit)
@@ -66,5 +71,6 @@ setup_fields bidders limit operator products requirement version =
 
 -- the JSON value of a set-up
 abbrev pub setup_data : SetupFields → Data
-setup_data setup = object (members_of (setup_fields (Some (bidders_data setup.bidders)) (added setup.version setup.limit) (Some setup.operator)
-    (Some (products_data setup.version setup.products)) (Some setup.requirement) (Some setup.version)))
+setup_data setup = object (members_of (setup_fields (Some (bidders_data setup.bidders))
+    (added setup.version setup.limit) (Some setup.operator) (Some
+    (products_data setup.version setup.products)) (Some setup.requirement) (Some setup.version)))

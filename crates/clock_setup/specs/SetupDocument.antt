@@ -6,17 +6,23 @@
 --     setup_checks setup      the limits of a set-up, in order
 --     setup_of value      what a JSON value means as a set-up
 --     document_setup bytes      what bytes mean as a set-up
-use Rattle.std.specs.Prelude.{ℕ, Bool, ◌&&◌, List, [], ◌∷◌, ◌++◌, map, length, nat_le, if◌then◌else◌, Result, Ok, Err, codes}
+use Rattle.std.specs.Prelude.{ℕ, Bool, ◌&&◌, List, [], ◌∷◌, ◌++◌, map, length, nat_le}
+use Rattle.std.specs.Prelude.{if◌then◌else◌, Result, Ok, Err, codes}
 use Rattle.serde_json.specs.Data.{Data}
 use Rattle.clock_money.specs.Price.{highest_price}
 use Rattle.clock_terms.specs.declared.setup.Product.{Product}
 use Rattle.clock_terms.specs.declared.setup.Bidder.{Bidder}
-use Rattle.clock_setup.specs.declared.fault.Place.TheVariants.{Requirement, Limit, Operator, Products, Bidders}
-use Rattle.clock_setup.specs.declared.fault.Place.TheVariants.{Name, Units, Supply, Cap, Opening, Granule, BidderName, Token, Eligibility}
+use Rattle.clock_setup.specs.declared.fault.Place.TheVariants.{Requirement, Limit, Operator}
+use Rattle.clock_setup.specs.declared.fault.Place.TheVariants.{Products, Bidders}
+use Rattle.clock_setup.specs.declared.fault.Place.TheVariants.{Name, Units, Supply, Cap, Opening}
+use Rattle.clock_setup.specs.declared.fault.Place.TheVariants.{Granule, BidderName, Token}
+use Rattle.clock_setup.specs.declared.fault.Place.TheVariants.{Eligibility}
 use Rattle.clock_setup.specs.declared.fault.SetupFault.{SetupFault}
-use Rattle.clock_setup.specs.declared.fault.SetupFault.TheVariants.{NotJson, Shape, Version, Range, DuplicateName, DuplicateToken}
+use Rattle.clock_setup.specs.declared.fault.SetupFault.TheVariants.{NotJson, Shape, Version, Range}
+use Rattle.clock_setup.specs.declared.fault.SetupFault.TheVariants.{DuplicateName, DuplicateToken}
 use Rattle.clock_terms.specs.Limits.{SetupFields, is_within, is_name, is_token, is_distinct}
-use Rattle.clock_terms.specs.Limits.{latest_version, least_requirement, most_requirement, least_limit, most_limit, most_products, most_bidders}
+use Rattle.clock_terms.specs.Limits.{latest_version, least_requirement, most_requirement}
+use Rattle.clock_terms.specs.Limits.{least_limit, most_limit, most_products, most_bidders}
 use Rattle.clock_terms.specs.Limits.{most_units, most_supply, most_granule, most_eligibility}
 use Rattle.clock_json.specs.Tree.{json, number_at}
 use Rattle.clock_setup.specs.SetupShape.{fields_of}
@@ -43,12 +49,13 @@ bidder_checks i bidder =
 
 -- No two products have the same name, and no two bidders. A product and a bidder may have the same.
 abbrev pub has_distinct_names : SetupFields → Bool
-has_distinct_names setup =
-    is_distinct (map (λ product. product.name) setup.products) && is_distinct (map (λ bidder. bidder.name) setup.bidders)
+has_distinct_names setup = is_distinct (map (λ product. product.name) setup.products)
+    && is_distinct (map (λ bidder. bidder.name) setup.bidders)
 
 -- no two of the operator and the bidders have the same token
 abbrev pub has_distinct_tokens : SetupFields → Bool
-has_distinct_tokens setup = is_distinct (setup.operator ∷ map (λ bidder. bidder.token) setup.bidders)
+has_distinct_tokens setup =
+    is_distinct (setup.operator ∷ map (λ bidder. bidder.token) setup.bidders)
 
 -- The limits of a set-up in order: requirement, limit, and operator; products; bidders; distinct
 -- names; distinct tokens.

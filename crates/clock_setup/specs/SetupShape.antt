@@ -3,7 +3,8 @@
 --     added_number, key_count      the keys that version 2 added
 --     product_of version value, bidder_of value      an item of "products" and of "bidders"
 --     fields_of value      the whole document, before any limit is checked
-use Rattle.std.specs.Prelude.{ℕ, ◌+◌, ◌==◌, List, Option, Some, None, option_and_then, if◌then◌else◌, codes}
+use Rattle.std.specs.Prelude.{ℕ, ◌+◌, ◌==◌, List, Option, Some, None, option_and_then}
+use Rattle.std.specs.Prelude.{if◌then◌else◌, codes}
 use Rattle.serde_json.specs.Data.{Data}
 use Rattle.clock_json.specs.Tree.{number_at, text_at, items_at, has_members, each, ◌>>=◌}
 use Rattle.clock_terms.specs.declared.setup.Product.{Product}
@@ -12,7 +13,8 @@ use Rattle.clock_terms.specs.Limits.{SetupFields, first_limit, first_granule}
 
 -- the number under a key that version 2 added; in version 1 it has a fixed value
 abbrev pub added_number : ℕ → ℕ → List ℕ → Data → Option ℕ
-added_number version in_first key value = if version == 1 then Some in_first else number_at key value
+added_number version in_first key value =
+    if version == 1 then Some in_first else number_at key value
 
 -- the number of keys of an object to which version 2 added one
 abbrev pub key_count : ℕ → ℕ → ℕ
@@ -29,7 +31,14 @@ product_of version value = do
   opening ← number_at (codes "opening") value
   granule ← added_number version first_granule (codes "granule") value
   if has_members (key_count version 5) value
-      then Some (record { name = name; units = units; supply = supply; cap = cap; opening = opening; granule = granule })
+      then Some (record {
+        name = name;
+        units = units;
+        supply = supply;
+        cap = cap;
+        opening = opening;
+        granule = granule;
+      })
       else None
 
 -- {"name":T,"token":T,"eligibility":N}
@@ -38,7 +47,8 @@ bidder_of value = do
   name ← text_at (codes "name") value
   token ← text_at (codes "token") value
   eligibility ← number_at (codes "eligibility") value
-  if has_members 3 value then Some (record { name = name; token = token; eligibility = eligibility }) else None
+  if has_members 3 value
+      then Some (record { name = name; token = token; eligibility = eligibility }) else None
 
 -- {"version":N,"requirement":N,"operator":T,"products":[PRODUCT,..],"bidders":[BIDDER,..]}, from
 -- version 2 also "limit":N, which is 100 in version 1
@@ -51,5 +61,12 @@ fields_of value = do
   products ← option_and_then (each (product_of version)) (items_at (codes "products") value)
   bidders ← option_and_then (each bidder_of) (items_at (codes "bidders") value)
   if has_members (key_count version 5) value
-      then Some (record { version = version; limit = limit; requirement = requirement; operator = operator; products = products; bidders = bidders })
+      then Some (record {
+        version = version;
+        limit = limit;
+        requirement = requirement;
+        operator = operator;
+        products = products;
+        bidders = bidders;
+      })
       else None

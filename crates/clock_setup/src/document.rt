@@ -1,15 +1,16 @@
 ghost use Rattle.std.specs.Prelude.{◌≡◌, codes, None, Some, Ok, IfOk, IfErr, OnOk};
 ghost use Rattle.serde_json.specs.View.{view};
 ghost use Rattle.clock_terms.specs.Faults.{IsFirstFault, IsRefusal, first_fault};
-ghost use Rattle.clock_terms.specs.Limits.{SetupFields, IsOfFirstVersion, IsSetup, IsWithin, latest_version};
+ghost use Rattle.clock_terms.specs.Limits.{SetupFields, IsOfFirstVersion, IsSetup, IsWithin};
+ghost use Rattle.clock_terms.specs.Limits.{latest_version};
 ghost use Rattle.clock_json.specs.Tree.{number_at};
 ghost use Rattle.clock_setup.specs.{SetupShape.{fields_of}, inside.SetupDocument.{distinct_checks}};
 ghost use Rattle.clock_setup.specs.SetupDocument as document;
 
-use crate::setup_tree::{SetupEntries, entries_of};
 use crate::fault::{Place, SetupFault};
 use crate::setup_checks::{check, each_within, has_distinct_names, has_distinct_tokens, is_token};
 use crate::setup_scan::FoundSetup;
+use crate::setup_tree::{SetupEntries, entries_of};
 use clock_device::Text;
 use clock_json::scanned_text;
 use clock_json::tree::{number_at, read_value};
@@ -26,7 +27,8 @@ use std::alloc::Global;
 fn distinct_operator(alloc: Global, entries: &SetupEntries) -> Result<Text, SetupFault>
     ensures same { IfOk result (λ operator. operator ≡ entries.now.operator) }
     ensures ok { OnOk result (first_fault (distinct_checks entries.now) ≡ None) }
-    ensures err { IfErr result (IsFirstFault SetupFault.NoMemory (first_fault (distinct_checks entries.now))) }
+    ensures err { IfErr result
+        (IsFirstFault SetupFault.NoMemory (first_fault (distinct_checks entries.now))) }
 {
     let products = entries.products.as_slice();
     let bidders = entries.bidders.as_slice();
@@ -46,7 +48,8 @@ pub(crate) fn within_limits(alloc: Global, entries: &SetupEntries) -> Result<Set
     requires first_version { entries.now.version ≡ 1 → IsOfFirstVersion entries.now }
     ensures same { IfOk result (λ setup. setup ≡ entries.now) }
     ensures ok { IfOk result (λ _. first_fault (document.setup_checks entries.now) ≡ None) }
-    ensures err { IfErr result (IsFirstFault SetupFault.NoMemory (first_fault (document.setup_checks entries.now))) }
+    ensures err { IfErr result
+        (IsFirstFault SetupFault.NoMemory (first_fault (document.setup_checks entries.now))) }
 {
     let requirement = is_within(LEAST_REQUIREMENT, MOST_REQUIREMENT, entries.requirement);
     check(requirement, Place::Requirement)?;
@@ -100,11 +103,13 @@ pub fn read_setup(alloc: Global, bytes: &[u8]) -> Result<Setup, SetupFault>
 #[tactic(auto, using(crate::proofs::LimitLaws::accepted), unfolding(crate::specs::SetupDocument::setup_of))]
 pub fn setup_of(alloc: Global, value: &Value) -> Result<Setup, SetupFault>
     ensures ok { IfOk result (λ setup. document.setup_of (view value.now) ≡ Ok setup) }
-    ensures err { IfErr result (IsRefusal SetupFault.NoMemory (document.setup_of (view value.now))) }
+    ensures err { IfErr result
+        (IsRefusal SetupFault.NoMemory (document.setup_of (view value.now))) }
     // The checks refuse nothing that is within the limits: every set-up that the type allows is
     // accepted.
-    ensures accepts { (setup : SetupFields) → number_at (codes "version") (view value.now) ≡ Some setup.version
-        → fields_of (view value.now) ≡ Some setup → IsSetup setup → document.setup_of (view value.now) ≡ Ok setup }
+    ensures accepts { (setup : SetupFields) → number_at (codes "version") (view value.now)
+        ≡ Some setup.version → fields_of (view value.now) ≡ Some setup → IsSetup setup
+        → document.setup_of (view value.now) ≡ Ok setup }
 {
     let version = number_at(value, "version").ok_or(SetupFault::Shape)?;
     if !is_within(1, LATEST_VERSION, version) {

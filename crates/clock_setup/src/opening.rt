@@ -2,8 +2,10 @@ ghost use Rattle.std.specs.Prelude.{◌≡◌, ◌≢◌, None, Ok, length, All,
 ghost use Rattle.serde_json.specs.View.{view};
 ghost use Rattle.clock_terms.specs.{Demands.{IsGrid}, Eligibility.{activity}};
 ghost use Rattle.clock_terms.specs.Faults.{IsFirstFault, IsRefusal, first_fault};
-ghost use Rattle.clock_terms.specs.Limits.{IsProduct, IsRow, IsWithin, least_increment, most_increment};
-ghost use Rattle.clock_setup.specs.OpeningDocument.{document_opening, has_counts, opening_of, opening_with, row_checks};
+ghost use Rattle.clock_terms.specs.Limits.{IsProduct, IsRow, IsWithin, least_increment};
+ghost use Rattle.clock_terms.specs.Limits.{most_increment};
+ghost use Rattle.clock_setup.specs.OpeningDocument.{document_opening, has_counts, opening_of};
+ghost use Rattle.clock_setup.specs.OpeningDocument.{opening_with, row_checks};
 ghost use Rattle.clock_setup.specs.inside.OpeningData.{scanned_data, found_opening};
 ghost use Rattle.clock_setup.specs.declared.opening.OpeningFault.TheVariants as faults;
 
@@ -126,7 +128,8 @@ fn opening_grid(
         ≡ Ok (record { setup = setup.now; grid = grid; increment = increment })) }
     ensures grid { IfOk result (IsGrid (length setup.now.bidders) (length setup.now.products)) }
     ensures increment { IfOk result (λ _. IsWithin least_increment most_increment increment) }
-    ensures err { IfErr result (IsRefusal OpeningFault.NoMemory (opening_with setup.now demands.now increment)) }
+    ensures err { IfErr result
+        (IsRefusal OpeningFault.NoMemory (opening_with setup.now demands.now increment)) }
     ensures held { IfErr result (λ fault. fault ≢ OpeningFault.Setup SetupFault.NoMemory) }
 {
     let bidders = setup.bidders.as_slice();
@@ -158,10 +161,12 @@ fn judged(
     // Holds of every set-up. The caller's proof uses it.
     ensures limits { All IsProduct setup.products }
     ensures ok { IfOk result (λ opening. opening_with setup demands increment ≡ Ok opening) }
-    ensures grid { IfOk result
-        (λ opening. IsGrid (length opening.setup.bidders) (length opening.setup.products) opening.grid) }
-    ensures increment { IfOk result (λ opening. IsWithin least_increment most_increment opening.increment) }
-    ensures err { IfErr result (IsRefusal OpeningFault.NoMemory (opening_with setup demands increment)) }
+    ensures grid { IfOk result (λ opening. IsGrid (length opening.setup.bidders)
+        (length opening.setup.products) opening.grid) }
+    ensures increment { IfOk result
+        (λ opening. IsWithin least_increment most_increment opening.increment) }
+    ensures err { IfErr result
+        (IsRefusal OpeningFault.NoMemory (opening_with setup demands increment)) }
     ensures held { IfErr result (λ fault. fault ≢ OpeningFault.Setup SetupFault.NoMemory) }
 {
     let grid = opening_grid(alloc, &setup, &demands, increment);
@@ -185,9 +190,10 @@ fn judged(
 #[tactic(auto, using(crate::proofs::OpeningLaws::opening_shape), unfolding(crate::specs::OpeningShape::parts_of))]
 fn opening_in(alloc: Global, value: &Value) -> Result<Opening, OpeningFault>
     ensures ok { IfOk result (λ opening. opening_of (view value.now) ≡ Ok opening) }
-    ensures grid { IfOk result
-        (λ opening. IsGrid (length opening.setup.bidders) (length opening.setup.products) opening.grid) }
-    ensures increment { IfOk result (λ opening. IsWithin least_increment most_increment opening.increment) }
+    ensures grid { IfOk result (λ opening. IsGrid (length opening.setup.bidders)
+        (length opening.setup.products) opening.grid) }
+    ensures increment { IfOk result
+        (λ opening. IsWithin least_increment most_increment opening.increment) }
     ensures err { IfErr result (IsRefusal OpeningFault.NoMemory (opening_of (view value.now))) }
     ensures held { IfErr result (λ fault. fault ≢ OpeningFault.Setup SetupFault.NoMemory) }
 {
@@ -217,9 +223,10 @@ fn opening_in(alloc: Global, value: &Value) -> Result<Opening, OpeningFault>
 #[tactic(auto, unfolding(crate::specs::OpeningDocument::document_opening))]
 pub fn read_opening(alloc: Global, bytes: &[u8]) -> Result<Opening, OpeningFault>
     ensures ok { IfOk result (λ opening. document_opening bytes.now ≡ Ok opening) }
-    ensures grid { IfOk result
-        (λ opening. IsGrid (length opening.setup.bidders) (length opening.setup.products) opening.grid) }
-    ensures increment { IfOk result (λ opening. IsWithin least_increment most_increment opening.increment) }
+    ensures grid { IfOk result (λ opening. IsGrid (length opening.setup.bidders)
+        (length opening.setup.products) opening.grid) }
+    ensures increment { IfOk result
+        (λ opening. IsWithin least_increment most_increment opening.increment) }
     ensures err { IfErr result (IsRefusal OpeningFault.NoMemory (document_opening bytes.now)) }
     ensures held { IfErr result (λ fault. fault ≢ OpeningFault.Setup SetupFault.NoMemory) }
 {

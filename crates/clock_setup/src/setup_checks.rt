@@ -1,11 +1,14 @@
-ghost use Rattle.std.specs.{Prelude.{◌≡◌, ◌∷◌, ℕ, List, Bool, true, false, map, None, IfOk, IfErr, OnOk}, List.{list_all}};
+ghost use Rattle.std.specs.Prelude.{◌≡◌, ◌∷◌, ℕ, List, Bool, true, false, map, None, IfOk, IfErr};
+ghost use Rattle.std.specs.Prelude.{OnOk};
+ghost use Rattle.std.specs.List.{list_all};
 ghost use Rattle.clock_terms.specs.Limits as limits;
 ghost use Rattle.clock_terms.specs.Faults.{IsFirstFault, first_fault};
-ghost use Rattle.clock_setup.specs.{declared.fault.SetupFault.{SetupFault}, SetupDocument.{product_checks, bidder_checks}};
+ghost use Rattle.clock_setup.specs.declared.fault.SetupFault.{SetupFault};
+ghost use Rattle.clock_setup.specs.SetupDocument.{product_checks, bidder_checks};
 ghost use Rattle.clock_setup.specs.inside.SetupDocument.{counted_checks};
 
-use crate::setup_tree::{BidderEntry, ProductEntry};
 use crate::fault::{Place, SetupFault};
+use crate::setup_tree::{BidderEntry, ProductEntry};
 use clock_device::{Items, NoMemory, Text};
 use clock_money::{MOST_GRANULE, Price};
 use clock_terms::{
@@ -64,7 +67,8 @@ pub(crate) trait LimitedEntry {
     fn within(&self, alloc: Global, i: u64) -> Result<Self::Whole, SetupFault>
         ensures same { IfOk result (λ whole. whole ≡ shown self.now) }
         ensures ok { IfOk result (λ _. first_fault (checks i self.now) ≡ None) }
-        ensures err { IfErr result (IsFirstFault SetupFault.NoMemory (first_fault (checks i self.now))) };
+        ensures err { IfErr result
+            (IsFirstFault SetupFault.NoMemory (first_fault (checks i self.now))) };
 }
 
 #[tactic(auto, unfolding(crate::specs::SetupDocument::product_checks))]
@@ -135,8 +139,8 @@ pub(crate) fn each_within<E: LimitedEntry>(
     entries: &[E],
 ) -> Result<Items<E::Whole>, SetupFault>
     ensures same { IfOk result (λ wholes. wholes ≡ map E.shown entries.now) }
-    ensures ok { IfOk result
-        (λ _. first_fault (counted_checks (SetupFault.Range place) most E.checks entries.now) ≡ None) }
+    ensures ok { IfOk result (λ _.
+        first_fault (counted_checks (SetupFault.Range place) most E.checks entries.now) ≡ None) }
     ensures err { IfErr result (IsFirstFault SetupFault.NoMemory
         (first_fault (counted_checks (SetupFault.Range place) most E.checks entries.now))) }
 {
@@ -151,7 +155,8 @@ pub(crate) fn each_within<E: LimitedEntry>(
 
 /// Whether no two texts are equal. May return `NoMemory`.
 fn is_distinct(alloc: Global, texts: &[&str]) -> Result<bool, NoMemory>
-    ensures { IfOk result (λ distinct. distinct ≡ limits.is_distinct (map (λ text. text.now) texts.now)) }
+    ensures { IfOk result
+        (λ distinct. distinct ≡ limits.is_distinct (map (λ text. text.now) texts.now)) }
 {
     // Collecting into a set would retry a failed allocation with a smaller one, so the capacity is
     // allocated here.

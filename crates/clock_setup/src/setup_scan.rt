@@ -2,14 +2,16 @@
 //! only digits.
 ghost use Rattle.std.specs.Prelude.{◌≡◌, ◌<◌, length, Ok, IfOk, OnOk};
 ghost use Rattle.clock_json.specs.Reading.{Reads};
-ghost use Rattle.clock_setup.specs.{SetupData.{product_data, products_data, bidder_data, setup_data}, SetupDocument.{setup_of}};
-ghost use Rattle.clock_setup.specs.{inside.FoundEntries.{found_product, found_bidder}, inside.FoundSetup.{found_setup}};
+ghost use Rattle.clock_setup.specs.SetupData.{product_data, products_data, bidder_data, setup_data};
+ghost use Rattle.clock_setup.specs.SetupDocument.{setup_of};
+ghost use Rattle.clock_setup.specs.inside.FoundEntries.{found_product, found_bidder};
+ghost use Rattle.clock_setup.specs.inside.FoundSetup.{found_setup};
 
 use crate::document::within_limits;
+use crate::fault::SetupFault;
 use crate::setup_tree::{
     BidderEntry, ProductEntry, ScannedSetup, SetupEntries, VersionedProduct, VersionedProducts,
 };
-use crate::fault::SetupFault;
 use clock_device::Items;
 use clock_json::{PartReader, Scan, ScanStop, ScannedMembers, is_key, scanned_parts};
 use clock_terms::{FIRST_GRANULE, FIRST_LIMIT, Setup};
@@ -71,7 +73,8 @@ impl<'v> ScannedMembers<'v> for FoundProduct<'v> {
 
 /// Reads a list of products that all have the keys of one version.
 fn products<'v>(alloc: Global, scan: &mut Scan<'v>) -> Result<VersionedProducts<'v>, ScanStop>
-    ensures value { IfOk result (λ list. Reads 2 scan.old (products_data list.version list.entries) scan.new) }
+    ensures value { IfOk result
+        (λ list. Reads 2 scan.old (products_data list.version list.entries) scan.new) }
     ensures shorter { OnOk result (length scan.new < length scan.old) }
 {
     scan.opens(b'[')?;

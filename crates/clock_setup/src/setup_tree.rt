@@ -2,8 +2,10 @@
 //! Reads them from a tree of values.
 ghost use Rattle.std.specs.Prelude.{◌≡◌, ◌≤◌, All, IfOk};
 ghost use Rattle.serde_json.specs.View.{view};
-ghost use Rattle.clock_terms.specs.{declared.setup.Product.{Product}, declared.setup.Bidder.{Bidder}};
-ghost use Rattle.clock_terms.specs.Limits.{IsWithin, IsOfFirstVersion, SetupFields, first_granule, latest_version};
+ghost use Rattle.clock_terms.specs.declared.setup.Product.{Product};
+ghost use Rattle.clock_terms.specs.declared.setup.Bidder.{Bidder};
+ghost use Rattle.clock_terms.specs.Limits.{IsWithin, IsOfFirstVersion, SetupFields, first_granule};
+ghost use Rattle.clock_terms.specs.Limits.{latest_version};
 ghost use Rattle.clock_json.specs.Tree as members;
 ghost use Rattle.clock_setup.specs.SetupShape as shape;
 
@@ -66,7 +68,8 @@ pub(crate) struct BidderEntry<'v> {
 impl<'v> Model for BidderEntry<'v> {
     ghost Value = { Bidder };
 
-    ghost view = { λ e. record { name = e.name.now; token = e.token.now; eligibility = e.eligibility } };
+    ghost view = { λ e.
+        record { name = e.name.now; token = e.token.now; eligibility = e.eligibility } };
 }
 
 /// A set-up document of the right shape, before any limit is checked. In contracts, it is the

@@ -15,8 +15,8 @@ use Rattle.clock_connections.specs.declared.connections.Conn.{Conn}
 use Rattle.clock_front.specs.declared.hub.Fed.TheVariants.{More}
 
 -- a piece arrived, and then the input ended
-pub ended_after : (old mid new : HubFields) (conn : Conn) (text : List ℕ) (reply : Answer) → IsFed old mid conn text More → IsAnswered mid new conn text reply
-    → IsAnswered old new conn text reply
+pub ended_after : (old mid new : HubFields) (conn : Conn) (text : List ℕ) (reply : Answer)
+    → IsFed old mid conn text More → IsAnswered mid new conn text reply → IsAnswered old new conn text reply
 ended_after old mid new conn text reply fed answered = record {
   gone = record {
     gone = answered.gone.gone;
@@ -25,7 +25,8 @@ ended_after old mid new conn text reply fed answered = record {
     next = answered.gone.next ∙ fed.1.next;
   };
   answered = subst (λ (house : HouseFields). AnswersText text reply house new.house) fed.2 answered.answered;
-  private = subst (λ (house : HouseFields). IsOutOfMemoryReply text reply ⊎ IsPrivateReply text house reply) fed.2 answered.private;
+  private = subst (λ (house : HouseFields). IsOutOfMemoryReply text reply
+      ⊎ IsPrivateReply text house reply) fed.2 answered.private;
   setup = answered.setup ∙ ap (λ (house : HouseFields). house.setup) fed.2;
 }
 
@@ -33,22 +34,22 @@ abbrev request_from : Option Head → Framing → Request
 request_from found is = record { token = option_and_then (λ head. head.token) found; ask = ask_of is }
 
 -- if the first piece is decided, the whole text is the same request
-same_request : IsDecidedOnce → HasOneHead → (head body : List ℕ) → IsDecided head → request_of (head ++ body) ≡ request_of head
+same_request : IsDecidedOnce → HasOneHead → (head body : List ℕ) → IsDecided head
+    → request_of (head ++ body) ≡ request_of head
 unfolding request_of
 same_request once one_head head body decided =
     ap (λ (found : Option Head). request_from found (framing (head ++ body))) (one_head head body decided)
     ∙ ap (λ (is : Framing). request_from (head_in head) is) (once head body decided)
 
 -- a request that is answered at its first piece has the reply of its whole text
-pub answered_early : IsDecidedOnce → HasOneHead → (head body : List ℕ) (answer : Answer) (old new : HouseFields) → needs_more head ≡ false
-    → AnswersText head answer old new → AnswersText (head ++ body) answer old new
+pub answered_early : IsDecidedOnce → HasOneHead → (head body : List ℕ) (answer : Answer) (old new : HouseFields)
+    → needs_more head ≡ false → AnswersText head answer old new → AnswersText (head ++ body) answer old new
 answered_early once one_head head body answer old new less answered texts stands =
     elim (answered texts stands) [
-      | inl told ↦ inl (subst
-          (λ (request : Request).
-          (answer ≡ answer_of (outcome (house_after old.setup (commands_of old.setup texts)) (caller old.setup request.token) request.ask))
-          × StandsFor (command_of new.setup (caller new.setup request.token) request.ask ∷ commands_of new.setup texts) new)
-          (sym (same_request once one_head head body less)) told)
+      | inl told ↦ inl (subst (λ (request : Request). (answer ≡ answer_of
+          (outcome (house_after old.setup (commands_of old.setup texts)) (caller old.setup request.token) request.ask))
+          × StandsFor (command_of new.setup (caller new.setup request.token) request.ask
+          ∷ commands_of new.setup texts) new) (sym (same_request once one_head head body less)) told)
       | inr none ↦ inr (
         record {
           is = none.0.is;

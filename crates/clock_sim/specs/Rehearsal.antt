@@ -8,7 +8,8 @@
 --     rehearsed setup scripts closings texts      all texts until the auction ends, or the first
 --         fault
 --     simulated replay, played_text replay      the report, or its text; or the first fault
-use Rattle.std.specs.Prelude.{◌≢◌, ⊤, ℕ, ◌+◌, List, [], ◌∷◌, Option, Some, None, Result, Ok, Err, if◌then◌else◌}
+use Rattle.std.specs.Prelude.{◌≢◌, ⊤, ℕ, ◌+◌, List, [], ◌∷◌, Option, Some, None, Result, Ok, Err}
+use Rattle.std.specs.Prelude.{if◌then◌else◌}
 use Rattle.clock_terms.specs.Limits.{SetupFields}
 use Rattle.clock_terms.specs.Faults.{◌>>=◌}
 use Rattle.clock_house.specs.History.{history, standing}
@@ -48,24 +49,28 @@ if_done codes.Done done fault = Ok done
 if_done code done fault = Err fault
 
 -- a request has the reply that the front gives after the texts before it
-unfoldable pub after_request : SetupFields → List (List ℕ) → Option ℕ → ℕ → List ℕ → Result (List (List ℕ)) SimFault
-after_request setup texts sender round text =
-    if_done (reply setup texts text).code (text ∷ texts) (refused_by sender round (reply setup texts text).code)
+unfoldable pub after_request : SetupFields → List (List ℕ) → Option ℕ → ℕ → List ℕ
+    → Result (List (List ℕ)) SimFault
+after_request setup texts sender round text = if_done (reply setup texts text).code (text ∷ texts)
+    (refused_by sender round (reply setup texts text).code)
 
-abbrev pub after_request_if : SetupFields → List (List ℕ) → Option ℕ → ℕ → Option (List ℕ) → Result (List (List ℕ)) SimFault
+abbrev pub after_request_if : SetupFields → List (List ℕ) → Option ℕ → ℕ → Option (List ℕ)
+    → Result (List (List ℕ)) SimFault
 after_request_if setup texts sender round None = Ok texts
 after_request_if setup texts sender round (Some text) = after_request setup texts sender round text
 
 -- a bidder submits its sheet, if its script gives one
 abbrev pub after_put : SetupFields → ℕ → Script → List (List ℕ) → Result (List (List ℕ)) SimFault
 after_put setup bidder script texts =
-    after_request_if setup texts (Some bidder) (standing setup.products (rounds_after setup texts)).round
-    (scripted_put setup (rounds_after setup texts) bidder script)
+    after_request_if setup texts (Some bidder) (standing setup.products
+    (rounds_after setup texts)).round (scripted_put setup (rounds_after setup texts) bidder script)
 
 -- the bidders from this one on submit their sheets
-abbrev pub after_puts : SetupFields → ℕ → List Script → List (List ℕ) → Result (List (List ℕ)) SimFault
+abbrev pub after_puts : SetupFields → ℕ → List Script → List (List ℕ)
+    → Result (List (List ℕ)) SimFault
 after_puts setup bidder [] texts = Ok texts
-after_puts setup bidder (script ∷ scripts) texts = after_put setup bidder script texts >>= after_puts setup (bidder + 1) scripts
+after_puts setup bidder (script ∷ scripts) texts =
+    after_put setup bidder script texts >>= after_puts setup (bidder + 1) scripts
 
 -- the operator closes the round
 abbrev pub after_close : SetupFields → Closing → List (List ℕ) → Result (List (List ℕ)) SimFault
@@ -74,20 +79,24 @@ after_close setup closing texts =
     (scripted_close setup (rounds_after setup texts) closing)
 
 -- a round: all sheets, then the closing
-abbrev pub after_round : SetupFields → List Script → Closing → List (List ℕ) → Result (List (List ℕ)) SimFault
-after_round setup scripts closing texts = after_puts setup 0 scripts texts >>= after_close setup closing
+abbrev pub after_round : SetupFields → List Script → Closing → List (List ℕ)
+    → Result (List (List ℕ)) SimFault
+after_round setup scripts closing texts =
+    after_puts setup 0 scripts texts >>= after_close setup closing
 
 -- round after round until the end; without a closing left, the sheets are still submitted
-abbrev pub rehearsed : SetupFields → List Script → List Closing → List (List ℕ) → Result (List (List ℕ)) SimFault
-rehearsed setup scripts [] texts = after_puts setup 0 scripts texts >>= (λ put. Err faults.ClosingsSpent)
-rehearsed setup scripts (closing ∷ closings) texts =
-    after_round setup scripts closing texts
-    >>= (λ closed. if (standing setup.products (rounds_after setup closed)).ended then Ok closed else rehearsed setup scripts closings closed)
+abbrev pub rehearsed : SetupFields → List Script → List Closing → List (List ℕ)
+    → Result (List (List ℕ)) SimFault
+rehearsed setup scripts [] texts =
+    after_puts setup 0 scripts texts >>= (λ put. Err faults.ClosingsSpent)
+rehearsed setup scripts (closing ∷ closings) texts = after_round setup scripts closing texts
+    >>= (λ closed. if (standing setup.products (rounds_after setup closed)).ended then Ok closed
+    else rehearsed setup scripts closings closed)
 
 -- the report of a rehearsal, or its first fault
 abbrev pub simulated : ReplayFields → Result ReportFields SimFault
-simulated replay =
-    rehearsed replay.setup replay.scripts replay.closings [] >>= (λ texts. Ok (report_of replay.setup (rounds_after replay.setup texts)))
+simulated replay = rehearsed replay.setup replay.scripts replay.closings []
+    >>= (λ texts. Ok (report_of replay.setup (rounds_after replay.setup texts)))
 
 -- the text of that report, or the fault
 abbrev pub played_text : ReplayFields → Result (List ℕ) SimFault

@@ -9,7 +9,9 @@ ghost use Rattle.clock_connections.specs.Connections.{text_of, LeavesOthers};
 ghost use Rattle.clock_house.specs.House.{standing_in};
 ghost use Rattle.clock_replays.specs.Replays.{IsScript};
 ghost use Rattle.clock_sim.specs.Rehearsal as rules;
-ghost use Rattle.clock_sim.specs.inside.Groups.{AreApart, AreWritten, ComesUnderWay, IsGroupUnderWay, HaveTextsFrom, AreWaiting, after_group, requests_in, with_put};
+ghost use Rattle.clock_sim.specs.inside.Groups.{AreApart, AreWritten, ComesUnderWay};
+ghost use Rattle.clock_sim.specs.inside.Groups.{IsGroupUnderWay, HaveTextsFrom, AreWaiting};
+ghost use Rattle.clock_sim.specs.inside.Groups.{after_group, requests_in, with_put};
 ghost use Rattle.clock_sim.specs.inside.Steps.{AreScriptsOf, IsGoing, IsResultByCode, MakesStep};
 
 use crate::simulation::SimFault;
@@ -48,7 +50,8 @@ impl Group {
     fn feed_heads<P: Processor>(&self, hub: &mut Hub<P>) -> Result<(), HubFault>
         requires { AreWaiting hub.old.connections self.now }
         ensures house { hub.new.house ≡ hub.old.house }
-        ensures heads { OnOk result (HaveTextsFrom 0 hub.new.connections (requests_in self.now) (λ k one. one.head)) }
+        ensures heads { OnOk result
+            (HaveTextsFrom 0 hub.new.connections (requests_in self.now) (λ k one. one.head)) }
     {
         for one in &self.waiting {
             hub.feed(one.conn, &self.text[one.written.head..one.written.end])?;
@@ -59,11 +62,12 @@ impl Group {
     /// Sends the bodies of the waiting requests, in order, and reads the replies. Requires that
     /// their heads were sent. Stops at the first reply that is not `done`.
     fn send_bodies<P: Processor>(&self, hub: &mut Hub<P>) -> Result<(), SimFault>
-        requires heads { HaveTextsFrom 0 hub.old.connections (requests_in self.now) (λ k one. one.head) }
+        requires heads { HaveTextsFrom 0 hub.old.connections (requests_in self.now)
+            (λ k one. one.head) }
         requires apart { AreApart (requests_in self.now) }
         requires within { AreWritten self.now }
-        ensures step { MakesStep (after_group hub.old.house.setup (requests_in self.now)) hub.old.house
-            hub.new.house result }
+        ensures step { MakesStep (after_group hub.old.house.setup (requests_in self.now))
+            hub.old.house hub.new.house result }
         ensures held { IfErr result rules.HasRefusalCode }
     {
         for one in &self.waiting {
@@ -77,8 +81,8 @@ impl Group {
     /// reply that is not `done`.
     fn send_all<P: Processor>(&mut self, hub: &mut Hub<P>) -> Result<(), SimFault>
         requires { AreWaiting hub.old.connections self.old }
-        ensures step { MakesStep (after_group hub.old.house.setup (requests_in self.old)) hub.old.house
-            hub.new.house result }
+        ensures step { MakesStep (after_group hub.old.house.setup (requests_in self.old))
+            hub.old.house hub.new.house result }
         ensures held { IfErr result rules.HasRefusalCode }
         ensures none { OnOk result (requests_in self.new ≡ []) }
         ensures text { OnOk result (self.new.text ≡ self.old.text) }
@@ -114,8 +118,8 @@ fn send_body<P: Processor>(
     body: &[u8],
 ) -> Result<(), SimFault>
     ensures step { (head : List ℕ) → text_of hub.old.connections conn ≡ Some head
-        → MakesStep (λ texts. rules.after_request hub.old.house.setup texts sender round (head ++ body.now))
-        hub.old.house hub.new.house result }
+        → MakesStep (λ texts. rules.after_request hub.old.house.setup texts sender round
+        (head ++ body.now)) hub.old.house hub.new.house result }
     ensures held { IfErr result rules.HasRefusalCode }
     ensures others { (head : List ℕ) → text_of hub.old.connections conn ≡ Some head
         → OnOk result (LeavesOthers hub.old.connections hub.new.connections conn) }
@@ -161,8 +165,8 @@ fn put_scripted<P: Processor>(
     requires known { bidder < length hub.old.house.setup.bidders }
     requires script { IsScript hub.old.house.setup.products script.now }
     requires under_way { IsGroupUnderWay hub.old group.old }
-    ensures step { ComesUnderWay (with_put hub.old.house.setup (requests_in group.old) bidder script.now) hub.old
-        hub.new group.new result }
+    ensures step { ComesUnderWay (with_put hub.old.house.setup
+        (requests_in group.old) bidder script.now) hub.old hub.new group.new result }
     ensures held { IfErr result rules.HasRefusalCode }
 {
     if group.waiting.is_empty() {
@@ -203,7 +207,8 @@ fn put_all<P: Processor>(
 ) -> Result<(), SimFault>
     requires scripts { AreScriptsOf hub.old.house.setup scripts.now }
     requires going { IsGoing hub.old.house }
-    ensures step { MakesStep (rules.after_puts hub.old.house.setup 0 scripts.now) hub.old.house hub.new.house result }
+    ensures step { MakesStep
+        (rules.after_puts hub.old.house.setup 0 scripts.now) hub.old.house hub.new.house result }
     ensures held { IfErr result rules.HasRefusalCode }
 {
     // the law bounds the number of bidders, so that each fits in 32 bits
@@ -221,7 +226,8 @@ fn close_scripted<P: Processor>(
     text: &mut Vec<u8>,
     closing: &Closing,
 ) -> Result<(), SimFault>
-    ensures step { MakesStep (rules.after_close hub.old.house.setup closing.now) hub.old.house hub.new.house result }
+    ensures step { MakesStep
+        (rules.after_close hub.old.house.setup closing.now) hub.old.house hub.new.house result }
     ensures held { IfErr result rules.HasRefusalCode }
 {
     text.clear();
@@ -242,8 +248,8 @@ pub(crate) fn play<P: Processor>(
 ) -> Result<(), SimFault>
     requires scripts { AreScriptsOf hub.old.house.setup scripts.now }
     requires going { IsGoing hub.old.house }
-    ensures step { MakesStep (rules.rehearsed hub.old.house.setup scripts.now closings.now) hub.old.house
-        hub.new.house result }
+    ensures step { MakesStep (rules.rehearsed hub.old.house.setup scripts.now closings.now)
+        hub.old.house hub.new.house result }
     ensures held { IfErr result rules.HasRefusalCode }
     ensures ended { OnOk result ((standing_in hub.new.house).ended ≡ true) }
 {

@@ -4,7 +4,8 @@ ghost use Rattle.clock_house.specs.House.{standing_in};
 ghost use Rattle.clock_front.specs.Fronts.{StandsForTexts};
 ghost use Rattle.clock_reports.specs.{FinalReport.{report_of}, Reports.{IsReport}};
 ghost use Rattle.clock_sim.specs.Rehearsal as rules;
-ghost use Rattle.clock_sim.specs.{inside.Steps.{AreScriptsOf, replay_of}, declared.simulation.SimFault.TheVariants.{NoMemory}};
+ghost use Rattle.clock_sim.specs.inside.Steps.{AreScriptsOf, replay_of};
+ghost use Rattle.clock_sim.specs.declared.simulation.SimFault.TheVariants.{NoMemory};
 
 use crate::rounds::play;
 use clock_connections::HubFault;
@@ -104,7 +105,8 @@ fn text_played<P: Processor>(
 ) -> Result<Text, SimFault>
     requires first { StandsForTexts [] hub.old.house }
     requires scripts { AreScriptsOf hub.old.house.setup scripts }
-    ensures ok { IfOk result (λ text. rules.played_text (replay_of hub.old.house scripts closings) ≡ Ok text) }
+    ensures ok { IfOk result
+        (λ text. rules.played_text (replay_of hub.old.house scripts closings) ≡ Ok text) }
     ensures err { IfErr result (IsRefusal SimFault.NoMemory
         (rules.played_text (replay_of hub.old.house scripts closings))) }
     ensures held { IfErr result rules.HasRefusalCode }

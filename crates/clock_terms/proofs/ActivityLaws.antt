@@ -8,8 +8,8 @@ use Rattle.clock_money.proofs.RoundingLaws.{rounded_up_least}
 use Rattle.clock_terms.specs.Eligibility.{activity, IsSupported, SupportsTheLeast, supported_eligibility}
 
 -- replacing one demand changes activity by its units times the difference
-pub activity-set : (products : List Product) (row : List ℕ) (p v : ℕ) → p < length products → p < length row →
-    activity products (set row p v) + units_of products p * get_or row p 0 ≡ activity products row + units_of products p * v
+pub activity-set : (products : List Product) (row : List ℕ) (p v : ℕ) → p < length products → p < length row → activity
+    products (set row p v) + units_of products p * get_or row p 0 ≡ activity products row + units_of products p * v
 activity-set [] row p v a b = absurd (omega (arith, a))
 activity-set (x ∷ products) [] p v a b = absurd (omega (arith, b))
 activity-set (x ∷ products) (y ∷ row) zero v a b =

@@ -37,8 +37,8 @@ one_product = first_version 95 (two_blocks (codes "A") ∷ []) (bidder_named 88 
 
 -- two products A and B, and bidders X, Y, and Z with eligibilities of 2, 2, and 1
 abbrev pub two_products : SetupFields
-two_products =
-    first_version 100 (two_blocks (codes "A") ∷ two_blocks (codes "B") ∷ []) (bidder_named 88 2 ∷ bidder_named 89 2 ∷ bidder_named 90 1 ∷ [])
+two_products = first_version 100 (two_blocks (codes "A") ∷ two_blocks (codes "B") ∷ [])
+    (bidder_named 88 2 ∷ bidder_named 89 2 ∷ bidder_named 90 1 ∷ [])
 
 -- like two_products, but of version 2: the clock prices of A are multiples of 25
 abbrev pub granules_and_increments : SetupFields

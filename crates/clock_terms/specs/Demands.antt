@@ -5,7 +5,8 @@
 --     changed_demand kind demand amount      a demand increased or reduced by an amount of blocks
 --     no_demands bidders products      a grid in which every demand is 0
 --     IsGrid bidders products grid      the grid has these numbers of rows and columns
-use Rattle.std.specs.Prelude.{◌≡◌, ℕ, ◌+◌, ◌-◌, List, [], length, replicate, slice_index, slice_index_or, slice_set, sum_by, All}
+use Rattle.std.specs.Prelude.{◌≡◌, ℕ, ◌+◌, ◌-◌, List, [], length, replicate, slice_index}
+use Rattle.std.specs.Prelude.{slice_index_or, slice_set, sum_by, All}
 use Rattle.clock_terms.specs.declared.change.Kind.{Kind}
 use Rattle.clock_terms.specs.declared.change.Kind.TheVariants.{Increase, Reduction}
 
@@ -21,7 +22,8 @@ abbrev pub total_of : List (List ℕ) → ℕ → ℕ
 total_of grid product = sum_by (λ row. slice_index row product) grid
 
 abbrev pub with_demand : List (List ℕ) → ℕ → ℕ → ℕ → List (List ℕ)
-with_demand grid bidder product demand = slice_set grid bidder (slice_set (row_of grid bidder) product demand)
+with_demand grid bidder product demand =
+    slice_set grid bidder (slice_set (row_of grid bidder) product demand)
 
 -- a demand increased or reduced by an amount; a reduction by more than the demand gives 0
 abbrev pub changed_demand : Kind → ℕ → ℕ → ℕ

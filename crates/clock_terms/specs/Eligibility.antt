@@ -22,13 +22,14 @@ supported_eligibility activity requirement = rounded_up (100 * activity) require
 -- least the activity. With 95 percent, an activity of 30 supports 32: 95 percent of 32 is 30.4, and
 -- of 31 only 29.45.
 abbrev pub IsSupported : ℕ → ℕ → ℕ → Type 0
-IsSupported activity requirement eligibility = IsLeastWith (λ enough. 100 * activity ≤ requirement * enough) eligibility
+IsSupported activity requirement eligibility =
+    IsLeastWith (λ enough. 100 * activity ≤ requirement * enough) eligibility
 
 -- For every requirement above 0, the number that supported_eligibility computes is the one that
 -- IsSupported describes, and the only one.
 abbrev pub SupportsTheLeast : Type 0
-SupportsTheLeast = (activity requirement eligibility : ℕ) → 1 ≤ requirement
-    → (supported_eligibility activity requirement ≡ eligibility) ↔ IsSupported activity requirement eligibility
+SupportsTheLeast = (activity requirement eligibility : ℕ) → 1 ≤ requirement → (supported_eligibility
+    activity requirement ≡ eligibility) ↔ IsSupported activity requirement eligibility
 
 -- The smaller of the eligibility before the round and the supported one: eligibility never rises.
 abbrev pub next_eligibility : ℕ → ℕ → ℕ → ℕ

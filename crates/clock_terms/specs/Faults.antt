@@ -7,7 +7,8 @@
 --     IsFirstFault no_memory first fault      the fault is the first one, or out of memory
 --     IsRefusal no_memory answer fault      the fault is the result by the rules, or out of memory
 --     result >>= next      continue with a value, or end with a fault
-use Rattle.std.specs.Prelude.{◌≡◌, ◌≢◌, ℕ, ◌+◌, Bool, List, [], ◌∷◌, ◌++◌, if◌then◌else◌, Option, Some, None, Result, Ok, Err}
+use Rattle.std.specs.Prelude.{◌≡◌, ◌≢◌, ℕ, ◌+◌, Bool, List, [], ◌∷◌, ◌++◌, if◌then◌else◌, Option}
+use Rattle.std.specs.Prelude.{Some, None, Result, Ok, Err}
 
 -- the fault of the first check whose test fails; none if all pass
 abbrev pub first_fault : {F : Type 0} → List (F × Bool) → Option F

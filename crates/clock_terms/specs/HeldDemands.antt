@@ -10,7 +10,8 @@ use Rattle.clock_terms.specs.declared.held_list.PositiveDemand.{PositiveDemand}
 -- the demand in the product's entry, or 0 if it has none
 unfoldable pub demand_for : List PositiveDemand → ℕ → ℕ
 demand_for [] product = 0
-demand_for (one ∷ held) product = if one.product == product then one.demand else demand_for held product
+demand_for (one ∷ held) product =
+    if one.product == product then one.demand else demand_for held product
 
 -- the demand for each of the first `count` products
 abbrev pub demands_of : ℕ → List PositiveDemand → List ℕ

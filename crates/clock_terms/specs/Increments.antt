@@ -33,8 +33,10 @@ is_increment = is_within least_increment most_increment
 -- Each increment is of 1 to 50 percent, and a list has exactly one for each product.
 abbrev pub AreIncrements : ℕ → Increments → Type 0
 AreIncrements count (Single increment) = IsIncrement increment
-AreIncrements count (PerProduct increments) = (length increments ≡ count) × All IsIncrement increments
+AreIncrements count (PerProduct increments) =
+    (length increments ≡ count) × All IsIncrement increments
 
 abbrev pub are_increments : ℕ → Increments → Bool
 are_increments count (Single increment) = is_increment increment
-are_increments count (PerProduct increments) = (length increments == count) && list_all is_increment increments
+are_increments count (PerProduct increments) =
+    (length increments == count) && list_all is_increment increments

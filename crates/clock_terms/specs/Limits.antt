@@ -9,7 +9,8 @@
 --     IsSetup      the limits of a whole set-up
 --     cap_of, supply_of, units_of, granule_of products product      a value of one product
 --     IsRow products demands      a demand for each product, none above its cap
-use Rattle.std.specs.Prelude.{◌≡◌, ◌≢◌, ℕ, ◌≤◌, EachIndex, slice_index, List, [], ◌∷◌, slice_index_or, Bool, true}
+use Rattle.std.specs.Prelude.{◌≡◌, ◌≢◌, ℕ, ◌≤◌, EachIndex, slice_index, List, [], ◌∷◌}
+use Rattle.std.specs.Prelude.{slice_index_or, Bool, true}
 use Rattle.std.specs.Prelude.{not, ◌&&◌, ◌||◌, nat_le, nat_eq, length, map, All}
 use Rattle.std.specs.List.{AllPass, AllPairs, list_all, list_any}
 use Rattle.std.specs.Str.{bytes_eq}
@@ -104,7 +105,8 @@ IsToken text = IsWithin shortest_token longest_token (length text) × AllPass is
 
 -- the test of IsToken
 abbrev pub is_token : List ℕ → Bool
-is_token text = is_within shortest_token longest_token (length text) && list_all is_letter_or_digit text
+is_token text =
+    is_within shortest_token longest_token (length text) && list_all is_letter_or_digit text
 
 -- the limits of a product: each value has its range, and the cap is at most the supply
 pub record IsProduct (product : Product) : Type 0 where

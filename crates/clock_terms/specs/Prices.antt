@@ -7,7 +7,8 @@ use Rattle.clock_terms.specs.declared.prices.PricePair.{PricePair}
 
 -- In round 1, both prices of a product are its opening price.
 abbrev pub opening_prices : List Product → List PricePair
-opening_prices products = map (λ product. record { start = product.opening; clock = product.opening }) products
+opening_prices products =
+    map (λ product. record { start = product.opening; clock = product.opening }) products
 
 abbrev pub prices_at : List PricePair → ℕ → PricePair
 prices_at prices product = slice_index_or prices product (record { start = 0; clock = 0 })

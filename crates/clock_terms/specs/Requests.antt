@@ -9,7 +9,8 @@
 --         cap
 --     AreChangesOf products prices demands bidder changes      all of this, for the requests of a
 --         bidder
-use Rattle.std.specs.Prelude.{◌≡◌, ℕ, ◌+◌, ◌<◌, ◌≤◌, ◌⊎◌, List, Bool, true, false, ◌&&◌, ◌==◌, if◌then◌else◌, length, sum_by, slice_index, All}
+use Rattle.std.specs.Prelude.{◌≡◌, ℕ, ◌+◌, ◌<◌, ◌≤◌, ◌⊎◌, List, Bool, true, false, ◌&&◌, ◌==◌}
+use Rattle.std.specs.Prelude.{if◌then◌else◌, length, sum_by, slice_index, All}
 use Rattle.std.specs.List.{AllPairs}
 use Rattle.clock_money.specs.Point.{price_point}
 use Rattle.clock_terms.specs.declared.setup.Product.{Product}
@@ -29,7 +30,8 @@ same_kind Reduction Reduction = true
 
 -- the request is of this kind, by this bidder, and for this product
 abbrev pub is_request_of : Kind → ℕ → ℕ → Change → Bool
-is_request_of kind bidder product change = same_kind kind change.kind && (change.bidder == bidder) && (change.product == product)
+is_request_of kind bidder product change =
+    same_kind kind change.kind && (change.bidder == bidder) && (change.product == product)
 
 -- the blocks of a bidder's requests of one kind for a product, added up
 abbrev pub asked_of : Kind → ℕ → ℕ → List Change → ℕ
@@ -38,14 +40,16 @@ asked_of kind bidder product changes =
 
 -- A request by `owner` for a product, of 1 to 1,000 blocks, at a price from the product's
 -- start-of-round price to its clock price, with the price point of that price.
-pub record IsChangeOf (products : List Product) (prices : List PricePair) (owner : ℕ) (change : Change) : Type 0 where
+pub record IsChangeOf (products : List Product) (prices : List PricePair) (owner : ℕ)
+    (change : Change) : Type 0 where
   pub bidder : change.bidder ≡ owner
   pub product : change.product < length products
   pub least : 1 ≤ change.amount
   pub most : change.amount ≤ most_supply
   pub from_start : (prices_at prices change.product).start ≤ change.price
   pub to_clock : change.price ≤ (prices_at prices change.product).clock
-  pub point : change.point ≡ price_point (prices_at prices change.product).start change.price (prices_at prices change.product).clock
+  pub point : change.point ≡ price_point (prices_at prices change.product).start change.price
+      (prices_at prices change.product).clock
 
 -- request a comes before request b: by product, and for one product by its place in the chain
 abbrev pub IsBefore : Change → Change → Type 0
@@ -61,17 +65,21 @@ GoOneWay a b = a.bidder ≡ b.bidder → a.product ≡ b.product → a.kind ≡ 
 
 -- All increases of a product together do not lead above the cap, and all reductions together ask
 -- for no more blocks than its processed demand.
-pub record KeepWithinCap (products : List Product) (demands : List ℕ) (bidder : ℕ) (changes : List Change) (product : ℕ) : Type 0 where
-  pub raised : slice_index demands product + asked_of Increase bidder product changes ≤ cap_of products product
+pub record KeepWithinCap (products : List Product) (demands : List ℕ) (bidder : ℕ)
+    (changes : List Change) (product : ℕ) : Type 0 where
+  pub raised : slice_index demands product + asked_of Increase bidder product changes
+      ≤ cap_of products product
   pub reduced : asked_of Reduction bidder product changes ≤ slice_index demands product
 
 -- A bidder's requests: within the limits, ordered by product and place, one direction for each
 -- product, never below 0 or above a cap. Their number is at most the most bids of a sheet plus the
 -- most products.
-pub record AreChangesOf (products : List Product) (prices : List PricePair) (demands : List ℕ) (bidder : ℕ) (changes : List Change) : Type 0 where
+pub record AreChangesOf (products : List Product) (prices : List PricePair) (demands : List ℕ)
+    (bidder : ℕ) (changes : List Change) : Type 0 where
   pub count : length changes ≤ most_bids + most_products
   pub all : All (IsChangeOf products prices bidder) changes
   pub sorted : AllPairs IsBefore changes
   pub apart : AllPairs AreApart changes
   pub one_way : AllPairs GoOneWay changes
-  pub capped : (product : ℕ) → product < length products → KeepWithinCap products demands bidder changes product
+  pub capped : (product : ℕ) → product < length products
+      → KeepWithinCap products demands bidder changes product

@@ -1,6 +1,8 @@
 ghost use Rattle.std.specs.Prelude.{◌≡◌, ◌≤◌, ◌*◌, length, All};
 ghost use Rattle.clock_terms.specs.Eligibility as eligibility;
-ghost use Rattle.clock_terms.specs.Limits.{IsProduct, IsRow, least_requirement, most_eligibility, most_products, most_requirement, most_supply, most_units};
+ghost use Rattle.clock_terms.specs.Limits.{IsProduct, IsRow, least_requirement, most_eligibility};
+ghost use Rattle.clock_terms.specs.Limits.{most_products, most_requirement, most_supply};
+ghost use Rattle.clock_terms.specs.Limits.{most_units};
 
 use crate::row::Row;
 use crate::setup::{Product, Setup};

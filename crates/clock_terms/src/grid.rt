@@ -1,6 +1,8 @@
-ghost use Rattle.std.specs.Prelude.{◌≡◌, ℕ, List, ◌+◌, ◌*◌, ◌≤◌, ◌<◌, length, All, IfOk, slice_index};
+ghost use Rattle.std.specs.Prelude.{◌≡◌, ℕ, List, ◌+◌, ◌*◌, ◌≤◌, ◌<◌, length, All, IfOk};
+ghost use Rattle.std.specs.Prelude.{slice_index};
 ghost use Rattle.clock_terms.specs.Limits.{IsRow, most_bidders, most_supply};
-ghost use Rattle.clock_terms.specs.Demands.{total_of, demand_at, changed_demand, row_of, with_demand, no_demands};
+ghost use Rattle.clock_terms.specs.Demands.{total_of, demand_at, changed_demand, row_of};
+ghost use Rattle.clock_terms.specs.Demands.{with_demand, no_demands};
 ghost use Rattle.clock_terms.specs.inside.Demands.{IsKeptGrid};
 
 use crate::change::Kind;
@@ -64,7 +66,8 @@ impl Grid {
 
     /// Returns the grid of a set-up in which every demand is 0. May return `NoMemory`.
     pub fn zero(alloc: Global, setup: &Setup) -> Result<Grid, NoMemory>
-        ensures { IfOk result (λ grid. grid ≡ no_demands (length setup.now.bidders) (length setup.now.products)) }
+        ensures { IfOk result
+            (λ grid. grid ≡ no_demands (length setup.now.bidders) (length setup.now.products)) }
     {
         let products = setup.products.len();
         let mut rows = Vec::new(alloc);
@@ -143,7 +146,8 @@ impl Grid {
     pub fn change(&mut self, bidder: usize, product: usize, kind: Kind, amount: u64)
         requires bidder { bidder < length self.old }
         requires product { All (λ row. product < length row) self.old }
-        requires small { changed_demand kind (demand_at self.old bidder product) amount ≤ most_supply }
+        requires small { changed_demand kind
+            (demand_at self.old bidder product) amount ≤ most_supply }
         ensures { self.new ≡ with_demand self.old bidder product
             (changed_demand kind (demand_at self.old bidder product) amount) }
     {

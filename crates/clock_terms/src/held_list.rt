@@ -1,6 +1,9 @@
-ghost use Rattle.std.specs.Prelude.{◌≡◌, ℕ, ◌≤◌, ◌<◌, slice_index_or, length, take, All, IfOk, IfErr, insert, remove, vec_capacity, IsTrue};
-ghost use Rattle.clock_terms.specs.{HeldDemands.{demand_for, demands_of}, Limits.{most_products, most_supply}};
-ghost use Rattle.clock_terms.specs.inside.Rows.{ArePositiveDemands, AreStarts, IsStart, IsStored, IsAtIndex, BelongsAtIndex};
+ghost use Rattle.std.specs.Prelude.{◌≡◌, ℕ, ◌≤◌, ◌<◌, slice_index_or, length, take, All, IfOk};
+ghost use Rattle.std.specs.Prelude.{IfErr, insert, remove, vec_capacity, IsTrue};
+ghost use Rattle.clock_terms.specs.HeldDemands.{demand_for, demands_of};
+ghost use Rattle.clock_terms.specs.Limits.{most_products, most_supply};
+ghost use Rattle.clock_terms.specs.inside.Rows.{ArePositiveDemands, AreStarts, IsStart, IsStored};
+ghost use Rattle.clock_terms.specs.inside.Rows.{IsAtIndex, BelongsAtIndex};
 
 /// The number of products in a group. A search for a product starts at the first entry of its
 /// group.
@@ -19,7 +22,8 @@ pub(crate) struct PositiveDemand {
 fn first_from(held: &[PositiveDemand], from: usize, product: usize) -> usize
     requires { IsStart held.now product from }
     ensures start { IsStart held.now product result }
-    ensures first { (d : PositiveDemand) → result < length held.now → product ≤ (slice_index_or held.now result d).product }
+    ensures first { (d : PositiveDemand) → result < length held.now
+        → product ≤ (slice_index_or held.now result d).product }
 {
     for place in from..held.len() {
         if held[place].product as usize >= product {
@@ -130,10 +134,11 @@ pub(crate) fn store(
     requires stands { IfOk place (λ place. IsAtIndex held.old.items one.product place) }
     requires lacks { IfErr place (λ place. BelongsAtIndex held.old.items one.product place) }
     requires starts { AreStarts held.old.items starts.old.items }
-    requires room { (count : ℕ) × ArePositiveDemands 0 held.old.items count × (one.product < count) × (count ≤ most_products)
-        × (count ≤ vec_capacity held.old) }
+    requires room { (count : ℕ) × ArePositiveDemands 0 held.old.items count × (one.product < count)
+        × (count ≤ most_products) × (count ≤ vec_capacity held.old) }
     requires small { one.demand ≤ most_supply }
-    ensures order { (count : ℕ) → ArePositiveDemands 0 held.old.items count → one.product < count → ArePositiveDemands 0 held.new.items count }
+    ensures order { (count : ℕ) → ArePositiveDemands 0 held.old.items count → one.product < count
+        → ArePositiveDemands 0 held.new.items count }
     ensures stored { IsStored held.old.items held.new.items one.product one.demand }
     ensures room { vec_capacity held.old ≤ vec_capacity held.new }
     ensures starts { AreStarts held.new.items starts.new.items }

@@ -1,7 +1,10 @@
-ghost use Rattle.std.specs.Prelude.{◌≡◌, ◌≤◌, ◌<◌, ◌+◌, ℕ, List, length, replicate, IfOk, slice_index, slice_set, vec_capacity, drop, unwrap_or, option_map, IfSome};
+ghost use Rattle.std.specs.Prelude.{◌≡◌, ◌≤◌, ◌<◌, ◌+◌, ℕ, List, length, replicate, IfOk};
+ghost use Rattle.std.specs.Prelude.{slice_index, slice_set, vec_capacity, drop, unwrap_or};
+ghost use Rattle.std.specs.Prelude.{option_map, IfSome};
 ghost use Rattle.std.specs.List.{AllWithin};
 ghost use Rattle.clock_terms.specs.{Demands.{changed_demand}, HeldDemands.{demands_of, next_of}};
-ghost use Rattle.clock_terms.specs.{inside.Rows.{IsPackedRow, ArePositiveDemands, IsKeptWalk}, Limits.{IsRow, most_products, most_supply}};
+ghost use Rattle.clock_terms.specs.inside.Rows.{IsPackedRow, ArePositiveDemands, IsKeptWalk};
+ghost use Rattle.clock_terms.specs.Limits.{IsRow, most_products, most_supply};
 ghost use Rattle.clock_terms.specs.Walks.{Walk};
 
 use crate::change::Kind;
@@ -31,7 +34,8 @@ impl Model for Row {
 
     ghost view = { λ r. demands_of r.count r.held.items };
 
-    ghost invariant = { λ r. IsPackedRow r.count r.held.items r.starts.items (vec_capacity r.held) };
+    ghost invariant = { λ r. IsPackedRow r.count r.held.items r.starts.items
+        (vec_capacity r.held) };
 }
 
 impl Row {
@@ -150,7 +154,8 @@ impl Row {
         requires product { product < length self.old }
         requires small { changed_demand kind (slice_index self.old product) amount ≤ most_supply }
         ensures before { result ≡ slice_index self.old product }
-        ensures changed { self.new ≡ slice_set self.old product (changed_demand kind (slice_index self.old product) amount) }
+        ensures changed { self.new ≡ slice_set self.old product
+            (changed_demand kind (slice_index self.old product) amount) }
     {
         let start = self.starts[product / GROUP_SIZE] as usize;
         let place = place_in_group(self.held.as_slice(), start, product);
@@ -197,7 +202,8 @@ impl Model for PackedRow {
 
     ghost view = { λ r. demands_of r.count r.held.items };
 
-    ghost invariant = { λ r. ArePositiveDemands 0 r.held.items r.count × (r.count ≤ most_products) };
+    ghost invariant = { λ r. ArePositiveDemands 0 r.held.items r.count
+        × (r.count ≤ most_products) };
 }
 
 impl PackedRow {
@@ -264,7 +270,8 @@ impl<'a> PositiveDemands<'a> {
     #[inline(always)]
     fn of(count: usize, held: &'a [PositiveDemand]) -> PositiveDemands<'a>
         requires { IsKeptWalk count held.now 0 }
-        ensures { result ≡ record { demands = demands_of count held.now; from = next_of count held.now } }
+        ensures { result
+            ≡ record { demands = demands_of count held.now; from = next_of count held.now } }
     {
         PositiveDemands {
             count,
@@ -287,7 +294,8 @@ impl<'a> PositiveDemands<'a> {
         ensures row { self.new.demands ≡ self.old.demands }
         ensures least { IfSome result (λ held. self.old.from ≤ held.product) }
         ensures within { IfSome result (λ held. held.product < length self.old.demands) }
-        ensures demand { IfSome result (λ held. held.demand ≡ slice_index self.old.demands held.product) }
+        ensures demand { IfSome result
+            (λ held. held.demand ≡ slice_index self.old.demands held.product) }
         ensures held { IfSome result (λ held. 0 < held.demand) }
         ensures small { IfSome result (λ held. held.demand ≤ most_supply) }
         ensures passed { AllWithin (λ demand. demand ≡ 0) self.old.demands self.old.from

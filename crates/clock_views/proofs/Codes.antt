@@ -4,9 +4,12 @@ use Rattle.json.specs.Print.{escape}
 use Rattle.serde_json.specs.Written.{compact_text}
 use Rattle.serde_json.proofs.OnLiterals.{serde_json_on_literals}
 use Rattle.clock_http.specs.declared.code.Code.{Code}
-use Rattle.clock_http.specs.declared.code.Code.TheVariants.{Done, BadHead, BadLength, CutShort, BadJson, Token, Role, NoPage, NoRound, Method, Ended}
-use Rattle.clock_http.specs.declared.code.Code.TheVariants.{WrongRound, LongBody, Shape, TooMany, UnknownProduct, PriceRange, OverCap, PriceOrder}
-use Rattle.clock_http.specs.declared.code.Code.TheVariants.{MixedDirection, KeepPrice, OverActivity, Increment, TieRange, TieRepeated, TooManyTies}
+use Rattle.clock_http.specs.declared.code.Code.TheVariants.{Done, BadHead, BadLength, CutShort, BadJson, Token, Role}
+use Rattle.clock_http.specs.declared.code.Code.TheVariants.{NoPage, NoRound, Method, Ended}
+use Rattle.clock_http.specs.declared.code.Code.TheVariants.{WrongRound, LongBody, Shape, TooMany, UnknownProduct}
+use Rattle.clock_http.specs.declared.code.Code.TheVariants.{PriceRange, OverCap, PriceOrder}
+use Rattle.clock_http.specs.declared.code.Code.TheVariants.{MixedDirection, KeepPrice, OverActivity, Increment}
+use Rattle.clock_http.specs.declared.code.Code.TheVariants.{TieRange, TieRepeated, TooManyTies}
 use Rattle.clock_http.specs.declared.code.Code.TheVariants.{PriceLimit, LongHead, Coding, Memory}
 use Rattle.clock_http.specs.Codes.{text_of, status_of}
 use Rattle.clock_views.specs.Refusals.{Shown}
@@ -49,8 +52,8 @@ plain Memory = refl
 
 -- what follows the code
 abbrev behind : Code → Option ℕ → Option ℕ → List ℕ
-behind code place round =
-    number_if (codes ",\"place\":") place ++ (number_if (codes ",\"round\":") round ++ ((codes ",\"status\":" ++ decimal (status_of code)) ++ codes "}"))
+behind code place round = number_if (codes ",\"place\":") place
+    ++ (number_if (codes ",\"round\":") round ++ ((codes ",\"status\":" ++ decimal (status_of code)) ++ codes "}"))
 
 escaped : (code : Code) (place round : Option ℕ)
     → compact_text (refusal_value (record { code = code; place = place; round = round }))
@@ -69,10 +72,9 @@ in_pieces code place round =
     ∙ ap (λ text. codes "{\"code\":\"" ++ text) (ap (λ text. (text ++ codes "\"")
     ++ behind code place round) (plain code) ∙ append_assoc (text_of code) _ _)
 
-pub refusal_in_pieces : (shown : Shown)
-    → compact_text (refusal_value shown)
-    ≡ codes "{\"code\":\"" ++ (text_of shown.code ++ (codes "\"" ++ (number_if (codes ",\"place\":") shown.place
-    ++ (number_if (codes ",\"round\":") shown.round ++ ((codes ",\"status\":" ++ decimal (status_of shown.code)) ++ codes "}")))))
+pub refusal_in_pieces : (shown : Shown) → compact_text (refusal_value shown) ≡ codes "{\"code\":\""
+    ++ (text_of shown.code ++ (codes "\"" ++ (number_if (codes ",\"place\":") shown.place ++ (number_if
+    (codes ",\"round\":") shown.round ++ ((codes ",\"status\":" ++ decimal (status_of shown.code)) ++ codes "}")))))
 refusal_in_pieces shown = in_pieces shown.code shown.place shown.round
 
 pub refusal_in_bytes : (shown : Shown) → compact_text (refusal_value shown) ≡ refusal_bytes shown

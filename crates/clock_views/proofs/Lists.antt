@@ -12,11 +12,12 @@ use Rattle.clock_views.specs.inside.Values.{Adds, item_text, rest_text}
 -- an item and the rest after it are the rest before it
 pub next_item : {A : Type 0} (value : A → Data) (text : List ℕ) (later : Bool) (x : A) (xs : List A)
     → (text ++ item_text later (value x)) ++ rest_text value true xs ≡ text ++ rest_text value later (x ∷ xs)
-next_item value text later x xs = append_assoc text _ _ ∙ ap (λ s. text ++ s) (append_assoc (comma_if later) (compact_text (value x)) _)
+next_item value text later x xs =
+    append_assoc text _ _ ∙ ap (λ s. text ++ s) (append_assoc (comma_if later) (compact_text (value x)) _)
 
-pub one_number : (value : ℕ → Data) (text next : List ℕ) (i n : ℕ) → i < n → Adds (item_text (nat_lt 0 i) (value i)) text next
-    → next ++ rest_text value (nat_lt 0 (i + 1)) (range_with_len (i + 1) (n - (i + 1)))
-    ≡ text ++ rest_text value (nat_lt 0 i) (range_with_len i (n - i))
+pub one_number : (value : ℕ → Data) (text next : List ℕ) (i n : ℕ) → i < n
+    → Adds (item_text (nat_lt 0 i) (value i)) text next → next ++ rest_text value (nat_lt 0 (i + 1))
+    (range_with_len (i + 1) (n - (i + 1))) ≡ text ++ rest_text value (nat_lt 0 i) (range_with_len i (n - i))
 one_number value text next i n below added =
     let left : suc (n - (i + 1)) ≡ n - i = omega arith in
     let later : nat_lt 0 (i + 1) ≡ true = grind (arith, nat_tests) in
@@ -25,8 +26,8 @@ one_number value text next i n below added =
     ∙ ap (λ k. text ++ rest_text value (nat_lt 0 i) (range_with_len i k)) left
 
 -- the item at an index is added, before those after it
-pub item_more : {A : Type 0} (value : A → Data) (text next : List ℕ) (xs : List A) (i : ℕ) (x d : A) → i < length xs → x ≡ get_or xs i d
-    → Adds (item_text (nat_lt 0 i) (value x)) text next
+pub item_more : {A : Type 0} (value : A → Data) (text next : List ℕ) (xs : List A) (i : ℕ) (x d : A) → i < length xs
+    → x ≡ get_or xs i d → Adds (item_text (nat_lt 0 i) (value x)) text next
     → next ++ rest_text value (nat_lt 0 (i + 1)) (drop (i + 1) xs) ≡ text ++ rest_text value (nat_lt 0 i) (drop i xs)
 item_more value text next xs i x d within is added =
     let later : nat_lt 0 (i + 1) ≡ true = grind (arith, nat_tests) in
@@ -36,9 +37,10 @@ item_more value text next xs i x d within is added =
     ∙ ap (λ list. text ++ rest_text value (nat_lt 0 i) list) (sym (drop_more xs i d within))
 
 -- for two lists, item by item
-pub row_more : {A B : Type 0} (value : A × B → Data) (text next : List ℕ) (xs : List A) (ys : List B) (i : ℕ) (x : A) (y : B) → i < length xs → i < length ys
-    → x ≡ get_or xs i x → y ≡ get_or ys i y → Adds (item_text (nat_lt 0 i) (value (x, y))) text next
-    → next ++ rest_text value (nat_lt 0 (i + 1)) (zip (drop (i + 1) xs) (drop (i + 1) ys)) ≡ text ++ rest_text value (nat_lt 0 i) (zip (drop i xs) (drop i ys))
+pub row_more : {A B : Type 0} (value : A × B → Data) (text next : List ℕ) (xs : List A) (ys : List B) (i : ℕ) (x : A)
+    (y : B) → i < length xs → i < length ys → x ≡ get_or xs i x → y ≡ get_or ys i y
+    → Adds (item_text (nat_lt 0 i) (value (x, y))) text next → next ++ rest_text value (nat_lt 0 (i + 1))
+    (zip (drop (i + 1) xs) (drop (i + 1) ys)) ≡ text ++ rest_text value (nat_lt 0 i) (zip (drop i xs) (drop i ys))
 row_more value text next xs ys i x y below within x_is y_is added =
     let later : nat_lt 0 (i + 1) ≡ true = grind (arith, nat_tests) in
     let rest = zip (drop (i + 1) xs) (drop (i + 1) ys) in
@@ -50,16 +52,18 @@ row_more value text next xs ys i x y below within x_is y_is added =
     ∙ ap (λ list. text ++ rest_text value (nat_lt 0 i) list) (sym both)
 
 -- after the last item only the bracket is left
-pub items_end : {A : Type 0} (value : A → Data) (text whole : List ℕ) (later : Bool) (xs : List A) (i : ℕ) → length xs ≤ i
-    → text ++ rest_text value later (drop i xs) ≡ whole → text ++ 93 ∷ [] ≡ whole
-items_end value text whole later xs i done items = ap (λ left. text ++ rest_text value later left) (sym (drop_all i xs done)) ∙ items
+pub items_end : {A : Type 0} (value : A → Data) (text whole : List ℕ) (later : Bool) (xs : List A) (i : ℕ)
+    → length xs ≤ i → text ++ rest_text value later (drop i xs) ≡ whole → text ++ 93 ∷ [] ≡ whole
+items_end value text whole later xs i done items =
+    ap (λ left. text ++ rest_text value later left) (sym (drop_all i xs done)) ∙ items
 
 -- an array whose brackets are in the labels around its items
-pub array_between : {A : Type 0} (value : A → Data) (xs : List A) (start : List ℕ) {behind open_ close text opened filled whole : List ℕ}
-    → open_ ≡ start ++ 91 ∷ [] → close ≡ 93 ∷ behind
+pub array_between : {A : Type 0} (value : A → Data) (xs : List A) (start : List ℕ)
+    {behind open_ close text opened filled whole : List ℕ} → open_ ≡ start ++ 91 ∷ [] → close ≡ 93 ∷ behind
     → Adds open_ text opened → filled ++ 93 ∷ [] ≡ opened ++ rest_text value false xs → Adds close filled whole
     → Adds (start ++ (compact_text (list_of value xs) ++ behind)) text whole
-array_between value xs start {behind = behind} {open_ = open_} {close = close} {text = text} {filled = filled} opens closes first items last =
+array_between value xs start {behind = behind} {open_ = open_} {close = close} {text = text}
+    {filled = filled} opens closes first items last =
     let rest = rest_text value false xs in
     record {
       is = last.is ∙ ap (λ s. filled ++ s) closes ∙ sym (append_assoc filled (93 ∷ []) behind)

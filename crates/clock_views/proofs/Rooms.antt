@@ -1,5 +1,6 @@
 -- How many bytes each page takes at most, in closed form.
-use Rattle.std.proofs.Common.{◌≡◌, ℕ, ◌≤◌, ◌+◌, ◌*◌, ◌-◌, ◌<◌, suc, List, [], ◌∷◌, Bool, Option, Some, None, length, zip, ap, sym, ◌∙◌, refl, arith}
+use Rattle.std.proofs.Common.{◌≡◌, ℕ, ◌≤◌, ◌+◌, ◌*◌, ◌-◌, ◌<◌, suc, List, [], ◌∷◌, Bool, Option, Some, None, length}
+use Rattle.std.proofs.Common.{zip, ap, sym, ◌∙◌, refl, arith}
 use Rattle.std.specs.List.{range_with_len}
 use Rattle.serde_json.specs.Data.{Data}
 use Rattle.clock_terms.specs.declared.setup.Product.{Product}
@@ -15,7 +16,8 @@ use Rattle.clock_views.specs.Values.{whole, whole_or_null, list_of, items_of}
 use Rattle.clock_views.specs.Rooms.{most_text, most_items}
 use Rattle.clock_views.specs.inside.Rooms.{room_of_item, room_of_bid, room_of_line, room_of_result}
 use Rattle.clock_views.specs.PublicPages.{status_value, line_value, sheet_value}
-use Rattle.clock_views.specs.BidderPages.{account_value, bid_value, bids_value, sheet_or_null, accepted_value, slip_value}
+use Rattle.clock_views.specs.BidderPages.{account_value, bid_value, bids_value, sheet_or_null, accepted_value}
+use Rattle.clock_views.specs.BidderPages.{slip_value}
 use Rattle.clock_views.specs.OperatorPages.{closed_value, result_value, result_in, results_value}
 
 -- ---- lists
@@ -40,20 +42,22 @@ line_most : (product : Product) (line : Line) → 1 + most_text (line_value prod
 unfolding line_value
 line_most product line = omega (arith, or_null_most line.demand, or_null_most line.next)
 
-pub rows_most : (rows : List (Product × Line)) → most_items (items_of (λ row. line_value row.0 row.1) rows) ≡ room_of_line * length rows
+pub rows_most : (rows : List (Product × Line))
+    → most_items (items_of (λ row. line_value row.0 row.1) rows) ≡ room_of_line * length rows
 rows_most [] = refl
 rows_most (row ∷ rows) = omega (arith, line_most row.0 row.1, rows_most rows)
 
 -- the first of some numbers, and the others
-pub one_most : (value : ℕ → Data) (i n : ℕ) → i < n
-    → most_items (items_of value (range_with_len i (n - i))) ≡ 1 + most_text (value i) + most_items (items_of value (range_with_len (i + 1) (n - (i + 1))))
+pub one_most : (value : ℕ → Data) (i n : ℕ) → i < n → most_items (items_of value (range_with_len i (n - i)))
+    ≡ 1 + most_text (value i) + most_items (items_of value (range_with_len (i + 1) (n - (i + 1))))
 one_most value i n below =
     let left : n - i ≡ suc (n - (i + 1)) = omega arith in
     ap (λ k. most_items (items_of value (range_with_len i k))) left
 
 -- no others
 pub none_most : (value : ℕ → Data) (i n : ℕ) → n ≤ i → most_items (items_of value (range_with_len i (n - i))) ≡ 0
-none_most value i n done = (let none : n - i ≡ 0 = omega (arith, done) in ap (λ k. most_items (items_of value (range_with_len i k))) none)
+none_most value i n done =
+    (let none : n - i ≡ 0 = omega (arith, done) in ap (λ k. most_items (items_of value (range_with_len i k))) none)
 
 -- two lists of one length, side by side
 same_zip : {A B : Type 0} (xs : List A) (ys : List B) → length xs ≡ length ys → length (zip xs ys) ≡ length xs
@@ -73,7 +77,8 @@ pub account_most : (products : List Product) (name : List ℕ) (round : ℕ) (he
 unfolding account_value
 account_most products name round held ended = omega (arith, numbers_most held.demands)
 
-pub bids_page_most : (round : ℕ) (sheet : Option (List Bid)) → most_text (bids_value round sheet) ≡ 39 + most_text (sheet_or_null sheet)
+pub bids_page_most : (round : ℕ) (sheet : Option (List Bid))
+    → most_text (bids_value round sheet) ≡ 39 + most_text (sheet_or_null sheet)
 unfolding bids_value
 bids_page_most round sheet = omega arith
 
@@ -92,13 +97,15 @@ pub closed_most : (round : ℕ) (ended : Bool) → most_text (closed_value round
 unfolding closed_value
 closed_most round ended = refl
 
-pub result_most : (name : List ℕ) (held : Holding) → 1 + most_text (result_value name held) ≡ room_of_result (length held.demands)
+pub result_most : (name : List ℕ) (held : Holding)
+    → 1 + most_text (result_value name held) ≡ room_of_result (length held.demands)
 unfolding result_value
 result_most name held = omega (arith, numbers_most held.demands)
 
 -- the first of what bidders hold, and the others
-pub result_in_most : (house : HouseFields) (i n : ℕ) → i < n → most_items (items_of (result_in house) (range_with_len i (n - i)))
-    ≡ room_of_result (length (holding_in house i).demands) + most_items (items_of (result_in house) (range_with_len (i + 1) (n - (i + 1))))
+pub result_in_most : (house : HouseFields) (i n : ℕ) → i < n → most_items
+    (items_of (result_in house) (range_with_len i (n - i))) ≡ room_of_result (length (holding_in house i).demands)
+    + most_items (items_of (result_in house) (range_with_len (i + 1) (n - (i + 1))))
 result_in_most house i n below =
     omega (arith, one_most (result_in house) i n below, result_most (bidder_at house.setup i).name (holding_in house i))
 
@@ -110,7 +117,7 @@ sheet_most setup sheet each =
     let many : length rows ≡ length sheet.lines = same_zip setup.products sheet.lines (sym each) ∙ sym each in
     omega (arith, rows_most rows, many)
 
-pub results_most : (house : HouseFields)
-    → most_text (results_value house) ≡ 56 + most_text (list_of (result_in house) (range_with_len 0 (length house.setup.bidders)))
+pub results_most : (house : HouseFields) → most_text (results_value house)
+    ≡ 56 + most_text (list_of (result_in house) (range_with_len 0 (length house.setup.bidders)))
 unfolding results_value
 results_most house = omega arith

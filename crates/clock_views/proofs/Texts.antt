@@ -1,5 +1,6 @@
 -- The texts of pages in the pieces in which they are pushed, and flat pages byte for byte.
-use Rattle.std.proofs.Common.{◌≡◌, ℕ, List, ◌++◌, [], ◌∷◌, Bool, true, false, Option, Some, None, append_assoc, codes, decimal, zip, length, refl}
+use Rattle.std.proofs.Common.{◌≡◌, ℕ, List, ◌++◌, [], ◌∷◌, Bool, true, false, Option, Some, None, append_assoc, codes}
+use Rattle.std.proofs.Common.{decimal, zip, length, refl}
 use Rattle.std.specs.List.{range_with_len}
 use Rattle.serde_json.specs.Data.{Data, boolean, string}
 use Rattle.std.specs.Prelude.{is_some}
@@ -15,8 +16,10 @@ use Rattle.clock_bids.specs.Holding.{Holding}
 use Rattle.clock_closing.specs.declared.closed_round.Slip.{Slip}
 use Rattle.clock_house.specs.House.{HouseFields, standing_in}
 use Rattle.clock_views.specs.Values.{whole, whole_or_null, list_of, object_of, member_if, number_if, true_or_false}
-use Rattle.clock_views.specs.PublicPages.{status_value, status_bytes, from_version_2, product_value, products_value, line_value, sheet_value}
-use Rattle.clock_views.specs.BidderPages.{account_value, bid_value, bids_value, sheet_or_null, accepted_value, accepted_bytes, slip_value}
+use Rattle.clock_views.specs.PublicPages.{status_value, status_bytes, from_version_2, product_value, products_value}
+use Rattle.clock_views.specs.PublicPages.{line_value, sheet_value}
+use Rattle.clock_views.specs.BidderPages.{account_value, bid_value, bids_value, sheet_or_null, accepted_value}
+use Rattle.clock_views.specs.BidderPages.{accepted_bytes, slip_value}
 use Rattle.clock_views.specs.OperatorPages.{closed_value, closed_bytes, result_value, result_in, results_value}
 
 -- what is everyone's
@@ -29,7 +32,8 @@ unfolding status_value serde_json_on_literals
 status_in_pieces setup round true = refl
 status_in_pieces setup round false = refl
 
-pub status_in_bytes : (setup : PublicSetup) (round : ℕ) (ended : Bool) → compact_text (status_value setup round ended) ≡ status_bytes setup round ended
+pub status_in_bytes : (setup : PublicSetup) (round : ℕ) (ended : Bool)
+    → compact_text (status_value setup round ended) ≡ status_bytes setup round ended
 unfolding status_value serde_json_on_literals
 status_in_bytes setup round true = simp append_assoc
 status_in_bytes setup round false = simp append_assoc
@@ -85,8 +89,8 @@ pub products_in_pieces : (setup : PublicSetup)
     ++ ((codes ",\"requirement\":" ++ decimal setup.requirement)
     ++ ((codes ",\"version\":" ++ decimal setup.version) ++ codes "}"))))))
 unfolding products_value
-products_in_pieces setup =
-    products_with (from_version_2 setup.version setup.limit) (list_of (product_value setup.version) setup.products) setup.requirement setup.version
+products_in_pieces setup = products_with (from_version_2 setup.version setup.limit)
+    (list_of (product_value setup.version) setup.products) setup.requirement setup.version
 
 pub line_in_pieces : (product : Product) (line : Line)
     → compact_text (line_value product line)
@@ -114,7 +118,8 @@ pub sheet_in_pieces : (setup : PublicSetup) (sheet : RoundSheet)
     ++ (compact_text (list_of (λ row. line_value row.0 row.1) (zip setup.products sheet.lines))
     ++ ((codes ",\"round\":" ++ decimal sheet.round) ++ codes "}")))
 unfolding sheet_value serde_json_on_literals
-sheet_in_pieces setup sheet = sheet_with sheet.ended (list_of (λ row. line_value row.0 row.1) (zip setup.products sheet.lines)) sheet.round
+sheet_in_pieces setup sheet =
+    sheet_with sheet.ended (list_of (λ row. line_value row.0 row.1) (zip setup.products sheet.lines)) sheet.round
 
 -- what is a bidder's
 
@@ -137,9 +142,8 @@ pub bid_in_pieces : (bid : Bid)
 unfolding bid_value serde_json_on_literals
 bid_in_pieces bid = refl
 
-pub bids_in_pieces : (round : ℕ) (sheet : Option (List Bid))
-    → compact_text (bids_value round sheet)
-    ≡ codes "{\"bids\":" ++ (compact_text (sheet_or_null sheet) ++ ((codes ",\"round\":" ++ decimal round) ++ codes "}"))
+pub bids_in_pieces : (round : ℕ) (sheet : Option (List Bid)) → compact_text (bids_value round sheet) ≡ codes
+    "{\"bids\":" ++ (compact_text (sheet_or_null sheet) ++ ((codes ",\"round\":" ++ decimal round) ++ codes "}"))
 unfolding bids_value serde_json_on_literals
 bids_in_pieces round sheet = refl
 
@@ -169,8 +173,8 @@ slip_in_pieces slip = refl
 
 -- what is the operator's
 
-pub closed_in_pieces : (round : ℕ) (ended : Bool)
-    → compact_text (closed_value round ended) ≡ (codes "{\"closed\":" ++ decimal round) ++ ((codes ",\"ended\":" ++ true_or_false ended) ++ codes "}")
+pub closed_in_pieces : (round : ℕ) (ended : Bool) → compact_text (closed_value round ended)
+    ≡ (codes "{\"closed\":" ++ decimal round) ++ ((codes ",\"ended\":" ++ true_or_false ended) ++ codes "}")
 unfolding closed_value serde_json_on_literals
 closed_in_pieces round true = refl
 closed_in_pieces round false = refl
@@ -196,11 +200,10 @@ unfolding serde_json_on_literals
 results_with bidders true round = refl
 results_with bidders false round = refl
 
-pub results_in_pieces : (house : HouseFields)
-    → compact_text (results_value house)
-    ≡ codes "{\"bidders\":"
-    ++ (compact_text (list_of (result_in house) (range_with_len 0 (length house.setup.bidders)))
-    ++ ((codes ",\"ended\":" ++ true_or_false (standing_in house).ended) ++ ((codes ",\"round\":" ++ decimal (standing_in house).round) ++ codes "}")))
+pub results_in_pieces : (house : HouseFields) → compact_text (results_value house)
+    ≡ codes "{\"bidders\":" ++ (compact_text (list_of (result_in house) (range_with_len 0 (length house.setup.bidders)))
+    ++ ((codes ",\"ended\":" ++ true_or_false (standing_in house).ended)
+    ++ ((codes ",\"round\":" ++ decimal (standing_in house).round) ++ codes "}")))
 unfolding results_value
-results_in_pieces house =
-    results_with (list_of (result_in house) (range_with_len 0 (length house.setup.bidders))) (standing_in house).ended (standing_in house).round
+results_in_pieces house = results_with (list_of (result_in house) (range_with_len 0 (length house.setup.bidders)))
+    (standing_in house).ended (standing_in house).round

@@ -4,7 +4,8 @@
 --     accepted_value round count      the reply to a sheet that was accepted
 --     accepted_bytes round count      that page, byte for byte
 --     slip_value slip      its results of a closed round
-use Rattle.std.specs.Prelude.{ℕ, List, [], ◌∷◌, ◌++◌, Bool, true, Option, Some, None, codes, decimal}
+use Rattle.std.specs.Prelude.{ℕ, List, [], ◌∷◌, ◌++◌, Bool, true, Option, Some, None, codes}
+use Rattle.std.specs.Prelude.{decimal}
 use Rattle.serde_json.specs.Data.{Data, null, boolean, string}
 use Rattle.clock_terms.specs.declared.setup.Product.{Product}
 use Rattle.clock_terms.specs.Eligibility.{activity}
@@ -24,8 +25,8 @@ account_value products name round held ended = object_of (
     ("round", whole round) ∷ [])
 
 unfoldable pub bid_value : Bid → Data
-bid_value bid =
-    object_of (("price", whole bid.price) ∷ ("product", whole bid.product) ∷ ("quantity", whole bid.quantity) ∷ [])
+bid_value bid = object_of (("price", whole bid.price) ∷ ("product", whole bid.product)
+    ∷ ("quantity", whole bid.quantity) ∷ [])
 
 -- the bids of a sheet in the order given, or null if there is no sheet
 abbrev pub sheet_or_null : Option (List Bid) → Data
@@ -50,5 +51,5 @@ slip_value slip = object_of (
 
 -- the reply to an accepted sheet, byte for byte
 abbrev pub accepted_bytes : ℕ → ℕ → List ℕ
-accepted_bytes round count =
-    codes "{\"accepted\":true,\"bids\":" ++ decimal count ++ codes ",\"round\":" ++ decimal round ++ codes "}"
+accepted_bytes round count = codes "{\"accepted\":true,\"bids\":" ++ decimal count
+    ++ codes ",\"round\":" ++ decimal round ++ codes "}"

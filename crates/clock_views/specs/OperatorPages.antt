@@ -17,7 +17,8 @@ closed_value round ended = object_of (("closed", whole round) ∷ ("ended", bool
 
 unfoldable pub result_value : List ℕ → Holding → Data
 result_value name held = object_of (
-    ("demands", list_of whole held.demands) ∷ ("eligibility", whole held.eligibility) ∷ ("name", string name) ∷ [])
+    ("demands", list_of whole held.demands) ∷ ("eligibility", whole held.eligibility)
+    ∷ ("name", string name) ∷ [])
 
 abbrev pub result_in : HouseFields → ℕ → Data
 result_in house bidder = result_value (bidder_at house.setup bidder).name (holding_in house bidder)

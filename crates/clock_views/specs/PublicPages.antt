@@ -4,18 +4,20 @@
 --     from_version_2 version n      a number that set-up documents have from version 2 on
 --     product_value version product, products_value setup      the public set-up
 --     line_value product line, sheet_value setup sheet      the round results
-use Rattle.std.specs.Prelude.{ℕ, List, [], ◌∷◌, ◌++◌, Bool, nat_le, Option, Some, None, if◌then◌else◌, codes, decimal, zip}
+use Rattle.std.specs.Prelude.{ℕ, List, [], ◌∷◌, ◌++◌, Bool, nat_le, Option, Some, None}
+use Rattle.std.specs.Prelude.{if◌then◌else◌, codes, decimal, zip}
 use Rattle.serde_json.specs.Data.{Data, boolean, string}
 use Rattle.clock_terms.specs.declared.setup.Product.{Product}
 use Rattle.clock_terms.specs.Limits.{PublicSetup}
 use Rattle.clock_posting.specs.declared.sheet.Line.{Line}
 use Rattle.clock_posting.specs.declared.sheet.RoundSheet.{RoundSheet}
-use Rattle.clock_views.specs.Values.{whole, whole_or_null, list_of, object_of, member_if, true_or_false}
+use Rattle.clock_views.specs.Values.{whole, whole_or_null, list_of, object_of, member_if}
+use Rattle.clock_views.specs.Values.{true_or_false}
 
 -- the status page
 unfoldable pub status_value : PublicSetup → ℕ → Bool → Data
-status_value setup round ended =
-    object_of (("ended", boolean ended) ∷ ("round", whole round) ∷ ("version", whole setup.version) ∷ [])
+status_value setup round ended = object_of (("ended", boolean ended) ∷ ("round", whole round)
+    ∷ ("version", whole setup.version) ∷ [])
 
 -- the status page, byte for byte
 abbrev pub status_bytes : PublicSetup → ℕ → Bool → List ℕ

@@ -1,9 +1,12 @@
--- How many bytes are allocated for the text of a page, by its shape only, and what is written there.
+-- How many bytes are allocated for the text of a page, by its shape only, and what
+-- is written there.
 --     most_text value      each number and each null counts as 20 bytes, and each name as 34
---     IsHeaded head value result      the page after a head, or an allocation of just this size was refused
+--     IsHeaded head value result      the page after a head, or an allocation of just this
+--         size was refused
 use Rattle.std.specs.Prelude.{◌≡◌, ℕ, ◌+◌, ◌++◌, List, Result, Ok, Err, length}
 use Rattle.serde_json.specs.Written.{compact_text}
-use Rattle.serde_json.specs.Data.{Data, null, boolean, number, string, array, object, Items, no_items, item, Members, no_members, member}
+use Rattle.serde_json.specs.Data.{Data, null, boolean, number, string, array, object, Items}
+use Rattle.serde_json.specs.Data.{no_items, item, Members, no_members, member}
 
 -- a number has 20 digits at most, and a name 32 characters and two quotes
 abbrev mutual

@@ -8,8 +8,10 @@
 --     number_if label number      a label and a number, or nothing if there is none
 --     IsPage value text      the text is the value's compact text
 use Prim.Native.String.{String}
-use Rattle.std.specs.Prelude.{◌≡◌, ℕ, List, [], ◌∷◌, ◌++◌, Bool, true, false, Option, Some, None, codes, decimal}
-use Rattle.serde_json.specs.Data.{Data, null, number, unsigned, array, object, Items, no_items, item, Members, no_members, member}
+use Rattle.std.specs.Prelude.{◌≡◌, ℕ, List, [], ◌∷◌, ◌++◌, Bool, true, false, Option, Some, None}
+use Rattle.std.specs.Prelude.{codes, decimal}
+use Rattle.serde_json.specs.Data.{Data, null, number, unsigned, array, object, Items, no_items}
+use Rattle.serde_json.specs.Data.{item, Members, no_members, member}
 use Rattle.serde_json.specs.Written.{compact_text}
 
 abbrev pub whole : ℕ → Data

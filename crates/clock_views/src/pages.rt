@@ -4,8 +4,11 @@
 ghost use Rattle.std.specs.Prelude.{◌≡◌, ◌<◌, length, option_copied, IfOk};
 ghost use Rattle.clock_terms.specs.Limits.{IsName, IsRow, public_setup};
 ghost use Rattle.clock_house.specs.History.{bidder_at};
-ghost use Rattle.clock_views.specs.PublicPages.{status_value, status_bytes, sheet_value, products_value, from_version_2 as number_from_version_2};
-ghost use Rattle.clock_views.specs.BidderPages.{account_value, bids_value, accepted_value, accepted_bytes, slip_value};
+ghost use Rattle.clock_views.specs.PublicPages.{status_value, status_bytes, sheet_value};
+ghost use Rattle.clock_views.specs.PublicPages.{products_value};
+ghost use Rattle.clock_views.specs.PublicPages.{from_version_2 as number_from_version_2};
+ghost use Rattle.clock_views.specs.BidderPages.{account_value, bids_value, accepted_value};
+ghost use Rattle.clock_views.specs.BidderPages.{accepted_bytes, slip_value};
 ghost use Rattle.clock_views.specs.OperatorPages.{closed_value, closed_bytes, results_value};
 ghost use Rattle.clock_views.specs.{Rooms.{IsHeaded, most_text}, Values.{IsPage}};
 
@@ -142,7 +145,8 @@ pub fn account_page(
 ) -> Result<Text, NoMemory>
     requires bidder { bidder < length setup.now.bidders }
     requires row { IsRow setup.now.products own.demands.now }
-    ensures { IfOk result (IsPage (account_value setup.now.products (bidder_at setup.now bidder).name own.entry.round
+    ensures { IfOk result
+        (IsPage (account_value setup.now.products (bidder_at setup.now bidder).name own.entry.round
         (record { eligibility = own.entry.eligibility; demands = own.entry.demands.now }) ended)) }
 {
     Ok(headed_account(alloc, b"", setup, bidder, own, ended)?)
@@ -159,8 +163,11 @@ pub fn headed_account(
 ) -> Headed
     requires bidder { bidder < length setup.now.bidders }
     requires row { IsRow setup.now.products own.demands.now }
-    ensures { IsHeaded head.now (account_value setup.now.products (bidder_at setup.now bidder).name own.entry.round
-        (record { eligibility = own.entry.eligibility; demands = own.entry.demands.now }) ended) result }
+    ensures { IsHeaded head.now (account_value setup.now.products (bidder_at setup.now bidder).name
+        own.entry.round (record {
+          eligibility = own.entry.eligibility;
+          demands = own.entry.demands.now;
+        }) ended) result }
 {
     let activity = units_held(setup.products.as_slice(), own.demands);
     let mut text = text_with_room(alloc, head, ACCOUNT + DEMAND * own.demands.len() as u128)?;

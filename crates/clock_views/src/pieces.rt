@@ -1,11 +1,13 @@
 //! Appends parts of compact JSON to a text. The text has capacity for each part.
 
-ghost use Rattle.std.specs.Prelude.{◌≡◌, ◌≤◌, ◌+◌, ◌-◌, ◌*◌, ◌++◌, ℕ, List, decimal, drop, length, nat_lt};
+ghost use Rattle.std.specs.Prelude.{◌≡◌, ◌≤◌, ◌+◌, ◌-◌, ◌*◌, ◌++◌, ℕ, List, decimal, drop, length};
+ghost use Rattle.std.specs.Prelude.{nat_lt};
 ghost use Rattle.std.specs.List.{AllWithin};
 ghost use Rattle.serde_json.specs.{Data.{string}, Written.{compact_text, comma_if}};
 ghost use Rattle.clock_terms.specs.Limits.{IsName};
 ghost use Rattle.clock_views.specs.Values.{whole, whole_or_null, list_of, number_if, true_or_false};
-ghost use Rattle.clock_views.specs.inside.Rooms.{room_of_number, room_of_name, room_of_truth, room_of_item, room_of_array};
+ghost use Rattle.clock_views.specs.inside.Rooms.{room_of_number, room_of_name, room_of_truth};
+ghost use Rattle.clock_views.specs.inside.Rooms.{room_of_item, room_of_array};
 ghost use Rattle.clock_views.specs.inside.Values.{rest_text, Adds};
 
 use clock_device::{Bounded, Text};
@@ -39,7 +41,8 @@ pub(crate) fn push_number_if(text: &mut Bounded<u8>, label: &[u8], number: Optio
 /// Appends a label and a number, or null if there is no number.
 pub(crate) fn push_number_or_null(text: &mut Bounded<u8>, label: &[u8], number: Option<u64>)
     requires { length label.now + room_of_number ≤ text.old.room }
-    ensures adds { Adds (label.now ++ compact_text (whole_or_null number)) text.old.items text.new.items }
+    ensures adds { Adds
+        (label.now ++ compact_text (whole_or_null number)) text.old.items text.new.items }
     ensures room { text.old.room ≤ text.new.room + (length label.now + room_of_number) }
 {
     text.extend_from_slice(label);
@@ -64,7 +67,8 @@ pub(crate) fn push_truth(text: &mut Bounded<u8>, label: &[u8], truth: bool)
 pub(crate) fn push_name(text: &mut Bounded<u8>, label: &[u8], name: &[u8])
     requires name { IsName name.now }
     requires room { length label.now + room_of_name ≤ text.old.room }
-    ensures adds { Adds (label.now ++ compact_text (string name.now)) text.old.items text.new.items }
+    ensures adds { Adds
+        (label.now ++ compact_text (string name.now)) text.old.items text.new.items }
     ensures room { text.old.room ≤ text.new.room + (length label.now + room_of_name) }
 {
     text.extend_from_slice(label);
@@ -88,8 +92,8 @@ pub(crate) fn push_comma_if(text: &mut Bounded<u8>, later: bool)
 fn push_zeros(text: &mut Bounded<u8>, from: usize, until: usize)
     requires order { from ≤ until }
     requires room { room_of_item * (until - from) ≤ text.old.room }
-    ensures adds { (row : List ℕ) → until ≤ length row → AllWithin (λ demand. demand ≡ 0) row from until
-        → text.new.items ++ rest_text whole (nat_lt 0 until) (drop until row)
+    ensures adds { (row : List ℕ) → until ≤ length row → AllWithin (λ demand. demand
+        ≡ 0) row from until → text.new.items ++ rest_text whole (nat_lt 0 until) (drop until row)
         ≡ text.old.items ++ rest_text whole (nat_lt 0 from) (drop from row) }
     ensures room { text.old.room ≤ text.new.room + room_of_item * (until - from) }
 {
@@ -102,8 +106,10 @@ fn push_zeros(text: &mut Bounded<u8>, from: usize, until: usize)
 /// Appends a label and the array of a row's demands. The loop visits only demands above 0.
 pub(crate) fn push_demands(text: &mut Bounded<u8>, label: &[u8], mut held: PositiveDemands<'_>)
     requires first { AllWithin (λ demand. demand ≡ 0) held.demands 0 held.from }
-    requires room { length label.now + room_of_array room_of_item (length held.demands) ≤ text.old.room }
-    ensures adds { Adds (label.now ++ compact_text (list_of whole held.entry.demands)) text.old.items text.new.items }
+    requires room { length label.now
+        + room_of_array room_of_item (length held.demands) ≤ text.old.room }
+    ensures adds { Adds (label.now
+        ++ compact_text (list_of whole held.entry.demands)) text.old.items text.new.items }
     ensures room { text.old.room ≤ text.new.room
         + (length label.now + room_of_array room_of_item (length held.entry.demands)) }
 {

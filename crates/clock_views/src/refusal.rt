@@ -3,7 +3,9 @@
 ghost use Rattle.std.specs.Prelude.{◌≡◌, ◌++◌, IsTrue, IfOk, IfErr, not};
 ghost use Rattle.serde_json.specs.Written.{compact_text};
 ghost use Rattle.clock_views.specs.RefusalPage.{refusal_value, refusal_bytes};
-ghost use Rattle.clock_views.specs.Refusals.{Shown, IsShown, has_place, has_round, is_refusal, shown_bid, shown_tie, shown_put, shown_close, bare as code_alone};
+ghost use Rattle.clock_views.specs.Refusals.{Shown, IsShown, has_place, has_round, is_refusal};
+ghost use Rattle.clock_views.specs.Refusals.{shown_bid, shown_tie, shown_put, shown_close};
+ghost use Rattle.clock_views.specs.Refusals.{bare as code_alone};
 ghost use Rattle.clock_views.specs.Values.{IsPage};
 
 use crate::capacities::REFUSAL;
@@ -132,8 +134,10 @@ pub fn refusal_page(
     round: Option<u64>,
 ) -> Result<Text, NoMemory>
     requires { IsShown (record { code = code; place = place; round = round }) }
-    ensures value { IfOk result (IsPage (refusal_value (record { code = code; place = place; round = round }))) }
-    ensures bytes { IfOk result (λ text. text ≡ refusal_bytes (record { code = code; place = place; round = round })) }
+    ensures value { IfOk result
+        (IsPage (refusal_value (record { code = code; place = place; round = round }))) }
+    ensures bytes { IfOk result
+        (λ text. text ≡ refusal_bytes (record { code = code; place = place; round = round })) }
 {
     Ok(headed_refusal(alloc, b"", Refusal { code, place, round })?)
 }

@@ -2,7 +2,8 @@
 -- option, and their rules are those of the grammar.
 use Rattle.std.proofs.Common.{◌≡◌, ◌≢◌, ◌∷◌, [], inl, inr, true, List, Option, None, refl, subst, ap₂, ◌∙◌}
 use Rattle.std.specs.Prelude.{IfErr, IfOk, Result, Ok, Err}
-use Rattle.clap.specs.Words.{AddsArg, AddsSubcommand, App, FailsBy, HasKind, HasMatchesOf, Kinds, Rule, Text, fault_of, is_simple, is_simple_and_free}
+use Rattle.clap.specs.Words.{AddsArg, AddsSubcommand, App, FailsBy, HasKind, HasMatchesOf, Kinds, Rule, Text, fault_of}
+use Rattle.clap.specs.Words.{is_simple, is_simple_and_free}
 use Rattle.clap.specs.Words.{kind_of, subcommand_of, subcommand_rows_of, with_rule, with_subcommand}
 use Rattle.clap.specs.declared.builder.arg.Arg.{Arg}
 use Rattle.clap.specs.declared.builder.command.Command.{Command}
@@ -14,8 +15,8 @@ use Rattle.clock_words.specs.Words.{grammar, unless_refused}
 use Rattle.clock_words.specs.inside.Commands.{IsCommand, IsOption}
 
 -- an option was added
-pub with_one : (app : App) (command : Command) → IsCommand app command → (rule : Rule) (option : Arg) (made : Command) → IsOption rule option
-    → AddsArg command option made → IsCommand (with_rule app rule) made
+pub with_one : (app : App) (command : Command) → IsCommand app command → (rule : Rule) (option : Arg) (made : Command)
+    → IsOption rule option → AddsArg command option made → IsCommand (with_rule app rule) made
 with_one app command is rule option made is_option added = record {
   shape = added.shape is_option.local ∙ ap₂ with_rule is.shape is_option.shape;
   local = rw (added.globals, is.local, is_option.local) refl;
@@ -52,8 +53,8 @@ is_some_kind (kind ∷ kinds) error has other none = cc
 
 -- how clap's parse of these words ends
 module _ (app : App) (is_grammar : app ≡ grammar) (words : List Text) where
-  pub none_refused : (result : Result ArgMatches Error) → (is_simple_and_free app ≡ true → FailsBy (fault_of app words) result)
-      → IfOk result (λ found. fault_of grammar words ≡ [])
+  pub none_refused : (result : Result ArgMatches Error) → (is_simple_and_free app ≡ true
+      → FailsBy (fault_of app words) result) → IfOk result (λ found. fault_of grammar words ≡ [])
   none_refused (Ok found) kinds =
       subst (λ (a : App). is_simple_and_free a ≡ true → fault_of a words ≡ []) is_grammar kinds grammar_free
   none_refused (Err error) kinds = tt
@@ -63,12 +64,12 @@ module _ (app : App) (is_grammar : app ≡ grammar) (words : List Text) where
   found_by (Ok found) matches = (subst (λ (a : App). HasMatchesOf a words found) is_grammar matches grammar_simple).1
   found_by (Err error) matches = tt
 
-  pub some_refused : (result : Result ArgMatches Error) → (is_simple_and_free app ≡ true → FailsBy (fault_of app words) result)
-      → IfErr result (λ error. kind_of error ≢ OutOfMemory → fault_of grammar words ≢ [])
+  pub some_refused : (result : Result ArgMatches Error) → (is_simple_and_free app ≡ true → FailsBy
+      (fault_of app words) result) → IfErr result (λ error. kind_of error ≢ OutOfMemory → fault_of grammar words ≢ [])
   some_refused (Ok found) kinds = tt
   some_refused (Err error) kinds =
-      let has : HasKind (fault_of grammar words) error =
-      subst (λ (a : App). is_simple_and_free a ≡ true → HasKind (fault_of a words) error) is_grammar kinds grammar_free in
+      let has : HasKind (fault_of grammar words) error = subst (λ (a : App). is_simple_and_free a ≡ true
+      → HasKind (fault_of a words) error) is_grammar kinds grammar_free in
       is_some_kind (fault_of grammar words) error has
 
 module _ {A : Type 0} (meant : Option A) where

@@ -5,10 +5,12 @@
 --     given words      the words, or those that replace an empty list
 --     asked_by words      what the words ask for, unless they are refused
 --     job_of words      the job that the words ask for, if they ask for one
-use Rattle.std.specs.Prelude.{ℕ, true, List, [], ◌∷◌, Option, Some, None, codes, if◌then◌else◌, option_and_then, option_map}
+use Rattle.std.specs.Prelude.{ℕ, true, List, [], ◌∷◌, Option, Some, None, codes, if◌then◌else◌}
+use Rattle.std.specs.Prelude.{option_and_then, option_map}
 use Rattle.std.specs.Str.{bytes_eq}
 use Rattle.std.specs.Str.Parse.{digits_value, without_leading_plus}
-use Rattle.clap.specs.Words.{App, Kinds, Row, Rule, Shape, Text, fault_of, first_of, new_app, new_rule, one_of, subcommand_of, with_rule, with_subcommand}
+use Rattle.clap.specs.Words.{App, Kinds, Row, Rule, Shape, Text, fault_of, first_of, new_app}
+use Rattle.clap.specs.Words.{new_rule, one_of, subcommand_of, with_rule, with_subcommand}
 use Rattle.clap.specs.Simple.{on_top}
 use Rattle.clap.specs.ValueTests.{is_unsigned_in}
 use Rattle.clap.specs.declared.builder.value_parser.ValueParser.TheVariants as parser
@@ -54,17 +56,19 @@ most_served = 1000000
 
 -- `serve --setup FILE --port N --connections K [--journal FILE]`
 abbrev pub serve_grammar : App
-serve_grammar =
-    with_rule (with_rule (with_rule (with_rule (new_app (codes "serve")) (needed_rule (codes "setup")))
-    (number_rule (codes "port") most_port)) (number_rule (codes "connections") most_served)) (option_rule (codes "journal"))
+serve_grammar = with_rule (with_rule (with_rule (with_rule (new_app (codes "serve"))
+    (needed_rule (codes "setup"))) (number_rule (codes "port") most_port))
+    (number_rule (codes "connections") most_served)) (option_rule (codes "journal"))
 
 -- a command on two files, such as `audit --setup FILE --journal FILE`
 abbrev pub files_grammar : Text → App
-files_grammar name = with_rule (with_rule (new_app name) (needed_rule (codes "setup"))) (needed_rule (codes "journal"))
+files_grammar name = with_rule (with_rule (new_app name) (needed_rule (codes "setup")))
+    (needed_rule (codes "journal"))
 
 -- words begin with a command, not with the program's name, or ask for help or the version
 abbrev pub asks_for_a_command : Shape → Shape
-asks_for_a_command shape = record shape { no_binary_name = true; subcommand_required = true; has_version = true }
+asks_for_a_command shape =
+    record shape { no_binary_name = true; subcommand_required = true; has_version = true }
 
 -- the program without its commands
 abbrev pub program_only_grammar : App
@@ -72,11 +76,10 @@ program_only_grammar = on_top asks_for_a_command (new_app (codes "clock_auction"
 
 -- the program, with its commands
 abbrev pub grammar : App
-grammar =
-    with_subcommand (with_subcommand (with_subcommand (with_subcommand (with_subcommand (with_subcommand
-    program_only_grammar prices_grammar.top)
-    (new_app (codes "opening")).top) (new_app (codes "replay")).top) serve_grammar.top)
-    (files_grammar (codes "journal")).top) (files_grammar (codes "audit")).top
+grammar = with_subcommand (with_subcommand (with_subcommand (with_subcommand (with_subcommand
+    (with_subcommand program_only_grammar prices_grammar.top) (new_app (codes "opening")).top)
+    (new_app (codes "replay")).top) serve_grammar.top) (files_grammar (codes "journal")).top)
+    (files_grammar (codes "audit")).top
 
 -- an empty list is replaced by `prices --increment 10`
 abbrev pub given : List Text → List Text
@@ -85,8 +88,8 @@ given (word ∷ words) = word ∷ words
 
 -- the number that a text writes, if it is within the limits
 abbrev pub number_from : ℕ → ℕ → Text → Option ℕ
-number_from least most text =
-    if is_unsigned_in least most text then Some (digits_value 10 (without_leading_plus text)) else None
+number_from least most text = if is_unsigned_in least most text
+    then Some (digits_value 10 (without_leading_plus text)) else None
 
 -- the number that an option has, if it is within the limits
 abbrev pub number_of : Text → ℕ → ℕ → List Row → Option ℕ
@@ -115,21 +118,27 @@ pub data AskedFields : Type 0 where
 abbrev pub serving_from : List Row → Option ServingFields
 serving_from options =
     option_and_then (λ setup. option_and_then (λ port. option_map (λ connections.
-    record { setup = setup; port = port; connections = connections; journal = first_of (codes "journal") options })
-    (number_of (codes "connections") 1 most_served options)) (number_of (codes "port") 1 most_port options)) (first_of (codes "setup") options)
+    record {
+      setup = setup;
+      port = port;
+      connections = connections;
+      journal = first_of (codes "journal") options;
+    })
+    (number_of (codes "connections") 1 most_served options))
+    (number_of (codes "port") 1 most_port options)) (first_of (codes "setup") options)
 
 -- the arguments of `journal` or `audit`, from its options
 abbrev pub files_from : List Row → Option FilesFields
 files_from options =
-    option_and_then (λ setup. option_map (λ file. record { setup = setup; journal = file }) (first_of (codes "journal") options))
-    (first_of (codes "setup") options)
+    option_and_then (λ setup. option_map (λ file. record { setup = setup; journal = file })
+    (first_of (codes "journal") options)) (first_of (codes "setup") options)
 
 -- what a command with these options asks for
 abbrev pub asked_named : Text → List Row → Option AskedFields
-asked_named name options =
-    if bytes_eq name (codes "prices")
-    then option_map (λ increment. job (Prices increment)) (number_of (codes "increment") least_increment most_increment options)
-    else (if bytes_eq name (codes "opening") then Some (job Opening) else (if bytes_eq name (codes "replay") then Some (job Replay)
+asked_named name options = if bytes_eq name (codes "prices") then option_map (λ increment.
+    job (Prices increment)) (number_of (codes "increment") least_increment most_increment options)
+    else (if bytes_eq name (codes "opening") then Some (job Opening)
+    else (if bytes_eq name (codes "replay") then Some (job Replay)
     else (if bytes_eq name (codes "serve") then option_map serve (serving_from options)
     else (if bytes_eq name (codes "journal") then option_map journal (files_from options)
     else (if bytes_eq name (codes "audit") then option_map audit (files_from options) else None)))))
@@ -164,7 +173,8 @@ unless_refused (kind ∷ kinds) meant = None
 
 -- what words ask for, or nothing if clap refuses them
 abbrev pub asked_meant : List Text → Option AskedFields
-asked_meant words = unless_refused (fault_of grammar words) (asked_met (subcommand_of grammar words))
+asked_meant words =
+    unless_refused (fault_of grammar words) (asked_met (subcommand_of grammar words))
 
 -- what the program's arguments ask for
 abbrev pub asked_by : List Text → Option AskedFields

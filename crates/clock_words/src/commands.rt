@@ -1,7 +1,9 @@
 //! The commands and options of the program, as clap's builder defines them.
 ghost use Rattle.std.specs.Prelude.{IfOk};
 ghost use Rattle.clap.specs.Words.{App, new_app, with_subcommand};
-ghost use Rattle.clock_words.specs.Words.{files_grammar, grammar, needed_rule, number_rule, option_rule, prices_grammar, program_only_grammar, serve_grammar};
+ghost use Rattle.clock_words.specs.Words.{files_grammar, grammar, needed_rule, number_rule};
+ghost use Rattle.clock_words.specs.Words.{option_rule, prices_grammar, program_only_grammar};
+ghost use Rattle.clock_words.specs.Words.{serve_grammar};
 ghost use Rattle.clock_words.specs.inside.Commands.{IsCommand, IsOption};
 
 use crate::help::{
@@ -59,8 +61,8 @@ fn with_command<'a>(
     program: Result<Command<'a>, AllocError>,
     command: Result<Command<'a>, AllocError>,
 ) -> Result<Command<'a>, AllocError>
-    ensures { (app below : App) → IfOk program.entry (IsCommand app) → IfOk command.entry (IsCommand below)
-        → IfOk result (IsCommand (with_subcommand app below.top)) }
+    ensures { (app below : App) → IfOk program.entry (IsCommand app) → IfOk command.entry
+        (IsCommand below) → IfOk result (IsCommand (with_subcommand app below.top)) }
 {
     program?.subcommand(command?)
 }

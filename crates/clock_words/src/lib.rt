@@ -5,4 +5,4 @@ mod commands;
 mod help;
 mod words;
 
-pub use words::{Asked, NamedFiles, Job, Serving, read_words};
+pub use words::{Asked, Job, NamedFiles, Serving, read_words};

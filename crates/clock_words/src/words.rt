@@ -2,7 +2,9 @@
 ghost use Rattle.std.specs.Prelude.{◌≡◌, ◌≢◌, None, map, option_map, IfSome, IfOk, IfErr};
 ghost use Rattle.clock_terms.specs.Limits.{IsWithin};
 ghost use Rattle.clap.specs.Words.{first_of, found_of, kind_of, rows_of, subcommand_rows_of};
-ghost use Rattle.clock_words.specs.Words.{IsAsked, asked_by, asked_met, asked_fields, files_from, files_fields, given, number_of, serving_from, serving_fields};
+ghost use Rattle.clock_words.specs.Words.{IsAsked, asked_by, asked_met, asked_fields, files_from};
+ghost use Rattle.clock_words.specs.Words.{files_fields, given, number_of, serving_from};
+ghost use Rattle.clock_words.specs.Words.{serving_fields};
 
 use crate::commands::{MOST_PORT, MOST_SERVED, program};
 use clap::error::ErrorKind;
@@ -84,7 +86,8 @@ fn words_given<'a>(words: &'a [&'a str]) -> &'a [&'a str]
 
 /// Returns the text that an option has.
 fn text_in<'a>(options: &ArgMatches<'a>, name: &str) -> Option<&'a str>
-    ensures { option_map (λ text. text.now) result ≡ first_of name.now (rows_of (found_of options.now)) }
+    ensures { option_map (λ text. text.now) result
+        ≡ first_of name.now (rows_of (found_of options.now)) }
 {
     options.get_str(name)
 }
@@ -137,7 +140,8 @@ fn asked_in<'a>(matches: &ArgMatches<'a>) -> Option<Asked<'a>>
 /// returns `None` or an error. The error's text says what is wrong with them, or is the help or the
 /// version that they ask for. An error of the kind `OutOfMemory` replaces any other result.
 pub fn read_words<'a>(alloc: Global, words: &'a [&'a str]) -> Result<Option<Asked<'a>>, Error>
-    ensures ok { IfOk result (λ asked. option_map asked_fields asked ≡ asked_by (map (λ word. word.now) words.entry.now)) }
+    ensures ok { IfOk result (λ asked. option_map asked_fields asked
+        ≡ asked_by (map (λ word. word.now) words.entry.now)) }
     ensures limits { IfOk result (λ asked. IfSome asked IsAsked) }
     ensures err { IfErr result (λ error. kind_of error ≢ ErrorKind.OutOfMemory
         → asked_by (map (λ word. word.now) words.entry.now) ≡ None) }

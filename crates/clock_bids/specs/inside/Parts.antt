@@ -8,7 +8,8 @@
 --     changes_of_chain bidder product prices held chain      the requests of the bids for one
 --         product
 --     drop_to_zero bidder product prices held      the request for a product without a bid
-use Rattle.std.specs.Prelude.{ℕ, ◌+◌, ◌-◌, not, ◌==◌, map, filter, List, [], ◌∷◌, Bool, nat_lt, nat_le, if◌then◌else◌, length, take}
+use Rattle.std.specs.Prelude.{ℕ, ◌+◌, ◌-◌, not, ◌==◌, map, filter, List, [], ◌∷◌, Bool, nat_lt}
+use Rattle.std.specs.Prelude.{nat_le, if◌then◌else◌, length, take}
 use Rattle.std.specs.List.{list_all}
 use Rattle.clock_terms.specs.declared.change.Change.{Change}
 use Rattle.clock_terms.specs.declared.prices.PricePair.{PricePair}
@@ -22,7 +23,8 @@ use Rattle.clock_bids.specs.Sheet.{bid_checks}
 use Rattle.clock_bids.specs.Changes.{change_to, links_from}
 
 -- the checks of all bids, in the order of the bids
-abbrev pub checks_of_bids : List Product → List PricePair → List ℕ → List Bid → List (BidFault × Bool)
+abbrev pub checks_of_bids : List Product → List PricePair → List ℕ → List Bid
+    → List (BidFault × Bool)
 checks_of_bids products prices demands bids =
     in_turn (λ i bid. bid_checks products prices demands (take i bids) i bid) 0 bids
 
@@ -32,7 +34,8 @@ is_for_product products bid = nat_lt bid.product (length products)
 
 -- the price is from the start-of-round price to the clock price
 abbrev pub is_in_prices : List PricePair → Bid → Bool
-is_in_prices prices bid = is_within (prices_at prices bid.product).start (prices_at prices bid.product).clock bid.price
+is_in_prices prices bid =
+    is_within (prices_at prices bid.product).start (prices_at prices bid.product).clock bid.price
 
 -- the quantity is at most the cap
 abbrev pub is_within_cap : List Product → Bid → Bool
@@ -54,6 +57,6 @@ drop_to_zero bidder product prices held =
 -- the requests of a chain: each bid's difference from the one before, the first one's from the
 -- processed demand
 abbrev pub changes_of_chain : ℕ → ℕ → PricePair → ℕ → List Bid → List Change
-changes_of_chain bidder product prices held chain =
-    map (λ link. change_to bidder product prices link.place link.before link.bid.quantity link.bid.price)
+changes_of_chain bidder product prices held chain = map (λ link.
+    change_to bidder product prices link.place link.before link.bid.quantity link.bid.price)
     (filter (λ link. not (link.before == link.bid.quantity)) (links_from 0 held chain))

@@ -21,7 +21,8 @@ use Rattle.clock_posting.specs.declared.posting.PostFault.TheVariants as post_fa
 use Rattle.clock_posting.specs.Posting.{IsPosting, IsConsistent, post_fault, price_limit_fault}
 use Rattle.clock_closing.specs.declared.fault.CloseFault.TheVariants as close_faults
 use Rattle.clock_closing.specs.Faults.{fault_check}
-use Rattle.clock_closing.specs.Closing.{ClosedRound, RoundResult, requests_by, first_result, round_result, closed_round}
+use Rattle.clock_closing.specs.Closing.{ClosedRound, RoundResult, requests_by, first_result}
+use Rattle.clock_closing.specs.Closing.{round_result, closed_round}
 use Rattle.clock_closing.specs.Results.{AreConsistent}
 
 -- The list has all bidders' requests, in any order.
@@ -30,20 +31,21 @@ AreRequests now list = IsPermutation (flat_map (requests_by now) (bidder_numbers
 
 -- The round that these demands and posted prices give, or the first product whose next clock price
 -- would be too high.
-abbrev pub posted : PublicSetup → OpenRound → Increments → RoundResult → Result ClosedRound CloseFault
-posted setup now increments result =
-    unless (first_fault (fault_check close_faults.PriceLimit (price_limit_fault setup.products result.grid result.posted increments)))
+abbrev pub posted : PublicSetup → OpenRound → Increments → RoundResult
+    → Result ClosedRound CloseFault
+posted setup now increments result = unless (first_fault (fault_check close_faults.PriceLimit
+    (price_limit_fault setup.products result.grid result.posted increments)))
     (closed_round setup now increments result)
 
 -- That for round 1.
 abbrev pub first_posted : OpenRoundFields → Increments → Result ClosedRound CloseFault
-first_posted round increments =
-    posted (public_setup round.setup) round.before increments (first_result round.setup.products round.before)
+first_posted round increments = posted (public_setup round.setup) round.before increments
+    (first_result round.setup.products round.before)
 
 -- That for the current round.
 abbrev pub posted_now : OpenRoundFields → Increments → List Tie → Result ClosedRound CloseFault
-posted_now round increments ties =
-    posted (public_setup round.setup) round.before increments (round_result round.setup.products round.before ties)
+posted_now round increments ties = posted (public_setup round.setup) round.before increments
+    (round_result round.setup.products round.before ties)
 
 -- The closing is accepted, adds this round, and the parts of its results agree.
 pub record AreResults (closing : Result ClosedRound CloseFault) (results : Results) : Type 0 where
@@ -52,19 +54,22 @@ pub record AreResults (closing : Result ClosedRound CloseFault) (results : Resul
 
 -- The result is that of the closing: its results, its first fault, or out of memory.
 abbrev pub ComesTo : Result ClosedRound CloseFault → Result Results CloseFault → Type 0
-ComesTo closing result = MatchResult result (AreResults closing) (IsRefusal close_faults.NoMemory closing)
+ComesTo closing result =
+    MatchResult result (AreResults closing) (IsRefusal close_faults.NoMemory closing)
 
 -- The result is the posting of these demands and prices, the first product whose next clock price
 -- would be too high, or out of memory.
 abbrev pub Posts : OpenRoundFields → Increments → RoundResult → Result Posting PostFault → Type 0
 Posts round increments result posting = MatchResult posting
-    (λ one. IsPosting round.before.standing.round round.setup.products round.before.standing.prices result.grid result.posted increments one
-    × IsConsistent one)
-    (IsFirstFault post_faults.NoMemory (post_fault (price_limit_fault round.setup.products result.grid result.posted increments)))
+    (λ one. IsPosting round.before.standing.round round.setup.products round.before.standing.prices
+    result.grid result.posted increments one × IsConsistent one) (IsFirstFault post_faults.NoMemory
+    (post_fault (price_limit_fault round.setup.products result.grid result.posted increments)))
 
 -- Whatever increments and prices a posting of these demands used, the results are the round that
 -- they give.
-abbrev pub IsRoundOf : OpenRoundFields → List (List ℕ) → Result Posting PostFault → Result Results CloseFault → Type 0
-IsRoundOf round demands posting results = (increments : Increments) (list : List ℕ) →
-    Posts round increments (record { grid = demands; posted = list }) posting →
-    ComesTo (posted (public_setup round.setup) round.before increments (record { grid = demands; posted = list })) results
+abbrev pub IsRoundOf : OpenRoundFields → List (List ℕ) → Result Posting PostFault
+    → Result Results CloseFault → Type 0
+IsRoundOf round demands posting results = (increments : Increments) (list : List ℕ)
+    → Posts round increments (record { grid = demands; posted = list }) posting
+    → ComesTo (posted (public_setup round.setup) round.before increments
+    (record { grid = demands; posted = list })) results

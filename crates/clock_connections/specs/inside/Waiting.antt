@@ -7,4 +7,5 @@ use Rattle.clock_connections.specs.Connections.{ConnectionFields, text_of}
 
 -- the text of each open connection needs more
 abbrev pub AllNeedMore : ConnectionFields → Type 0
-AllNeedMore connections = (conn : Conn) (text : List ℕ) → text_of connections conn ≡ Some text → needs_more text ≡ true
+AllNeedMore connections =
+    (conn : Conn) (text : List ℕ) → text_of connections conn ≡ Some text → needs_more text ≡ true

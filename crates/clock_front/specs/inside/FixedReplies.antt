@@ -5,7 +5,8 @@ use Rattle.std.specs.Prelude.{Bool, true, false}
 use Rattle.clock_views.specs.Refusals.{bare}
 use Rattle.clock_http.specs.Replies.{Answer}
 use Rattle.clock_http.specs.declared.code.Code.{Code}
-use Rattle.clock_http.specs.declared.code.Code.TheVariants.{BadHead, BadLength, LongBody, LongHead, Coding, Memory}
+use Rattle.clock_http.specs.declared.code.Code.TheVariants.{BadHead, BadLength, LongBody, LongHead}
+use Rattle.clock_http.specs.declared.code.Code.TheVariants.{Coding, Memory}
 use Rattle.clock_front.specs.Outcomes.{refused, answer_of}
 
 -- The reply that refuses a request with only a code, and no details.

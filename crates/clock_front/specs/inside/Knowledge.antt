@@ -18,7 +18,8 @@ use Rattle.clock_views.specs.BidderPages.{account_value, bids_value, slip_value}
 use Rattle.clock_http.specs.Decimals.{plain_number}
 use Rattle.clock_front.specs.Requests.{Ask}
 use Rattle.clock_front.specs.Requests as asked
-use Rattle.clock_front.specs.Outcomes.{Outcome, done, refused, not_allowed, body_code, page_or_no_round, put_outcome}
+use Rattle.clock_front.specs.Outcomes.{Outcome, done, refused, not_allowed, body_code}
+use Rattle.clock_front.specs.Outcomes.{page_or_no_round, put_outcome}
 
 -- What a bidder knows: the state of the auction, its eligibility and processed demands, its sheet
 -- in force, and of each closed round the round results and its bidder results.
@@ -46,12 +47,13 @@ known_round known segment = option_and_then known.rounds (plain_number segment)
 unfoldable pub known_outcome : PublicSetup → Bidder → Knowledge → Ask → Outcome
 known_outcome setup row known (asked.turned_away why) = refused (bare why)
 known_outcome setup row known (asked.no_method page) = not_allowed page
-known_outcome setup row known asked.status = done (status_value setup known.standing.round known.standing.ended)
+known_outcome setup row known asked.status =
+    done (status_value setup known.standing.round known.standing.ended)
 known_outcome setup row known asked.products = done (products_value setup)
 known_outcome setup row known (asked.sheet segment) =
     page_or_no_round (option_map (λ seen. sheet_value setup seen.0) (known_round known segment))
-known_outcome setup row known asked.account =
-    done (account_value setup.products row.name known.standing.round known.holding known.standing.ended)
+known_outcome setup row known asked.account = done
+    (account_value setup.products row.name known.standing.round known.holding known.standing.ended)
 known_outcome setup row known asked.bids = done (bids_value known.standing.round known.in_force)
 known_outcome setup row known (asked.put (Err fault)) = refused (bare (body_code fault))
 known_outcome setup row known (asked.put (Ok body)) =

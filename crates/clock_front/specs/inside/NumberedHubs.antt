@@ -7,7 +7,8 @@ use Rattle.clock_front.specs.declared.runs.EventReply.{EventReply}
 
 -- If an event completes a request, it is answered, and the reply has the number of its connection.
 -- Otherwise there is no reply, and the house is unchanged.
-abbrev pub HasCompleted : Option (ℕ × List ℕ) → HouseFields → HouseFields → Option EventReply → Type 0
+abbrev pub HasCompleted : Option (ℕ × List ℕ) → HouseFields → HouseFields
+    → Option EventReply → Type 0
 HasCompleted None old new None = new ≡ old
 HasCompleted None old new (Some one) = ⊥
 HasCompleted (Some request) old new None = ⊥

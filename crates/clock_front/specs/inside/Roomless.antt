@@ -3,4 +3,5 @@ use Rattle.clock_house.specs.House.{HouseFields}
 
 -- The house with nothing allocated for further rounds. No reply depends on that.
 abbrev pub without_room : HouseFields → HouseFields
-without_room house = record { setup = house.setup; closed = house.closed; sheets = house.sheets; spare = 0 }
+without_room house =
+    record { setup = house.setup; closed = house.closed; sheets = house.sheets; spare = 0 }

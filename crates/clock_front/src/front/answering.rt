@@ -7,7 +7,8 @@ ghost use Rattle.clock_house.specs.House.{StandsForTheSame};
 ghost use Rattle.clock_views.specs.Refusals.{bare};
 ghost use Rattle.clock_bodies.specs.{Bodies.{put_body}, CloseBodies.{close_body, in_version}};
 ghost use Rattle.clock_front.specs.declared.front.callers.Caller.TheVariants as who;
-ghost use Rattle.clock_front.specs.{Effects.{IsRightFor}, Outcomes.{answer_of, body_code, outcome, refused}};
+ghost use Rattle.clock_front.specs.Effects.{IsRightFor};
+ghost use Rattle.clock_front.specs.Outcomes.{answer_of, body_code, outcome, refused};
 ghost use Rattle.clock_front.specs.Rooms.{NeedsRoom};
 ghost use Rattle.clock_front.specs.Requests as asked;
 ghost use Rattle.clock_front.specs.inside.{Callers.{IsKnown}, KeptPage.{IsProductsPage}};
@@ -51,7 +52,8 @@ fn put_sheet<P: Processor>(
     body: &[u8],
 ) -> Result<Response, NoMemory>
     requires { bidder < length house.old.setup.bidders }
-    ensures done { IfOk result (IsRightFor (who.Bidder bidder) (asked.put (put_body body.now)) house.old house.new) }
+    ensures done { IfOk result
+        (IsRightFor (who.Bidder bidder) (asked.put (put_body body.now)) house.old house.new) }
     ensures still { OnErr result (StandsForTheSame house.old house.new) }
 {
     let sheet = match read_put(alloc, body) {
@@ -76,7 +78,8 @@ fn put_sheet<P: Processor>(
 /// Reads the closing in a body, by the version of the set-up. In version 1 a closing has one
 /// increment for all products, in later versions one for each.
 fn closing_of(alloc: Global, setup: &Setup, body: &[u8]) -> Result<CloseBody, BodyFault>
-    ensures ok { IfOk result (λ closing. in_version setup.now.version (close_body body.now) ≡ Ok closing) }
+    ensures ok { IfOk result
+        (λ closing. in_version setup.now.version (close_body body.now) ≡ Ok closing) }
     ensures err { IfErr result (λ fault. fault ≢ BodyFault.NoMemory
         → in_version setup.now.version (close_body body.now) ≡ Err fault) }
 {
@@ -94,7 +97,8 @@ fn close_round<P: Processor>(
     house: &mut House<P>,
     body: &[u8],
 ) -> Result<Response, NoMemory>
-    ensures done { IfOk result (IsRightFor who.Operator (asked.close (close_body body.now)) house.old house.new) }
+    ensures done { IfOk result
+        (IsRightFor who.Operator (asked.close (close_body body.now)) house.old house.new) }
     ensures still { OnErr result (StandsForTheSame house.old house.new) }
 {
     let closing = match closing_of(alloc, house.setup(), body) {
@@ -131,11 +135,11 @@ pub(crate) fn answer_request<P: Processor>(
 ) -> Result<Response, AnswerError>
     requires page { IsProductsPage house.old.setup kept.now.products }
     requires known { IsKnown (length house.old.setup.bidders) caller }
-    ensures done { IfOk result (IsRightFor caller (asked.ask_by_route (page_of head.now.path.now) (shown_head head.now)
-        body.now) house.old house.new) }
-    ensures wanted { IfErr result (NeedsRoom caller (asked.ask_by_route (page_of head.now.path.now) (shown_head head.now)
-        body.now) (outcome house.old caller (asked.ask_by_route (page_of head.now.path.now) (shown_head head.now)
-        body.now))) }
+    ensures done { IfOk result (IsRightFor caller (asked.ask_by_route (page_of head.now.path.now)
+        (shown_head head.now) body.now) house.old house.new) }
+    ensures wanted { IfErr result (NeedsRoom caller (asked.ask_by_route (page_of head.now.path.now)
+        (shown_head head.now) body.now) (outcome house.old caller
+        (asked.ask_by_route (page_of head.now.path.now) (shown_head head.now) body.now))) }
     ensures still { OnErr result (StandsForTheSame house.old house.new) }
 {
     let Some(page) = kept.routes.page_of(head.path) else {

@@ -2,7 +2,8 @@
 ghost use Rattle.std.specs.Prelude.{◌≡◌, ℕ, List, length, IfOk, OnOk, if◌then◌else◌};
 ghost use Rattle.clock_terms.specs.Limits.{SetupFields};
 ghost use Rattle.clock_http.specs.{Shown.{shown_bytes}, Heads.{same_bytes}};
-ghost use Rattle.clock_front.specs.{Callers.{caller as caller_with}, inside.Callers.{IsKnown}, inside.HeldTokens.{found, IsTableOf}};
+ghost use Rattle.clock_front.specs.{Callers.{caller as caller_with}, inside.Callers.{IsKnown}};
+ghost use Rattle.clock_front.specs.inside.HeldTokens.{found, IsTableOf};
 
 use clock_device::NoMemory;
 use clock_terms::Setup;
@@ -57,7 +58,8 @@ pub(crate) fn tokens_of(alloc: Global, setup: &Setup) -> Result<Tokens, NoMemory
 pub(crate) fn caller_of(tokens: &Tokens, token: Option<&[u8]>) -> Caller
     ensures shown { (setup : SetupFields) → IsTableOf setup tokens.now.entries → result
         ≡ caller_with setup (shown_bytes token.entry) }
-    ensures known { (setup : SetupFields) → IsTableOf setup tokens.now.entries → IsKnown (length setup.bidders) result }
+    ensures known { (setup : SetupFields) → IsTableOf setup tokens.now.entries
+        → IsKnown (length setup.bidders) result }
 {
     match token {
         Some(token) => tokens.get(token).copied().unwrap_or(Caller::Nobody),

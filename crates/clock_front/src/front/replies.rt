@@ -6,8 +6,10 @@ ghost use Rattle.clock_terms.specs.Limits.{SetupFields, public_setup};
 ghost use Rattle.clock_views.specs.{PublicPages.{products_value}, RefusalPage.{refusal_value}};
 ghost use Rattle.clock_front.specs.declared.front.callers.Caller.TheVariants as who;
 ghost use Rattle.clock_front.specs.declared.front.replies.AnswerError.TheVariants as unanswered;
-ghost use Rattle.clock_front.specs.{FixedReplies.{no_memory}, Outcomes.{answer_of, done, with_page}, Rooms.{refusal_room}};
-ghost use Rattle.clock_front.specs.inside.{FixedReplies.{is_fixed, refusal_of}, KeptPage.{IsProductsPage}};
+ghost use Rattle.clock_front.specs.FixedReplies.{no_memory};
+ghost use Rattle.clock_front.specs.{Outcomes.{answer_of, done, with_page}, Rooms.{refusal_room}};
+ghost use Rattle.clock_front.specs.inside.FixedReplies.{is_fixed, refusal_of};
+ghost use Rattle.clock_front.specs.inside.KeptPage.{IsProductsPage};
 ghost use Rattle.clock_front.specs.inside.Replies.{IsPageIn, IsReplyOrFailure};
 ghost use Rattle.clock_front.specs.Requests as asked;
 

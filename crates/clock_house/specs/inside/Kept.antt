@@ -1,5 +1,6 @@
 -- What a house stores in addition to what contracts see of it.
---     AgreesWithRounds house ended round prices eligibilities demands      it agrees with the closed rounds
+--     AgreesWithRounds house ended round prices eligibilities demands      it agrees with
+--         the closed rounds
 use Rattle.std.specs.Prelude.{◌≡◌, ℕ, List, Bool, false}
 use Rattle.clock_terms.specs.declared.prices.PricePair.{PricePair}
 use Rattle.clock_terms.specs.Limits.{IsSetup}
@@ -10,7 +11,8 @@ use Rattle.clock_house.specs.inside.OpenRounds.{open_round_in}
 
 -- The house stands for some list of commands. What it stores for quick reading is what its closed
 -- rounds say. After the end, the stored prices mean nothing.
-pub record AgreesWithRounds (house : HouseFields) (ended : Bool) (round : ℕ) (prices : List PricePair) (eligibilities : List ℕ) (demands : List (List ℕ)) : Type 0 where
+pub record AgreesWithRounds (house : HouseFields) (ended : Bool) (round : ℕ)
+    (prices : List PricePair) (eligibilities : List ℕ) (demands : List (List ℕ)) : Type 0 where
   pub limits : IsSetup house.setup
   pub commands : List Command
   pub stands : StandsFor commands house

@@ -7,7 +7,8 @@ use Rattle.clock_terms.specs.Limits.{SetupFields}
 use Rattle.clock_closing.specs.declared.closed_round.Slip.{Slip}
 use Rattle.clock_closing.specs.OpenRound.{OpenRound}
 use Rattle.clock_closing.specs.Results.{demands_of}
-use Rattle.clock_house.specs.History.{ClosedRound, Auction, for_each_bidder, sheet_in_force, round_to_close}
+use Rattle.clock_house.specs.History.{ClosedRound, Auction, for_each_bidder, sheet_in_force}
+use Rattle.clock_house.specs.History.{round_to_close}
 use Rattle.clock_house.specs.House.{HouseFields}
 
 -- The bidder results for a number that is no bidder's.
@@ -16,7 +17,8 @@ no_slip = record { round = 0; activity = 0; eligibility = 0; demands = [] }
 
 -- The input of the next closing of an auction.
 abbrev pub open_round : SetupFields → Auction → OpenRound
-open_round setup auction = round_to_close setup auction.closed (for_each_bidder setup (sheet_in_force setup auction))
+open_round setup auction =
+    round_to_close setup auction.closed (for_each_bidder setup (sheet_in_force setup auction))
 
 -- The input of the next closing of a house.
 abbrev pub open_round_in : HouseFields → OpenRound

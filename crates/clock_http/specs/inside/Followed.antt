@@ -15,7 +15,8 @@ pub record Waits (text : List ℕ) (progress : Progress) : Type 0 where
 
 -- each text of fewer than `limit` bytes that begins with this one waits with this progress
 abbrev pub WaitsBelow : ℕ → List ℕ → Progress → Type 0
-WaitsBelow limit text progress = (more : List ℕ) → length (text ++ more) < limit → Waits (text ++ more) progress
+WaitsBelow limit text progress =
+    (more : List ℕ) → length (text ++ more) < limit → Waits (text ++ more) progress
 
 -- The first `count` bytes of the buffer are the text, and the progress is what is known of it. A
 -- text of fewer than `quiet` bytes that begins with it fits in the buffer, and waits with this

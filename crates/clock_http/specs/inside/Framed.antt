@@ -1,7 +1,8 @@
 -- The framing of a text by what is known of it.
 --     framed known text      what the text is
 use Rattle.std.specs.Prelude.{List, ℕ, take, drop}
-use Rattle.clock_http.specs.Framing.{Known, unended, waiting, complete, refused, Framing, incomplete, refusal, whole}
+use Rattle.clock_http.specs.Framing.{Known, unended, waiting, complete, refused, Framing}
+use Rattle.clock_http.specs.Framing.{incomplete, refusal, whole}
 
 -- what a text is, if this is known of it
 abbrev pub framed : Known → List ℕ → Framing

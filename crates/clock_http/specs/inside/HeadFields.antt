@@ -20,7 +20,8 @@ Pairs = List (List ℕ × List ℕ)
 -- the count is the number of lines with this name; if there is one, the span covers its value
 pub record AreLinesOf (text name : List ℕ) (pairs : Pairs) (lines : HeaderLines) : Type 0 where
   pub count : lines.count ≡ length (values_of name pairs)
-  pub only : (value : List ℕ) → values_of name pairs ≡ value ∷ [] → span_bytes text lines.value ≡ value
+  pub only : (value : List ℕ) → values_of name pairs ≡ value ∷ []
+      → span_bytes text lines.value ≡ value
   pub within : IsWithin (length text) lines.value
 
 -- the lines of each name are counted

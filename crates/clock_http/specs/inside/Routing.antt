@@ -9,7 +9,8 @@ use Rattle.matchit.specs.Route.{Scan, parse_route}
 use Rattle.matchit.specs.Seek.{first}
 use Rattle.matchit.specs.declared.error.InsertError.{InsertError}
 use Rattle.clock_http.specs.declared.routes.Page.{Page}
-use Rattle.clock_http.specs.declared.routes.Page.TheVariants.{Status, Products, Sheet, Account, Bids, Slip, Close, Results}
+use Rattle.clock_http.specs.declared.routes.Page.TheVariants.{Status, Products, Sheet, Account}
+use Rattle.clock_http.specs.declared.routes.Page.TheVariants.{Bids, Slip, Close, Results}
 
 abbrev pub Table : Type 0
 Table = RowsOf (RouteOf Page)

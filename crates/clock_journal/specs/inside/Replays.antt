@@ -10,7 +10,8 @@ use Rattle.clock_journal.specs.Reading.{Reads, Ends}
 use Rattle.clock_journal.specs.declared.recovery.Recovered.{Recovered}
 
 -- the bytes read as texts, and the machine stands for what it stood for, and then these texts
-pub record IsReplayed (old new : List Entry → Type 0) (first bytes : List ℕ) (size : ℕ) (recovered : Recovered) : Type 0 where
+pub record IsReplayed (old new : List Entry → Type 0) (first bytes : List ℕ) (size : ℕ)
+    (recovered : Recovered) : Type 0 where
   pub texts : List (List ℕ)
   pub rest : List ℕ
   pub reads : Reads first bytes texts rest
@@ -21,7 +22,8 @@ pub record IsReplayed (old new : List Entry → Type 0) (first bytes : List ℕ)
   pub stands : (past : List Entry) → old past → new (entries_onto first [] texts past)
 
 -- in the loop: `count` texts were taken, and `rest` is left
-pub record IsOnWay (old new : List Entry → Type 0) (first bytes chain : List ℕ) (count : ℕ) (rest : List ℕ) : Type 0 where
+pub record IsOnWay (old new : List Entry → Type 0) (first bytes chain : List ℕ) (count : ℕ)
+    (rest : List ℕ) : Type 0 where
   pub texts : List (List ℕ)
   pub reads : Reads first bytes texts rest
   pub chain_is : chain ≡ last_link first texts

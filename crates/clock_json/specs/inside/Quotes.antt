@@ -1,5 +1,6 @@
 -- A word between two quotes.
---     IsQuoted bytes at last word      the word follows the quote at one index, and the quote at another follows the word
+--     IsQuoted bytes at last word      the word follows the quote at one index, and the quote at
+--         another follows the word
 use Rattle.std.specs.Prelude.{◌≡◌, ◌<◌, ◌+◌, ℕ, List, get_or, length, slice_range}
 
 -- a quote is the byte 34

@@ -19,4 +19,5 @@ is_new earlier tie = not (list_any (is_tie_of tie.bidder tie.product) earlier)
 
 -- the checks of all entries, in the order of the list
 abbrev pub checks_of_ties : ℕ → ℕ → List Tie → List (TieFault × Bool)
-checks_of_ties bidders products ties = in_turn (λ i tie. tie_checks bidders products (take i ties) i tie) 0 ties
+checks_of_ties bidders products ties =
+    in_turn (λ i tie. tie_checks bidders products (take i ties) i tie) 0 ties

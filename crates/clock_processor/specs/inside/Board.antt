@@ -8,12 +8,15 @@ use Rattle.clock_terms.specs.Eligibility.{activity}
 use Rattle.clock_processor.specs.Board.{IsBoard}
 
 -- For each bidder, the stored number plus its activity is its eligibility, which fits in 64 bits.
-pub record KeepsUnused (products : List Product) (eligibilities : List ℕ) (grid : List (List ℕ)) (unused : List ℕ) : Type 0 where
+pub record KeepsUnused (products : List Product) (eligibilities : List ℕ) (grid : List (List ℕ))
+    (unused : List ℕ) : Type 0 where
   pub fits : EachIndex eligibilities (λ bidder. slice_index eligibilities bidder < 2 ^ 64)
   pub bidders : length unused ≡ length eligibilities
-  pub sums : EachIndex eligibilities (λ bidder. slice_index unused bidder + activity products (row_of grid bidder) ≡ slice_index eligibilities bidder)
+  pub sums : EachIndex eligibilities (λ bidder. slice_index unused bidder
+      + activity products (row_of grid bidder) ≡ slice_index eligibilities bidder)
 
 -- a board, and the unused eligibility that it stores
-pub record IsKeptBoard (products : List Product) (eligibilities : List ℕ) (grid : List (List ℕ)) (unused : List ℕ) : Type 0 where
+pub record IsKeptBoard (products : List Product) (eligibilities : List ℕ) (grid : List (List ℕ))
+    (unused : List ℕ) : Type 0 where
   pub is_board : IsBoard products eligibilities grid
   pub keeps_unused : KeepsUnused products eligibilities grid unused

@@ -12,11 +12,13 @@ spent = 2 ^ 32 - 1
 
 -- each cost from index `from` up to `to` is at least `least`
 abbrev pub AreFrom : ℕ → List ℕ → ℕ → ℕ → Type 0
-AreFrom least costs from to = (place : ℕ) → from ≤ place → place < to → place < length costs → least ≤ slice_index costs place
+AreFrom least costs from to =
+    (place : ℕ) → from ≤ place → place < to → place < length costs → least ≤ slice_index costs place
 
 -- each cost from index `from` up to `to` is above the limit
 abbrev pub AreAbove : ℕ → List ℕ → ℕ → ℕ → Type 0
-AreAbove limit costs from to = (place : ℕ) → from ≤ place → place < to → place < length costs → limit < slice_index costs place
+AreAbove limit costs from to =
+    (place : ℕ) → from ≤ place → place < to → place < length costs → limit < slice_index costs place
 
 -- the cost at the index is within the limit, and none before it is
 pub record IsFirstWithin (costs : List ℕ) (limit : ℕ) (place : ℕ) : Type 0 where
@@ -29,6 +31,7 @@ pub record IsFirstWithin (costs : List ℕ) (limit : ℕ) (place : ℕ) : Type 0
 pub record HasBounds (costs bounds : List ℕ) (passed : ℕ) : Type 0 where
   pub covered : length costs ≤ 64 * length bounds
   pub no_more : 64 * length bounds ≤ length costs + 64
-  pub below : (block : ℕ) → block < length bounds → AreFrom (slice_index bounds block) costs (64 * block) (64 * block + 64)
+  pub below : (block : ℕ) → block < length bounds
+      → AreFrom (slice_index bounds block) costs (64 * block) (64 * block + 64)
   pub passed_within : passed ≤ length bounds
   pub passed_spent : AreFrom spent costs 0 (64 * passed)

@@ -9,7 +9,8 @@
 --     IsFirstWaiting left line limit place      the first request within the limit has blocks left
 --     lines_of index lines      all lines: those that were made, and empty ones
 --     IsIndex index count      each line has no position, or one of its own below `count`
-use Rattle.std.specs.Prelude.{◌≡◌, ℕ, ◌+◌, ◌*◌, ◌-◌, ◌^◌, ◌<◌, ◌⊎◌, List, [], ◌∷◌, ◌++◌, length, map, slice_index, slice_index_or}
+use Rattle.std.specs.Prelude.{◌≡◌, ℕ, ◌+◌, ◌*◌, ◌-◌, ◌^◌, ◌<◌, ◌⊎◌, List, [], ◌∷◌, ◌++◌, length}
+use Rattle.std.specs.Prelude.{map, slice_index, slice_index_or}
 use Rattle.clock_terms.specs.declared.setup.Product.{Product}
 use Rattle.clock_terms.specs.Limits.{units_of}
 use Rattle.clock_terms.specs.declared.change.Change.{Change}
@@ -59,14 +60,16 @@ empty_line = record { places = []; costs = [] }
 
 -- the line with a request appended
 abbrev pub with_waiting : LineFields → ℕ → ℕ → LineFields
-with_waiting line place cost = record { places = line.places ++ place ∷ []; costs = line.costs ++ cost ∷ [] }
+with_waiting line place cost =
+    record { places = line.places ++ place ∷ []; costs = line.costs ++ cost ∷ [] }
 
 -- The requests in the line are unchanged, and only costs of requests with nothing left have
 -- changed.
 pub record IsSpent (left : List ℕ) (old new : LineFields) : Type 0 where
   pub places : new.places ≡ old.places
   pub costs : length new.costs ≡ length old.costs
-  pub spent : (at : ℕ) → at < length old.places → (slice_index new.costs at ≡ slice_index old.costs at) ⊎ (slice_index left (slice_index old.places at) ≡ 0)
+  pub spent : (at : ℕ) → at < length old.places → (slice_index new.costs at
+      ≡ slice_index old.costs at) ⊎ (slice_index left (slice_index old.places at) ≡ 0)
 
 -- the first request of the line within the limit has this index, and blocks of it are left
 pub record IsFirstWaiting (left : List ℕ) (line : LineFields) (limit : ℕ) (place : ℕ) : Type 0 where
@@ -85,6 +88,7 @@ lines_of index lines = map (λ at. slice_index_or lines at empty_line) index
 
 -- each line has no position, or a position that no other line has
 pub record IsIndex (index : List ℕ) (count : ℕ) : Type 0 where
-  pub positions : (line : ℕ) → line < length index → (slice_index index line < count) ⊎ (slice_index index line ≡ nowhere)
-  pub own : (one other : ℕ) → one < length index → other < length index → slice_index index one < count →
-      slice_index index one ≡ slice_index index other → one ≡ other
+  pub positions : (line : ℕ) → line < length index
+      → (slice_index index line < count) ⊎ (slice_index index line ≡ nowhere)
+  pub own : (one other : ℕ) → one < length index → other < length index → slice_index index one
+      < count → slice_index index one ≡ slice_index index other → one ≡ other

@@ -17,7 +17,8 @@
 --     GoesOn changes old new      the invariants hold again, and bid processing by definition gets
 --         from one state to the other
 --     work queue      a number that falls with each test
-use Rattle.std.specs.Prelude.{◌≡◌, ℕ, ◌+◌, ◌*◌, ◌<◌, ◌≤◌, ◌⊎◌, List, length, sum, All, slice_index, slice_index_or, slice_set}
+use Rattle.std.specs.Prelude.{◌≡◌, ℕ, ◌+◌, ◌*◌, ◌<◌, ◌≤◌, ◌⊎◌, List, length, sum, All, slice_index}
+use Rattle.std.specs.Prelude.{slice_index_or, slice_set}
 use Rattle.std.specs.List.{Contains}
 use Rattle.clock_terms.specs.declared.setup.Product.{Product}
 use Rattle.clock_terms.specs.declared.change.Change.{Change}
@@ -26,7 +27,8 @@ use Rattle.clock_processor.specs.Board.{tested}
 use Rattle.clock_processor.specs.Settling.{Progress, Reaches, no_change, room_at, with_application}
 use Rattle.clock_processor.specs.inside.UnderWay.{IsUnderWay, progress_of}
 use Rattle.clock_queue.specs.declared.queue.Queue.{Queue}
-use Rattle.clock_queue.specs.inside.Lines.{line_of, cost_of, product_line, HasLines, LineFields, empty_line, IsSpent, IsFirstWaiting}
+use Rattle.clock_queue.specs.inside.Lines.{line_of, cost_of, product_line, HasLines, LineFields}
+use Rattle.clock_queue.specs.inside.Lines.{empty_line, IsSpent, IsFirstWaiting}
 use Rattle.clock_queue.specs.inside.Ready.{IsAdded}
 use Rattle.clock_queue.specs.Bound.{most_woken}
 
@@ -73,7 +75,8 @@ pub record IsPassedOver (change : Change) (rest : ℕ) (old new : Queue) : Type 
 
 -- the first request that waits for the product was made ready, if there is one and it can have room
 abbrev pub HasWokenProduct : Change → ℕ → Queue → Queue → Type 0
-HasWokenProduct change rest old new = HasWoken (product_line change.product) 0 old new ⊎ IsPassedOver change rest old new
+HasWokenProduct change rest old new =
+    HasWoken (product_line change.product) 0 old new ⊎ IsPassedOver change rest old new
 
 -- An application takes at least one block and makes at most two requests ready; a test removes one
 -- ready request.
@@ -91,15 +94,18 @@ module _ (changes : List Change) where
 
   -- the room of the request with an index
   abbrev pub room_in : Queue → ℕ → ℕ
-  room_in queue place = room_at queue.board.products queue.board.eligibilities changes (progress queue) place
+  room_in queue place =
+      room_at queue.board.products queue.board.eligibilities changes (progress queue) place
 
   -- bid processing by the rescanned list gets from one state to the other
   abbrev pub LeadsTo : Queue → Queue → Type 0
-  LeadsTo old new = Reaches old.board.products old.board.eligibilities changes (progress old) (progress new)
+  LeadsTo old new =
+      Reaches old.board.products old.board.eligibilities changes (progress old) (progress new)
 
   -- the state after the request with an index is applied by its whole room
   abbrev pub progress_with : Queue → ℕ → Progress
-  progress_with queue place = with_application queue.board.products queue.board.eligibilities changes (progress queue) place
+  progress_with queue place =
+      with_application queue.board.products queue.board.eligibilities changes (progress queue) place
 
   -- an index in a line is that of an admitted request of this line
   pub record IsInLine (admitted line place : ℕ) : Type 0 where
@@ -108,16 +114,20 @@ module _ (changes : List Change) where
 
   -- The requests in a line are in the order of processing. Each has its cost, unless nothing of it
   -- is left.
-  pub record IsLine (products : List Product) (left : List ℕ) (admitted line : ℕ) (held : LineFields) : Type 0 where
+  pub record IsLine (products : List Product) (left : List ℕ) (admitted line : ℕ)
+      (held : LineFields) : Type 0 where
     pub lengths : length held.costs ≡ length held.places
-    pub members : (at : ℕ) → at < length held.places → IsInLine admitted line (slice_index held.places at)
-    pub ascending : (one other : ℕ) → one < other → other < length held.places → slice_index held.places one < slice_index held.places other
-    pub costs : (at : ℕ) → at < length held.places →
-        (slice_index left (slice_index held.places at) ≡ 0) ⊎ (slice_index held.costs at ≡ cost_at products (slice_index held.places at))
+    pub members : (at : ℕ) → at < length held.places
+        → IsInLine admitted line (slice_index held.places at)
+    pub ascending : (one other : ℕ) → one < other → other < length held.places
+        → slice_index held.places one < slice_index held.places other
+    pub costs : (at : ℕ) → at < length held.places → (slice_index left (slice_index held.places at)
+        ≡ 0) ⊎ (slice_index held.costs at ≡ cost_at products (slice_index held.places at))
 
   -- nothing is left of the request, or it is in its line
   abbrev pub IsWaiting : Queue → ℕ → Type 0
-  IsWaiting queue place = (slice_index queue.left place ≡ 0) ⊎ Contains (line_in queue (line_at place)).places place
+  IsWaiting queue place =
+      (slice_index queue.left place ≡ 0) ⊎ Contains (line_in queue (line_at place)).places place
 
   -- Bid processing is under way, ready requests are admitted, and each admitted request with blocks
   -- left is in its line.
@@ -125,7 +135,8 @@ module _ (changes : List Change) where
     pub under_way : IsUnderWay queue.board changes queue.left queue.admitted
     pub lines : All (HasLines (length queue.lines)) changes
     pub ready : All (λ place. place < queue.admitted) queue.ready
-    pub each : (line : ℕ) → IsLine queue.board.products queue.left queue.admitted line (line_in queue line)
+    pub each : (line : ℕ)
+        → IsLine queue.board.products queue.left queue.admitted line (line_in queue line)
     pub waiting : (place : ℕ) → place < queue.admitted → IsWaiting queue place
 
   -- a ready request of the line that is this one or an earlier one has room
@@ -139,18 +150,20 @@ module _ (changes : List Change) where
   -- If an admitted request has room, it or an earlier one of its line is ready and has room. So the
   -- first ready request with room is the first admitted request with room.
   abbrev pub IsTracking : Queue → List ℕ → Type 0
-  IsTracking queue ready = (place : ℕ) → place < queue.admitted → (room_in queue place ≡ 0) ⊎ IsBehind queue ready place
+  IsTracking queue ready =
+      (place : ℕ) → place < queue.admitted → (room_in queue place ≡ 0) ⊎ IsBehind queue ready place
 
   -- The tests so far and one for each ready request are at most one for each admitted request and
   -- most_woken for each application.
   abbrev pub StaysWithinTests : Queue → Type 0
-  StaysWithinTests queue = queue.board.tests + length queue.ready ≤ queue.admitted + queue.board.applied * most_woken changes
+  StaysWithinTests queue = queue.board.tests + length queue.ready ≤ queue.admitted
+      + queue.board.applied * most_woken changes
 
   -- Tests made and tests to be made grew by at most `more`, apart from those that the bound allows
   -- for the applications in between.
   abbrev pub CostsMore : ℕ → Queue → Queue → Type 0
-  CostsMore more old new = new.board.tests + length new.ready + old.board.applied * most_woken changes
-      ≤ more + old.board.tests + length old.ready + new.board.applied * most_woken changes
+  CostsMore more old new = new.board.tests + length new.ready + old.board.applied * most_woken
+      changes ≤ more + old.board.tests + length old.ready + new.board.applied * most_woken changes
 
   -- The invariants hold again, products and eligibilities are unchanged, and bid processing by the
   -- rescanned list gets from the old state to the new one, within the bound.

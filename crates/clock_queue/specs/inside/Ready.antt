@@ -16,7 +16,8 @@ places_of heap = map (λ (item : Reverse ℕ). item.0) heap
 -- the least index is at the top, and each marked index is in the heap
 pub record IsMarked (heap : List (Reverse ℕ)) (marks : List Bool) : Type 0 where
   pub in_order : IsHeap (λ (x y : Reverse ℕ). nat_cmp y.0 x.0) heap
-  pub marked : (place : ℕ) → slice_index_or marks place false ≡ true → Contains (places_of heap) place
+  pub marked : (place : ℕ) → slice_index_or marks place false ≡ true
+      → Contains (places_of heap) place
 
 -- the index is in the list, which is as before
 pub record WasThere (old : List ℕ) (place : ℕ) (new : List ℕ) : Type 0 where

@@ -12,11 +12,13 @@ use Rattle.clock_replays.specs.inside.EndedRows.{AreEnds}
 -- the products rise, are not below `from`, and are below a count
 unfoldable pub AreRising : ℕ → List ℕ → ℕ → Type 0
 AreRising from [] count = from ≤ count
-AreRising from (product ∷ products) count = (from ≤ product) × AreRising (product + 1) products count
+AreRising from (product ∷ products) count =
+    (from ≤ product) × AreRising (product + 1) products count
 
 -- the limits of packed rows
 abbrev pub kept_limits : LimitRows → List (List ℕ)
-kept_limits rows = limits_of rows.count rows.products.items (rows_from 0 rows.ends.items rows.prices.items)
+kept_limits rows =
+    limits_of rows.count rows.products.items (rows_from 0 rows.ends.items rows.prices.items)
 
 -- the rows end in order, and each product with limits has a row, by rising product
 abbrev pub AreKept : LimitRows → Type 0
@@ -27,4 +29,5 @@ AreKept rows =
 
 -- all products before this index are lower than `product`
 abbrev pub IsPlaceOf : List ℕ → ℕ → ℕ → Type 0
-IsPlaceOf products product place = (place ≤ length products) × AllWithin (λ other. other < product) products 0 place
+IsPlaceOf products product place =
+    (place ≤ length products) × AllWithin (λ other. other < product) products 0 place

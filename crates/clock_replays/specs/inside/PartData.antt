@@ -22,7 +22,8 @@ abbrev pub sheets_data : List (Option (List Bid)) → Data
 sheets_data sheets = array (items_of (map sheet_data sheets))
 
 -- a script's keys, each with a value or none
-abbrev pub script_fields : Option (List ℕ) → Option (List (List ℕ)) → Option (List (Option (List Bid))) → Fields
+abbrev pub script_fields : Option (List ℕ) → Option (List (List ℕ))
+    → Option (List (Option (List Bid))) → Fields
 script_fields kind limits sheets =
     (codes "kind", option_map string kind)
     ∷ (codes "limits", option_map rows limits)
@@ -31,12 +32,15 @@ script_fields kind limits sheets =
 
 -- a script's keys, each with what was found
 abbrev pub found_script : FoundScript → Fields
-found_script found = script_fields (option_map (λ kind. kind.now) found.kind) found.limits found.sheets
+found_script found =
+    script_fields (option_map (λ kind. kind.now) found.kind) found.limits found.sheets
 
 -- a script as a value
 abbrev pub script_data : Script → Data
-script_data (Literal sheets) = object (members_of (script_fields (Some (codes "literal")) None (Some sheets)))
-script_data (Sincere limits) = object (members_of (script_fields (Some (codes "sincere")) (Some limits) None))
+script_data (Literal sheets) =
+    object (members_of (script_fields (Some (codes "literal")) None (Some sheets)))
+script_data (Sincere limits) =
+    object (members_of (script_fields (Some (codes "sincere")) (Some limits) None))
 
 -- a closing as a value, without its round
 abbrev pub closing_data : Closing → Data

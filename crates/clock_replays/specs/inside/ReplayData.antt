@@ -19,11 +19,13 @@ replay_fields closings scripts setup =
 
 -- a replay's keys, each with what was found
 abbrev pub found_replay : FoundReplay → Fields
-found_replay found = replay_fields found.closings found.scripts (option_map (λ held. setup_data held.setup) found.held)
+found_replay found = replay_fields found.closings found.scripts
+    (option_map (λ held. setup_data held.setup) found.held)
 
 -- a replay document as a value, given the value of its set-up
 abbrev pub replay_data : Data → List Script → List Closing → Data
-replay_data setup scripts closings = object (members_of (replay_fields (Some closings) (Some scripts) (Some setup)))
+replay_data setup scripts closings =
+    object (members_of (replay_fields (Some closings) (Some scripts) (Some setup)))
 
 -- what was read of a replay document, as a value
 abbrev pub found_data : NestedSetup × List Script × List Closing → Data

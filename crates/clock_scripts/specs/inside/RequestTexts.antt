@@ -9,4 +9,5 @@ use Rattle.clock_views.specs.Values.{whole, list_of}
 -- they as they are written
 abbrev pub increments_text : Increments → List ℕ
 increments_text (Single increment) = codes "{\"increment\":" ++ decimal increment
-increments_text (PerProduct increments) = codes "{\"increments\":" ++ compact_text (list_of whole increments)
+increments_text (PerProduct increments) =
+    codes "{\"increments\":" ++ compact_text (list_of whole increments)

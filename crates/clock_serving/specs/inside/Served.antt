@@ -30,11 +30,12 @@ use Rattle.clock_serving.specs.declared.serving.ServeFault.TheVariants as fault
 
 -- no request could be read; front and journal are unchanged
 abbrev pub HasNoRequest : Reading → JournalState → JournalState → HouseFields → HouseFields → Type 0
-HasNoRequest reading journal_old journal_new old new = IsLeftUnread reading old new × (journal_new ≡ journal_old)
+HasNoRequest reading journal_old journal_new old new =
+    IsLeftUnread reading old new × (journal_new ≡ journal_old)
 
 -- the text that was read is answered, and logged if it changes the auction
-pub record AnswersAndLogs (reading : Reading) (response : Response) (journal_old journal_new : JournalState)
-    (old new : HouseFields) : Type 0 where
+pub record AnswersAndLogs (reading : Reading) (response : Response)
+    (journal_old journal_new : JournalState) (old new : HouseFields) : Type 0 where
   pub text : List ℕ
   pub arrived : HasArrived reading text
   pub responds : RespondsTo text response old new
@@ -43,38 +44,46 @@ pub record AnswersAndLogs (reading : Reading) (response : Response) (journal_old
   pub added_to : journal_new.uncut ≡ journal_old.uncut
 
 -- this; or memory ran out for the text, the reply says so, and nothing changed
-abbrev pub IsAnswered : Reading → Response → JournalState → JournalState → HouseFields → HouseFields → Type 0
+abbrev pub IsAnswered : Reading → Response → JournalState → JournalState → HouseFields
+    → HouseFields → Type 0
 IsAnswered reading response journal_old journal_new old new =
     AnswersAndLogs reading response journal_old journal_new old new
     ⊎ (HasNoRoom reading × (response ≡ record { reply = no_memory; effect = Nothing }) × (new ≡ old)
     × (journal_new ≡ journal_old))
 
 -- its reply was written over this journal; or no request could be read, and nothing was written
-abbrev pub IsServed : Exchange → Effect → JournalState → JournalState → HouseFields → HouseFields → Type 0
+abbrev pub IsServed : Exchange → Effect → JournalState → JournalState → HouseFields
+    → HouseFields → Type 0
 IsServed one effect journal_old journal_new old new =
     ((response : Response) × IsAnswered one.reading response journal_old journal_new old new
-    × WritesReply one.writing response.reply × (effect ≡ response.effect) × IsSeen one.kept journal_new)
-    ⊎ (HasNoRequest one.reading journal_old journal_new old new × WritesNothing one.writing × (effect ≡ Nothing))
+    × WritesReply one.writing response.reply × (effect ≡ response.effect)
+    × IsSeen one.kept journal_new) ⊎ (HasNoRequest one.reading journal_old journal_new old new
+    × WritesNothing one.writing × (effect ≡ Nothing))
 
 -- an accepted text could not be logged: the disk has what it had, and a crash leaves the texts
 -- before it, and at most this one more
-pub record FailsToLog (reading : Reading) (journal_old journal_new : JournalState) (old : HouseFields) : Type 0 where
+pub record FailsToLog (reading : Reading) (journal_old journal_new : JournalState)
+    (old : HouseFields) : Type 0 where
   pub text : List ℕ
   pub arrived : HasArrived reading text
-  pub accepted : (texts : List (List ℕ)) → StandsForTexts texts old → IsAccepted old.setup texts text
+  pub accepted : (texts : List (List ℕ)) → StandsForTexts texts old
+      → IsAccepted old.setup texts text
   pub failed : journal_new.has_failed ≡ true
   pub moments : LeavesOneMore text journal_old journal_new
   pub on_disk : journal_new.synced ≡ journal_old.synced
 
 -- this, and nothing was written
 abbrev pub IsUnlogged : Exchange → JournalState → JournalState → HouseFields → Type 0
-IsUnlogged one journal_old journal_new old = FailsToLog one.reading journal_old journal_new old × WritesNothing one.writing
+IsUnlogged one journal_old journal_new old =
+    FailsToLog one.reading journal_old journal_new old × WritesNothing one.writing
 
 -- an accepted connection was served, or its text could not be logged
-abbrev pub EndsTaken : {E : Type 0} → Exchange → JournalState → JournalState → HouseFields → HouseFields
-    → Result Effect E → Type 0
-EndsTaken one journal_old journal_new old new (Ok effect) = IsServed one effect journal_old journal_new old new
-EndsTaken one journal_old journal_new old new (Err failed) = IsUnlogged one journal_old journal_new old
+abbrev pub EndsTaken : {E : Type 0} → Exchange → JournalState → JournalState → HouseFields
+    → HouseFields → Result Effect E → Type 0
+EndsTaken one journal_old journal_new old new (Ok effect) =
+    IsServed one effect journal_old journal_new old new
+EndsTaken one journal_old journal_new old new (Err failed) =
+    IsUnlogged one journal_old journal_new old
 
 -- the closed round, if any, was reported
 abbrev pub IsReported : Option (List ℕ) → Option (List ℕ) → Effect → Type 0
@@ -83,7 +92,8 @@ IsReported told_old told_new Sheet = told_new ≡ told_old
 IsReported told_old told_new (Closing round) = GrowsBy told_old told_new (round ∷ [])
 
 -- this; or the text could not be logged, and the fault says so
-abbrev pub IsReportedAs : {U E : Type 0} → Option (List ℕ) → Option (List ℕ) → Result Effect E → Result U ServeFault → Type 0
+abbrev pub IsReportedAs : {U E : Type 0} → Option (List ℕ) → Option (List ℕ) → Result Effect E
+    → Result U ServeFault → Type 0
 IsReportedAs told_old told_new (Ok effect) (Ok done) = IsReported told_old told_new effect
 IsReportedAs told_old told_new (Err failed) (Err fault.Journal) = told_new ≡ told_old
 IsReportedAs told_old told_new (Ok effect) (Err fault) = ⊥
@@ -98,14 +108,17 @@ round_closed (Closing round) = round ∷ []
 
 -- how serving one connection ends: it was served, and its closing reported; or it could not be
 -- accepted, and nothing changed; or its text could not be logged
-abbrev pub EndsOne : {U : Type 0} → Option (List (List ℕ)) → Option (List (List ℕ)) → Option (List Exchange) → Option (List Exchange)
-    → Option (List ℕ) → Option (List ℕ) → JournalState → JournalState → HouseFields → HouseFields → Result U ServeFault → Type 0
-EndsOne coming_old coming_new closed_old closed_new told_old told_new journal_old journal_new old new (Ok done) =
-    (one : Exchange) × HasClosedConnections closed_old closed_new (one ∷ []) × Came coming_old coming_new (bytes_given (one ∷ []))
-    × ((effect : Effect) × IsServed one effect journal_old journal_new old new
-    × GrowsBy told_old told_new (round_closed effect))
-EndsOne coming_old coming_new closed_old closed_new told_old told_new journal_old journal_new old new (Err fault.Accept) =
-    (closed_new ≡ closed_old) × (coming_new ≡ coming_old) × (journal_new ≡ journal_old) × (new ≡ old) × (told_new ≡ told_old)
-EndsOne coming_old coming_new closed_old closed_new told_old told_new journal_old journal_new old new (Err fault.Journal) =
-    (one : Exchange) × HasClosedConnections closed_old closed_new (one ∷ []) × Came coming_old coming_new (bytes_given (one ∷ []))
+abbrev pub EndsOne : {U : Type 0} → Option (List (List ℕ)) → Option (List (List ℕ))
+    → Option (List Exchange) → Option (List Exchange) → Option (List ℕ) → Option (List ℕ)
+    → JournalState → JournalState → HouseFields → HouseFields → Result U ServeFault → Type 0
+EndsOne coming_old coming_new closed_old closed_new told_old told_new journal_old journal_new old
+    new (Ok done) = (one : Exchange) × HasClosedConnections closed_old closed_new (one ∷ [])
+    × Came coming_old coming_new (bytes_given (one ∷ [])) × ((effect : Effect) × IsServed one effect
+    journal_old journal_new old new × GrowsBy told_old told_new (round_closed effect))
+EndsOne coming_old coming_new closed_old closed_new told_old told_new journal_old journal_new old
+    new (Err fault.Accept) = (closed_new ≡ closed_old) × (coming_new ≡ coming_old)
+    × (journal_new ≡ journal_old) × (new ≡ old) × (told_new ≡ told_old)
+EndsOne coming_old coming_new closed_old closed_new told_old told_new journal_old journal_new old
+    new (Err fault.Journal) = (one : Exchange) × HasClosedConnections closed_old closed_new
+    (one ∷ []) × Came coming_old coming_new (bytes_given (one ∷ []))
     × IsUnlogged one journal_old journal_new old × (told_new ≡ told_old)

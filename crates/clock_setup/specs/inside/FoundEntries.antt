@@ -8,8 +8,10 @@ use Rattle.clock_setup.specs.SetupData.{product_fields, bidder_fields}
 
 -- the keys of a product, each with its value if it was found
 abbrev pub found_product : FoundProduct → Fields
-found_product parts = product_fields parts.cap parts.granule (option_map (λ text. text.now) parts.name) parts.opening parts.supply parts.units
+found_product parts = product_fields parts.cap parts.granule
+    (option_map (λ text. text.now) parts.name) parts.opening parts.supply parts.units
 
 -- the keys of a bidder, each with its value if it was found
 abbrev pub found_bidder : FoundBidder → Fields
-found_bidder parts = bidder_fields parts.eligibility (option_map (λ text. text.now) parts.name) (option_map (λ text. text.now) parts.token)
+found_bidder parts = bidder_fields parts.eligibility (option_map (λ text. text.now) parts.name)
+    (option_map (λ text. text.now) parts.token)

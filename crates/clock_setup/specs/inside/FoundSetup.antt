@@ -7,6 +7,6 @@ use Rattle.clock_setup.specs.SetupData.{products_data, bidders_data, setup_field
 
 -- the keys of a set-up, each with its value if it was found
 abbrev pub found_setup : FoundSetup → Fields
-found_setup parts =
-    setup_fields (option_map bidders_data parts.bidders) parts.limit (option_map (λ text. text.now) parts.operator)
-    (option_map (λ list. products_data list.version list.entries) parts.products) parts.requirement parts.version
+found_setup parts = setup_fields (option_map bidders_data parts.bidders) parts.limit
+    (option_map (λ text. text.now) parts.operator) (option_map (λ list.
+    products_data list.version list.entries) parts.products) parts.requirement parts.version

@@ -4,7 +4,8 @@
 --     short_rows_in value      the demands of a document as 16-bit numbers
 --     found_opening, scanned_data      an opening while it is read by bytes, and the JSON value of
 --         a whole one
-use Rattle.std.specs.Prelude.{ℕ, List, [], ◌∷◌, Option, Some, option_and_then, option_map, map, codes}
+use Rattle.std.specs.Prelude.{ℕ, List, [], ◌∷◌, Option, Some, option_and_then, option_map, map}
+use Rattle.std.specs.Prelude.{codes}
 use Rattle.serde_json.specs.Data.{Data, object}
 use Rattle.clock_json.specs.Tree.{items_at, row_of, each}
 use Rattle.clock_json.specs.Rows.{shortened}
@@ -23,16 +24,18 @@ opening_fields demands increment setup =
 
 -- the JSON value of an opening
 abbrev pub opening_data : Data → List (List ℕ) → ℕ → Data
-opening_data setup demands increment = object (members_of (opening_fields (Some (rows demands)) (Some increment) (Some setup)))
+opening_data setup demands increment =
+    object (members_of (opening_fields (Some (rows demands)) (Some increment) (Some setup)))
 
 -- the rows of demands of a document, where each demand above 65,535 is replaced by that
 abbrev pub short_rows_in : Data → Option (List (List ℕ))
-short_rows_in value = option_map (map (map shortened)) (option_and_then (each row_of) (items_at (codes "demands") value))
+short_rows_in value = option_map (map (map shortened))
+    (option_and_then (each row_of) (items_at (codes "demands") value))
 
 -- the keys of an opening, each with its value if it was found
 abbrev pub found_opening : FoundOpening → Fields
-found_opening found =
-    opening_fields (option_map rows found.demands) found.increment (option_map (λ held. setup_data held.setup) found.held)
+found_opening found = opening_fields (option_map rows found.demands) found.increment
+    (option_map (λ held. setup_data held.setup) found.held)
 
 -- the JSON value of an opening that was read by bytes
 abbrev pub scanned_data : NestedSetup × List (List ℕ) × ℕ → Data

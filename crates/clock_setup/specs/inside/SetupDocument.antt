@@ -6,13 +6,17 @@
 use Rattle.std.specs.Prelude.{ℕ, Bool, List, [], ◌∷◌, length}
 use Rattle.clock_terms.specs.declared.setup.Product.{Product}
 use Rattle.clock_terms.specs.declared.setup.Bidder.{Bidder}
-use Rattle.clock_setup.specs.declared.fault.Place.TheVariants.{Requirement, Limit, Operator, Products, Bidders}
+use Rattle.clock_setup.specs.declared.fault.Place.TheVariants.{Requirement, Limit, Operator}
+use Rattle.clock_setup.specs.declared.fault.Place.TheVariants.{Products, Bidders}
 use Rattle.clock_setup.specs.declared.fault.SetupFault.{SetupFault}
-use Rattle.clock_setup.specs.declared.fault.SetupFault.TheVariants.{Range, DuplicateName, DuplicateToken}
+use Rattle.clock_setup.specs.declared.fault.SetupFault.TheVariants.{Range, DuplicateName}
+use Rattle.clock_setup.specs.declared.fault.SetupFault.TheVariants.{DuplicateToken}
 use Rattle.clock_terms.specs.Limits.{SetupFields, is_within, is_token}
-use Rattle.clock_terms.specs.Limits.{least_requirement, most_requirement, least_limit, most_limit, most_products, most_bidders}
+use Rattle.clock_terms.specs.Limits.{least_requirement, most_requirement, least_limit, most_limit}
+use Rattle.clock_terms.specs.Limits.{most_products, most_bidders}
 use Rattle.clock_terms.specs.Faults.{in_turn}
-use Rattle.clock_setup.specs.SetupDocument.{product_checks, bidder_checks, has_distinct_names, has_distinct_tokens}
+use Rattle.clock_setup.specs.SetupDocument.{product_checks, bidder_checks, has_distinct_names}
+use Rattle.clock_setup.specs.SetupDocument.{has_distinct_tokens}
 
 -- the values before the products: requirement, limit, and operator
 unfoldable pub head_checks : SetupFields → List (SetupFault × Bool)
@@ -23,8 +27,10 @@ head_checks setup =
     ∷ []
 
 -- the number of items is 1 to `most`, then the checks of each item in turn
-abbrev pub counted_checks : {A : Type 0} → SetupFault → ℕ → (ℕ → A → List (SetupFault × Bool)) → List A → List (SetupFault × Bool)
-counted_checks fault most checks items = (fault, is_within 1 most (length items)) ∷ in_turn checks 0 items
+abbrev pub counted_checks : {A : Type 0} → SetupFault → ℕ → (ℕ → A → List (SetupFault × Bool))
+    → List A → List (SetupFault × Bool)
+counted_checks fault most checks items =
+    (fault, is_within 1 most (length items)) ∷ in_turn checks 0 items
 
 -- the number of products, then each product
 unfoldable pub products_checks : List Product → List (SetupFault × Bool)
@@ -36,4 +42,5 @@ bidders_checks bidders = counted_checks (Range Bidders) most_bidders bidder_chec
 
 -- distinct names, then distinct tokens
 unfoldable pub distinct_checks : SetupFields → List (SetupFault × Bool)
-distinct_checks setup = (DuplicateName, has_distinct_names setup) ∷ (DuplicateToken, has_distinct_tokens setup) ∷ []
+distinct_checks setup =
+    (DuplicateName, has_distinct_names setup) ∷ (DuplicateToken, has_distinct_tokens setup) ∷ []

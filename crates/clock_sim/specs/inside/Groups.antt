@@ -1,7 +1,7 @@
 -- Groups of requests that are sent over connections that are open at once.
 --     ClosesNoRound text      the text closes no round, whatever came before
---     GroupRequest, request_in text one, requests_in group      a waiting request, by the text of its
---         group
+--     GroupRequest, request_in text one, requests_in group      a waiting request, by the
+--         text of its group
 --     AreWritten group, StillWait old group      the waiting requests are in the text; they are the
 --         same as before
 --     text_in one, after_group setup group texts      the text of a request; the texts after a
@@ -10,7 +10,8 @@
 --         the texts after a group and one more request of a bidder
 --     with_turn setup group bidder round written texts      the texts after a group and a request
 --         that was written
---     HaveTextsFrom place connections group text      from an index on, each connection has these bytes
+--     HaveTextsFrom place connections group text      from an index on, each
+--         connection has these bytes
 --     AreApart group      no two connections are the same
 --     IsGroup connections group      each request has an open connection of its own, without bytes
 --     AreWaiting connections group      so do the requests of a group
@@ -18,7 +19,8 @@
 --     IsNext hub group written      a request that was written may join the group
 --     ComesUnderWay steps old new group result      these steps were made, except for the waiting
 --         requests
-use Rattle.std.specs.Prelude.{◌≡◌, ◌≤◌, ◌<◌, ℕ, List, [], ◌∷◌, ◌++◌, true, length, map, slice_index_or, Some, Result, Ok, OnOk, All}
+use Rattle.std.specs.Prelude.{◌≡◌, ◌≤◌, ◌<◌, ℕ, List, [], ◌∷◌, ◌++◌, true, length, map}
+use Rattle.std.specs.Prelude.{slice_index_or, Some, Result, Ok, OnOk, All}
 use Rattle.clock_terms.specs.Limits.{SetupFields}
 use Rattle.clock_terms.specs.Faults.{◌>>=◌}
 use Rattle.clock_http.specs.Framing.{needs_more}
@@ -36,7 +38,8 @@ use Rattle.clock_sim.specs.inside.Steps.{IsGoing, MakesWay}
 
 -- the closed rounds do not change
 abbrev pub ClosesNoRound : List ℕ → Type 0
-ClosesNoRound text = (setup : SetupFields) (texts : List (List ℕ)) → rounds_after setup (text ∷ texts) ≡ rounds_after setup texts
+ClosesNoRound text = (setup : SetupFields) (texts : List (List ℕ))
+    → rounds_after setup (text ∷ texts) ≡ rounds_after setup texts
 
 -- a request: bidder, round, connection, head, and body
 pub record GroupRequest : Type 0 where
@@ -73,28 +76,36 @@ abbrev pub text_in : GroupRequest → List ℕ
 text_in one = one.head ++ one.body
 
 -- the texts after the requests of a group, answered in order
-abbrev pub after_group : SetupFields → List GroupRequest → List (List ℕ) → Result (List (List ℕ)) SimFault
+abbrev pub after_group : SetupFields → List GroupRequest → List (List ℕ)
+    → Result (List (List ℕ)) SimFault
 after_group setup [] texts = Ok texts
-after_group setup (one ∷ group) texts = after_request setup texts (Some one.bidder) one.round (text_in one) >>= after_group setup group
+after_group setup (one ∷ group) texts =
+    after_request setup texts (Some one.bidder) one.round (text_in one) >>= after_group setup group
 
 -- the texts after a group and one more request of a bidder
-abbrev pub with_request : SetupFields → List GroupRequest → ℕ → ℕ → List ℕ → List (List ℕ) → Result (List (List ℕ)) SimFault
+abbrev pub with_request : SetupFields → List GroupRequest → ℕ → ℕ → List ℕ → List (List ℕ)
+    → Result (List (List ℕ)) SimFault
 with_request setup group bidder round text texts =
     after_group setup group texts >>= (λ sent. after_request setup sent (Some bidder) round text)
 
 -- the texts after a group and the sheet that a bidder's script gives, if any
-abbrev pub with_put : SetupFields → List GroupRequest → ℕ → Script → List (List ℕ) → Result (List (List ℕ)) SimFault
-with_put setup group bidder script texts = after_group setup group texts >>= after_put setup bidder script
+abbrev pub with_put : SetupFields → List GroupRequest → ℕ → Script → List (List ℕ)
+    → Result (List (List ℕ)) SimFault
+with_put setup group bidder script texts =
+    after_group setup group texts >>= after_put setup bidder script
 
 -- the texts after a group and a request that was written
-abbrev pub with_turn : SetupFields → Group → ℕ → ℕ → Written → List (List ℕ) → Result (List (List ℕ)) SimFault
-with_turn setup group bidder round written = with_request setup (requests_in group) bidder round (text_at group.text.items written)
+abbrev pub with_turn : SetupFields → Group → ℕ → ℕ → Written → List (List ℕ)
+    → Result (List (List ℕ)) SimFault
+with_turn setup group bidder round written =
+    with_request setup (requests_in group) bidder round (text_at group.text.items written)
 
 -- from an index on, the connection of each request is open with these bytes
-abbrev pub HaveTextsFrom : ℕ → ConnectionFields → List GroupRequest → (ℕ → GroupRequest → List ℕ) → Type 0
-HaveTextsFrom place connections group text =
-    (k : ℕ) (other : GroupRequest) → place ≤ k → k < length group
-    → text_of connections (slice_index_or group k other).conn ≡ Some (text k (slice_index_or group k other))
+abbrev pub HaveTextsFrom : ℕ → ConnectionFields → List GroupRequest
+    → (ℕ → GroupRequest → List ℕ) → Type 0
+HaveTextsFrom place connections group text = (k : ℕ) (other : GroupRequest) → place ≤ k
+    → k < length group → text_of connections (slice_index_or group k other).conn
+    ≡ Some (text k (slice_index_or group k other))
 
 -- the serial numbers of the connections rise
 abbrev pub AreApart : List GroupRequest → Type 0
@@ -127,7 +138,8 @@ pub record IsNext (hub : HubFields) (group : Group) (written : Written) : Type 0
   pub closes : ClosesNoRound (text_at group.text.items written)
 
 -- the steps were made except for the waiting requests; or their fault is returned
-pub record ComesUnderWay {T : Type 0} (steps : List (List ℕ) → Result (List (List ℕ)) SimFault) (old new : HubFields) (group : Group)
-    (result : Result T SimFault) : Type 0 where
+pub record ComesUnderWay {T : Type 0} (steps : List (List ℕ) → Result (List (List ℕ)) SimFault)
+    (old new : HubFields) (group : Group) (result : Result T SimFault) : Type 0 where
   pub under_way : OnOk result (IsGroupUnderWay new group)
-  pub way : MakesWay steps (after_group old.house.setup (requests_in group)) old.house new.house result
+  pub way : MakesWay steps
+      (after_group old.house.setup (requests_in group)) old.house new.house result

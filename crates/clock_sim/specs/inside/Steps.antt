@@ -25,7 +25,8 @@ use Rattle.clock_sim.specs.declared.simulation.SimFault.TheVariants.{NoMemory}
 
 -- the scripts and closings, with the set-up of a house
 abbrev pub replay_of : HouseFields → List Script → List Closing → ReplayFields
-replay_of house scripts closings = record { setup = house.setup; scripts = scripts; closings = closings }
+replay_of house scripts closings =
+    record { setup = house.setup; scripts = scripts; closings = closings }
 
 -- a script for each bidder, made for the products
 pub record AreScriptsOf (setup : SetupFields) (scripts : List Script) : Type 0 where
@@ -56,22 +57,22 @@ pub record ComesTo (answer : Result (List (List ℕ)) SimFault) (house : HouseFi
 
 -- From any texts that the house stood for, it now stands for those of the step. Or the fault of the
 -- step is returned, or out of memory.
-pub record MakesStep {T : Type 0} (step : List (List ℕ) → Result (List (List ℕ)) SimFault) (old new : HouseFields)
-    (result : Result T SimFault) : Type 0 where
+pub record MakesStep {T : Type 0} (step : List (List ℕ) → Result (List (List ℕ)) SimFault)
+    (old new : HouseFields) (result : Result T SimFault) : Type 0 where
   pub setup : new.setup ≡ old.setup
   pub comes : (texts : List (List ℕ)) → StandsForTexts texts old
       → MatchResult result (λ done. ComesTo (step texts) new) (IsRefusal NoMemory (step texts))
 
 -- the steps that are left, from the texts that the house stands for, have this answer
-pub record IsLeft (rest : List (List ℕ) → Result (List (List ℕ)) SimFault) (answer : Result (List (List ℕ)) SimFault)
-    (house : HouseFields) : Type 0 where
+pub record IsLeft (rest : List (List ℕ) → Result (List (List ℕ)) SimFault)
+    (answer : Result (List (List ℕ)) SimFault) (house : HouseFields) : Type 0 where
   pub texts : List (List ℕ)
   pub stands : StandsForTexts texts house
   pub same : rest texts ≡ answer
 
 -- from any texts of the house, the rest of the steps is left; or their fault, or out of memory
-pub record MakesWay {T : Type 0} (whole rest : List (List ℕ) → Result (List (List ℕ)) SimFault) (old new : HouseFields)
-    (result : Result T SimFault) : Type 0 where
+pub record MakesWay {T : Type 0} (whole rest : List (List ℕ) → Result (List (List ℕ)) SimFault)
+    (old new : HouseFields) (result : Result T SimFault) : Type 0 where
   pub setup : new.setup ≡ old.setup
-  pub comes : (texts : List (List ℕ)) → StandsForTexts texts old
-      → MatchResult result (λ done. IsLeft rest (whole texts) new) (IsRefusal NoMemory (whole texts))
+  pub comes : (texts : List (List ℕ)) → StandsForTexts texts old → MatchResult result
+      (λ done. IsLeft rest (whole texts) new) (IsRefusal NoMemory (whole texts))

@@ -16,4 +16,5 @@ pub record IsSmallGrid (products : ℕ) (grid : List (List ℕ)) : Type 0 where
 pub record IsKeptGrid (grid : List (List ℕ)) (totals : List ℕ) : Type 0 where
   pub small : IsSmallGrid (length totals) grid
   pub has_bidder : 1 ≤ length grid
-  pub kept : (product : ℕ) → product < length totals → slice_index totals product ≡ total_of grid product
+  pub kept : (product : ℕ) → product < length totals
+      → slice_index totals product ≡ total_of grid product

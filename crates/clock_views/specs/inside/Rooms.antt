@@ -1,7 +1,7 @@
 -- How many bytes the pieces of pages are given.
 --     room_of_number, room_of_name, room_of_truth      of a value by itself
---     room_of_item, room_of_bid, room_of_product, room_of_line, room_of_result demands      of an item, with the comma
---         before it
+--     room_of_item, room_of_bid, room_of_product, room_of_line, room_of_result demands      of an
+--         item, with the comma before it
 --     room_of_array item count      of an array of `count` items
 use Rattle.std.specs.Prelude.{ℕ, ◌+◌, ◌*◌}
 

@@ -9,9 +9,10 @@ use Rattle.clock_auction.proofs.journal_text.listing_of.Goals as goal
 
 -- a machine that refuses no text reports none as refused
 takes_all : (old : List Entry → Type 0) (first bytes : List ℕ) (size : ℕ) (fault : JournalFault) → old []
-    → IsRefusedRightly (λ (past : List (List ℕ)) (text : List ℕ). ⊥) old first bytes size fault → (place : ℕ) → fault ≡ Refused place → ⊥
-takes_all old first bytes size fault begun refused place is =
-    (subst (λ (told : JournalFault). IsRefusedRightly (λ (past : List (List ℕ)) (text : List ℕ). ⊥) old first bytes size told) is refused).refused [] begun
+    → IsRefusedRightly (λ (past : List (List ℕ)) (text : List ℕ). ⊥) old first bytes size fault → (place : ℕ)
+    → fault ≡ Refused place → ⊥
+takes_all old first bytes size fault begun refused place is = (subst (λ (told : JournalFault). IsRefusedRightly
+    (λ (past : List (List ℕ)) (text : List ℕ). ⊥) old first bytes size told) is refused).refused [] begun
 
 pub returns-in_err-extend_from_slice-clause-err : goal.returns-in_err-extend_from_slice-clause-err
 returns-in_err-extend_from_slice-clause-err c =
@@ -20,7 +21,8 @@ returns-in_err-extend_from_slice-clause-err c =
 
 pub returns-in_err-push_digits-clause-err : goal.returns-in_err-push_digits-clause-err
 returns-in_err-push_digits-clause-err c =
-    let p = err_from_is_err_and c.from_residual-in_err-push_digits.result c.from_residual-in_err-push_digits.ensures.1 in
+    let p =
+    err_from_is_err_and c.from_residual-in_err-push_digits.result c.from_residual-in_err-push_digits.ensures.1 in
     rw p.1 (record { fault = NoMemory; told_is = p.2; is = tt; takes_all = λ place is. cc })
 
 pub returns-in_err-recovered-clause-err : goal.returns-in_err-recovered-clause-err
@@ -42,6 +44,6 @@ returns-clause-ok c =
     record {
       texts = all.texts;
       placed = all.placed;
-      shown_is = subst (λ (from : List ℕ). c.recover.new.machine.text ≡ listed from (entries_onto c.args.first [] all.texts []))
-          c.recover.ensures.rules (all.stands [] (search rules));
+      shown_is = subst (λ (from : List ℕ). c.recover.new.machine.text ≡ listed from
+          (entries_onto c.args.first [] all.texts [])) c.recover.ensures.rules (all.stands [] (search rules));
     }

@@ -22,6 +22,5 @@ returns c = λ products known.
     let from : c.args.place ≡ i + 1 = search rules in
     let within : i < length bids = search rules in
     let is : before.now ≡ get_or bids i no_bid = search rules in
-    rw c.then_some.ensures
-    (where_met (nat_eq before.now.product c.args.product) before _
-    (λ met. last_before products c.args.product c.args.place i bids before.now from within is (search (rules, met)) known))
+    rw c.then_some.ensures (where_met (nat_eq before.now.product c.args.product) before _ (λ met.
+    last_before products c.args.product c.args.place i bids before.now from within is (search (rules, met)) known))

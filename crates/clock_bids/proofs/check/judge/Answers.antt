@@ -10,9 +10,11 @@ use Rattle.clock_bids.specs.inside.Chains.{last_bids, quantity_of}
 use Rattle.clock_bids.specs.inside.LastBids.{AreLastPlaces}
 use Rattle.clock_bids.proofs.Tables.{no_bid}
 use Rattle.clock_bids.proofs.LastBids.{none_below, known_all, last_read, below_more}
-use Rattle.clock_bids.proofs.Judging.{held_some, exact_some, exact_none, taken_most, none_judged, none_at_fault, all_taken, fault_found, known, units_held, judged_more}
+use Rattle.clock_bids.proofs.Judging.{held_some, exact_some, exact_none, taken_most, none_judged, none_at_fault}
+use Rattle.clock_bids.proofs.Judging.{all_taken, fault_found, known, units_held, judged_more}
 use Rattle.clock_bids.proofs.check.judge.Goals as goal
-use Rattle.clock_bids.proofs.check.judge.Goals.{In_default-bid_fault, then-bid-least, else-bid-least+in-Some, else-bid-least+in_default+in_ok-places, in-Some-last, in-None}
+use Rattle.clock_bids.proofs.check.judge.Goals.{In_default-bid_fault, then-bid-least, else-bid-least+in-Some}
+use Rattle.clock_bids.proofs.check.judge.Goals.{else-bid-least+in_default+in_ok-places, in-Some-last, in-None}
 
 pub loop-i-init : goal.loop-i-init
 loop-i-init c = record {
@@ -33,17 +35,21 @@ returns-in-Some-bid_fault-clause-fault c _ =
     let all = known_all list seen (take i bids) same c.loop-i.invariant.judged.good.known in
     let last : option_copied c.if-bid-least.last ≡ get_or (last_bids (length seen) (take i bids)) bid.product None =
     elim c.if-bid-least.branch [
-      | then-bid-least w ↦ ap option_copied w.last-is ∙ none_below (length seen) c.loop-i.least bid.product (take i bids) c.loop-i.invariant.below w.if-bid-least.true
+      | then-bid-least w ↦ ap option_copied w.last-is ∙ none_below (length seen) c.loop-i.least bid.product
+          (take i bids) c.loop-i.invariant.below w.if-bid-least.true
       | else-bid-least+in-Some w ↦ ap option_copied w.last-is ∙ w.in-Some.ensures (length seen) all
-      | else-bid-least+in_default+in_ok-places w ↦ ap option_copied w.last-is ∙ last_read (length seen) bids i w.in_ok-places.places.items w.as_slice.result.now bid.product
+      | else-bid-least+in_default+in_ok-places w ↦ ap option_copied w.last-is
+          ∙ last_read (length seen) bids i w.in_ok-places.places.items w.as_slice.result.now bid.product
           (option_copied w.last_bid.result) w.in_ok-places.ensures w.as_slice.ensures.value w.last_bid.ensures
     ] in
-    fault_found list c.args.prices.now c.args.demands.now bids i c.loop-i.taken c.loop-i.invariant.judged c.loop-i-test.true seen (option_copied c.if-bid-least.last)
+    fault_found list c.args.prices.now c.args.demands.now bids i c.loop-i.taken c.loop-i.invariant.judged
+    c.loop-i-test.true seen (option_copied c.if-bid-least.last)
     c.bid_fault.result same last c.bid_fault.ensures c.in-Some-bid_fault.fault c.in-Some-bid_fault.is
 
 -- the last bid for the product, among those before
 last_is : (c : In_default-bid_fault) → option_copied c.if-bid-least.last
-    ≡ get_or (last_bids (length c.as_slice-products.result.now) (take c.loop-i.i c.args.bids.now)) (get_or c.args.bids.now c.loop-i.i no_bid).product None
+    ≡ get_or (last_bids (length c.as_slice-products.result.now) (take c.loop-i.i c.args.bids.now))
+    (get_or c.args.bids.now c.loop-i.i no_bid).product None
 last_is c =
     let bids = c.args.bids.now in
     let i = c.loop-i.i in
@@ -52,24 +58,27 @@ last_is c =
     let all = known_all c.args.setup.now.products c.as_slice-products.result.now (take i bids)
     (c.as_slice-products.ensures ∙ ap (λ s. s.products) c.setup.view_is) c.loop-i.invariant.judged.good.known in
     elim c.if-bid-least.branch [
-      | then-bid-least w ↦ ap option_copied w.last-is ∙ none_below products c.loop-i.least bid.product (take i bids) c.loop-i.invariant.below w.if-bid-least.true
+      | then-bid-least w ↦ ap option_copied w.last-is
+          ∙ none_below products c.loop-i.least bid.product (take i bids) c.loop-i.invariant.below w.if-bid-least.true
       | else-bid-least+in-Some w ↦ ap option_copied w.last-is ∙ w.in-Some.ensures products all
-      | else-bid-least+in_default+in_ok-places w ↦ ap option_copied w.last-is ∙ last_read products bids i w.in_ok-places.places.items w.as_slice.result.now bid.product
+      | else-bid-least+in_default+in_ok-places w ↦ ap option_copied w.last-is
+          ∙ last_read products bids i w.in_ok-places.places.items w.as_slice.result.now bid.product
           (option_copied w.last_bid.result) w.in_ok-places.ensures w.as_slice.ensures.value w.last_bid.ensures
     ]
 
 -- the bidding units of the last bid are part of the activity so far
-held : (c : In_default-bid_fault) (one : Product) → (get_or c.as_slice-products.result.now (get_or c.args.bids.now c.loop-i.i no_bid).product one).units
-    * quantity_of (option_copied c.if-bid-least.last) ≤ c.loop-i.taken
-held c one =
-    units_held c.args.setup.now.products c.args.prices.now c.args.demands.now c.args.bids.now c.loop-i.i c.loop-i.taken c.loop-i.invariant.judged
-    c.loop-i-test.true c.as_slice-products.result.now (option_copied c.if-bid-least.last) c.bid_fault.result
-    (c.as_slice-products.ensures ∙ ap (λ s. s.products) c.setup.view_is) (last_is c) c.bid_fault.ensures c.in_default-bid_fault.is one
+held : (c : In_default-bid_fault) (one : Product) → (get_or c.as_slice-products.result.now (get_or c.args.bids.now
+    c.loop-i.i no_bid).product one).units * quantity_of (option_copied c.if-bid-least.last) ≤ c.loop-i.taken
+held c one = units_held c.args.setup.now.products c.args.prices.now c.args.demands.now c.args.bids.now c.loop-i.i
+    c.loop-i.taken c.loop-i.invariant.judged c.loop-i-test.true c.as_slice-products.result.now
+    (option_copied c.if-bid-least.last) c.bid_fault.result (c.as_slice-products.ensures
+    ∙ ap (λ s. s.products) c.setup.view_is) (last_is c) c.bid_fault.ensures c.in_default-bid_fault.is one
 
 pub overflow_sub-taken : goal.overflow_sub-taken
 overflow_sub-taken c =
     let one = c.index-products-bid.result in
-    held_some (get_or c.as_slice-products.result.now (get_or c.args.bids.now c.loop-i.i no_bid).product one).units c.in-Some-last.is (held (goal.at.overflow_sub-taken c).In_default-bid_fault one)
+    held_some (get_or c.as_slice-products.result.now (get_or c.args.bids.now c.loop-i.i no_bid).product one).units
+    c.in-Some-last.is (held (goal.at.overflow_sub-taken c).In_default-bid_fault one)
 
 pub loop-i-preserved : goal.loop-i-preserved
 loop-i-preserved c =
@@ -78,31 +87,41 @@ loop-i-preserved c =
     let i = c.loop-i.i in
     let at = (goal.at.loop-i-preserved c).In_default-bid_fault in
     let same = c.as_slice-products.ensures ∙ ap (λ s. s.products) c.setup.view_is in
-    let here = known list c.args.prices.now c.args.demands.now bids i c.loop-i.taken c.loop-i.invariant.judged c.loop-i-test.true
-    c.as_slice-products.result.now (option_copied c.if-bid-least.last) c.bid_fault.result same (last_is at) c.bid_fault.ensures c.in_default-bid_fault.is
-    c.index-products-bid.result in
-    let units : ℕ = (get_or c.as_slice-products.result.now (get_or bids i no_bid).product c.index-products-bid.result).units in
-    let exact : c.match-last.taken + units * quantity_of (option_copied c.if-bid-least.last) ≡ c.loop-i.taken + units * (get_or bids i no_bid).quantity =
-    elim c.match-last.branch [
-      | in-Some-last w ↦ exact_some units c.loop-i.taken (get_or bids i no_bid).quantity w.in-Some-last.is (held at c.index-products-bid.result) w.taken-is
+    let here = known list c.args.prices.now c.args.demands.now bids i c.loop-i.taken c.loop-i.invariant.judged
+    c.loop-i-test.true c.as_slice-products.result.now (option_copied c.if-bid-least.last) c.bid_fault.result same
+    (last_is at) c.bid_fault.ensures c.in_default-bid_fault.is c.index-products-bid.result in
+    let units : ℕ =
+    (get_or c.as_slice-products.result.now (get_or bids i no_bid).product c.index-products-bid.result).units in
+    let exact : c.match-last.taken + units * quantity_of (option_copied c.if-bid-least.last)
+    ≡ c.loop-i.taken + units * (get_or bids i no_bid).quantity = elim c.match-last.branch [
+      | in-Some-last w ↦ exact_some units c.loop-i.taken (get_or bids i no_bid).quantity w.in-Some-last.is
+          (held at c.index-products-bid.result) w.taken-is
       | in-None w ↦ exact_none units c.loop-i.taken (get_or bids i no_bid).quantity w.in-None.is w.taken-is
     ] in
     let few_units : units ≤ most_units = search rules in
     let few : (get_or bids i no_bid).quantity ≤ most_supply = search rules in
     record {
-      judged = judged_more list c.args.prices.now c.args.demands.now bids i c.loop-i.taken c.loop-i.invariant.judged c.loop-i-test.true
-          c.as_slice-products.result.now (option_copied c.if-bid-least.last) c.bid_fault.result same (last_is at) c.bid_fault.ensures c.in_default-bid_fault.is
-          c.index-products-bid.result c.match-last.taken exact (taken_most units c.loop-i.taken (get_or bids i no_bid).quantity (option_copied c.if-bid-least.last) exact few_units few);
+      judged = judged_more list c.args.prices.now c.args.demands.now bids i c.loop-i.taken c.loop-i.invariant.judged
+          c.loop-i-test.true c.as_slice-products.result.now (option_copied c.if-bid-least.last) c.bid_fault.result same
+          (last_is at) c.bid_fault.ensures c.in_default-bid_fault.is c.index-products-bid.result c.match-last.taken
+          exact (taken_most units c.loop-i.taken (get_or bids i no_bid).quantity
+          (option_copied c.if-bid-least.last) exact few_units few);
       below = elim c.if-bid-least.branch [
         | then-bid-least w ↦
             let next : c.if-bid-least.least ≡ (get_or bids i no_bid).product + 1 =
-            omega (arith, w.least-is, here, ap (λ s. length s.products) c.setup.view_is, c.setup.invariant.product_count) in
-            below_more bids i c.loop-i.least c.if-bid-least.least c.loop-i-test.true (omega (arith, next, w.if-bid-least.true)) (omega (arith, next))
-            c.loop-i.invariant.below
-        | else-bid-least+in-Some w ↦ rw w.least-is
-            (below_more bids i c.loop-i.least c.loop-i.least c.loop-i-test.true (omega arith) (omega (arith, w.if-bid-least.false)) c.loop-i.invariant.below)
-        | else-bid-least+in_default+in_ok-places w ↦ rw w.least-is
-            (below_more bids i c.loop-i.least c.loop-i.least c.loop-i-test.true (omega arith) (omega (arith, w.if-bid-least.false)) c.loop-i.invariant.below)
+            omega (
+              arith,
+              w.least-is,
+              here,
+              ap (λ s. length s.products) c.setup.view_is,
+              c.setup.invariant.product_count,
+            ) in
+            below_more bids i c.loop-i.least c.if-bid-least.least c.loop-i-test.true
+            (omega (arith, next, w.if-bid-least.true)) (omega (arith, next)) c.loop-i.invariant.below
+        | else-bid-least+in-Some w ↦ rw w.least-is (below_more bids i c.loop-i.least c.loop-i.least c.loop-i-test.true
+            (omega arith) (omega (arith, w.if-bid-least.false)) c.loop-i.invariant.below)
+        | else-bid-least+in_default+in_ok-places w ↦ rw w.least-is (below_more bids i c.loop-i.least c.loop-i.least
+            c.loop-i-test.true (omega arith) (omega (arith, w.if-bid-least.false)) c.loop-i.invariant.below)
       ];
       order = elim c.if-bid-least.branch [
         | then-bid-least w ↦ omega (arith, w.kept-is, c.loop-i.invariant.order)
@@ -112,17 +131,15 @@ loop-i-preserved c =
       kept = elim c.if-bid-least.branch [
         | then-bid-least w ↦ rw (w.kept-is, w.places-is) c.loop-i.invariant.kept
         | else-bid-least+in-Some w ↦ rw (w.kept-is, w.places-is) c.loop-i.invariant.kept
-        | else-bid-least+in_default+in_ok-places w ↦ rw (w.kept-is, w.places-is)
-            (λ _. subst (λ (ps : List Product). AreLastPlaces (length ps) bids i w.in_ok-places.places.items) same w.in_ok-places.ensures)
+        | else-bid-least+in_default+in_ok-places w ↦ rw (w.kept-is, w.places-is) (λ _. subst (λ (ps : List Product).
+            AreLastPlaces (length ps) bids i w.in_ok-places.places.items) same w.in_ok-places.ensures)
       ];
     }
 
 pub returns-clause-ok : goal.returns-clause-ok
-returns-clause-ok c =
-    none_at_fault c.args.setup.now.products c.args.prices.now c.args.demands.now c.args.bids.now c.loop-i.i c.loop-i.taken c.loop-i.invariant.judged
-    (omega (arith, c.loop-i-test.false))
+returns-clause-ok c = none_at_fault c.args.setup.now.products c.args.prices.now c.args.demands.now c.args.bids.now
+    c.loop-i.i c.loop-i.taken c.loop-i.invariant.judged (omega (arith, c.loop-i-test.false))
 
 pub returns-clause-taken : goal.returns-clause-taken
-returns-clause-taken c =
-    all_taken c.args.setup.now.products c.args.prices.now c.args.demands.now c.args.bids.now c.loop-i.i c.loop-i.taken c.loop-i.invariant.judged
-    (omega (arith, c.loop-i-test.false))
+returns-clause-taken c = all_taken c.args.setup.now.products c.args.prices.now c.args.demands.now c.args.bids.now
+    c.loop-i.i c.loop-i.taken c.loop-i.invariant.judged (omega (arith, c.loop-i-test.false))

@@ -13,12 +13,17 @@ loop-i-init c = elim c.if-kept-eq0.branch [
 
 pub index_mut-requires : goal.index_mut-requires
 index_mut-requires c =
-    omega (arith, c.loop-i.invariant.each, known_at c.args.products c.args.bids.now c.args.place c.loop-i.i c.requires.place c.requires.known c.loop-i-test.true)
+    omega (
+      arith,
+      c.loop-i.invariant.each,
+      known_at c.args.products c.args.bids.now c.args.place c.loop-i.i c.requires.place
+          c.requires.known c.loop-i-test.true,
+    )
 
 pub loop-i-preserved : goal.loop-i-preserved
 loop-i-preserved c =
     let bids = c.args.bids.now in
     let i = c.loop-i.i in
     let within : i < length bids = omega (arith, c.loop-i-test.true, c.requires.place) in
-    last_places-more c.args.products bids i c.loop-i.places.items within
-    (known_at c.args.products bids c.args.place i c.requires.place c.requires.known c.loop-i-test.true) c.loop-i.invariant
+    last_places-more c.args.products bids i c.loop-i.places.items within (known_at c.args.products bids c.args.place i
+    c.requires.place c.requires.known c.loop-i-test.true) c.loop-i.invariant

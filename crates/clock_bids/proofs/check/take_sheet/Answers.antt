@@ -11,35 +11,37 @@ use Rattle.clock_bids.proofs.check.take_sheet.Goals as goal
 
 pub returns-in_err-taken-clause-fault : goal.returns-in_err-taken-clause-fault
 returns-in_err-taken-clause-fault c =
-    let few : length c.args.bids ≤ most_bids = omega (arith, c.if-list-gt-MOST_BIDS.false, ap length c.as_slice-list.ensures) in
+    let few : length c.args.bids ≤ most_bids =
+    omega (arith, c.if-list-gt-MOST_BIDS.false, ap length c.as_slice-list.ensures) in
     let found = rw (c.as_slice.ensures, c.as_slice-list.ensures) at c.in_err-taken.ensures.fault in
     let told = err_from_is_err_and c.from_residual.result c.from_residual.ensures.1 in
-    rw (told.1, told.2)
-    (λ known. sheet_fault-of_bid (public_setup c.args.setup.now) c.args.own.round c.args.prices.now (holding_of c.args.own) c.args.bids few
-    c.in_err-taken.field-0.0 (found known))
+    rw (told.1, told.2) (λ known. sheet_fault-of_bid (public_setup c.args.setup.now) c.args.own.round c.args.prices.now
+    (holding_of c.args.own) c.args.bids few c.in_err-taken.field-0.0 (found known))
 
 pub returns-then-taken-limit-clause-fault : goal.returns-then-taken-limit-clause-fault
 returns-then-taken-limit-clause-fault c =
     let setup = public_setup c.args.setup.now in
     let holding = holding_of c.args.own in
-    let few : length c.args.bids ≤ most_bids = omega (arith, c.if-list-gt-MOST_BIDS.false, ap length c.as_slice-list.ensures) in
+    let few : length c.args.bids ≤ most_bids =
+    omega (arith, c.if-list-gt-MOST_BIDS.false, ap length c.as_slice-list.ensures) in
     let good = rw (c.as_slice.ensures, c.as_slice-list.ensures) at c.in_ok-taken.ensures.ok in
     let taken = rw c.as_slice-list.ensures at c.in_ok-taken.ensures.taken in
     let limit : c.match-own.limit ≡ activity_limit setup c.args.own.round holding.eligibility =
     elim c.match-own.branch [ goal.in-1 w ↦ search rules | goal.in_default w ↦ search rules ] in
-    let over : activity_limit setup c.args.own.round holding.eligibility < activity setup.products (asked_demands (length setup.products) c.args.bids) =
-    omega (arith, c.if-taken-limit.true, limit, taken) in
+    let over : activity_limit setup c.args.own.round holding.eligibility < activity setup.products
+    (asked_demands (length setup.products) c.args.bids) = omega (arith, c.if-taken-limit.true, limit, taken) in
     λ known. sheet_fault-over setup c.args.own.round c.args.prices.now holding c.args.bids few good over
 
 pub returns-clause-good : goal.returns-clause-good
 returns-clause-good c =
     let setup = public_setup c.args.setup.now in
     let holding = holding_of c.args.own in
-    let few : length c.args.bids ≤ most_bids = omega (arith, c.if-list-gt-MOST_BIDS.false, ap length c.as_slice-list.ensures) in
+    let few : length c.args.bids ≤ most_bids =
+    omega (arith, c.if-list-gt-MOST_BIDS.false, ap length c.as_slice-list.ensures) in
     let good = rw (c.as_slice.ensures, c.as_slice-list.ensures) at c.in_ok-taken.ensures.ok in
     let taken = rw c.as_slice-list.ensures at c.in_ok-taken.ensures.taken in
     let limit : c.match-own.limit ≡ activity_limit setup c.args.own.round holding.eligibility =
     elim c.match-own.branch [ goal.in-1 w ↦ search rules | goal.in_default w ↦ search rules ] in
-    let within : activity setup.products (asked_demands (length setup.products) c.args.bids) ≤ activity_limit setup c.args.own.round holding.eligibility =
-    omega (arith, c.if-taken-limit.false, limit, taken) in
+    let within : activity setup.products (asked_demands (length setup.products) c.args.bids)
+    ≤ activity_limit setup c.args.own.round holding.eligibility = omega (arith, c.if-taken-limit.false, limit, taken) in
     sheet_fault-none setup c.args.own.round c.args.prices.now holding c.args.bids few good within

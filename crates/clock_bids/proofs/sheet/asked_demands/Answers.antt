@@ -13,10 +13,10 @@ loop-bid-init c =
 pub loop-bid-preserved : goal.loop-bid-preserved
 loop-bid-preserved c =
     let bid = get_or c.args.bids.now c.loop-bid.bid-index no_bid in
-    let known : bid.product < length c.args.setup.now.products = c.requires c.loop-bid.bid-index no_bid c.loop-bid-test.true in
-    c.set.ensures
-    ∙ ap (λ asked. set asked bid.product bid.quantity) c.loop-bid.invariant
-    ∙ sym (asked_demands-more (length c.args.setup.now.products) c.args.bids.now c.loop-bid.bid-index c.loop-bid-test.true known)
+    let known : bid.product < length c.args.setup.now.products =
+    c.requires c.loop-bid.bid-index no_bid c.loop-bid-test.true in
+    c.set.ensures ∙ ap (λ asked. set asked bid.product bid.quantity) c.loop-bid.invariant ∙ sym (asked_demands-more
+    (length c.args.setup.now.products) c.args.bids.now c.loop-bid.bid-index c.loop-bid-test.true known)
 
 pub set-requires : goal.set-requires
 set-requires c =

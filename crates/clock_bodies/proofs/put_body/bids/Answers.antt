@@ -30,14 +30,21 @@ items-preserved c =
     let here = c.part.new.scan in
     let new = c.compact_bids-in-items.new.scan in
     let more = c.in_ok-compact_bids-2.ensures in
-    let reads : Reads 1 l.scan (bid_data next) here = subst (λ ts. Reads 1 ts (bid_data next) here) same c.in_ok-next.ensures.value in
+    let reads : Reads 1 l.scan (bid_data next) here =
+    subst (λ ts. Reads 1 ts (bid_data next) here) same c.in_ok-next.ensures.value in
     let list = more.1 ∙ ap (λ known. known ++ more.0) c.in_ok-push.ensures.items in (
       start,
       l.invariant.1,
       subst (λ list. HasItems 1 start (map bid_data list) new) (sym list)
           (items_push_all 1 bid_data start here new (l.list.items ++ next ∷ []) more.0
           (items_push_next 1 bid_data start l.scan here l.list.items next l.invariant.2 reads) more.2),
-      omega (arith, l.invariant.3, c.in_ok-next.ensures.shorter, ap length same, all_shorter 1 here (map bid_data more.0) new more.2),
+      omega (
+        arith,
+        l.invariant.3,
+        c.in_ok-next.ensures.shorter,
+        ap length same,
+        all_shorter 1 here (map bid_data more.0) new more.2,
+      ),
     )
 
 pub items-smaller : goal.items-smaller
@@ -45,7 +52,12 @@ items-smaller c =
     let here = c.part.new.scan in
     let more = c.in_ok-compact_bids-2.ensures in
     let same : c.closes.new.self ≡ c.items.scan = grind arith in
-    omega (arith, c.in_ok-next.ensures.shorter, ap length same, all_shorter 1 here (map bid_data more.0) c.compact_bids-in-items.new.scan more.2)
+    omega (
+      arith,
+      c.in_ok-next.ensures.shorter,
+      ap length same,
+      all_shorter 1 here (map bid_data more.0) c.compact_bids-in-items.new.scan more.2,
+    )
 
 pub returns-clause-value : goal.returns-clause-value
 returns-clause-value c =

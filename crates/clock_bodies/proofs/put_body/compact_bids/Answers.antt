@@ -18,6 +18,8 @@ bids-preserved c =
     let found = c.in-Some.bid in
     let bid : Bid = record { product = found.product; quantity = found.quantity; price = found.price } in (
       bids ++ bid ∷ [],
-      c.in_ok-push.ensures.items ∙ ap (λ known. known ++ bid ∷ []) l.invariant.1 ∙ append_assoc c.args.list.now.items bids (bid ∷ []),
-      all_push_next 1 bid_data c.args.scan.now l.scan c.compact_bid.new.self bids bid l.invariant.2 c.in-Some.ensures.value,
+      c.in_ok-push.ensures.items ∙ ap (λ known. known ++ bid ∷ []) l.invariant.1
+          ∙ append_assoc c.args.list.now.items bids (bid ∷ []),
+      all_push_next 1 bid_data c.args.scan.now l.scan c.compact_bid.new.self bids bid l.invariant.2
+          c.in-Some.ensures.value,
     )

@@ -6,8 +6,8 @@ use Rattle.clock_bodies.proofs.put_body.compact_bids.Given as goal
 
 -- the bids so far were read
 abbrev pub invariant-bids : goal.invariant-bids
-invariant-bids l =
-    (bids : List Bid) × (l.list.items ≡ l.initial.list.items ++ bids) × ReadsAll 1 l.initial.scan (map bid_data bids) l.scan
+invariant-bids l = (bids : List Bid) × (l.list.items ≡ l.initial.list.items ++ bids)
+    × ReadsAll 1 l.initial.scan (map bid_data bids) l.scan
 
 abbrev pub decreases-bids : goal.decreases-bids
 decreases-bids l = length l.scan

@@ -33,6 +33,7 @@ returns-in_err-short-clause-arrival g c =
     let told = g.R.Source.told in
     let loop = c.loop-read in
     let once = c.in-Ok.ensures in
-    rw (p.1, p.2) (no_room (record { before = told c.args.source.now; after = told c.read.new.self }) (told loop.source) loop.request
-    loop.invariant.read loop.invariant.needed (omega (arith, loop.invariant.counted, loop.invariant.used)) loop.invariant.unfailed
+    rw (p.1, p.2) (no_room (record { before = told c.args.source.now; after = told c.read.new.self })
+    (told loop.source) loop.request loop.invariant.read loop.invariant.needed
+    (omega (arith, loop.invariant.counted, loop.invariant.used)) loop.invariant.unfailed
     (omega (arith, once.counted, loop.invariant.counted)) (omega (arith, once.interrupted)) _ once.bytes.0 once.failed)

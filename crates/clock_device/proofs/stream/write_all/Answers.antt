@@ -14,7 +14,7 @@ loop-done-preserved g c =
     let wrote = rw (take_rest bytes c.loop-done.done) at c.in_ok-done.ensures.bytes in
     record {
       within = omega (arith, c.in_ok-done.ensures.within.1, length-drop {A = ℕ});
-      written = subst (λ (text : List ℕ). HasWritten old new text) (take_further bytes c.loop-done.done c.in_ok-done.field-0)
-          (written_twice old mid new _ _ c.loop-done.invariant.written wrote);
+      written = subst (λ (text : List ℕ). HasWritten old new text) (take_further bytes c.loop-done.done
+          c.in_ok-done.field-0) (written_twice old mid new _ _ c.loop-done.invariant.written wrote);
       unfailed = search rules;
     }

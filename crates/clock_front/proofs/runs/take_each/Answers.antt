@@ -20,16 +20,19 @@ pub loop-event-preserved : goal.loop-event-preserved
 loop-event-preserved g c =
     let setup = c.args.hub.now.hub.house.setup in
     let before = c.loop-event.invariant in
-    let limits : IsSetup setup = subst IsSetup (ap (λ (house : HouseFields). house.setup) (c.house.ensures ∙ c.front.ensures)) c.law_of_house.ensures.limits in
+    let limits : IsSetup setup = subst IsSetup
+    (ap (λ (house : HouseFields). house.setup) (c.house.ensures ∙ c.front.ensures)) c.law_of_house.ensures.limits in
     let hub = c.loop-event.hub in
     let next = c.take_event.new.self in
     let told = c.in_ok-reply.ensures in
     let way = goes_on setup limits c.args.events.now c.loop-event.event-index c.loop-event.replies hub.hub.connections
-    next.hub.connections hub.conns next.conns hub.hub.house next.hub.house
-    c.event-item.result c.in_ok-reply.field-0 before c.loop-event-test.true c.event-item.is (told.stands before.numbered before.stands)
+    next.hub.connections hub.conns next.conns hub.hub.house next.hub.house c.event-item.result c.in_ok-reply.field-0
+    before c.loop-event-test.true c.event-item.is (told.stands before.numbered before.stands)
     (told.told before.numbered before.stands) in
-    let replies : c.match-branch-2.replies ≡ kept c.loop-event.replies c.in_ok-reply.field-0 = elim c.match-branch-2.branch [
-      | in-Some+in_ok-push w ↦ w.replies-is ∙ w.in_ok-push.ensures.ok ∙ ap (kept c.loop-event.replies) (sym w.in-Some.is)
+    let replies : c.match-branch-2.replies ≡ kept c.loop-event.replies c.in_ok-reply.field-0 =
+    elim c.match-branch-2.branch [
+      | in-Some+in_ok-push w ↦
+          w.replies-is ∙ w.in_ok-push.ensures.ok ∙ ap (kept c.loop-event.replies) (sym w.in-Some.is)
       | in_default w ↦ w.replies-is ∙ ap (kept c.loop-event.replies) (sym w.in_default.is)
     ] in
     subst (λ (all : List EventReply). IsOnItsWay setup c.args.events.now
@@ -41,5 +44,5 @@ returns g c =
     let hub = c.loop-event.hub in
     let same = ap (λ (house : HouseFields). house.setup) (c.house.ensures ∙ c.front.ensures) in
     ends c.args.hub.now.hub.house.setup c.args.events.now c.loop-event.event-index c.loop-event.replies
-    hub.hub.connections hub.conns hub.hub.house way (omega arith)
-    (λ commands. subst (λ (setup : SetupFields). IsSound setup (history setup commands)) same (c.law_of_house.ensures.sound commands))
+    hub.hub.connections hub.conns hub.hub.house way (omega arith) (λ commands. subst
+    (λ (setup : SetupFields). IsSound setup (history setup commands)) same (c.law_of_house.ensures.sound commands))

@@ -21,19 +21,23 @@ pub returns-in-Ok-write_all-clause-served : goal.returns-in-Ok-write_all-clause-
 returns-in-Ok-write_all-clause-served g c =
     let told = g.W.Sink.told in
     let join = c.match-read_request in
-    let reading : Reading = record { before = g.R.Source.told c.args.source.now; after = g.R.Source.told c.read_request.new.source } in
+    let reading : Reading =
+    record { before = g.R.Source.told c.args.source.now; after = g.R.Source.told c.read_request.new.source } in
     let answered : IsAnswerTo reading join.reply c.args.front.now join.front = elim join.branch [
-      | in-Ok w ↦ answer_read reading w.in-Ok.request w.answer_framed-reply.result join.reply c.args.front.now w.answer_framed-reply.new.self join.front
-          w.reply-is w.front-is w.in-Ok.ensures.arrival (w.answer_framed-reply.ensures.answered w.in-Ok.request w.framing.ensures)
+      | in-Ok w ↦ answer_read reading w.in-Ok.request w.answer_framed-reply.result join.reply c.args.front.now
+          w.answer_framed-reply.new.self join.front w.reply-is w.front-is w.in-Ok.ensures.arrival
+          (w.answer_framed-reply.ensures.answered w.in-Ok.request w.framing.ensures)
           (w.answer_framed-reply.ensures.private w.in-Ok.request w.framing.ensures)
-      | in-Err-Memory w ↦ answer_unread reading w.no_memory_reply-reply.result join.reply c.args.front.now join.front w.reply-is w.front-is
-          (rw w.in-Err-Memory.field-0-is at w.in-Err-Memory.ensures.arrival) w.no_memory_reply-reply.ensures
+      | in-Err-Memory w ↦
+          answer_unread reading w.no_memory_reply-reply.result join.reply c.args.front.now join.front w.reply-is
+          w.front-is (rw w.in-Err-Memory.field-0-is at w.in-Err-Memory.ensures.arrival) w.no_memory_reply-reply.ensures
     ] in (
       join.reply,
       answered,
       sym c.code-code.ensures,
       record {
-        bytes = subst (λ (b : List ℕ). HasWritten (told c.args.sink.now).taken (told c.write_all.new.sink).taken b) c.bytes.ensures c.in-Ok-write_all.ensures.bytes;
+        bytes = subst (λ (b : List ℕ). HasWritten (told c.args.sink.now).taken (told c.write_all.new.sink).taken b)
+            c.bytes.ensures c.in-Ok-write_all.ensures.bytes;
         unfailed = c.in-Ok-write_all.ensures.failed ∙ rw c.requires.unused.unfailed refl;
       },
     )
@@ -41,8 +45,8 @@ returns-in-Ok-write_all-clause-served g c =
 pub returns-in-Ok-write_all-clause-stands : goal.returns-in-Ok-write_all-clause-stands
 returns-in-Ok-write_all-clause-stands g c =
     elim c.match-read_request.branch [
-      | in-Ok w ↦ rw w.front-is (served_one w.in-Ok.request w.answer_framed-reply.result c.args.front.now w.answer_framed-reply.new.self
-          (w.answer_framed-reply.ensures.answered w.in-Ok.request w.framing.ensures))
+      | in-Ok w ↦ rw w.front-is (served_one w.in-Ok.request w.answer_framed-reply.result c.args.front.now
+          w.answer_framed-reply.new.self (w.answer_framed-reply.ensures.answered w.in-Ok.request w.framing.ensures))
       | in-Err-Memory w ↦ rw w.front-is (served_none 1 c.args.front.now)
     ]
 
@@ -50,19 +54,23 @@ pub returns-clause-served : goal.returns-clause-served
 returns-clause-served g c =
     let told = g.W.Sink.told in
     let join = c.match-read_request in
-    let reading : Reading = record { before = g.R.Source.told c.args.source.now; after = g.R.Source.told c.read_request.new.source } in
+    let reading : Reading =
+    record { before = g.R.Source.told c.args.source.now; after = g.R.Source.told c.read_request.new.source } in
     let answered : IsAnswerTo reading join.reply c.args.front.now join.front = elim join.branch [
-      | in-Ok w ↦ answer_read reading w.in-Ok.request w.answer_framed-reply.result join.reply c.args.front.now w.answer_framed-reply.new.self join.front
-          w.reply-is w.front-is w.in-Ok.ensures.arrival (w.answer_framed-reply.ensures.answered w.in-Ok.request w.framing.ensures)
+      | in-Ok w ↦ answer_read reading w.in-Ok.request w.answer_framed-reply.result join.reply c.args.front.now
+          w.answer_framed-reply.new.self join.front w.reply-is w.front-is w.in-Ok.ensures.arrival
+          (w.answer_framed-reply.ensures.answered w.in-Ok.request w.framing.ensures)
           (w.answer_framed-reply.ensures.private w.in-Ok.request w.framing.ensures)
-      | in-Err-Memory w ↦ answer_unread reading w.no_memory_reply-reply.result join.reply c.args.front.now join.front w.reply-is w.front-is
-          (rw w.in-Err-Memory.field-0-is at w.in-Err-Memory.ensures.arrival) w.no_memory_reply-reply.ensures
+      | in-Err-Memory w ↦
+          answer_unread reading w.no_memory_reply-reply.result join.reply c.args.front.now join.front w.reply-is
+          w.front-is (rw w.in-Err-Memory.field-0-is at w.in-Err-Memory.ensures.arrival) w.no_memory_reply-reply.ensures
     ] in (
       join.reply,
       answered,
       sym c.code-code.ensures,
       record {
-        bytes = subst (λ (b : List ℕ). HasWrittenFront (told c.args.sink.now).taken (told c.write_all.new.sink).taken b) c.bytes.ensures c.in-Err.ensures.bytes;
+        bytes = subst (λ (b : List ℕ). HasWrittenFront (told c.args.sink.now).taken (told c.write_all.new.sink).taken b)
+            c.bytes.ensures c.in-Err.ensures.bytes;
         failed = c.in-Err.ensures.failed ∙ rw c.requires.unused.unfailed refl;
       },
     )
@@ -70,7 +78,7 @@ returns-clause-served g c =
 pub returns-clause-stands : goal.returns-clause-stands
 returns-clause-stands g c =
     elim c.match-read_request.branch [
-      | in-Ok w ↦ rw w.front-is (served_one w.in-Ok.request w.answer_framed-reply.result c.args.front.now w.answer_framed-reply.new.self
-          (w.answer_framed-reply.ensures.answered w.in-Ok.request w.framing.ensures))
+      | in-Ok w ↦ rw w.front-is (served_one w.in-Ok.request w.answer_framed-reply.result c.args.front.now
+          w.answer_framed-reply.new.self (w.answer_framed-reply.ensures.answered w.in-Ok.request w.framing.ensures))
       | in-Err-Memory w ↦ rw w.front-is (served_none 1 c.args.front.now)
     ]

@@ -4,10 +4,11 @@ use Rattle.clock_http.proofs.ResultLaws.{fault_told, value_told}
 use Rattle.clock_http.proofs.decimal.number.Goals as goal
 
 pub returns-in_err-ok : goal.returns-in_err-ok
-returns-in_err-ok c =
-    absurd ((fault_told c.from_utf8.result _ _ c.in_err-ok.ensures.value c.from_utf8.ensures.cases).1.0 (digits_text c.args.digits.now c.requires))
+returns-in_err-ok c = absurd ((fault_told c.from_utf8.result _ _ c.in_err-ok.ensures.value
+    c.from_utf8.ensures.cases).1.0 (digits_text c.args.digits.now c.requires))
 
 pub returns : goal.returns
 returns c =
     let text = value_told c.from_utf8.result _ _ c.in_ok-ok.ensures.value c.from_utf8.ensures.cases in
-    number_read c.args.digits.now c.requires c.in_ok-ok.field-0.now c.parse.result c.ok-2.result text.0 c.parse.ensures.value.0 c.ok-2.ensures.value
+    number_read c.args.digits.now c.requires c.in_ok-ok.field-0.now c.parse.result c.ok-2.result text.0
+    c.parse.ensures.value.0 c.ok-2.ensures.value

@@ -18,8 +18,9 @@ use Rattle.clock_http.proofs.head.read_parts.Goals as goal
 pub returns-in_default-clause-shown : goal.returns-in_default-clause-shown
 returns-in_default-clause-shown c =
     let is = c.in-Ok-Complete.is ∙ ap Ok c.in-Ok-Complete.field-0-is in
-    no_head c.args.bytes.now c.requires.few c.requires.tight (not_parsed _ _ _ _ c.requires.room c.requires.tight c.parse_request.ensures.found
-    (λ h. c.if-found-bytes.false (subst (λ (r : Result (Status RequestSpans) Error). IsCompleteAnd r (λ r. r.len ≡ length c.args.bytes.now)) is h)))
+    no_head c.args.bytes.now c.requires.few c.requires.tight
+    (not_parsed _ _ _ _ c.requires.room c.requires.tight c.parse_request.ensures.found (λ h. c.if-found-bytes.false
+    (subst (λ (r : Result (Status RequestSpans) Error). IsCompleteAnd r (λ r. r.len ≡ length c.args.bytes.now)) is h)))
 
 pub returns-in_default-2-clause-shown : goal.returns-in_default-2-clause-shown
 returns-in_default-2-clause-shown c =
@@ -27,10 +28,9 @@ returns-in_default-2-clause-shown c =
     (not_parsed _ _ _ _ c.requires.room c.requires.tight c.parse_request.ensures.found (search rules))
 
 pub returns-in_default-3-clause-shown : goal.returns-in_default-3-clause-shown
-returns-in_default-3-clause-shown c =
-    no_head c.args.bytes.now c.requires.few c.requires.tight
-    (not_parsed _ _ _ _ c.requires.room c.requires.tight c.parse_request.ensures.found
-    (subst (λ (r : Result (Status RequestSpans) Error). IsCompleteAnd r (λ r. r.len ≡ length c.args.bytes.now)) c.in_default.is))
+returns-in_default-3-clause-shown c = no_head c.args.bytes.now c.requires.few c.requires.tight (not_parsed _ _ _ _
+    c.requires.room c.requires.tight c.parse_request.ensures.found (subst (λ (r : Result (Status RequestSpans) Error).
+    IsCompleteAnd r (λ r. r.len ≡ length c.args.bytes.now)) c.in_default.is))
 
 pub returns-clause-shown : goal.returns-clause-shown
 returns-clause-shown c =
@@ -38,8 +38,8 @@ returns-clause-shown c =
     let found = c.in-Ok-Complete.found in
     let is = c.in-Ok-Complete.is ∙ ap Ok c.in-Ok-Complete.field-0-is in
     let got : (h : RequestHead) × (head_of bytes ≡ Some h) × IsRequestAt bytes c.parse_request.new.headers found h =
-    parsed _ _ _ c.requires.tight c.if-found-bytes.true
-    (subst (λ (r : Result (Status RequestSpans) Error). IfComplete r (IsRequestOf bytes c.parse_request.new.headers)) is c.parse_request.ensures.complete) in
+    parsed _ _ _ c.requires.tight c.if-found-bytes.true (subst (λ (r : Result (Status RequestSpans) Error). IfComplete r
+    (IsRequestOf bytes c.parse_request.new.headers)) is c.parse_request.ensures.complete) in
     read_is bytes _ _ got.0 (span_bytes bytes found.method) (span_bytes bytes found.path) _ _ _
     c.requires.few c.requires.tight got.1 got.2
     refl refl c.path_of.ensures.shown (c.token.ensures.shown _ c.fields_of-fields.ensures)
@@ -57,7 +57,7 @@ returns-in_err-body-clause-shown c =
     let found = c.in-Ok-Complete.found in
     let is = c.in-Ok-Complete.is ∙ ap Ok c.in-Ok-Complete.field-0-is in
     let got : (h : RequestHead) × (head_of bytes ≡ Some h) × IsRequestAt bytes c.parse_request.new.headers found h =
-    parsed _ _ _ c.requires.tight c.if-found-bytes.true
-    (subst (λ (r : Result (Status RequestSpans) Error). IfComplete r (IsRequestOf bytes c.parse_request.new.headers)) is c.parse_request.ensures.complete) in
-    handed_on bytes c.from_residual.result _ c.from_residual.ensures.1
-    (no_length bytes _ _ got.0 _ c.requires.few c.requires.tight got.1 got.2 (c.in_err-body.ensures _ c.fields_of-fields.ensures))
+    parsed _ _ _ c.requires.tight c.if-found-bytes.true (subst (λ (r : Result (Status RequestSpans) Error). IfComplete r
+    (IsRequestOf bytes c.parse_request.new.headers)) is c.parse_request.ensures.complete) in
+    handed_on bytes c.from_residual.result _ c.from_residual.ensures.1 (no_length bytes _ _ got.0 _ c.requires.few
+    c.requires.tight got.1 got.2 (c.in_err-body.ensures _ c.fields_of-fields.ensures))

@@ -1,6 +1,7 @@
 -- The inserts, one after the other, make the table.
 use Rattle.std.proofs.Common.{codes, ◌∙◌, ap}
-use Rattle.clock_http.specs.declared.routes.Page.TheVariants.{Status, Products, Sheet, Account, Bids, Slip, Close, Results}
+use Rattle.clock_http.specs.declared.routes.Page.TheVariants.{Status, Products, Sheet, Account, Bids, Slip, Close}
+use Rattle.clock_http.specs.declared.routes.Page.TheVariants.{Results}
 use Rattle.clock_http.specs.inside.Routing.{with_route, table}
 use Rattle.clock_http.proofs.RouteLaws.{added}
 use Rattle.clock_http.proofs.routes.add_routes.Goals as goal

@@ -19,5 +19,5 @@ returns-in-Some c =
 pub returns-in-None : goal.returns-in-None
 returns-in-None c =
     let path = c.args.path.now in
-    sym (take_rest path 0)
-    ∙ segment_is path 0 (length path) (omega arith) refl (λ k low high same. c.in-None.ensures k low high (rw same refl)) (λ some. absurd (omega (arith, some)))
+    sym (take_rest path 0) ∙ segment_is path 0 (length path) (omega arith) refl
+    (λ k low high same. c.in-None.ensures k low high (rw same refl)) (λ some. absurd (omega (arith, some)))

@@ -13,7 +13,7 @@ returns-clause-number c =
     record {
       few = (omega arith, omega arith);
       small = omega (arith, c.if-byte-gt57.false);
-      value = λ ended. ap (lex between) (at_byte bytes at d (omega (arith, c.requires)) refl)
-          ∙ lex-digits (d ∷ []) (drop (at + 1) bytes) (d - 48) ((omega (arith, v, c.if-byte-gt57.false)), tt) (digits_value_push 10 [] d ∙ omega (arith, v))
-          (omega (arith, c.if-byte-gt57.false)) (omega arith) (λ _. refl) ended;
+      value = λ ended. ap (lex between) (at_byte bytes at d (omega (arith, c.requires)) refl) ∙ lex-digits (d ∷ [])
+          (drop (at + 1) bytes) (d - 48) ((omega (arith, v, c.if-byte-gt57.false)), tt) (digits_value_push 10 [] d
+          ∙ omega (arith, v)) (omega (arith, c.if-byte-gt57.false)) (omega arith) (λ _. refl) ended;
     }

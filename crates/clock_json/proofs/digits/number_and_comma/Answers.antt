@@ -20,7 +20,8 @@ returns-clause-value c =
     let end = c.in_ok-n.end in
     let room = c.has_room.ensures c.if-not-has_room.false in
     given _ _ _ _ c.then_some.ensures (λ is.
-    let mark = comma_stands _ _ (one_then bytes end (end + 1) 44 (omega (arith, room, c.in_ok-n.ensures.few.1)) (eqb-true _ 44 is) (omega arith)) in
+    let mark = comma_stands _ _
+    (one_then bytes end (end + 1) 44 (omega (arith, room, c.in_ok-n.ensures.few.1)) (eqb-true _ 44 is) (omega arith)) in
     c.in_ok-n.ensures.value mark.0 ∙ ap (λ ls. token (number (decimal c.in_ok-n.n)) ∷ ls) mark.1)
 
 pub returns-in-Some-clause-value : goal.returns-in-Some-clause-value
@@ -28,5 +29,6 @@ returns-in-Some-clause-value c =
     let bytes = c.args.bytes.now in
     let at = c.args.at in
     let room = c.has_room.ensures c.if-not-has_room.false in
-    let mark = comma_stands _ _ (one_then bytes (at + 1) (at + 2) 44 (omega (arith, room)) c.in-Some.ensures.mark (omega arith)) in
+    let mark =
+    comma_stands _ _ (one_then bytes (at + 1) (at + 2) 44 (omega (arith, room)) c.in-Some.ensures.mark (omega arith)) in
     c.in-Some.ensures.number.value mark.0 ∙ ap (λ ls. token (number (decimal c.in-Some.n)) ∷ ls) mark.1

@@ -12,13 +12,14 @@ returns c =
     let ds = take count (drop start bytes) in
     let split : drop start bytes ≡ ds ++ drop (start + count) bytes =
     sym (take-append-drop count (drop start bytes)) ∙ ap (λ rest. ds ++ rest) (drop-drop count start bytes) in
-    let size : length ds ≡ count = length-take-le count (drop start bytes) (omega (arith, c.requires, length-drop start bytes, c.if-count-gt8.false)) in
+    let size : length ds ≡ count = length-take-le count (drop start bytes)
+    (omega (arith, c.requires, length-drop start bytes, c.if-count-gt8.false)) in
     let some : 0 < length ds = omega (arith, size, c.if-count-eq0.false) in
     let first = first_of bytes ds start (start + count) split some in
     record {
       few = (omega (arith, some, size), omega (arith, c.if-count-gt8.false));
       small = omega (arith, c.value_of.ensures.small);
-      value = λ ended. ap (lex between) split
-          ∙ lex-digits ds (drop (start + count) bytes) c.value_of.result c.value_of.ensures.digits (sym c.value_of.ensures.value)
-          (omega (arith, c.value_of.ensures.small)) some (λ e. omega (arith, alone (get_or bytes start 0) count c.if-bytes-start.false (sym first ∙ e), size)) ended;
+      value = λ ended. ap (lex between) split ∙ lex-digits ds (drop (start + count) bytes) c.value_of.result
+          c.value_of.ensures.digits (sym c.value_of.ensures.value) (omega (arith, c.value_of.ensures.small)) some
+          (λ e. omega (arith, alone (get_or bytes start 0) count c.if-bytes-start.false (sym first ∙ e), size)) ended;
     }

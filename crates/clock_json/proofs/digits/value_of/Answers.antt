@@ -9,25 +9,29 @@ pub overflow_mul-value : goal.overflow_mul-value
 overflow_mul-value c =
     let i = c.loop-i.i in
     record {
-      fits = weighed _ (8 - c.args.count + i) (c.type_inv.bytes (c.args.at + i)).fits (omega (arith, c.requires.most, c.loop-i-test.true));
+      fits = weighed _ (8 - c.args.count + i)
+          (c.type_inv.bytes (c.args.at + i)).fits (omega (arith, c.requires.most, c.loop-i-test.true));
     }
 
 pub overflow_add-value-in-loop-i : goal.overflow_add-value-in-loop-i
 overflow_add-value-in-loop-i c =
     let i = c.loop-i.i in
     record {
-      fits = (step c.args.bytes.now c.args.at c.args.count i c.requires.most c.loop-i-test.true c.loop-i.value c.requires.room c.requires.digits
+      fits = (step c.args.bytes.now c.args.at c.args.count i c.requires.most c.loop-i-test.true c.loop-i.value
+          c.requires.room c.requires.digits
           (c.type_inv.bytes (c.args.at + i)).fits c.loop-i.auto.value-fits.fits c.loop-i.invariant).0;
     }
 
 pub loop-i-preserved : goal.loop-i-preserved
 loop-i-preserved c =
     let i = c.loop-i.i in
-    (step c.args.bytes.now c.args.at c.args.count i c.requires.most c.loop-i-test.true c.loop-i.value c.requires.room c.requires.digits
-    (c.type_inv.bytes (c.args.at + i)).fits c.loop-i.auto.value-fits.fits c.loop-i.invariant).1
+    (step c.args.bytes.now c.args.at c.args.count i c.requires.most c.loop-i-test.true c.loop-i.value c.requires.room
+    c.requires.digits (c.type_inv.bytes (c.args.at + i)).fits c.loop-i.auto.value-fits.fits c.loop-i.invariant).1
 
 pub returns-clause-digits : goal.returns-clause-digits
-returns-clause-digits c = (all_counted c.args.bytes.now c.args.at c.args.count c.loop-i.i c.loop-i.value c.requires.most (omega (arith, c.loop-i-test.false)) c.loop-i.invariant).0
+returns-clause-digits c = (all_counted c.args.bytes.now c.args.at c.args.count c.loop-i.i c.loop-i.value c.requires.most
+    (omega (arith, c.loop-i-test.false)) c.loop-i.invariant).0
 
 pub returns-clause-value : goal.returns-clause-value
-returns-clause-value c = (all_counted c.args.bytes.now c.args.at c.args.count c.loop-i.i c.loop-i.value c.requires.most (omega (arith, c.loop-i-test.false)) c.loop-i.invariant).1
+returns-clause-value c = (all_counted c.args.bytes.now c.args.at c.args.count c.loop-i.i c.loop-i.value c.requires.most
+    (omega (arith, c.loop-i-test.false)) c.loop-i.invariant).1

@@ -5,8 +5,8 @@ use Rattle.clock_json.proofs.words.plain_end_slowly.Given as goal
 
 -- the text that is left ends where the whole does
 abbrev pub invariant-text : goal.invariant-text
-invariant-text l =
-    (l.start + prefix_len is_plain (drop l.start l.bytes) ≡ l.end + prefix_len is_plain (drop l.end l.bytes)) × (l.end ≤ length l.bytes)
+invariant-text l = (l.start + prefix_len is_plain (drop l.start l.bytes)
+    ≡ l.end + prefix_len is_plain (drop l.end l.bytes)) × (l.end ≤ length l.bytes)
 
 abbrev pub decreases-text : goal.decreases-text
 decreases-text l = length l.bytes - l.end

@@ -17,8 +17,8 @@ returns-clause-lexes c =
     let rest = drop (at + 1) bytes in
     let n = prefix_len is_plain rest in
     let s = take n rest in
-    let is : rest ≡ s ++ drop end bytes =
-    sym (take-append-drop n rest) ∙ ap (λ r. s ++ r) (drop-drop n (at + 1) bytes ∙ ap (λ k. drop k bytes) (sym c.plain_end-end.ensures)) in
+    let is : rest ≡ s ++ drop end bytes = sym (take-append-drop n rest)
+    ∙ ap (λ r. s ++ r) (drop-drop n (at + 1) bytes ∙ ap (λ k. drop k bytes) (sym c.plain_end-end.ensures)) in
     let opens = c.is_at.ensures c.if-not-is_at.false in
     let closes = c.is_at-2.ensures c.if-not-is_at-2.false in
     quoted_at bytes s at end opens.0 opens.1 is (plain_front rest) closes.0 closes.1

@@ -13,12 +13,12 @@ returns g c =
     let begun : IsAt front [] = c.requires in
     record {
       read = is_taken_up (IsAt front) begun now digest bytes c.recover.result c.recover.ensures.read;
-      crash = λ texts least leaves.
-          has_taken_up (IsAt front) begun now digest bytes texts least c.recover.result (c.recover.ensures.crash texts least leaves);
+      crash = λ texts least leaves. has_taken_up (IsAt front) begun now digest bytes texts least c.recover.result
+          (c.recover.ensures.crash texts least leaves);
       any_tail = λ texts begins.
           has_taken_up_first (IsAt front) begun now digest texts (length (file_of digest texts)) c.recover.result
           (c.recover.ensures.any_tail texts begins);
-      refused = refused_in (IsAt front) begun (IsRefused front.setup) digest (drop 56 bytes) (length bytes) c.recover.result
-          c.recover.ensures.refused;
+      refused = refused_in (IsAt front) begun (IsRefused front.setup) digest (drop 56 bytes)
+          (length bytes) c.recover.result c.recover.ensures.refused;
       setup = c.recover.ensures.rules;
     }

@@ -7,18 +7,22 @@ use Rattle.clock_keeping.proofs.taking.resume_auction.Goals as goal
 
 pub returns-clause-in_step : goal.returns-clause-in_step
 returns-clause-in_step g c written =
-    let up : HasReplayedFile c.args.journal.now.chain c.args.bytes.now c.in_ok-recovered.recovered c.replay_journal.new.auction.front = search rules in
+    let up : HasReplayedFile c.args.journal.now.chain c.args.bytes.now c.in_ok-recovered.recovered
+    c.replay_journal.new.auction.front = search rules in
     record {
       texts = up.texts;
       placed = up.placed;
-      in_step = record { has = search (rules, c.resume.ensures.kept c.args.bytes.now up.texts written up.placed); stands = up.stands };
+      in_step = record {
+        has = search (rules, c.resume.ensures.kept c.args.bytes.now up.texts written up.placed);
+        stands = up.stands;
+      };
     }
 
 pub returns-clause-resumed : goal.returns-clause-resumed
 returns-clause-resumed g c texts least written leaves =
     let same = c.chain.ensures in
-    let up : HasReplayedAtLeast c.chain.result.now c.args.bytes.now texts least c.replay_journal.new.auction.front c.in_ok-recovered.recovered =
-    search (
+    let up : HasReplayedAtLeast c.chain.result.now c.args.bytes.now texts least c.replay_journal.new.auction.front
+    c.in_ok-recovered.recovered = search (
       rules,
       c.replay_journal.ensures.crash texts least
           (subst (λ (digest : List ℕ). LeavesJournal digest c.args.bytes.now texts least) (sym same) leaves),
@@ -30,8 +34,8 @@ returns-clause-resumed g c texts least written leaves =
       in_step = record {
         has = search (
           rules,
-          c.resume.ensures.kept c.args.bytes.now (take up.count texts) written
-              (subst (λ (digest : List ℕ). IsPlaced digest c.args.bytes.now (take up.count texts) c.in_ok-recovered.recovered) same up.placed),
+          c.resume.ensures.kept c.args.bytes.now (take up.count texts) written (subst (λ (digest : List ℕ).
+              IsPlaced digest c.args.bytes.now (take up.count texts) c.in_ok-recovered.recovered) same up.placed),
         );
         stands = up.stands;
       };
@@ -47,12 +51,14 @@ returns-in_err-recovered-clause-resumed g c texts least written leaves =
 
 pub returns-clause-crash : goal.returns-clause-crash
 returns-clause-crash g c synced texts least written on_disk =
-    let up : HasReplayedFile c.args.journal.now.chain c.args.bytes.now c.in_ok-recovered.recovered c.replay_journal.new.auction.front = search rules in
+    let up : HasReplayedFile c.args.journal.now.chain c.args.bytes.now c.in_ok-recovered.recovered
+    c.replay_journal.new.auction.front = search rules in
     c.resume.ensures.crash c.args.bytes.now synced up.texts texts least written on_disk up.placed
 
 pub returns-clause-any_tail : goal.returns-clause-any_tail
 returns-clause-any_tail g c synced texts written on_disk =
-    let up : HasReplayedFile c.args.journal.now.chain c.args.bytes.now c.in_ok-recovered.recovered c.replay_journal.new.auction.front = search rules in
+    let up : HasReplayedFile c.args.journal.now.chain c.args.bytes.now c.in_ok-recovered.recovered
+    c.replay_journal.new.auction.front = search rules in
     c.resume.ensures.any_tail c.args.bytes.now synced up.texts texts written on_disk up.placed
 
 pub returns-in_err-recovered-clause-crash : goal.returns-in_err-recovered-clause-crash
@@ -65,10 +71,12 @@ returns-in_err-recovered-clause-any_tail g c synced texts written on_disk before
 
 pub returns-in_err-or-clause-crash : goal.returns-in_err-or-clause-crash
 returns-in_err-or-clause-crash g c synced texts least written on_disk =
-    let up : HasReplayedFile c.args.journal.now.chain c.args.bytes.now c.in_ok-recovered.recovered c.replay_journal.new.auction.front = search rules in
+    let up : HasReplayedFile c.args.journal.now.chain c.args.bytes.now c.in_ok-recovered.recovered
+    c.replay_journal.new.auction.front = search rules in
     c.resume.ensures.crash c.args.bytes.now synced up.texts texts least written on_disk up.placed
 
 pub returns-in_err-or-clause-any_tail : goal.returns-in_err-or-clause-any_tail
 returns-in_err-or-clause-any_tail g c synced texts written on_disk =
-    let up : HasReplayedFile c.args.journal.now.chain c.args.bytes.now c.in_ok-recovered.recovered c.replay_journal.new.auction.front = search rules in
+    let up : HasReplayedFile c.args.journal.now.chain c.args.bytes.now c.in_ok-recovered.recovered
+    c.replay_journal.new.auction.front = search rules in
     c.resume.ensures.any_tail c.args.bytes.now synced up.texts texts written on_disk up.placed

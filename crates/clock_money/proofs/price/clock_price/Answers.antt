@@ -28,5 +28,5 @@ returns-clause-raised c =
 
 pub returns-clause-none : goal.returns-clause-none
 returns-clause-none c =
-    subst (λ price. IfNone price ((p : ℕ) → IsRaised c.args.start c.args.percent c.args.granule p → highest_price < p)) (sym (returns-clause-exact c))
-    (raise_none c.args.start c.args.percent c.args.granule c.requires.granule_least)
+    subst (λ price. IfNone price ((p : ℕ) → IsRaised c.args.start c.args.percent c.args.granule p → highest_price < p))
+    (sym (returns-clause-exact c)) (raise_none c.args.start c.args.percent c.args.granule c.requires.granule_least)

@@ -16,10 +16,10 @@ loop-i-preserved c =
     let product = c.index-products-i.result in
     let pair = c.index-prices-i.result in
     let here : c.if-excess.push ≡ f i = elim c.if-excess.branch [
-      | then-excess w ↦ w.push-is ∙ least_above c.args.products.now prices grid i product pair c.loop-i-test.true c.requires.prices c.index-products-i.is
-          c.index-prices-i.is (omega arith)
-      | else-excess w ↦ w.push-is ∙ least_within c.args.products.now prices grid i product pair c.loop-i-test.true c.requires.prices c.index-products-i.is
-          c.index-prices-i.is (omega arith)
+      | then-excess w ↦ w.push-is ∙ least_above c.args.products.now prices grid i product pair c.loop-i-test.true
+          c.requires.prices c.index-products-i.is c.index-prices-i.is (omega arith)
+      | else-excess w ↦ w.push-is ∙ least_within c.args.products.now prices grid i product pair c.loop-i-test.true
+          c.requires.prices c.index-products-i.is c.index-prices-i.is (omega arith)
     ] in
     record {
       so_far = c.push.ensures.items

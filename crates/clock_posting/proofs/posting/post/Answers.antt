@@ -14,7 +14,8 @@ posting-requires c =
     let prices = c.args.prices.now in
     let settled = c.args.settled.now in
     let same : c.as_slice-products.result.now ≡ products = search rules in
-    let limits : All IsProduct products = subst (λ (setup : SetupFields). All IsProduct setup.products) c.setup.view_is c.setup.invariant.products in
+    let limits : All IsProduct products =
+    subst (λ (setup : SetupFields). All IsProduct setup.products) c.setup.view_is c.setup.invariant.products in
     rw (
       c.as_slice-3.ensures,
       c.grid-2.ensures,
@@ -26,7 +27,8 @@ posting-requires c =
       c.grid.ensures,
       same,
     )
-    (later_round_end products prices c.args.changes.now settled.left settled.grid c.args.increments.now limits c.requires.grid.1
+    (later_round_end products prices c.args.changes.now settled.left settled.grid c.args.increments.now
+    limits c.requires.grid.1
     c.requires.increments c.requires.prices c.requires.ordered c.requires.changes)
 
 pub returns-clause-err : goal.returns-clause-err
@@ -48,6 +50,7 @@ returns-clause-clock c =
     let products = c.args.setup.now.products in
     let settled = c.args.settled.now in
     let posted = posted_prices products c.args.prices.now c.args.changes.now settled.left settled.grid in
-    IfOk-weaker c.posting.result (IsPosting c.args.round products c.args.prices.now settled.grid posted c.args.increments.now)
-    (λ posting. IfSome posting.next (λ _. Any IsAtClock posting.sheet.lines))
-    (clock_posted products c.args.prices.now c.args.changes.now settled.left settled.grid c.args.round c.args.increments.now) (search rules)
+    IfOk-weaker c.posting.result
+    (IsPosting c.args.round products c.args.prices.now settled.grid posted c.args.increments.now)
+    (λ posting. IfSome posting.next (λ _. Any IsAtClock posting.sheet.lines)) (clock_posted products c.args.prices.now
+    c.args.changes.now settled.left settled.grid c.args.round c.args.increments.now) (search rules)

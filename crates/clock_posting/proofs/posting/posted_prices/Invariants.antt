@@ -7,6 +7,6 @@ use Rattle.clock_posting.proofs.posting.posted_prices.Given as goal
 abbrev pub invariant-loop-i : goal.invariant-loop-i
 invariant-loop-i l = record {
   lengths : length l.posted ≡ length l.prices;
-  rest : (p : ℕ) → p < length l.prices → fold max (get_or l.posted p 0) (applied_prices (drop l.i l.changes) (drop l.i l.left) p)
-      ≡ fold max (least_price l.products l.prices l.grid p) (applied_prices l.changes l.left p);
+  rest : (p : ℕ) → p < length l.prices → fold max (get_or l.posted p 0) (applied_prices (drop l.i l.changes)
+      (drop l.i l.left) p) ≡ fold max (least_price l.products l.prices l.grid p) (applied_prices l.changes l.left p);
 }

@@ -12,15 +12,14 @@ returns c =
     let end : drop c.put_before-end.result c.put_before-end.new.bytes ≡ codes "\n" = search rules in
     let next = c.put_field-next.ensures.put ∙ ap (field (number_or_dash line.next)) end in
     let demand = c.put_field-demand.ensures.put ∙ ap (field (number_or_dash line.demand)) next in
-    let posted = c.put_field-posted.ensures.put
-    ∙ ap (λ (n : ℕ). field (decimal n) (drop c.put_field-demand.result c.put_field-demand.new.bytes)) c.get.ensures.value
-    ∙ ap (field (decimal line.posted)) demand in
-    let clock = c.put_field-clock.ensures.put
-    ∙ ap (λ (n : ℕ). field (decimal n) (drop c.put_field-posted.result c.put_field-posted.new.bytes)) c.get-2.ensures.value
-    ∙ ap (field (decimal line.clock)) posted in
-    let start = c.put_field-start.ensures.put
-    ∙ ap (λ (n : ℕ). field (decimal n) (drop c.put_field-clock.result c.put_field-clock.new.bytes)) c.get-3.ensures.value
-    ∙ ap (field (decimal line.start)) clock in
+    let posted = c.put_field-posted.ensures.put ∙ ap (λ (n : ℕ). field (decimal n) (drop c.put_field-demand.result
+    c.put_field-demand.new.bytes)) c.get.ensures.value ∙ ap (field (decimal line.posted)) demand in
+    let clock = c.put_field-clock.ensures.put ∙ ap (λ (n : ℕ). field (decimal n) (drop c.put_field-posted.result
+    c.put_field-posted.new.bytes)) c.get-2.ensures.value ∙ ap (field (decimal line.clock)) posted in
+    let start = c.put_field-start.ensures.put ∙ ap (λ (n : ℕ). field (decimal n) (drop c.put_field-clock.result
+    c.put_field-clock.new.bytes)) c.get-3.ensures.value ∙ ap (field (decimal line.start)) clock in
     let from = c.put_field-start.result in
-    let whole : take (106 - from) (drop from c.put_field-start.new.bytes) ≡ drop from c.put_field-start.new.bytes = search (rules, take_all, length-drop) in
-    line_added c.args.text.now c.args.product.now.name c.extend_from_slice-2.new.self _ _ _ _ _ _ c.extend_from_slice-2.result (search rules) (whole ∙ start)
+    let whole : take (106 - from) (drop from c.put_field-start.new.bytes) ≡ drop from c.put_field-start.new.bytes =
+    search (rules, take_all, length-drop) in
+    line_added c.args.text.now c.args.product.now.name c.extend_from_slice-2.new.self _ _ _ _ _ _
+    c.extend_from_slice-2.result (search rules) (whole ∙ start)

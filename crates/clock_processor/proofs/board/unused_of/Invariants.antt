@@ -9,5 +9,6 @@ abbrev pub invariant-loop-bidder : goal.invariant-loop-bidder
 invariant-loop-bidder l = record {
   lengths : length l.unused.items ≡ l.bidder;
   room : length l.eligibilities ≤ l.bidder + l.unused.room;
-  sums : (k : ℕ) → k < l.bidder → slice_index l.unused.items k + activity l.products (row_of l.grid k) ≡ slice_index l.eligibilities k;
+  sums : (k : ℕ) → k < l.bidder
+      → slice_index l.unused.items k + activity l.products (row_of l.grid k) ≡ slice_index l.eligibilities k;
 }

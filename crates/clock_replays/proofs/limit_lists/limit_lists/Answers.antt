@@ -10,7 +10,8 @@ pub items-init : goal.items-init
 items-init c =
     let start = c.opens.new.self in
     record {
-      read = subst (λ list. HasItems 1 start (map numbers list) start) (sym c.new-limits.ensures.none) (items_start 1 start);
+      read = subst (λ list. HasItems 1 start (map numbers list) start) (sym c.new-limits.ensures.none)
+          (items_start 1 start);
       kept = c.new-limits.ensures.kept;
       shorter = omega arith;
     }
@@ -26,11 +27,13 @@ items-preserved c =
     let before = kept_limits l.limits in
     let same : c.closes.new.self ≡ l.scan = grind arith in
     let read = c.in_ok-numbers_after.ensures.value in
-    let is : read.0 ≡ row = sym (c.as_slice.ensures.value ∙ read.1 ∙ ap (λ (old : List ℕ). old ++ read.0) c.clear.ensures.items) in
-    let reads : Reads 1 l.scan (numbers row) here =
-    subst (λ (ns : List ℕ). Reads 1 l.scan (numbers ns) here) is (subst (λ ts. Reads 1 ts (numbers read.0) here) same read.2) in
+    let is : read.0 ≡ row =
+    sym (c.as_slice.ensures.value ∙ read.1 ∙ ap (λ (old : List ℕ). old ++ read.0) c.clear.ensures.items) in
+    let reads : Reads 1 l.scan (numbers row) here = subst (λ (ns : List ℕ). Reads 1 l.scan (numbers ns) here) is
+    (subst (λ ts. Reads 1 ts (numbers read.0) here) same read.2) in
     let all : kept_limits c.push_empty.new.self ≡ (before ++ row ∷ []) ++ replicate count [] =
-    c.in_ok-push_empty.ensures.limits ∙ ap (λ (known : List (List ℕ)). known ++ replicate count []) c.in_ok-push.ensures.limits in
+    c.in_ok-push_empty.ensures.limits
+    ∙ ap (λ (known : List (List ℕ)). known ++ replicate count []) c.in_ok-push.ensures.limits in
     record {
       read = subst (λ list. HasItems 1 start (map numbers list) new) (sym all)
           (items_push_same 1 numbers start here new (before ++ row ∷ []) [] count

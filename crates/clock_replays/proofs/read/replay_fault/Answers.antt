@@ -16,15 +16,15 @@ returns-in-Some-clause-fault c =
     let counted : length scripts ≡ length c.as_slice.result.now = search rules in
     let lists : list_all (has_lists (length products)) scripts ≡ true = search rules in
     sym (turn_failed (script_checks products) scripts c.loop-bidder.bidder c.index-scripts-bidder.result c.in-Some.fault
-    c.loop-bidder-test.true c.index-scripts-bidder.is (sym c.in-Some.ensures.fault))
-    ∙ c.loop-bidder.invariant
-    ∙ scripts_decide setup scripts c.args.closings.now (c.as_slice-products.ensures ∙ ap (λ s. s.products) c.setup.view_is)
-    (c.as_slice.ensures ∙ ap (λ s. s.bidders) c.setup.view_is) of_version counted lists
+    c.loop-bidder-test.true c.index-scripts-bidder.is (sym c.in-Some.ensures.fault)) ∙ c.loop-bidder.invariant
+    ∙ scripts_decide setup scripts c.args.closings.now (c.as_slice-products.ensures ∙ ap (λ s. s.products)
+    c.setup.view_is) (c.as_slice.ensures ∙ ap (λ s. s.bidders) c.setup.view_is) of_version counted lists
 
 pub loop-bidder-preserved : goal.loop-bidder-preserved
 loop-bidder-preserved c =
     let products = c.as_slice-products.result.now in
-    let is : first_fault (script_checks products c.loop-bidder.bidder c.index-scripts-bidder.result) ≡ None = search rules in
+    let is : first_fault (script_checks products c.loop-bidder.bidder c.index-scripts-bidder.result)
+    ≡ None = search rules in
     sym (turn_passed (script_checks products) c.args.scripts.now c.loop-bidder.bidder c.index-scripts-bidder.result
     c.loop-bidder-test.true c.index-scripts-bidder.is is)
     ∙ c.loop-bidder.invariant
@@ -38,6 +38,5 @@ returns-clause-fault c =
     let counted : length scripts ≡ length c.as_slice.result.now = search rules in
     let lists : list_all (has_lists (length products)) scripts ≡ true = search rules in
     sym (turn_none (script_checks products) scripts c.loop-bidder.bidder c.loop-bidder-test.false)
-    ∙ c.loop-bidder.invariant
-    ∙ scripts_decide setup scripts c.args.closings.now (c.as_slice-products.ensures ∙ ap (λ s. s.products) c.setup.view_is)
-    (c.as_slice.ensures ∙ ap (λ s. s.bidders) c.setup.view_is) of_version counted lists
+    ∙ c.loop-bidder.invariant ∙ scripts_decide setup scripts c.args.closings.now (c.as_slice-products.ensures ∙ ap (λ s.
+    s.products) c.setup.view_is) (c.as_slice.ensures ∙ ap (λ s. s.bidders) c.setup.view_is) of_version counted lists

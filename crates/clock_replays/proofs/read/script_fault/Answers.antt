@@ -11,8 +11,8 @@ returns-then-not-are_limits-clause-fault c =
     let each : length limits ≡ length c.args.products.now = search rules in
     let below : l.product < length limits = search rules in
     let is : are_limits product.result c.list.result.now ≡ false = search rules in
-    sym (limits_failed c.args.bidder c.args.products.now limits l.product product.result c.list.result.now each below product.is c.list.ensures is)
-    ∙ l.invariant
+    sym (limits_failed c.args.bidder c.args.products.now limits l.product product.result c.list.result.now each below
+    product.is c.list.ensures is) ∙ l.invariant
 
 pub loop-product-preserved : goal.loop-product-preserved
 loop-product-preserved c =
@@ -22,8 +22,8 @@ loop-product-preserved c =
     let each : length limits ≡ length c.args.products.now = search rules in
     let below : l.product < length limits = search rules in
     let is : are_limits product.result c.list.result.now ≡ true = search rules in
-    sym (limits_passed c.args.bidder c.args.products.now limits l.product product.result c.list.result.now each below product.is c.list.ensures is)
-    ∙ l.invariant
+    sym (limits_passed c.args.bidder c.args.products.now limits l.product product.result c.list.result.now each below
+    product.is c.list.ensures is) ∙ l.invariant
 
 pub returns-clause-fault : goal.returns-clause-fault
 returns-clause-fault c =

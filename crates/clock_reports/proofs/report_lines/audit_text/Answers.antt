@@ -1,5 +1,6 @@
 -- The loop appends the lines of one round after another; the lines of the bidders follow only if the auction has ended.
-use Rattle.std.proofs.Common.{◌≡◌, ◌<◌, ◌+◌, ◌++◌, List, [], ◌∷◌, ℕ, length, get_or, drop, zip, ap, ap₂, sym, ◌∙◌, append_assoc, arith}
+use Rattle.std.proofs.Common.{◌≡◌, ◌<◌, ◌+◌, ◌++◌, List, [], ◌∷◌, ℕ, length, get_or, drop, zip, ap, ap₂, sym, ◌∙◌}
+use Rattle.std.proofs.Common.{append_assoc, arith}
 use Rattle.std.specs.Prelude.{codes, decimal}
 use Rattle.std.specs.List.{flat_map}
 use Rattle.std.proofs.lemmas.List.{drop_more}
@@ -15,8 +16,9 @@ behind : (text known added piece : List ℕ) → known ≡ text ++ added → kno
 behind text known added piece is = ap (λ (all : List ℕ). all ++ piece) is ∙ append_assoc text added piece
 
 -- a round's lines, and then the line of its closing
-audited : (text lines new : List ℕ) (products : List Product) (sheet : RoundSheet) (digest : List ℕ) → lines ≡ text ++ sheet_text products sheet
-    → new ≡ lines ++ codes "closed " ++ decimal sheet.round ++ codes " " ++ digest ++ codes "\n" → new ≡ text ++ audited_round products (sheet, digest)
+audited : (text lines new : List ℕ) (products : List Product) (sheet : RoundSheet) (digest : List ℕ)
+    → lines ≡ text ++ sheet_text products sheet → new ≡ lines ++ codes "closed " ++ decimal sheet.round ++ codes " "
+    ++ digest ++ codes "\n" → new ≡ text ++ audited_round products (sheet, digest)
 audited text lines new products sheet digest told closed =
     let one = behind text lines (sheet_text products sheet) (codes "closed ") told in
     let two = behind text _ _ (decimal sheet.round) one in
@@ -24,8 +26,9 @@ audited text lines new products sheet digest told closed =
     closed ∙ behind text _ _ (codes "\n") (behind text _ _ digest three)
 
 -- the text with this round, followed by the lines of the rounds left, is the whole
-next_round : (products : List Product) (sheets : List RoundSheet) (digests : List (List ℕ)) (i : ℕ) (text new all : List ℕ) (sheet : RoundSheet)
-    → i < length sheets → i < length digests → sheet ≡ get_or sheets i sheet → new ≡ text ++ audited_round products (sheet, get_or digests i [])
+next_round : (products : List Product) (sheets : List RoundSheet) (digests : List (List ℕ)) (i : ℕ)
+    (text new all : List ℕ) (sheet : RoundSheet) → i < length sheets → i < length digests
+    → sheet ≡ get_or sheets i sheet → new ≡ text ++ audited_round products (sheet, get_or digests i [])
     → text ++ flat_map (audited_round products) (zip (drop i sheets) (drop i digests)) ≡ all
     → new ++ flat_map (audited_round products) (zip (drop (i + 1) sheets) (drop (i + 1) digests)) ≡ all
 next_round products sheets digests i text new all sheet below within is added before =
@@ -56,12 +59,14 @@ loop-index-preserved c =
       ap (λ (report : ReportFields). length report.sheets) view,
     ) in
     let lines : c.in_ok-text.text ≡ c.loop-index.text ++ sheet_text products sheet =
-    c.in_ok-text.ensures ∙ ap (λ (report : ReportFields). c.loop-index.text ++ sheet_text report.setup.products sheet) view in
+    c.in_ok-text.ensures
+    ∙ ap (λ (report : ReportFields). c.loop-index.text ++ sheet_text report.setup.products sheet) view in
     let digest = get_or c.args.digests.now c.loop-index.index [] in
     let closed = c.in_ok-push-2.ensures.ok
     ∙ ap (λ (told : List ℕ). told ++ codes "\n") (c.in_ok-extend_from_slice-2.ensures.ok
     ∙ ap (λ (told : List ℕ). told ++ digest) (c.in_ok-push.ensures.ok
     ∙ ap (λ (told : List ℕ). told ++ codes " ") (c.in_ok-push_number.ensures.ok
     ∙ ap (λ (told : List ℕ). told ++ decimal sheet.round) c.in_ok-extend_from_slice.ensures.ok))) in
-    next_round products sheets.result.now c.args.digests.now c.loop-index.index _ _ _ sheet c.loop-index-test.true within c.index-sheets-index.is
+    next_round products sheets.result.now c.args.digests.now c.loop-index.index _ _ _ sheet c.loop-index-test.true
+    within c.index-sheets-index.is
     (audited _ _ _ products sheet digest lines closed) c.loop-index.invariant

@@ -8,4 +8,5 @@ use Rattle.clock_reports.proofs.report_lines.final_text.Given as goal
 abbrev pub invariant-loop-round : goal.invariant-loop-round
 invariant-loop-round g l =
     let sheets = map (λ closed. closed.sheet) (reverse l.house.closed) in
-    l.text ++ flat_map (sheet_text l.house.setup.products) (drop l.round sheets) ≡ flat_map (sheet_text l.house.setup.products) sheets
+    l.text ++ flat_map (sheet_text l.house.setup.products) (drop l.round sheets)
+    ≡ flat_map (sheet_text l.house.setup.products) sheets

@@ -10,12 +10,13 @@ use Rattle.clock_reports.proofs.WonLaws.{paid_at, free}
 use Rattle.clock_reports.proofs.report_lines.payment.Goals as goal
 
 -- the demands of 0 that the iterator skips cost nothing
-unpaid : (lines : List Line) (row demands : List ℕ) (from to : ℕ) → length demands ≡ length lines → row ≡ demands → min from (length demands) ≤ to
-    → to ≤ length demands → AllWithin (λ demand. demand ≡ 0) row from to
-    → payment (drop (min from (length demands)) lines) (drop (min from (length demands)) demands) ≡ payment (drop to lines) (drop to demands)
+unpaid : (lines : List Line) (row demands : List ℕ) (from to : ℕ) → length demands ≡ length lines → row ≡ demands
+    → min from (length demands) ≤ to → to ≤ length demands → AllWithin (λ demand. demand ≡ 0) row from to
+    → payment (drop (min from (length demands)) lines) (drop (min from (length demands)) demands)
+    ≡ payment (drop to lines) (drop to demands)
 unpaid lines row demands from to same is order within none =
-    free lines demands (min from (length demands)) to same order within
-    (λ k d low high. subst (λ (list : List ℕ). slice_index_or list k d ≡ 0) is (none k d (omega (arith, low, high, within)) high))
+    free lines demands (min from (length demands)) to same order within (λ k d low high.
+    subst (λ (list : List ℕ). slice_index_or list k d ≡ 0) is (none k d (omega (arith, low, high, within)) high))
 
 pub held-init : goal.held-init
 held-init c =
@@ -41,14 +42,18 @@ held-preserved c =
     let from = min c.held.held.from (length row) in
     let to = min c.next.new.self.from (length row) in
     let before : payment (drop from lines) (drop from row) ≡ payment (drop product lines) (drop product row) =
-    unpaid lines c.held.held.demands row c.held.held.from product c.requires.each same (omega (arith, found.least)) (omega (arith, within)) found.passed in
-    let here = paid_at lines row product c.in-Some.one.demand c.index-lines-one.result c.requires.each within c.index-lines-one.is demand in
+    unpaid lines c.held.held.demands row c.held.held.from product c.requires.each same (omega (arith, found.least))
+    (omega (arith, within)) found.passed in
+    let here = paid_at lines row product c.in-Some.one.demand c.index-lines-one.result c.requires.each within
+    c.index-lines-one.is demand in
     let behind : payment (drop (product + 1) lines) (drop (product + 1) row) ≡ payment (drop to lines) (drop to row) =
-    free lines row (product + 1) to c.requires.each (omega (arith, within, found.given)) (omega arith)
-    (λ k d low high. subst (λ (demands : List ℕ). slice_index_or demands k d ≡ 0) same (found.ahead k d low (omega (arith, high)))) in
+    free lines row (product + 1) to c.requires.each (omega (arith, within, found.given)) (omega arith) (λ k d low high.
+    subst (λ (demands : List ℕ). slice_index_or demands k d ≡ 0) same (found.ahead k d low (omega (arith, high)))) in
     let cost : c.get.result * c.in-Some.one.demand ≡ c.index-lines-one.result.posted * c.in-Some.one.demand =
-    ap (λ (posted : ℕ). posted * c.in-Some.one.demand) (c.get.ensures.value ∙ ap (λ (line : Line). line.posted) (sym c.index-lines-one.is)) in
-    let price : c.get.result * c.in-Some.one.demand ≤ 1000000000000 * 1000 = mul-le c.get.result c.in-Some.one.demand 1000000000000 1000 c.get.ensures.in_range.1 found.small in
+    ap (λ (posted : ℕ). posted * c.in-Some.one.demand)
+    (c.get.ensures.value ∙ ap (λ (line : Line). line.posted) (sym c.index-lines-one.is)) in
+    let price : c.get.result * c.in-Some.one.demand ≤ 1000000000000 * 1000 =
+    mul-le c.get.result c.in-Some.one.demand 1000000000000 1000 c.get.ensures.in_range.1 found.small in
     record {
       row = found.row ∙ same;
       so_far = omega (arith, cost, before, here, behind, c.held.invariant.so_far);
@@ -61,9 +66,9 @@ returns c =
     let lines = c.args.lines.now in
     let from = min c.held.held.from (length row) in
     let end : payment (drop from lines) (drop from row) ≡ payment (drop (length row) lines) (drop (length row) row) =
-    unpaid lines c.held.held.demands row c.held.held.from (length row) c.requires.each c.held.invariant.row (omega arith) (omega arith)
-    (subst (λ (demands : List ℕ). AllWithin (λ demand. demand ≡ 0) c.held.held.demands c.held.held.from (length demands)) c.held.invariant.row
-    c.in_default.ensures.passed) in
-    let none : payment (drop (length row) lines) (drop (length row) row) ≡ 0 =
-    ap (λ (left : List Line). payment left (drop (length row) row)) (drop_all (length row) lines (omega (arith, c.requires.each))) in
+    unpaid lines c.held.held.demands row c.held.held.from (length row) c.requires.each c.held.invariant.row
+    (omega arith) (omega arith) (subst (λ (demands : List ℕ). AllWithin (λ demand. demand
+    ≡ 0) c.held.held.demands c.held.held.from (length demands)) c.held.invariant.row c.in_default.ensures.passed) in
+    let none : payment (drop (length row) lines) (drop (length row) row) ≡ 0 = ap (λ (left : List Line). payment left
+    (drop (length row) row)) (drop_all (length row) lines (omega (arith, c.requires.each))) in
     omega (arith, end, none, c.held.invariant.so_far)

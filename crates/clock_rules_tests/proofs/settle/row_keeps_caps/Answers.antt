@@ -8,8 +8,10 @@ use borrow.Author.Count.{below_more}
 
 pub loop-i-preserved : goal.loop-i-preserved
 loop-i-preserved c =
-    let P = λ (product : ℕ). KeepWithinCap c.args.products.now c.args.demands.now c.args.bidder c.args.changes.now product in
-    let read = get_or_read c.args.products.now c.loop-i.i c.index-products-i.result c.loop-i-test.true c.index-products-i.is no_product in
+    let P =
+    λ (product : ℕ). KeepWithinCap c.args.products.now c.args.demands.now c.args.bidder c.args.changes.now product in
+    let read = get_or_read c.args.products.now c.loop-i.i c.index-products-i.result c.loop-i-test.true
+    c.index-products-i.is no_product in
     let cap = ap (λ (product : Product). product.cap) read in
     let here : P c.loop-i.i = record {
       raised = omega (arith, cap, c.asked-raised.ensures);

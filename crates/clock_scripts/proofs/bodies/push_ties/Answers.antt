@@ -5,10 +5,9 @@ use Rattle.clock_scripts.proofs.ArrayLaws.{array_done, comma_more}
 use Rattle.clock_scripts.proofs.bodies.push_ties.Goals as goal
 
 pub returns : goal.returns
-returns c =
-    array_done tie_value c.args.ties.now c.args.text.now.items c.loop-tie.text.items c.end_array.new.text.items c.len-start.result
-    c.loop-tie.tie-index c.end_array.result (omega (arith, c.len-start.ensures, c.args.text.now.ok.0)) (omega arith)
-    c.loop-tie.invariant c.end_array.ensures
+returns c = array_done tie_value c.args.ties.now c.args.text.now.items c.loop-tie.text.items c.end_array.new.text.items
+    c.len-start.result c.loop-tie.tie-index c.end_array.result
+    (omega (arith, c.len-start.ensures, c.args.text.now.ok.0)) (omega arith) c.loop-tie.invariant c.end_array.ensures
 
 pub loop-tie-preserved : goal.loop-tie-preserved
 loop-tie-preserved c =

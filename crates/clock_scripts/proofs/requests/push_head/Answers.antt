@@ -5,7 +5,8 @@ use Rattle.clock_scripts.proofs.requests.push_head.Goals as goal
 
 pub returns : goal.returns
 returns c =
-    let head : c.len-head.result ≡ length c.args.text.now.items = omega (arith, c.len-head.ensures, c.args.text.now.ok.0) in record {
+    let head : c.len-head.result ≡ length c.args.text.now.items =
+    omega (arith, c.len-head.ensures, c.args.text.now.ok.0) in record {
       from = refl;
       behind = head;
       until = omega (arith, c.len-end.ensures, c.push_label-4.new.text.ok.0);

@@ -8,4 +8,5 @@ abbrev pub invariant-loop-product : goal.invariant-loop-product
 invariant-loop-product l =
     let n = length l.prices in
     let f = first_text l.prices l.limits in
-    l.text.items ++ flat_map f (range_with_len l.product (n - l.product)) ≡ l.initial.text.items ++ flat_map f (range_with_len 0 n)
+    l.text.items ++ flat_map f (range_with_len l.product (n - l.product))
+    ≡ l.initial.text.items ++ flat_map f (range_with_len 0 n)

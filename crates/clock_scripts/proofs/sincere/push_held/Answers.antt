@@ -14,11 +14,10 @@ pub returns-in_default : goal.returns-in_default
 returns-in_default c =
     let text = c.args.text.now.items in
     let next = c.push_bid.new.text.items in
-    together_ok text next c.push_bid.result
-    (all_kept c.args.product c.args.held c.args.pair.now c.args.limits.now c.min-blocks.result c.requires.falls c.requires.some
-    c.min-blocks.ensures (sym c.last_leaving.ensures ∙ c.in_default.is))
-    (subst (λ (price : ℕ). OnOk c.push_bid.result (Adds (bid_text (bid_for c.args.product c.args.held price)) text next)) c.get.ensures.value
-    c.push_bid.ensures)
+    together_ok text next c.push_bid.result (all_kept c.args.product c.args.held c.args.pair.now c.args.limits.now
+    c.min-blocks.result c.requires.falls c.requires.some c.min-blocks.ensures
+    (sym c.last_leaving.ensures ∙ c.in_default.is)) (subst (λ (price : ℕ). OnOk c.push_bid.result
+    (Adds (bid_text (bid_for c.args.product c.args.held price)) text next)) c.get.ensures.value c.push_bid.ensures)
 
 pub returns : goal.returns
 returns c =
@@ -32,13 +31,10 @@ returns c =
     let count : length list ≡ blocks = omega (arith, length-take blocks limits, c.min-blocks.ensures) in
     let few : length list ≤ held = omega (arith, count, c.min-blocks.ensures) in
     let past : held - length list ≡ held - blocks = omega (arith, count) in
-    together
-    (ap bids_text (some_left c.args.product held pair limits blocks _ c.requires.falls c.requires.some c.min-blocks.ensures
-    (sym c.last_leaving.ensures ∙ c.in-Some.is)
+    together (ap bids_text (some_left c.args.product held pair limits blocks _ c.requires.falls c.requires.some
+    c.min-blocks.ensures (sym c.last_leaving.ensures ∙ c.in-Some.is)
     ∙ sym (all_blocks c.args.product held pair list (first_never_rise limits blocks c.requires.falls) few)
-    ∙ ap (λ (k : ℕ). block_bids c.args.product k pair (reverse list)) past))
-    (record {
-      is = sym (append-nil text)
-          ∙ ap (λ (k : ℕ). text ++ bids_text (block_bids c.args.product (held - blocks) pair (reverse (take k limits)))) none
-          ∙ c.loop-block.invariant;
+    ∙ ap (λ (k : ℕ). block_bids c.args.product k pair (reverse list)) past)) (record {
+      is = sym (append-nil text) ∙ ap (λ (k : ℕ). text ++ bids_text
+          (block_bids c.args.product (held - blocks) pair (reverse (take k limits)))) none ∙ c.loop-block.invariant;
     })

@@ -10,7 +10,8 @@ invariant-held l =
     let f = later_text l.prices l.demands l.limits in
     let from = min l.held.from n in record {
       row : l.held.demands ≡ l.demands;
-      rest : l.text.items ++ flat_map f (range_with_len from (n - from)) ≡ l.initial.text.items ++ flat_map f (range_with_len 0 n);
+      rest : l.text.items ++ flat_map f (range_with_len from (n - from))
+          ≡ l.initial.text.items ++ flat_map f (range_with_len 0 n);
     }
 
 abbrev pub decreases-held : goal.decreases-held

@@ -36,8 +36,8 @@ returns-in-Ok-clause-generation g c =
       (
         ends.3.0,
         served_all c.args.auction.now.front.setup c.args.journal.now c.resume_auction.new.journal c.serve_all.new.log
-            c.args.bytes.now c.resume_auction.new.auction.front started.setup started.resumed ends.0 _ _ c.serve_all.new.front
-            ends.3.1,
+            c.args.bytes.now c.resume_auction.new.auction.front started.setup started.resumed ends.0 _ _
+            c.serve_all.new.front ends.3.1,
       ),
     )
 
@@ -49,6 +49,6 @@ returns-in-Err-serve_all-clause-generation g c =
       ends.1,
       ends.2,
       ends_by_fault c.args.auction.now.front.setup c.args.journal.now c.resume_auction.new.journal c.serve_all.new.log
-          c.args.bytes.now c.resume_auction.new.auction.front started.setup started.resumed (Unit {0}) c.args.count ends.0 _ _
-          c.serve_all.new.front c.in-Err-serve_all.fault ends.3,
+          c.args.bytes.now c.resume_auction.new.auction.front started.setup started.resumed
+          (Unit {0}) c.args.count ends.0 _ _ c.serve_all.new.front c.in-Err-serve_all.fault ends.3,
     )

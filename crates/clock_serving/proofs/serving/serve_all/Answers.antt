@@ -34,11 +34,13 @@ returns-in_err-serve_next-clause-served g c =
     let told = g.K.RequestLog.told in
     let loop = c.loop-connection in
     let fault = err_from_is_err_and c.from_residual.result c.from_residual.ensures.1 in
-    rw (fault.1, fault.2)
-    (ends_by loop._connection (coming c.args.connections.now) (coming loop.connections) (coming c.serve_next.new.connections) (closed c.args.connections.now) (closed loop.connections) (closed c.serve_next.new.connections)
-    (told c.args.log.now) (told loop.log) (told c.serve_next.new.log) (journal c.args.log.now) (journal loop.log) (journal c.serve_next.new.log) c.args.front.now loop.front c.serve_next.new.front
-    (limits_of c.house.result.now c.args.front.now c.house.ensures c.law_of_house.ensures.limits) loop.invariant.setup loop.invariant.served
-    c.serve_next.result c.args.count c.in_err-serve_next.field-0.0 c.loop-connection-test.true c.in_err-serve_next.ensures.ends)
+    rw (fault.1, fault.2) (ends_by loop._connection (coming c.args.connections.now) (coming loop.connections)
+    (coming c.serve_next.new.connections) (closed c.args.connections.now) (closed loop.connections)
+    (closed c.serve_next.new.connections) (told c.args.log.now) (told loop.log) (told c.serve_next.new.log)
+    (journal c.args.log.now) (journal loop.log) (journal c.serve_next.new.log) c.args.front.now loop.front
+    c.serve_next.new.front (limits_of c.house.result.now c.args.front.now c.house.ensures c.law_of_house.ensures.limits)
+    loop.invariant.setup loop.invariant.served c.serve_next.result c.args.count c.in_err-serve_next.field-0.0
+    c.loop-connection-test.true c.in_err-serve_next.ensures.ends)
 
 pub loop-connection-preserved : goal.loop-connection-preserved
 loop-connection-preserved g c =
@@ -48,10 +50,13 @@ loop-connection-preserved g c =
     let told = g.K.RequestLog.told in
     let loop = c.loop-connection in
     record {
-      served = one_more loop._connection (coming c.args.connections.now) (coming loop.connections) (coming c.serve_next.new.connections) (closed c.args.connections.now) (closed loop.connections) (closed c.serve_next.new.connections)
-          (told c.args.log.now) (told loop.log) (told c.serve_next.new.log) (journal c.args.log.now) (journal loop.log) (journal c.serve_next.new.log) c.args.front.now loop.front c.serve_next.new.front
-          (limits_of c.house.result.now c.args.front.now c.house.ensures c.law_of_house.ensures.limits) loop.invariant.setup loop.invariant.served
-          c.in_ok-serve_next.field-0 c.in_ok-serve_next.ensures.ends;
+      served = one_more loop._connection (coming c.args.connections.now) (coming loop.connections)
+          (coming c.serve_next.new.connections) (closed c.args.connections.now) (closed loop.connections)
+          (closed c.serve_next.new.connections) (told c.args.log.now) (told loop.log) (told c.serve_next.new.log)
+          (journal c.args.log.now) (journal loop.log)
+          (journal c.serve_next.new.log) c.args.front.now loop.front c.serve_next.new.front
+          (limits_of c.house.result.now c.args.front.now c.house.ensures c.law_of_house.ensures.limits)
+          loop.invariant.setup loop.invariant.served c.in_ok-serve_next.field-0 c.in_ok-serve_next.ensures.ends;
       unfailed = c.in_ok-serve_next.ensures.unfailed;
       closed = c.in_ok-serve_next.ensures.closed;
       taken = c.in_ok-serve_next.ensures.taken;

@@ -18,7 +18,8 @@ returns-clause-ends g c =
       writing = record { before = sink.told c.in-Ok.one.sink; after = sink.told c.serve_one-served.new.sink };
       kept = sink.kept c.serve_one-served.new.sink;
     } in
-    ends_one (coming c.args.connections.now) (coming c.close.new.self) (closed c.args.connections.now) (closed c.close.new.self)
+    ends_one (coming c.args.connections.now) (coming c.close.new.self) (closed c.args.connections.now)
+    (closed c.close.new.self)
     (told c.args.log.now) (told c.tell_closing.new.log) (journal c.args.log.now) (journal c.serve_one-served.new.log)
     (journal c.tell_closing.new.log) c.args.front.now c.serve_one-served.new.front one c.serve_one-served.result
     c.tell_closing.result

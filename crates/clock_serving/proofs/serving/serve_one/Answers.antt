@@ -12,19 +12,21 @@ use Rattle.clock_serving.proofs.serving.serve_one.Goals as goal
 use Rattle.clock_serving.proofs.serving.serve_one.Goals.{in-Ok+in_ok-response-in-Ok, in-Err-Memory}
 
 -- an equal text has arrived too
-arrived : (reading : Reading) (request text : List ℕ) → text ≡ request → HasArrived reading request → HasArrived reading text
+arrived : (reading : Reading) (request text : List ℕ) → text ≡ request → HasArrived reading request
+    → HasArrived reading text
 arrived reading request text same has = subst (λ (bytes : List ℕ). HasArrived reading bytes) (sym same) has
 
 -- no text that has arrived is too long for a journal, so the disk has failed
-disk_failed : (reading : Reading) (text : List ℕ) (has_failed : Bool) → HasArrived reading text → (has_failed ≡ true) ⊎ (most_text < length text)
-    → has_failed ≡ true
+disk_failed : (reading : Reading) (text : List ℕ) (has_failed : Bool) → HasArrived reading text
+    → (has_failed ≡ true) ⊎ (most_text < length text) → has_failed ≡ true
 disk_failed reading text has_failed has (inl failed) = failed
 disk_failed reading text has_failed has (inr long) = absurd (omega (arith, short_arrived reading text has))
 
 pub returns-in_err-response-in-Ok-clause-served : goal.returns-in_err-response-in-Ok-clause-served
 returns-in_err-response-in-Ok-clause-served g c =
     let p = err_from_is_err_and c.from_residual.result c.from_residual.ensures.1 in
-    let reading : Reading = record { before = g.R.Source.told c.args.source.now; after = g.R.Source.told c.read_request.new.source } in
+    let reading : Reading =
+    record { before = g.R.Source.told c.args.source.now; after = g.R.Source.told c.read_request.new.source } in
     let has = arrived reading c.in-Ok.request c.as_slice.result.now c.as_slice.ensures c.in-Ok.ensures.arrival in
     rw p.1 (
       record {
@@ -42,21 +44,22 @@ pub returns-clause-served : goal.returns-clause-served
 returns-clause-served g c =
     let journal = g.K.RequestLog.journal in
     let join = c.match-read_request in
-    let reading : Reading = record { before = g.R.Source.told c.args.source.now; after = g.R.Source.told c.read_request.new.source } in
-    let answered : IsAnswered reading join.response (journal c.args.log.now) (journal join.log) c.args.front.now join.front = elim join.branch [
-      | in-Ok+in_ok-response-in-Ok w ↦ answered_as reading _ join.response (journal c.args.log.now) (journal w.answer.new.self)
-          (journal join.log) c.args.front.now w.answer.new.front join.front w.response-is (ap journal w.log-is) w.front-is
-          (inl (record {
+    let reading : Reading =
+    record { before = g.R.Source.told c.args.source.now; after = g.R.Source.told c.read_request.new.source } in
+    let answered : IsAnswered reading join.response (journal c.args.log.now)
+    (journal join.log) c.args.front.now join.front = elim join.branch [
+      | in-Ok+in_ok-response-in-Ok w ↦
+          answered_as reading _ join.response (journal c.args.log.now) (journal w.answer.new.self) (journal join.log)
+          c.args.front.now w.answer.new.front join.front w.response-is (ap journal w.log-is) w.front-is (inl (record {
             text = w.as_slice.result.now;
             arrived = arrived _ w.in-Ok.request w.as_slice.result.now w.as_slice.ensures w.in-Ok.ensures.arrival;
             responds = w.in_ok-response-in-Ok.ensures.response;
             kept = w.in_ok-response-in-Ok.ensures.kept;
             added_to = w.in_ok-response-in-Ok.ensures.moments.added_to;
           }))
-      | in-Err-Memory w ↦ answered_as reading (record { reply = w.no_memory_reply.result; effect = Nothing }) join.response
-          (journal c.args.log.now) (journal c.args.log.now) (journal join.log) c.args.front.now c.args.front.now
-          join.front w.response-is (ap journal w.log-is) w.front-is
-          (inr (
+      | in-Err-Memory w ↦ answered_as reading (record { reply = w.no_memory_reply.result; effect = Nothing })
+          join.response (journal c.args.log.now) (journal c.args.log.now) (journal join.log) c.args.front.now
+          c.args.front.now join.front w.response-is (ap journal w.log-is) w.front-is (inr (
             rw w.in-Err-Memory.field-0-is at w.in-Err-Memory.ensures.arrival,
             ap (λ (reply : Answer). record { reply = reply; effect = Nothing }) w.no_memory_reply.ensures,
             refl,

@@ -11,7 +11,8 @@ pub within_limits-requires-clause-version : goal.within_limits-requires-clause-v
 within_limits-requires-clause-version c =
     let value = view c.args.value.now in
     let read = sym (rw c.in_ok-entries.ensures.ok_part at c.in_ok-entries_of.ensures) in
-    let known : number_at (codes "version") value ≡ Some c.in_ok-version.version = sym (rw c.in_ok-version.ensures.ok_part at c.number_at.ensures) in
+    let known : number_at (codes "version") value ≡ Some c.in_ok-version.version =
+    sym (rw c.in_ok-version.ensures.ok_part at c.number_at.ensures) in
     known_version value _ c.in_ok-version.version read known (sym c.is_within.ensures ∙ c.if-not-is_within.false)
 
 pub within_limits-requires-clause-first_version : goal.within_limits-requires-clause-first_version

@@ -11,25 +11,26 @@ pub returns-in_err-check-clause-err : goal.returns-in_err-check-clause-err
 returns-in_err-check-clause-err g c =
     let p = err_from_is_err_and c.from_residual.result c.from_residual.ensures.1 in
     let told = c.in_err-check.ensures.err in
-    rw (p.1, p.2, told.1) (λ known. uncounted (Range c.args.place) c.args.most g.E.LimitedEntry.checks c.args.entries.now (sym c.is_within.ensures ∙ told.0))
+    rw (p.1, p.2, told.1) (λ known. uncounted
+    (Range c.args.place) c.args.most g.E.LimitedEntry.checks c.args.entries.now (sym c.is_within.ensures ∙ told.0))
 
 pub returns-in_err-whole-clause-err : goal.returns-in_err-whole-clause-err
 returns-in_err-whole-clause-err g c =
     let p = err_from_is_err_and c.from_residual-in_err-whole.result c.from_residual-in_err-whole.ensures.1 in
-    rw (p.1, p.2)
-    (λ known. counted (Range c.args.place) c.args.most g.E.LimitedEntry.checks c.args.entries.now (Some _) (sym c.is_within.ensures ∙ c.in_ok-check.ensures.ok)
-    (sym c.loop-i.invariant.rest
-    ∙ turn_failed g.E.LimitedEntry.checks c.args.entries.now c.loop-i.i _ _ c.loop-i-test.true c.index-entries-i.is (c.in_err-whole.ensures.err known)))
+    rw (p.1, p.2) (λ known. counted (Range c.args.place) c.args.most g.E.LimitedEntry.checks c.args.entries.now (Some _)
+    (sym c.is_within.ensures ∙ c.in_ok-check.ensures.ok) (sym c.loop-i.invariant.rest
+    ∙ turn_failed g.E.LimitedEntry.checks c.args.entries.now c.loop-i.i _ _ c.loop-i-test.true c.index-entries-i.is
+    (c.in_err-whole.ensures.err known)))
 
 pub loop-i-preserved : goal.loop-i-preserved
 loop-i-preserved g c = record {
   same = grind (arith, common_steps);
-  rest = sym (turn_passed g.E.LimitedEntry.checks c.args.entries.now c.loop-i.i _ c.loop-i-test.true c.index-entries-i.is c.in_ok-whole.ensures.ok)
-      ∙ c.loop-i.invariant.rest;
+  rest = sym (turn_passed g.E.LimitedEntry.checks c.args.entries.now c.loop-i.i _ c.loop-i-test.true
+      c.index-entries-i.is c.in_ok-whole.ensures.ok) ∙ c.loop-i.invariant.rest;
   room = omega (arith, c.push.ensures.room, c.loop-i.invariant.room);
 }
 
 pub returns-clause-ok : goal.returns-clause-ok
-returns-clause-ok g c =
-    counted (Range c.args.place) c.args.most g.E.LimitedEntry.checks c.args.entries.now None (sym c.is_within.ensures ∙ c.in_ok-check.ensures.ok)
+returns-clause-ok g c = counted (Range c.args.place) c.args.most g.E.LimitedEntry.checks c.args.entries.now None
+    (sym c.is_within.ensures ∙ c.in_ok-check.ensures.ok)
     (sym c.loop-i.invariant.rest ∙ turn_none g.E.LimitedEntry.checks c.args.entries.now c.loop-i.i c.loop-i-test.false)

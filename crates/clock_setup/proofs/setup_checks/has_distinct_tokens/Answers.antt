@@ -9,8 +9,9 @@ loop-bidder-preserved c =
     let at = c.loop-bidder in
     let push = c.push-in-loop-bidder in
     record {
-      so_far = text_pushed_behind (λ bidder. bidder.token) at.tokens.items c.args.bidders.now at.bidder-index c.args.operator.now push.new.self.items
-          c.bidder.inside.token c.bidder-item.result push.ensures.items c.loop-bidder-test.true c.bidder-item.is
+      so_far = text_pushed_behind (λ bidder. bidder.token) at.tokens.items c.args.bidders.now at.bidder-index
+          c.args.operator.now push.new.self.items c.bidder.inside.token c.bidder-item.result push.ensures.items
+          c.loop-bidder-test.true c.bidder-item.is
           (ap (λ (bidder : Bidder). bidder.token) c.bidder.view_is) at.invariant.so_far;
       room = omega (arith, push.ensures.room, at.invariant.room);
     }
@@ -19,5 +20,5 @@ pub returns : goal.returns
 returns c =
     let at = c.loop-bidder in
     distinct_texts c.is_distinct.result _ _ _ c.as_slice.ensures
-    (texts_end_behind (λ bidder. bidder.token) at.tokens.items c.args.bidders.now at.bidder-index c.args.operator.now c.loop-bidder-test.false at.invariant.so_far)
-    c.is_distinct.ensures
+    (texts_end_behind (λ bidder. bidder.token) at.tokens.items c.args.bidders.now at.bidder-index c.args.operator.now
+    c.loop-bidder-test.false at.invariant.so_far) c.is_distinct.ensures

@@ -13,7 +13,8 @@ returns c =
     let texts = c.args.texts.now in
     let before = c.in_ok-seen.seen in
     let seen = c.extend.new.self in
-    let inserted = items_from_extend c.extend.result c.extend.ensures.ran (YieldsList-from_copied (YieldsList-from_slice texts cc)) in
+    let inserted =
+    items_from_extend c.extend.result c.extend.ensures.ran (YieldsList-from_copied (YieldsList-from_slice texts cc)) in
     ap (λ n. nat_eq n (length texts)) c.len.ensures.len
-    ∙ set_length_is texts seen
-    (set_of_empty texts before seen c.in_ok-seen.ensures.empty (subst (λ r. OnOk r (InsertsAll same_text before texts seen)) c.in_ok-extend.was inserted))
+    ∙ set_length_is texts seen (set_of_empty texts before seen c.in_ok-seen.ensures.empty
+    (subst (λ r. OnOk r (InsertsAll same_text before texts seen)) c.in_ok-extend.was inserted))

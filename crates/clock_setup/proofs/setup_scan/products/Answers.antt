@@ -9,12 +9,14 @@ use Rattle.clock_terms.specs.Limits.{first_granule}
 use Rattle.clock_setup.specs.SetupData.{product_data}
 use Rattle.clock_setup.proofs.ScanLaws.{of_common_version, of_first_version}
 use Rattle.clock_setup.proofs.setup_scan.products.Goals as goal
-use Rattle.clock_setup.proofs.setup_scan.products.Goals.{else-version-ne0-via-then-version-ne0+else-version-next, else-version-ne0-via-else-version-ne0}
+use Rattle.clock_setup.proofs.setup_scan.products.Goals.{else-version-ne0-via-then-version-ne0+else-version-next}
+use Rattle.clock_setup.proofs.setup_scan.products.Goals.{else-version-ne0-via-else-version-ne0}
 
 pub items-init : goal.items-init
 items-init c =
     let start = c.opens.new.self in (
-      subst (λ list. HasItems 1 start (map (product_data 0) list) start) (sym c.new-entries.ensures) (items_start 1 start),
+      subst (λ list. HasItems 1 start (map (product_data 0) list) start) (sym c.new-entries.ensures)
+          (items_start 1 start),
       omega arith,
       λ _. c.new-entries.ensures,
       λ _. subst (All (λ (product : Product). product.granule ≡ first_granule)) (sym c.new-entries.ensures)
@@ -36,7 +38,8 @@ items-preserved c =
     ] in
     let P = λ (product : Product). product.granule ≡ first_granule in
     let same : c.closes.new.self ≡ l.scan = grind arith in
-    let reads : Reads 1 l.scan (product_data version entry) after = subst (λ ts. Reads 1 ts (product_data version entry) after) same c.in_ok-next.ensures.value
+    let reads : Reads 1 l.scan (product_data version entry) after =
+    subst (λ ts. Reads 1 ts (product_data version entry) after) same c.in_ok-next.ensures.value
     in
     let kept = of_common_version l.version version l.entries l.invariant.2 agrees in (
       subst (λ list. HasItems 1 start (map (product_data version) list) after) (sym c.in_ok-push.ensures.ok)
@@ -44,8 +47,8 @@ items-preserved c =
           (subst (λ values. HasItems 1 start values l.scan) kept l.invariant.0) reads),
       omega (arith, l.invariant.1, c.in_ok-next.ensures.shorter, ap length same),
       λ zero. absurd (omega (arith, zero, next.known.0)),
-      λ one. subst (All P) (sym c.in_ok-push.ensures.ok) (All-push P l.entries entry
-          (of_first_version l.version version l.entries l.invariant.2 l.invariant.3 agrees one) (next.first_version one)),
+      λ one. subst (All P) (sym c.in_ok-push.ensures.ok) (All-push P l.entries entry (of_first_version l.version version
+          l.entries l.invariant.2 l.invariant.3 agrees one) (next.first_version one)),
     )
 
 pub returns-clause-value : goal.returns-clause-value

@@ -20,7 +20,9 @@ returns-in-Reply-clause-step g c =
     → IsFed mid new c.in_ok-conn.conn (text ++ head) fed in
     let replied : IsFedTo (Reply c.in-Reply.reply) = subst IsFedTo c.in-Reply.is c.in_ok-feed.ensures.fed in
     let fed = replied [] c.in_ok-conn.ensures.connected.stands in
-    let whole = answered_early c.law_decided_once.ensures c.law_one_head.ensures head body c.in-Reply.reply mid.house new.house fed.0 fed.1.answered in
-    sent (head ++ body) c.in-Reply.reply c.code.result c.args.hub.now.house new.house c.args.sender c.args.round c.told.result
-    (subst (λ (house : HouseFields). AnswersText (head ++ body) c.in-Reply.reply house new.house) c.in_ok-conn.ensures.front whole)
-    (fed.1.setup ∙ ap (λ (house : HouseFields). house.setup) c.in_ok-conn.ensures.front) c.code.ensures c.told.ensures.step
+    let whole = answered_early c.law_decided_once.ensures c.law_one_head.ensures head body c.in-Reply.reply mid.house
+    new.house fed.0 fed.1.answered in
+    sent (head ++ body) c.in-Reply.reply c.code.result c.args.hub.now.house new.house c.args.sender c.args.round
+    c.told.result (subst (λ (house : HouseFields). AnswersText (head ++ body) c.in-Reply.reply house new.house)
+    c.in_ok-conn.ensures.front whole) (fed.1.setup
+    ∙ ap (λ (house : HouseFields). house.setup) c.in_ok-conn.ensures.front) c.code.ensures c.told.ensures.step

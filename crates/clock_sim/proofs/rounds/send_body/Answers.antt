@@ -21,8 +21,9 @@ returns-clause-step g c = λ head is.
           rw (w.hub-is, w.reply-is) replied.1
       | in-More+in_ok-reply-in-More w ↦
           let more = subst IsFedTo w.in-More.is fed in
-          rw (w.hub-is, w.reply-is) (ended_after old mid w.finish.new.self c.args.conn text w.in_ok-reply-in-More.reply more
-          (w.in_ok-reply-in-More.ensures.answered text more.1.stands))
+          rw (w.hub-is, w.reply-is) (ended_after old mid w.finish.new.self c.args.conn text w.in_ok-reply-in-More.reply
+          more (w.in_ok-reply-in-More.ensures.answered text more.1.stands))
     ] in
-    sent text c.match-branch-2.reply c.code.result old.house c.match-branch-2.hub.house c.args.sender c.args.round c.told.result
+    sent text c.match-branch-2.reply c.code.result old.house c.match-branch-2.hub.house c.args.sender
+    c.args.round c.told.result
     answered.answered answered.setup c.code.ensures c.told.ensures.step

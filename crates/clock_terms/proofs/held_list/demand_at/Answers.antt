@@ -24,5 +24,7 @@ returns-in-Ok-clause-small c =
 pub returns-in-Err-clause-is : goal.returns-in-Err-clause-is
 returns-in-Err-clause-is c =
     let held = c.args.held.now in
-    let lacks = subst (λ place. IfErr place (λ at. BelongsAtIndex held c.args.product at)) c.in-Err.is c.requires.lacks in
-    sym (missing 0 held c.requires.held.0 c.args.product c.in-Err.field-0 none c.requires.held.1 lacks.0.1 (lacks.1 none))
+    let lacks =
+    subst (λ place. IfErr place (λ at. BelongsAtIndex held c.args.product at)) c.in-Err.is c.requires.lacks in
+    sym (missing 0 held c.requires.held.0 c.args.product c.in-Err.field-0 none c.requires.held.1
+    lacks.0.1 (lacks.1 none))

@@ -7,6 +7,7 @@ abbrev pub invariant-loop-group : goal.invariant-loop-group
 invariant-loop-group l = record {
   kept : length l.starts.items ≡ length l.initial.starts.items;
   below : (group : ℕ) → group < l.from → slice_index l.starts.items group ≡ slice_index l.initial.starts.items group;
-  moved : (group : ℕ) → l.from ≤ group → group < l.group → slice_index l.starts.items group ≡ slice_index l.initial.starts.items group - 1;
+  moved : (group : ℕ) → l.from ≤ group → group < l.group
+      → slice_index l.starts.items group ≡ slice_index l.initial.starts.items group - 1;
   ahead : (group : ℕ) → l.group ≤ group → slice_index l.starts.items group ≡ slice_index l.initial.starts.items group;
 }

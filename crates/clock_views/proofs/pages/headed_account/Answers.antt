@@ -8,9 +8,11 @@ use Rattle.clock_views.proofs.pages.headed_account.Goals as goal
 
 pub returns : goal.returns
 returns c =
-    let products : c.as_slice.result.now ≡ c.args.setup.now.products = c.as_slice.ensures ∙ ap (λ (s : SetupFields). s.products) c.setup.view_is in
+    let products : c.as_slice.result.now ≡ c.args.setup.now.products =
+    c.as_slice.ensures ∙ ap (λ (s : SetupFields). s.products) c.setup.view_is in
     headed c.into_items.ensures c.in_ok-text.ensures.head
-    (together (account_in_pieces c.args.setup.now.products (bidder_at c.args.setup.now c.args.bidder).name c.args.own.round
+    (together
+    (account_in_pieces c.args.setup.now.products (bidder_at c.args.setup.now c.args.bidder).name c.args.own.round
     (record { eligibility = c.args.own.eligibility; demands = c.args.own.demands.now }) c.args.ended)
     (before (rw (c.units_held-activity.ensures.exact, products) at c.push_number.ensures.adds)
     (before (rw c.held.ensures.row at c.push_demands.ensures.adds)

@@ -40,23 +40,26 @@ returns-in_default c =
     (before c.push_number.ensures.adds (added c.extend_from_slice.ensures.items))))
 
 pub returns-in_err-text : goal.returns-in_err-text
-returns-in_err-text c =
-    rw c.in_default.is
-    (refused _ _ c.from_residual.result _ c.from_residual.ensures.1 (c.in_err-text.ensures.refused ∙ sym (bids_page_most c.args.round None)))
+returns-in_err-text c = rw c.in_default.is (refused _ _ c.from_residual.result _ c.from_residual.ensures.1
+    (c.in_err-text.ensures.refused ∙ sym (bids_page_most c.args.round None)))
 
 pub returns-in_err-text-2 : goal.returns-in_err-text-2
 returns-in_err-text-2 c =
     rw c.in-Some.is
     (refused _ _ c.from_residual-in_err-text-2.result _ c.from_residual-in_err-text-2.ensures.1
-    (omega (arith, c.in_err-text-2.ensures.refused, some_bids_most c.args.round c.in-Some.sheet.now, ap length c.bids-bids.ensures)))
+    (omega (
+      arith,
+      c.in_err-text-2.ensures.refused,
+      some_bids_most c.args.round c.in-Some.sheet.now,
+      ap length c.bids-bids.ensures,
+    )))
 
 pub returns : goal.returns
 returns c =
     let bids = c.bids-bids.result.now in
     let text = c.loop-i.text.items in
     rw (c.in-Some.is, ← c.bids-bids.ensures)
-    (headed c.into_items-2.ensures c.in_ok-text-2.ensures.head
-    (together (bids_in_pieces c.args.round (Some bids))
+    (headed c.into_items-2.ensures c.in_ok-text-2.ensures.head (together (bids_in_pieces c.args.round (Some bids))
     (array_between bid_value bids (codes "{\"bids\":") refl refl (added c.extend_from_slice-2.ensures.items)
-    (items_end bid_value text _ (nat_lt 0 c.loop-i.i) bids c.loop-i.i (omega (arith, c.loop-i-test.false)) c.loop-i.invariant.adds)
-    (before c.push_number-2.ensures.adds (added c.extend_from_slice-3.ensures.items)))))
+    (items_end bid_value text _ (nat_lt 0 c.loop-i.i) bids c.loop-i.i (omega (arith, c.loop-i-test.false))
+    c.loop-i.invariant.adds) (before c.push_number-2.ensures.adds (added c.extend_from_slice-3.ensures.items)))))

@@ -7,6 +7,7 @@ use Rattle.clock_views.proofs.pages.headed_bids.Given as goal
 -- with the other bids it is the whole array
 abbrev pub invariant-loop-i : goal.invariant-loop-i
 invariant-loop-i l = record {
-  adds : l.text.items ++ rest_text bid_value (nat_lt 0 l.i) (drop l.i l.bids) ≡ l.initial.text.items ++ rest_text bid_value false l.bids;
+  adds : l.text.items ++ rest_text bid_value (nat_lt 0 l.i) (drop l.i l.bids)
+      ≡ l.initial.text.items ++ rest_text bid_value false l.bids;
   room : l.initial.text.room ≤ l.text.room + room_of_bid * l.i;
 }

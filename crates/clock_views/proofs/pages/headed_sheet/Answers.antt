@@ -1,4 +1,5 @@
-use Rattle.std.proofs.Common.{◌≡◌, ◌≤◌, ◌<◌, ◌++◌, ◌∷◌, [], ◌∙◌, ap, ap₂, get_or, length, nat_lt, refl, sym, subst, zip, arith}
+use Rattle.std.proofs.Common.{◌≡◌, ◌≤◌, ◌<◌, ◌++◌, ◌∷◌, [], ◌∙◌, ap, ap₂, get_or, length, nat_lt, refl, sym, subst, zip}
+use Rattle.std.proofs.Common.{arith}
 use Rattle.std.specs.Prelude.{codes, false}
 use Rattle.std.proofs.lemmas.List.{drop_all}
 use Rattle.clock_terms.specs.Limits.{SetupFields}
@@ -26,12 +27,13 @@ loop-i-preserved c =
     (before (rw c.as_slice.ensures at c.push_name.ensures.adds)
     (before c.push_number_or_null-in-loop-i.ensures.adds
     (before (rw c.get-in-loop-i.ensures.value at c.push_number-in-loop-i.ensures.adds)
-    (before (rw c.get-in-loop-i-2.ensures.value at c.push_number-in-loop-i-2.ensures.adds) (added c.extend_from_slice-in-loop-i.ensures.items)))))))) in
+    (before (rw c.get-in-loop-i-2.ensures.value at c.push_number-in-loop-i-2.ensures.adds)
+    (added c.extend_from_slice-in-loop-i.ensures.items)))))))) in
     record {
-      adds = row_more (λ row. line_value row.0 row.1) _ _ c.args.setup.now.products lines i product line (omega (arith, within, c.requires)) within
-          (c.index-deref-i.is ∙ ap (λ list. get_or list i product) (c.deref.ensures ∙ ap (λ (setup : SetupFields). setup.products) c.setup.view_is))
-          (c.line-item.is ∙ ap (λ list. get_or list i line) c.deref-line-items.ensures) added
-          ∙ c.loop-i.invariant.adds;
+      adds = row_more (λ row. line_value row.0 row.1) _ _ c.args.setup.now.products lines i product line
+          (omega (arith, within, c.requires)) within (c.index-deref-i.is ∙ ap (λ list. get_or list i product)
+          (c.deref.ensures ∙ ap (λ (setup : SetupFields). setup.products) c.setup.view_is))
+          (c.line-item.is ∙ ap (λ list. get_or list i line) c.deref-line-items.ensures) added ∙ c.loop-i.invariant.adds;
       room = omega (
         arith,
         c.loop-i.invariant.room,
@@ -62,11 +64,18 @@ returns c =
     (headed c.into_items.ensures c.in_ok-text.ensures.head
     (together (sheet_in_pieces _ sheet)
     (before c.push_truth.ensures.adds
-    (array_between (λ row. line_value row.0 row.1) (zip c.setup.inside.products sheet.lines) (codes ",\"products\":") refl refl (added c.extend_from_slice.ensures.items)
-    (subst (λ (setup : SetupFields). text ++ 93 ∷ [] ≡ opened ++ rest_text (λ row. line_value row.0 row.1) false (zip setup.products sheet.lines))
+    (array_between (λ row. line_value row.0 row.1) (zip c.setup.inside.products sheet.lines)
+    (codes ",\"products\":") refl refl (added c.extend_from_slice.ensures.items)
+    (subst (λ (setup : SetupFields). text ++ 93 ∷ []
+    ≡ opened ++ rest_text (λ row. line_value row.0 row.1) false (zip setup.products sheet.lines))
     (sym c.setup.view_is) all)
     (before c.push_number-2.ensures.adds (added c.extend_from_slice-2.ensures.items))))))
 
 pub returns-in_err-text : goal.returns-in_err-text
 returns-in_err-text c =
-    refused _ _ c.from_residual.result _ c.from_residual.ensures.1 (omega (arith, c.in_err-text.ensures.refused, sheet_most (public_setup c.args.setup.now) c.args.sheet.now c.requires, c.len.ensures))
+    refused _ _ c.from_residual.result _ c.from_residual.ensures.1 (omega (
+      arith,
+      c.in_err-text.ensures.refused,
+      sheet_most (public_setup c.args.setup.now) c.args.sheet.now c.requires,
+      c.len.ensures,
+    ))

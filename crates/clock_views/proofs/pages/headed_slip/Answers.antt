@@ -14,5 +14,5 @@ returns c =
     (before c.push_number-3.ensures.adds (added c.extend_from_slice.ensures.items))))))
 
 pub returns-in_err-text : goal.returns-in_err-text
-returns-in_err-text c =
-    refused _ _ c.from_residual.result _ c.from_residual.ensures.1 (omega (arith, c.in_err-text.ensures.refused, slip_most c.args.slip.now, c.len.ensures.is))
+returns-in_err-text c = refused _ _ c.from_residual.result _ c.from_residual.ensures.1
+    (omega (arith, c.in_err-text.ensures.refused, slip_most c.args.slip.now, c.len.ensures.is))

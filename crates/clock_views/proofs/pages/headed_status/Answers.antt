@@ -14,5 +14,5 @@ returns c =
     (before c.push_number-2.ensures.adds (added c.extend_from_slice.ensures.items))))))
 
 pub returns-in_err-text : goal.returns-in_err-text
-returns-in_err-text c =
-    refused _ _ c.from_residual.result _ c.from_residual.ensures.1 (c.in_err-text.ensures.refused ∙ sym (status_most _ c.args.round c.args.ended))
+returns-in_err-text c = refused _ _ c.from_residual.result _ c.from_residual.ensures.1
+    (c.in_err-text.ensures.refused ∙ sym (status_most _ c.args.round c.args.ended))

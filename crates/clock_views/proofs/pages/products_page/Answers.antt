@@ -17,10 +17,12 @@ loop-i-preserved c =
     let text = c.loop-i.text.items in
     let next = c.extend_from_slice-in-loop-i.new.self.items in
     let opened = c.extend_from_slice-2.new.self.items in
-    let items : text ++ rest_text value (nat_lt 0 i) (drop i inside.products) ≡ opened ++ rest_text value false inside.products =
-    subst (λ (setup : SetupFields). text ++ rest_text (product_value setup.version) (nat_lt 0 i) (drop i setup.products)
-    ≡ opened ++ rest_text (product_value setup.version) false setup.products) (sym c.setup.view_is) c.loop-i.invariant.adds in
-    let within : i < length inside.products = omega (arith, c.loop-i-test.true, ap length c.as_slice-products.ensures) in
+    let items : text ++ rest_text value (nat_lt 0 i) (drop i inside.products)
+    ≡ opened ++ rest_text value false inside.products = subst (λ (setup : SetupFields). text
+    ++ rest_text (product_value setup.version) (nat_lt 0 i) (drop i setup.products) ≡ opened
+    ++ rest_text (product_value setup.version) false setup.products) (sym c.setup.view_is) c.loop-i.invariant.adds in
+    let within : i < length inside.products =
+    omega (arith, c.loop-i-test.true, ap length c.as_slice-products.ensures) in
     let one =
     before c.push_comma_if-in-loop-i.ensures.adds
     (together (product_in_pieces inside.version product)
@@ -31,9 +33,9 @@ loop-i-preserved c =
     (before c.push_number-in-loop-i-2.ensures.adds
     (before c.push_number-in-loop-i-3.ensures.adds (added c.extend_from_slice-in-loop-i.ensures.items)))))))) in
     record {
-      adds = subst (λ (setup : SetupFields). next ++ rest_text (product_value setup.version) (nat_lt 0 (i + 1)) (drop (i + 1) setup.products)
-          ≡ opened ++ rest_text (product_value setup.version) false setup.products) c.setup.view_is
-          (item_more value _ _ inside.products i product product within
+      adds = subst (λ (setup : SetupFields). next ++ rest_text (product_value setup.version) (nat_lt 0 (i + 1))
+          (drop (i + 1) setup.products) ≡ opened ++ rest_text (product_value setup.version) false setup.products)
+          c.setup.view_is (item_more value _ _ inside.products i product product within
           (c.index-products-i.is ∙ ap (λ list. get_or list i product) c.as_slice-products.ensures) one ∙ items);
       room = omega (
         arith,
@@ -55,10 +57,12 @@ returns c =
     let value = product_value inside.version in
     let text = c.loop-i.text.items in
     let opened = c.extend_from_slice-2.new.self.items in
-    let items : text ++ rest_text value (nat_lt 0 c.loop-i.i) (drop c.loop-i.i inside.products) ≡ opened ++ rest_text value false inside.products =
-    subst (λ (setup : SetupFields). text ++ rest_text (product_value setup.version) (nat_lt 0 c.loop-i.i) (drop c.loop-i.i setup.products)
-    ≡ opened ++ rest_text (product_value setup.version) false setup.products) (sym c.setup.view_is) c.loop-i.invariant.adds in
-    let done : length inside.products ≤ c.loop-i.i = omega (arith, c.loop-i-test.false, ap length c.as_slice-products.ensures) in
+    let items : text ++ rest_text value (nat_lt 0 c.loop-i.i) (drop c.loop-i.i inside.products)
+    ≡ opened ++ rest_text value false inside.products = subst (λ (setup : SetupFields). text
+    ++ rest_text (product_value setup.version) (nat_lt 0 c.loop-i.i) (drop c.loop-i.i setup.products) ≡ opened
+    ++ rest_text (product_value setup.version) false setup.products) (sym c.setup.view_is) c.loop-i.invariant.adds in
+    let done : length inside.products ≤ c.loop-i.i =
+    omega (arith, c.loop-i-test.false, ap length c.as_slice-products.ensures) in
     rw (← c.setup.view_is)
     (headed c.into_items.ensures c.in_ok-text.ensures.head
     (together (products_in_pieces _)

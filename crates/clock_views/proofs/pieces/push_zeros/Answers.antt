@@ -13,5 +13,11 @@ loop-product-preserved c =
           (sym (none product 0 c.loop-product.auto.product c.loop-product-test.true))
           (before c.push_comma_if.ensures.adds (added c.push_number.ensures.items))
           ∙ c.loop-product.invariant.adds row within none;
-      room = omega (arith, c.push_comma_if.ensures.room, c.push_number.ensures.room, c.loop-product.invariant.room, c.loop-product.auto.product);
+      room = omega (
+        arith,
+        c.push_comma_if.ensures.room,
+        c.push_number.ensures.room,
+        c.loop-product.invariant.room,
+        c.loop-product.auto.product,
+      );
     }

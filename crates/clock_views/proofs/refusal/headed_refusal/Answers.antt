@@ -12,4 +12,5 @@ returns-clause-page c =
     (before (added c.extend_from_slice-3.ensures.items)
     (before c.push_number_if.ensures.adds
     (before c.push_number_if-2.ensures.adds
-    (before (rw (c.from.ensures, c.status.ensures) at c.push_number.ensures.adds) (added c.extend_from_slice-4.ensures.items)))))))))
+    (before (rw (c.from.ensures, c.status.ensures) at c.push_number.ensures.adds)
+    (added c.extend_from_slice-4.ensures.items)))))))))

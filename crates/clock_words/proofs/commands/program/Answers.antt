@@ -6,7 +6,8 @@ use Rattle.clock_words.proofs.commands.program.Goals as goal
 
 pub returns : goal.returns
 returns c =
-    let priced = c.with_command-program.ensures program_only_grammar prices_grammar c.program_only.ensures c.prices_command.ensures in
+    let priced = c.with_command-program.ensures program_only_grammar prices_grammar c.program_only.ensures
+    c.prices_command.ensures in
     let opened = c.with_command-program-2.ensures _ (new_app (codes "opening")) priced c.named.ensures in
     let replayed = c.with_command-program-3.ensures _ (new_app (codes "replay")) opened c.named-2.ensures in
     let served = c.with_command-program-4.ensures _ serve_grammar replayed c.serve_command.ensures in

@@ -6,7 +6,8 @@ use Rattle.clock_auction.proofs.AuditLaws.{recounted_on}
 use Rattle.clock_auction.proofs.audit.RecountMachine.take.Goals as goal
 
 -- what follows from a result follows from it with another error too
-with_other : {T E F : Type 0} {P Q : Type 0} (result : Result T E) (other : F) → OnOk result P → (P → Q) → OnOk (result_or result (Err other)) Q
+with_other : {T E F : Type 0} {P Q : Type 0} (result : Result T E) (other : F) → OnOk result P → (P → Q)
+    → OnOk (result_or result (Err other)) Q
 with_other (Ok answer) other holds then_ = then_ holds
 with_other (Err refused) other holds then_ = tt
 

@@ -5,7 +5,8 @@ use Rattle.clock_auction.specs.Listings.{text_listed}
 use Rattle.clock_auction.proofs.journal_text.ListingMachine.take.Goals as goal
 
 -- what follows from a result follows from it with another error too
-with_other : {T E F : Type 0} {P Q : Type 0} (result : Result T E) (other : F) → OnOk result P → (P → Q) → OnOk (result_or result (Err other)) Q
+with_other : {T E F : Type 0} {P Q : Type 0} (result : Result T E) (other : F) → OnOk result P → (P → Q)
+    → OnOk (result_or result (Err other)) Q
 with_other (Ok answer) other holds then_ = then_ holds
 with_other (Err refused) other holds then_ = tt
 

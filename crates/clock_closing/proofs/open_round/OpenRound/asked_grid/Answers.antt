@@ -12,12 +12,15 @@ use Rattle.clock_closing.proofs.open_round.OpenRound.asked_grid.Goals as goal
 
 pub asked_demands-requires : goal.asked_demands-requires
 asked_demands-requires c =
-    let within : c.loop-bidder.bidder < length c.args.self.now.setup.bidders = omega (arith, c.loop-bidder-test.true, c.bidders-bidder-end.ensures.each) in
-    rw (c.bids_of.ensures, c.sheet.ensures, ← c.self.view_is) (known_bids _ c.self.invariant.1 c.loop-bidder.bidder (rw (← c.self.view_is) at within))
+    let within : c.loop-bidder.bidder < length c.args.self.now.setup.bidders =
+    omega (arith, c.loop-bidder-test.true, c.bidders-bidder-end.ensures.each) in
+    rw (c.bids_of.ensures, c.sheet.ensures, ← c.self.view_is)
+    (known_bids _ c.self.invariant.1 c.loop-bidder.bidder (rw (← c.self.view_is) at within))
 
 pub of-requires : goal.of-requires
 of-requires c =
-    let within : c.loop-bidder.bidder < length c.args.self.now.setup.bidders = omega (arith, c.loop-bidder-test.true, c.bidders-bidder-end.ensures.each) in
+    let within : c.loop-bidder.bidder < length c.args.self.now.setup.bidders =
+    omega (arith, c.loop-bidder-test.true, c.bidders-bidder-end.ensures.each) in
     let asked = rw (c.bids_of.ensures, c.sheet.ensures, ← c.self.view_is) at c.in_ok-asked.ensures in
     subst (IsRow c.self.inside.setup.now.products) (sym (c.as_slice.ensures ∙ asked))
     (asked_row _ c.self.invariant.1 c.loop-bidder.bidder (rw (← c.self.view_is) at within))
@@ -29,11 +32,13 @@ loop-bidder-preserved c =
     let f = λ (bidder : ℕ). asked_demands (length round.setup.products) (bids_at round.before.sheets bidder) in
     let row = c.in_ok-of.field-0 in
     let pushed : c.push.new.self.items ≡ c.loop-bidder.rows.items ++ row ∷ [] = c.in_ok-push.ensures.items in
-    let within : bidder < length round.setup.bidders = omega (arith, c.loop-bidder-test.true, c.bidders-bidder-end.ensures.each) in
+    let within : bidder < length round.setup.bidders =
+    omega (arith, c.loop-bidder-test.true, c.bidders-bidder-end.ensures.each) in
     let asked = rw (c.bids_of.ensures, c.sheet.ensures) at c.in_ok-asked.ensures in
-    let is : row ≡ f bidder = c.in_ok-of.ensures ∙ c.as_slice.ensures ∙ asked
-    ∙ ap (λ (fields : OpenRoundFields). asked_demands (length fields.setup.products) (bids_at round.before.sheets bidder)) c.self.view_is in
-    let good : IsRow round.setup.products (f bidder) = rw (← c.self.view_is) (asked_row _ c.self.invariant.1 bidder (rw (← c.self.view_is) at within)) in
+    let is : row ≡ f bidder = c.in_ok-of.ensures ∙ c.as_slice.ensures ∙ asked ∙ ap (λ (fields : OpenRoundFields).
+    asked_demands (length fields.setup.products) (bids_at round.before.sheets bidder)) c.self.view_is in
+    let good : IsRow round.setup.products (f bidder) =
+    rw (← c.self.view_is) (asked_row _ c.self.invariant.1 bidder (rw (← c.self.view_is) at within)) in
     record {
       asked = pushed
           ∙ ap (λ (rows : List (List ℕ)). rows ++ row ∷ []) c.loop-bidder.invariant.asked
@@ -41,7 +46,8 @@ loop-bidder-preserved c =
           ∙ sym (map-range_with_len_more f 0 bidder bidder (omega arith));
       rows = subst (λ (rows : List (List ℕ)). All (IsRow round.setup.products) rows) (sym pushed)
           (All-append (IsRow round.setup.products) c.loop-bidder.rows.items (row ∷ []) c.loop-bidder.invariant.rows
-          (All-cons (IsRow round.setup.products) row [] (subst (IsRow round.setup.products) (sym is) good) (All-nil (IsRow round.setup.products))));
+          (All-cons (IsRow round.setup.products) row [] (subst (IsRow round.setup.products) (sym is) good)
+          (All-nil (IsRow round.setup.products))));
     }
 
 pub of_rows-requires-clause-bidders : goal.of_rows-requires-clause-bidders

@@ -24,6 +24,6 @@ loop-bidder-preserved c =
 pub ordered-requires : goal.ordered-requires
 ordered-requires c =
     let done : c.loop-bidder.bidder ≡ c.bidders-bidder-end.result = omega arith in
-    let all = c.loop-bidder.invariant
-    ∙ ap (λ (n : ℕ). flat_map (requests_by c.args.self.now.before) (range_with_len 0 n)) (done ∙ c.bidders-bidder-end.ensures.held) in
+    let all = c.loop-bidder.invariant ∙ ap (λ (n : ℕ). flat_map (requests_by c.args.self.now.before)
+    (range_with_len 0 n)) (done ∙ c.bidders-bidder-end.ensures.held) in
     rw (all, ← c.self.view_is) (own_places _ _ c.self.invariant.1.sound (rw (← c.self.view_is) at c.requires))

@@ -13,34 +13,37 @@ use Rattle.clock_closing.proofs.Steps.{is_open, within_grid}
 use Rattle.clock_closing.proofs.open_round.OpenRound.results.Goals as goal
 
 -- A round that is not round 1 is a later one.
-later_by : (inside : OpenRoundFields) → IsOpenRound inside → inside.before.standing.round ≢ 1 → 2 ≤ inside.before.standing.round
+later_by : (inside : OpenRoundFields) → IsOpenRound inside → inside.before.standing.round ≢ 1
+    → 2 ≤ inside.before.standing.round
 later_by inside is other = omega (arith, is.sound.priced.numbered, other)
 
-later_of : (inside now : OpenRoundFields) → inside ≡ now → IsOpenRound inside → inside.before.standing.round ≢ 1 → 2 ≤ now.before.standing.round
+later_of : (inside now : OpenRoundFields) → inside ≡ now → IsOpenRound inside → inside.before.standing.round ≢ 1
+    → 2 ≤ now.before.standing.round
 later_of inside now same is other = rw (← same) (later_by inside is other)
 
 pub post_first-posting-requires-clause-grid : goal.post_first-posting-requires-clause-grid
-post_first-posting-requires-clause-grid g c =
-    rw (c.in_ok-grid.ensures, ← c.self.view_is) (within_grid _ c.self.invariant.1 _ (asked_within _ _ c.self.invariant.1.sound c.if-self-eq1.true))
+post_first-posting-requires-clause-grid g c = rw (c.in_ok-grid.ensures, ← c.self.view_is)
+    (within_grid _ c.self.invariant.1 _ (asked_within _ _ c.self.invariant.1.sound c.if-self-eq1.true))
 
 pub with_slips-requires : goal.with_slips-requires
-with_slips-requires g c = rw (c.in_ok-grid.ensures, ← c.self.view_is) (asked_within _ _ c.self.invariant.1.sound c.if-self-eq1.true)
+with_slips-requires g c =
+    rw (c.in_ok-grid.ensures, ← c.self.view_is) (asked_within _ _ c.self.invariant.1.sound c.if-self-eq1.true)
 
 pub returns-then-self-eq1 : goal.returns-then-self-eq1
 returns-then-self-eq1 g c =
     let now = c.args.self.now in
     let increments = c.args.increments.now in
-    let number : c.self.inside.round ≡ now.before.standing.round = ap (λ (round : OpenRoundFields). round.before.standing.round) c.self.view_is in
+    let number : c.self.inside.round ≡ now.before.standing.round =
+    ap (λ (round : OpenRoundFields). round.before.standing.round) c.self.view_is in
     let first = sym number ∙ c.if-self-eq1.true in
     let setup : c.self.inside.setup.now ≡ now.setup = ap (λ (round : OpenRoundFields). round.setup) c.self.view_is in
     let opening = (is_open c.self.view_is c.self.invariant.1).opening first in
     let posting = rw (c.in_ok-grid.ensures, setup) at c.post_first-posting.ensures.ok in
     let refused = rw (c.in_ok-grid.ensures, setup) at c.post_first-posting.ensures.err in
     let comes = rw c.in_ok-grid.ensures at c.with_slips.ensures in
-    rw (result-first now.setup.products now.before c.args.ties.now first)
-    (comes increments (opening_posted now.setup.products)
-    (posts_by now increments (first_result now.setup.products now.before) c.post_first-posting.result (rw (first, opening) posting)
-    c.post_first-posting.ensures.laws refused))
+    rw (result-first now.setup.products now.before c.args.ties.now first) (comes increments
+    (opening_posted now.setup.products) (posts_by now increments (first_result now.setup.products now.before)
+    c.post_first-posting.result (rw (first, opening) posting) c.post_first-posting.ensures.laws refused))
 
 pub requests-requires : goal.requests-requires
 requests-requires g c = later_of _ _ c.self.view_is c.self.invariant.1 c.if-self-eq1.false
@@ -52,8 +55,8 @@ pub post-posting-requires-clause-later : goal.post-posting-requires-clause-later
 post-posting-requires-clause-later g c = later_by _ c.self.invariant.1 c.if-self-eq1.false
 
 pub post-posting-requires-clause-changes : goal.post-posting-requires-clause-changes
-post-posting-requires-clause-changes g c =
-    All-permutation (IsWithinPrices c.self.inside.prices.now) _ _ (rw (← c.self.view_is) at c.in_ok-requests.ensures.all)
+post-posting-requires-clause-changes g c = All-permutation (IsWithinPrices c.self.inside.prices.now) _ _
+    (rw (← c.self.view_is) at c.in_ok-requests.ensures.all)
     (priced_requests _ _ c.self.invariant.1.sound (later_by _ c.self.invariant.1 c.if-self-eq1.false))
 
 pub returns : goal.returns
@@ -61,19 +64,31 @@ returns g c =
     let now = c.args.self.now in
     let increments = c.args.increments.now in
     let ties = c.args.ties.now in
-    let setup : c.self.inside.setup.now ≡ c.args.self.now.setup = ap (λ (round : OpenRoundFields). round.setup) c.self.view_is in
+    let setup : c.self.inside.setup.now ≡ c.args.self.now.setup =
+    ap (λ (round : OpenRoundFields). round.setup) c.self.view_is in
     let number : c.self.inside.round ≡ c.args.self.now.before.standing.round =
     ap (λ (round : OpenRoundFields). round.before.standing.round) c.self.view_is in
     let prices : c.self.inside.prices.now ≡ c.args.self.now.before.standing.prices =
     ap (λ (round : OpenRoundFields). round.before.standing.prices) c.self.view_is in
     let result = later_result now.setup.products now.before (requests now.before ties) in
-    let posting = rw (c.in_ok-settled.ensures.left, c.in_ok-settled.ensures.grid, c.in_ok-requests.ensures.ordered, setup, number, prices)
+    let posting = rw (
+      c.in_ok-settled.ensures.left,
+      c.in_ok-settled.ensures.grid,
+      c.in_ok-requests.ensures.ordered,
+      setup,
+      number,
+      prices,
+    )
     at c.post-posting.ensures.ok in
-    let refused = rw (c.in_ok-settled.ensures.left, c.in_ok-settled.ensures.grid, c.in_ok-requests.ensures.ordered, setup, prices)
+    let refused =
+    rw (c.in_ok-settled.ensures.left, c.in_ok-settled.ensures.grid, c.in_ok-requests.ensures.ordered, setup, prices)
     at c.post-posting.ensures.err in
-    let comes = rw (c.into_grid.ensures, c.in_ok-settled.ensures.grid, c.in_ok-requests.ensures.ordered) at c.with_slips-2.ensures in
-    rw (result-later now.setup.products now.before ties (later_of _ _ c.self.view_is c.self.invariant.1 c.if-self-eq1.false))
-    (comes increments result.posted (posts_by now increments result c.post-posting.result posting c.post-posting.ensures.laws refused))
+    let comes = rw (c.into_grid.ensures, c.in_ok-settled.ensures.grid, c.in_ok-requests.ensures.ordered)
+    at c.with_slips-2.ensures in
+    rw (result-later now.setup.products now.before ties
+    (later_of _ _ c.self.view_is c.self.invariant.1 c.if-self-eq1.false)) (comes increments result.posted
+    (posts_by now increments result c.post-posting.result posting c.post-posting.ensures.laws refused))
 
 pub post-posting-requires-clause-grid : goal.post-posting-requires-clause-grid
-post-posting-requires-clause-grid g c = within_grid _ c.self.invariant.1 _ (rw (← c.self.view_is) at c.in_ok-settled.ensures.within)
+post-posting-requires-clause-grid g c =
+    within_grid _ c.self.invariant.1 _ (rw (← c.self.view_is) at c.in_ok-settled.ensures.within)

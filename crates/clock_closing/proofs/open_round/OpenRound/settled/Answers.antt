@@ -18,11 +18,12 @@ use Rattle.clock_closing.proofs.Steps.{is_open}
 use Rattle.clock_closing.proofs.open_round.OpenRound.settled.Goals as goal
 
 -- The board of the borrowed lists is the board of each bidder's eligibility and demands.
-module _ (setup : SetupFields) (number : ℕ) (prices : List PricePair) (eligibilities : List ℕ) (demands : List (List ℕ)) (sheets : List (Option (List Bid)))
-    (many : length demands ≡ length eligibilities) where
-  held_board : (round : OpenRoundFields) (board : BoardFields) (grid : List (List ℕ)) → open_at setup number prices eligibilities demands sheets ≡ round →
-      board ≡ new_board setup.products eligibilities grid → grid ≡ grid_of round.before →
-      board ≡ new_board round.setup.products (eligibilities_of round.before) (grid_of round.before)
+module _ (setup : SetupFields) (number : ℕ) (prices : List PricePair) (eligibilities : List ℕ) (demands : List (List ℕ))
+    (sheets : List (Option (List Bid))) (many : length demands ≡ length eligibilities) where
+  held_board : (round : OpenRoundFields) (board : BoardFields) (grid : List (List ℕ))
+      → open_at setup number prices eligibilities demands sheets ≡ round
+      → board ≡ new_board setup.products eligibilities grid → grid ≡ grid_of round.before
+      → board ≡ new_board round.setup.products (eligibilities_of round.before) (grid_of round.before)
   held_board round board grid same is are =
       is
       ∙ ap (λ (list : List ℕ). new_board setup.products list grid) (held_eligibilities eligibilities demands many)
@@ -49,15 +50,18 @@ settle-requires g c =
 
 pub returns-clause-grid : goal.returns-clause-grid
 returns-clause-grid g c =
-    let board = held_board _ _ _ _ _ _ c.self.invariant.0 _ _ _ c.self.view_is c.in_ok-board.ensures c.in_ok-grid.ensures in
+    let board =
+    held_board _ _ _ _ _ _ c.self.invariant.0 _ _ _ c.self.view_is c.in_ok-board.ensures c.in_ok-grid.ensures in
     IfOk-weaker c.settle.result _ _ (λ settled is. is.grid) (rw board at c.settle.ensures.settlement)
 
 pub returns-clause-left : goal.returns-clause-left
 returns-clause-left g c =
-    let board = held_board _ _ _ _ _ _ c.self.invariant.0 _ _ _ c.self.view_is c.in_ok-board.ensures c.in_ok-grid.ensures in
+    let board =
+    held_board _ _ _ _ _ _ c.self.invariant.0 _ _ _ c.self.view_is c.in_ok-board.ensures c.in_ok-grid.ensures in
     IfOk-weaker c.settle.result _ _ (λ settled is. is.left) (rw board at c.settle.ensures.settlement)
 
 pub returns-clause-within : goal.returns-clause-within
 returns-clause-within g c =
-    let board = held_board _ _ _ _ _ _ c.self.invariant.0 _ _ _ c.self.view_is c.in_ok-board.ensures c.in_ok-grid.ensures in
+    let board =
+    held_board _ _ _ _ _ _ c.self.invariant.0 _ _ _ c.self.view_is c.in_ok-board.ensures c.in_ok-grid.ensures in
     IfOk-weaker c.settle.result _ _ (λ settled is. is.within) (rw board at c.settle.ensures.proper)

@@ -6,5 +6,13 @@ use Rattle.clock_closing.proofs.open_round.OpenRound.slip_after.Goals as goal
 pub returns : goal.returns
 returns c =
     let held = ap (λ (own : Holding). own.eligibility) c.own-held.ensures.held in
-    rw (← held, ← c.self.view_is, ← c.setup.view_is, c.next_eligibility.ensures.exact, c.units_held-used.ensures.exact, c.as_slice.ensures, c.in_ok-kept.ensures)
+    rw (
+      ← held,
+      ← c.self.view_is,
+      ← c.setup.view_is,
+      c.next_eligibility.ensures.exact,
+      c.units_held-used.ensures.exact,
+      c.as_slice.ensures,
+      c.in_ok-kept.ensures,
+    )
     refl

@@ -20,7 +20,8 @@ loop-bidder-preserved c =
     let f = λ (bidder : ℕ). slip_after (public_setup c.args.self.now.setup) c.args.self.now.before.standing.round
     (holding_at c.args.self.now.before.holdings bidder).eligibility (row_of c.args.demands.now bidder) in
     let slip = rw c.row.ensures at c.in_ok-slip_after.ensures in
-    let pushed : c.push.new.self.items ≡ c.loop-bidder.slips.items ++ c.in_ok-slip_after.field-0 ∷ [] = c.in_ok-push.ensures.items in
+    let pushed : c.push.new.self.items ≡ c.loop-bidder.slips.items ++ c.in_ok-slip_after.field-0 ∷ [] =
+    c.in_ok-push.ensures.items in
     pushed
     ∙ ap (λ (xs : List Slip). xs ++ c.in_ok-slip_after.field-0 ∷ []) c.loop-bidder.invariant
     ∙ ap (λ (one : Slip). map f (range_with_len 0 c.loop-bidder.bidder) ++ one ∷ []) slip
@@ -29,10 +30,10 @@ loop-bidder-preserved c =
 pub returns-clause-slips : goal.returns-clause-slips
 returns-clause-slips c =
     let done : c.loop-bidder.bidder ≡ c.bidders-bidder-end.result = omega arith in
-    c.from_vec.ensures ∙ c.loop-bidder.invariant
-    ∙ ap (λ (n : ℕ). map (λ (bidder : ℕ). slip_after (public_setup c.args.self.now.setup) c.args.self.now.before.standing.round
-    (holding_at c.args.self.now.before.holdings bidder).eligibility (row_of c.args.demands.now bidder)) (range_with_len 0 n))
-    (done ∙ c.bidders-bidder-end.ensures.held)
+    c.from_vec.ensures ∙ c.loop-bidder.invariant ∙ ap (λ (n : ℕ).
+    map (λ (bidder : ℕ). slip_after (public_setup c.args.self.now.setup) c.args.self.now.before.standing.round
+    (holding_at c.args.self.now.before.holdings bidder).eligibility (row_of c.args.demands.now bidder))
+    (range_with_len 0 n)) (done ∙ c.bidders-bidder-end.ensures.held)
 
 pub returns-clause-demands : goal.returns-clause-demands
 returns-clause-demands c =

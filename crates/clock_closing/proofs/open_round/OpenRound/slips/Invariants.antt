@@ -9,5 +9,6 @@ use Rattle.clock_closing.proofs.open_round.OpenRound.slips.Given as goal
 
 -- The list has the results of the bidders so far.
 abbrev pub invariant-loop-bidder : goal.invariant-loop-bidder
-invariant-loop-bidder l = l.slips.items ≡ map (λ bidder. slip_after (public_setup l.self.setup) l.self.before.standing.round
+invariant-loop-bidder l =
+    l.slips.items ≡ map (λ bidder. slip_after (public_setup l.self.setup) l.self.before.standing.round
     (holding_at l.self.before.holdings bidder).eligibility (row_of l.demands bidder)) (range_with_len 0 l.bidder)

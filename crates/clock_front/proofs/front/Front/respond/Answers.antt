@@ -18,5 +18,5 @@ pub returns-in-Ok-clause-cut_short : goal.returns-in-Ok-clause-cut_short
 returns-in-Ok-clause-cut_short g c = λ is.
     let house = c.args.self.now in
     let text = c.requires.0 in
-    inl ((c.in-Ok.ensures.response text c.requires.1).reply
-    ∙ answered_cut_short house (caller house.setup (request_of text).token) text (ap is_incomplete (sym c.requires.1 ∙ is)))
+    inl ((c.in-Ok.ensures.response text c.requires.1).reply ∙ answered_cut_short house
+    (caller house.setup (request_of text).token) text (ap is_incomplete (sym c.requires.1 ∙ is)))

@@ -23,7 +23,8 @@ use Rattle.clock_front.proofs.FrontLaws.{refused_fixed, away_told, away_command,
 use Rattle.clock_front.proofs.front.Front.try_answer.Goals as goal
 
 pub fixed_reply-requires : goal.fixed_reply-requires
-fixed_reply-requires g c = refused_fixed c.requires.0 c.in-Refused.code (sym (ap shown_framing (sym c.in-Refused.is) ∙ c.requires.1))
+fixed_reply-requires g c =
+    refused_fixed c.requires.0 c.in-Refused.code (sym (ap shown_framing (sym c.in-Refused.is) ∙ c.requires.1))
 
 pub returns-in_ok-reply-in-NeedMore-clause-response : goal.returns-in_ok-reply-in-NeedMore-clause-response
 returns-in_ok-reply-in-NeedMore-clause-response g c = λ text is.
@@ -48,10 +49,12 @@ returns-in_err-reply-in-NeedMore-clause-wanted g c = λ text is.
     want_as c.from_residual.result (λ why. why ≡ Room refusal_room) (FailsByAllocation text house)
     (λ why wants. cut_short_want house text why (ap shown_framing (sym c.in-NeedMore.is) ∙ is) wants) (search rules)
 
-pub returns-in_err-reply-in-NeedMore-clause-wanted_privately : goal.returns-in_err-reply-in-NeedMore-clause-wanted_privately
+pub returns-in_err-reply-in-NeedMore-clause-wanted_privately :
+    goal.returns-in_err-reply-in-NeedMore-clause-wanted_privately
 returns-in_err-reply-in-NeedMore-clause-wanted_privately g c = λ text is.
     let limits = subst (λ (h : HouseFields). IsSetup h.setup) c.self.view_is c.law_of_house.ensures.limits in
-    if_private_want c.from_residual.result c.args.self.now text limits (returns-in_err-reply-in-NeedMore-clause-wanted g c text is)
+    if_private_want c.from_residual.result c.args.self.now text limits
+    (returns-in_err-reply-in-NeedMore-clause-wanted g c text is)
 
 pub returns-in-Refused-clause-response : goal.returns-in-Refused-clause-response
 returns-in-Refused-clause-response g c = λ text is.
@@ -81,15 +84,16 @@ returns-in-Whole-clause-response g c = λ text is.
     let house = c.self.inside.house in
     let told = c.answer_request.result in
     let new = c.answer_request.new.house in
-    subst (λ (h : HouseFields). IfOk told (IsRightResponse text h new)) c.self.view_is
-    (of_text house.setup text (λ who ask. IfOk told (IsRightFor who ask house new)) _ _
-    (shown_head c.in-Whole.head) c.in-Whole.body.now (c.caller_of-caller.ensures.shown house.setup c.self.invariant.0) refl
+    subst (λ (h : HouseFields). IfOk told (IsRightResponse text h new)) c.self.view_is (of_text house.setup text
+    (λ who ask. IfOk told (IsRightFor who ask house new)) _ _ (shown_head c.in-Whole.head) c.in-Whole.body.now
+    (c.caller_of-caller.ensures.shown house.setup c.self.invariant.0) refl
     (ap shown_framing (sym c.in-Whole.is) ∙ is) c.answer_request.ensures.done)
 
 pub returns-in-Whole-clause-private : goal.returns-in-Whole-clause-private
 returns-in-Whole-clause-private g c = λ text is.
     let limits = subst (λ (h : HouseFields). IsSetup h.setup) c.self.view_is c.law_of_house.ensures.limits in
-    if_private c.answer_request.result c.args.self.now c.answer_request.new.house text limits (returns-in-Whole-clause-response g c text is)
+    if_private c.answer_request.result c.args.self.now c.answer_request.new.house text limits
+    (returns-in-Whole-clause-response g c text is)
 
 pub returns-in-Whole-clause-wanted : goal.returns-in-Whole-clause-wanted
 returns-in-Whole-clause-wanted g c = λ text is.
@@ -97,8 +101,8 @@ returns-in-Whole-clause-wanted g c = λ text is.
     let told = c.answer_request.result in
     subst (λ (h : HouseFields). IfErr told (FailsByAllocation text h)) c.self.view_is
     (of_text house.setup text (λ who ask. IfErr told (NeedsRoom who ask (outcome house who ask))) _ _
-    (shown_head c.in-Whole.head) c.in-Whole.body.now (c.caller_of-caller.ensures.shown house.setup c.self.invariant.0) refl
-    (ap shown_framing (sym c.in-Whole.is) ∙ is) c.answer_request.ensures.wanted)
+    (shown_head c.in-Whole.head) c.in-Whole.body.now (c.caller_of-caller.ensures.shown house.setup c.self.invariant.0)
+    refl (ap shown_framing (sym c.in-Whole.is) ∙ is) c.answer_request.ensures.wanted)
 
 pub returns-in-Whole-clause-wanted_privately : goal.returns-in-Whole-clause-wanted_privately
 returns-in-Whole-clause-wanted_privately g c = λ text is.

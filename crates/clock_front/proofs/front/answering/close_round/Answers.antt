@@ -16,9 +16,9 @@ use Rattle.clock_front.proofs.front.answering.close_round.Goals as goal
 
 pub returns-in-Err-clause-done : goal.returns-in-Err-clause-done
 returns-in-Err-clause-done g c =
-    refused_close c.refused_body.result c.args.house.now (close_body c.args.body.now) c.in-Err.fault
-    (λ known. subst (λ (setup : SetupFields). in_version setup.version (close_body c.args.body.now) ≡ Err c.in-Err.fault) c.setup.ensures
-    (c.in-Err.ensures.err known)) c.refused_body.ensures.known c.refused_body.ensures.response
+    refused_close c.refused_body.result c.args.house.now (close_body c.args.body.now) c.in-Err.fault (λ known.
+    subst (λ (setup : SetupFields). in_version setup.version (close_body c.args.body.now) ≡ Err c.in-Err.fault)
+    c.setup.ensures (c.in-Err.ensures.err known)) c.refused_body.ensures.known c.refused_body.ensures.response
 
 pub returns-in_ok-text-in-Ok-settled-clause-done : goal.returns-in_ok-text-in-Ok-settled-clause-done
 returns-in_ok-text-in-Ok-settled-clause-done g c =
@@ -27,15 +27,15 @@ returns-in_ok-text-in-Ok-settled-clause-done g c =
     let made = c.in-Ok-settled.ensures in
     let asked = made.asked in
     closing_made house c.commit.new.self (close_body c.args.body.now) closing _ c.written.result
-    (subst (λ (setup : SetupFields). in_version setup.version (close_body c.args.body.now) ≡ Ok closing) c.setup.ensures c.in-Ok.ensures.ok)
-    (closing_fits c.in-Ok-settled.settled house c.prepare-settled.new.self closing.round closing.increments closing.ties
-    asked.0 asked.1 (asked.2 ∙ c.as_slice.ensures) made.fits made.same)
+    (subst (λ (setup : SetupFields). in_version setup.version (close_body c.args.body.now) ≡ Ok closing) c.setup.ensures
+    c.in-Ok.ensures.ok) (closing_fits c.in-Ok-settled.settled house c.prepare-settled.new.self closing.round
+    closing.increments closing.ties asked.0 asked.1 (asked.2 ∙ c.as_slice.ensures) made.fits made.same)
     (written_page _ _ _ _ _ c.written.ensures c.in_ok-text-in-Ok-settled.ensures
-    ∙ ap (λ (ended : Bool). answer_of (done (closed_value closing.round ended))) c.ended.ensures
-    ∙ ap answer_of (closed_outcome c.in-Ok-settled.settled house c.prepare-settled.new.self closing.round closing.increments closing.ties
-    asked.0 asked.1 (asked.2 ∙ c.as_slice.ensures) made.fits made.same))
-    (closing_followed c.in-Ok-settled.settled house c.prepare-settled.new.self c.commit.new.self closing.round closing.increments closing.ties
-    asked.0 asked.1 (asked.2 ∙ c.as_slice.ensures) made.stands c.commit.ensures.followed)
+    ∙ ap (λ (ended : Bool). answer_of (done (closed_value closing.round ended))) c.ended.ensures ∙ ap answer_of
+    (closed_outcome c.in-Ok-settled.settled house c.prepare-settled.new.self closing.round closing.increments
+    closing.ties asked.0 asked.1 (asked.2 ∙ c.as_slice.ensures) made.fits made.same)) (closing_followed
+    c.in-Ok-settled.settled house c.prepare-settled.new.self c.commit.new.self closing.round closing.increments
+    closing.ties asked.0 asked.1 (asked.2 ∙ c.as_slice.ensures) made.stands c.commit.ensures.followed)
 
 pub returns-in_ok-refusal-in-Err-settled-clause-done : goal.returns-in_ok-refusal-in-Err-settled-clause-done
 returns-in_ok-refusal-in-Err-settled-clause-done g c =
@@ -44,7 +44,7 @@ returns-in_ok-refusal-in-Err-settled-clause-done g c =
     let judged = c.in-Err-settled.ensures in
     let faulty : closing_in house closing.round closing.increments closing.ties ≡ Err c.in-Err-settled.why =
     ap (closing_in house closing.round closing.increments) (sym c.as_slice.ensures) ∙ judged.answer (search rules) in
-    closing_refused house c.prepare-settled.new.self (close_body c.args.body.now) closing c.in-Err-settled.why c.unchanged.result
-    (subst (λ (setup : SetupFields). in_version setup.version (close_body c.args.body.now) ≡ Ok closing) c.setup.ensures c.in-Ok.ensures.ok)
-    faulty (rw faulty (search rules)) (search rules)
-    (rw (← c.as_slice.ensures) (judged.followed (search rules))) judged.stands
+    closing_refused house c.prepare-settled.new.self
+    (close_body c.args.body.now) closing c.in-Err-settled.why c.unchanged.result (subst (λ (setup : SetupFields).
+    in_version setup.version (close_body c.args.body.now) ≡ Ok closing) c.setup.ensures c.in-Ok.ensures.ok) faulty
+    (rw faulty (search rules)) (search rules) (rw (← c.as_slice.ensures) (judged.followed (search rules))) judged.stands

@@ -11,23 +11,23 @@ use Rattle.clock_front.proofs.ReplyLaws.{refused_put, sheet_put, sheet_refused}
 use Rattle.clock_front.proofs.front.answering.put_sheet.Goals as goal
 
 pub returns-in-Err-clause-done : goal.returns-in-Err-clause-done
-returns-in-Err-clause-done g c =
-    refused_put c.refused_body.result c.args.house.now c.args.bidder (put_body c.args.body.now) c.in-Err.fault c.in-Err.ensures.err
-    c.refused_body.ensures.known c.refused_body.ensures.response
+returns-in-Err-clause-done g c = refused_put c.refused_body.result c.args.house.now c.args.bidder (put_body
+    c.args.body.now) c.in-Err.fault c.in-Err.ensures.err c.refused_body.ensures.known c.refused_body.ensures.response
 
 pub returns-in_ok-text-in-Ok-prepare_sheet-clause-done : goal.returns-in_ok-text-in-Ok-prepare_sheet-clause-done
 returns-in_ok-text-in-Ok-prepare_sheet-clause-done g c =
     let sheet = c.in-Ok.sheet in
-    sheet_put c.args.house.now c.commit_put.new.self c.args.bidder (put_body c.args.body.now) sheet c.written.result c.in-Ok.ensures.ok
-    (written_page _ _ _ _ _ c.written.ensures c.in_ok-text-in-Ok-prepare_sheet.ensures
+    sheet_put c.args.house.now c.commit_put.new.self c.args.bidder (put_body c.args.body.now) sheet c.written.result
+    c.in-Ok.ensures.ok (written_page _ _ _ _ _ c.written.ensures c.in_ok-text-in-Ok-prepare_sheet.ensures
     ∙ ap (λ (count : ℕ). answer_of (done (accepted_value sheet.round count))) (ap length c.as_slice.ensures))
     c.in-Ok-prepare_sheet.ensures.answer
-    (subst (λ (made : PreparedSheet). IsFollowedBy (put made.bidder made.round made.bids) c.args.house.now c.commit_put.new.self)
-    c.in-Ok-prepare_sheet.ensures.asked c.commit_put.ensures.followed)
+    (subst (λ (made : PreparedSheet). IsFollowedBy (put made.bidder made.round made.bids) c.args.house.now
+    c.commit_put.new.self) c.in-Ok-prepare_sheet.ensures.asked c.commit_put.ensures.followed)
 
 pub returns-in_ok-refusal-in-Err-prepare_sheet-clause-done : goal.returns-in_ok-refusal-in-Err-prepare_sheet-clause-done
 returns-in_ok-refusal-in-Err-prepare_sheet-clause-done g c =
     let sheet = c.in-Ok.sheet in
     let judged = c.in-Err-prepare_sheet.ensures in
-    sheet_refused c.args.house.now c.args.bidder (put_body c.args.body.now) sheet c.in-Err-prepare_sheet.fault c.unchanged.result c.in-Ok.ensures.ok
-    (search rules) (search rules) (judged.answer (search rules)) (judged.followed (search rules))
+    sheet_refused c.args.house.now c.args.bidder
+    (put_body c.args.body.now) sheet c.in-Err-prepare_sheet.fault c.unchanged.result c.in-Ok.ensures.ok (search rules)
+    (search rules) (judged.answer (search rules)) (judged.followed (search rules))

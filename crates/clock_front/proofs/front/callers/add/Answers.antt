@@ -9,5 +9,5 @@ pub returns : goal.returns
 returns c =
     let before = c.args.tokens.now.entries in
     λ other. ap (λ (entries : Entries). found entries other) c.in_ok-insert.ensures.entries
-    ∙ found-insert before _ c.args.caller other
-    ∙ ap (λ (bytes : List ℕ). cond (same_bytes other bytes) c.args.caller (found before other)) c.in_ok-from_slice.ensures.items
+    ∙ found-insert before _ c.args.caller other ∙ ap (λ (bytes : List ℕ). cond (same_bytes other bytes) c.args.caller
+    (found before other)) c.in_ok-from_slice.ensures.items

@@ -13,10 +13,10 @@ use Rattle.clock_front.proofs.front.callers.caller_of.Goals as goal
 pub returns-in-Some-clause-shown : goal.returns-in-Some-clause-shown
 returns-in-Some-clause-shown c =
     let entries = c.args.tokens.now.entries in
-    λ setup table. c.unwrap_or.ensures ∙ ap (λ (o : Option Caller). unwrap_or o Nobody) (c.copied.ensures ∙ c.get.ensures.value)
-    ∙ found-lookup entries c.in-Some.token.now ∙ ap (λ t. caller_by (found entries) (shown_bytes t)) (sym c.in-Some.is)
-    ∙ caller_same (found entries) (holder (tokens_of setup)) table (shown_bytes c.args.token)
+    λ setup table. c.unwrap_or.ensures ∙ ap (λ (o : Option Caller). unwrap_or o Nobody) (c.copied.ensures
+    ∙ c.get.ensures.value) ∙ found-lookup entries c.in-Some.token.now ∙ ap (λ t. caller_by (found entries) (shown_bytes
+    t)) (sym c.in-Some.is) ∙ caller_same (found entries) (holder (tokens_of setup)) table (shown_bytes c.args.token)
 
 pub returns-in-Some-clause-known : goal.returns-in-Some-clause-known
-returns-in-Some-clause-known c =
-    λ setup table. subst (IsKnown (length setup.bidders)) (sym (returns-in-Some-clause-shown c setup table)) (caller_known setup (shown_bytes c.args.token))
+returns-in-Some-clause-known c = λ setup table. subst (IsKnown (length setup.bidders))
+    (sym (returns-in-Some-clause-shown c setup table)) (caller_known setup (shown_bytes c.args.token))

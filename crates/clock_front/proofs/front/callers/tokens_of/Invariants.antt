@@ -7,7 +7,8 @@ use Rattle.clock_front.proofs.front.callers.tokens_of.Given as goal
 abbrev pub invariant-loop-number : goal.invariant-loop-number
 invariant-loop-number l = record {
   within : l.number ≤ length l.setup.bidders;
-  held : (token : List ℕ) → found l.tokens.entries token ≡ holder (bidder_tokens l.number (drop l.number l.setup.bidders)) token;
+  held : (token : List ℕ)
+      → found l.tokens.entries token ≡ holder (bidder_tokens l.number (drop l.number l.setup.bidders)) token;
 }
 
 abbrev pub decreases-loop-number : goal.decreases-loop-number

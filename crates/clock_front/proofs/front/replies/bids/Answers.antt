@@ -12,6 +12,6 @@ use Rattle.clock_front.proofs.front.replies.bids.Goals as goal
 pub returns : goal.returns
 returns g c =
     let house = c.args.house.now in
-    written_page _ _ _ _ _ c.written.ensures c.in_ok-text.ensures
-    ∙ ap (λ (round : ℕ). with_page Done None (bids_value round (option_copied c.bids.result))) c.round.ensures.is
-    ∙ ap (λ (sheet : Option (List Bid)). with_page Done None (bids_value (standing_in house).round sheet)) c.bids.ensures.is
+    written_page _ _ _ _ _ c.written.ensures c.in_ok-text.ensures ∙ ap (λ (round : ℕ). with_page Done None
+    (bids_value round (option_copied c.bids.result))) c.round.ensures.is ∙ ap (λ (sheet : Option (List Bid)).
+    with_page Done None (bids_value (standing_in house).round sheet)) c.bids.ensures.is

@@ -5,7 +5,8 @@ use Rattle.clock_http.specs.Replies.{Answer, reply_bytes}
 use Rattle.clock_front.specs.inside.FixedReplies.{refusal_of}
 use Rattle.clock_front.proofs.FrontLaws.{constant_bytes, constant_reply}
 use Rattle.clock_front.proofs.front.replies.fixed_reply.Goals as goal
-use Rattle.clock_front.proofs.front.replies.fixed_reply.Goals.{in-LongHead, in-BadHead, in-Coding, in-BadLength, in-LongBody, in-Memory}
+use Rattle.clock_front.proofs.front.replies.fixed_reply.Goals.{in-LongHead, in-BadHead, in-Coding, in-BadLength}
+use Rattle.clock_front.proofs.front.replies.fixed_reply.Goals.{in-LongBody, in-Memory}
 
 pub returns : goal.returns
 unfolding reply_bytes digits

@@ -18,6 +18,6 @@ returns g c =
     let part : ClosedRound → RoundSheet = λ closed. closed.sheet in
     let found = c.in-Some-sheet.ensures.found
     ∙ ap (λ (n : Option ℕ). option_map part (option_and_then (λ n. round_at n house.closed) n)) c.in-Some.ensures in
-    written_page _ _ _ _ _ c.written.ensures c.in_ok-text.ensures
-    ∙ ap (λ (setup : SetupFields). with_page Done None (sheet_value (public_setup setup) c.in-Some-sheet.sheet.now)) c.setup.ensures
-    ∙ ap answer_of (found_page (sheet_value (public_setup house.setup)) part (round_in house c.args.segment.now) c.in-Some-sheet.sheet.now found)
+    written_page _ _ _ _ _ c.written.ensures c.in_ok-text.ensures ∙ ap (λ (setup : SetupFields). with_page Done None
+    (sheet_value (public_setup setup) c.in-Some-sheet.sheet.now)) c.setup.ensures ∙ ap answer_of (found_page
+    (sheet_value (public_setup house.setup)) part (round_in house c.args.segment.now) c.in-Some-sheet.sheet.now found)

@@ -11,7 +11,7 @@ use Rattle.clock_front.proofs.front.replies.slip.Goals as goal
 pub returns : goal.returns
 returns g c =
     let house = c.args.house.now in
-    let found = c.in-Some-slip.ensures.found
-    ∙ ap (λ (n : Option ℕ). option_map (slip_of c.args.bidder) (option_and_then (λ n. round_at n house.closed) n)) c.in-Some.ensures in
-    written_page _ _ _ _ _ c.written.ensures c.in_ok-text.ensures
-    ∙ ap answer_of (found_page slip_value (slip_of c.args.bidder) (round_in house c.args.segment.now) c.in-Some-slip.slip.now found)
+    let found = c.in-Some-slip.ensures.found ∙ ap (λ (n : Option ℕ). option_map (slip_of c.args.bidder)
+    (option_and_then (λ n. round_at n house.closed) n)) c.in-Some.ensures in
+    written_page _ _ _ _ _ c.written.ensures c.in_ok-text.ensures ∙ ap answer_of
+    (found_page slip_value (slip_of c.args.bidder) (round_in house c.args.segment.now) c.in-Some-slip.slip.now found)

@@ -9,9 +9,8 @@ use Rattle.clock_front.proofs.PageLaws.{written_page}
 use Rattle.clock_front.proofs.front.replies.status.Goals as goal
 
 pub returns : goal.returns
-returns g c =
-    written_page _ _ _ _ _ c.written.ensures c.in_ok-text.ensures
-    ∙ ap (λ (setup : SetupFields). with_page Done None (status_value (public_setup setup) c.round.result c.ended.result)) c.setup.ensures
-    ∙ ap (λ (round : ℕ). with_page Done None (status_value (public_setup c.args.house.now.setup) round c.ended.result)) c.round.ensures.is
-    ∙ ap (λ (ended : Bool). with_page Done None (status_value (public_setup c.args.house.now.setup) (standing_in c.args.house.now).round ended))
-    c.ended.ensures.is
+returns g c = written_page _ _ _ _ _ c.written.ensures c.in_ok-text.ensures ∙ ap (λ (setup : SetupFields).
+    with_page Done None (status_value (public_setup setup) c.round.result c.ended.result)) c.setup.ensures
+    ∙ ap (λ (round : ℕ). with_page Done None (status_value (public_setup c.args.house.now.setup) round c.ended.result))
+    c.round.ensures.is ∙ ap (λ (ended : Bool). with_page Done None
+    (status_value (public_setup c.args.house.now.setup) (standing_in c.args.house.now).round ended)) c.ended.ensures.is

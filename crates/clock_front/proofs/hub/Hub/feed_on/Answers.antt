@@ -33,7 +33,8 @@ invariant_of-self-then-branch g c =
     let old = c.self.inside.connections in
     let stood : IsSome (text_of old c.args.conn) = search rules in
     let has = some_text (text_of old c.args.conn) stood in
-    fed_keeps (hub_of c.self.inside.front old) (hub_of c.self.inside.front c.take.new.self) c.args.conn (has.0 ++ c.args.piece.now) More c.self.invariant
+    fed_keeps (hub_of c.self.inside.front old) (hub_of c.self.inside.front c.take.new.self) c.args.conn
+    (has.0 ++ c.args.piece.now) More c.self.invariant
     (sym (c.in_ok-take.ensures.short has.0 has.1) ∙ c.if-branch.true, c.in_ok-take.ensures.taken has.0 has.1, refl)
 
 pub invariant_of-self-2 : goal.invariant_of-self-2
@@ -43,5 +44,5 @@ invariant_of-self-2 g c =
     let has = some_text (text_of old c.args.conn) stood in
     let taken = c.in_ok-take.ensures.taken has.0 has.1 in
     let gone = (c.complete.ensures.answered (has.0 ++ c.args.piece.now) taken.stands).gone in
-    keeps_waiting old c.complete.new.connections c.args.conn c.self.invariant (λ other differs. gone.others other differs ∙ taken.others other differs)
-    (waits_no_more c.complete.new.connections c.args.conn gone.gone)
+    keeps_waiting old c.complete.new.connections c.args.conn c.self.invariant (λ other differs. gone.others other
+    differs ∙ taken.others other differs) (waits_no_more c.complete.new.connections c.args.conn gone.gone)

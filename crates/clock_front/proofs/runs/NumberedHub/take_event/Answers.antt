@@ -19,17 +19,20 @@ returns-in_ok-push-in-Connect-clause-stands g c = λ numbered stands.
     let old = c.args.self.now.hub in
     let new = c.connect.new.self in
     let conns = c.args.self.now.conns in
-    let with_conn : Option Conn → HubFields → Type 0 = λ o hub. AreNumbered (numbered ++ opened numbered ∷ []) hub.connections (conns ++ o ∷ []) in
+    let with_conn : Option Conn → HubFields → Type 0 =
+    λ o hub. AreNumbered (numbered ++ opened numbered ∷ []) hub.connections (conns ++ o ∷ []) in
     let made : with_conn c.match-connect.conn new = elim c.match-connect.branch [
-      | in-Ok w ↦ subst (λ (o : Option Conn). with_conn o new) (sym w.conn-is)
-          (connected_stands numbered old.connections new.connections conns w.in-Ok.conn stands w.in-Ok.ensures.connected)
-      | in-Err-Full w ↦ subst (λ (o : Option Conn). with_conn o new) (sym w.conn-is)
-          (subst (with_conn None) (sym w.in-Err-Full.ensures.still) (refused_stands numbered old.connections conns stands
+      | in-Ok w ↦ subst (λ (o : Option Conn). with_conn o new) (sym w.conn-is) (connected_stands numbered
+          old.connections new.connections conns w.in-Ok.conn stands w.in-Ok.ensures.connected)
+      | in-Err-Full w ↦ subst (λ (o : Option Conn). with_conn o new) (sym w.conn-is) (subst (with_conn None)
+          (sym w.in-Err-Full.ensures.still) (refused_stands numbered old.connections conns stands
           (subst (IsConnectFault old.connections) w.in-Err-Full.field-0-is w.in-Err-Full.ensures.fault) c.requires))
-      | in-Err-Unknown w ↦ absurd (subst (IsConnectFault old.connections) w.in-Err-Unknown.field-0-is w.in-Err-Unknown.ensures.fault)
+      | in-Err-Unknown w ↦
+          absurd (subst (IsConnectFault old.connections) w.in-Err-Unknown.field-0-is w.in-Err-Unknown.ensures.fault)
     ] in
     subst (λ (event : Event). AreNumbered (after numbered event) new.connections c.push.new.self) (sym c.in-Connect.is)
-    (subst (AreNumbered (numbered ++ opened numbered ∷ []) new.connections) (sym c.in_ok-push-in-Connect.ensures.ok) made)
+    (subst (AreNumbered (numbered ++ opened numbered ∷ []) new.connections)
+    (sym c.in_ok-push-in-Connect.ensures.ok) made)
 
 pub returns-in-Ok-More-clause-stands : goal.returns-in-Ok-More-clause-stands
 returns-in-Ok-More-clause-stands g c = λ numbered stands.
@@ -38,8 +41,9 @@ returns-in-Ok-More-clause-stands g c = λ numbered stands.
     let piece = c.as_slice.result.now in
     let told : IsFedBy old c.feed.new.self c.in-Some.conn piece More =
     subst (IsFedBy old c.feed.new.self c.in-Some.conn piece) c.in-Ok-More.field-0-is c.in-Ok-More.ensures.fed in
-    subst (λ (event : Event). AreNumbered (after numbered event) c.feed.new.self.connections c.args.self.now.conns) (sym c.in-Piece.is)
-    (subst (λ (bytes : List ℕ). AreNumbered (after numbered (Piece number bytes)) c.feed.new.self.connections c.args.self.now.conns) c.as_slice.ensures
+    subst (λ (event : Event). AreNumbered (after numbered event) c.feed.new.self.connections c.args.self.now.conns)
+    (sym c.in-Piece.is) (subst (λ (bytes : List ℕ). AreNumbered
+    (after numbered (Piece number bytes)) c.feed.new.self.connections c.args.self.now.conns) c.as_slice.ensures
     (more_stands numbered old c.feed.new.self c.args.self.now.conns number c.in-Some.conn piece
     (text_at numbered number) stands (sym c.in-Some.ensures) c.in-Ok-More.ensures.stood refl told))
 
@@ -50,14 +54,16 @@ returns-in-Ok-Reply-clause-stands g c = λ numbered stands.
     let piece = c.as_slice.result.now in
     let told : IsFedBy old c.feed.new.self c.in-Some.conn piece (Reply c.in-Ok-Reply.reply) =
     subst (IsFedBy old c.feed.new.self c.in-Some.conn piece) c.in-Ok-Reply.field-0-is c.in-Ok-Reply.ensures.fed in
-    subst (λ (event : Event). AreNumbered (after numbered event) c.feed.new.self.connections c.args.self.now.conns) (sym c.in-Piece.is)
-    (subst (λ (bytes : List ℕ). AreNumbered (after numbered (Piece number bytes)) c.feed.new.self.connections c.args.self.now.conns) c.as_slice.ensures
+    subst (λ (event : Event). AreNumbered (after numbered event) c.feed.new.self.connections c.args.self.now.conns)
+    (sym c.in-Piece.is) (subst (λ (bytes : List ℕ). AreNumbered
+    (after numbered (Piece number bytes)) c.feed.new.self.connections c.args.self.now.conns) c.as_slice.ensures
     (answered_stands numbered old c.feed.new.self c.args.self.now.conns number c.in-Some.conn piece c.in-Ok-Reply.reply
     (text_at numbered number) stands (sym c.in-Some.ensures) c.in-Ok-Reply.ensures.stood refl told))
 
 pub returns-in-Ok-finish-clause-stands : goal.returns-in-Ok-finish-clause-stands
 returns-in-Ok-finish-clause-stands g c = λ numbered stands.
     let number = c.in-Finish.number in
-    subst (λ (event : Event). AreNumbered (after numbered event) c.finish.new.self.connections c.args.self.now.conns) (sym c.in-Finish.is)
-    (finished_stands numbered c.args.self.now.hub c.finish.new.self c.args.self.now.conns number c.in-Some-conn.conn c.in-Ok-finish.reply
-    (text_at numbered number) stands (sym c.in-Some-conn.ensures) c.in-Ok-finish.ensures.stood refl c.in-Ok-finish.ensures.answered)
+    subst (λ (event : Event). AreNumbered (after numbered event) c.finish.new.self.connections c.args.self.now.conns)
+    (sym c.in-Finish.is) (finished_stands numbered c.args.self.now.hub c.finish.new.self c.args.self.now.conns number
+    c.in-Some-conn.conn c.in-Ok-finish.reply (text_at numbered number) stands
+    (sym c.in-Some-conn.ensures) c.in-Ok-finish.ensures.stood refl c.in-Ok-finish.ensures.answered)

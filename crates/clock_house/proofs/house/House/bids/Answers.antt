@@ -21,4 +21,5 @@ returns-clause-is g c =
     rw (← c.self.view_is) (c.as_ref.ensures.value ∙ (get_or_read c.self.inside.sheets c.args.bidder _ in_range is None))
 
 pub returns-clause-seen : goal.returns-clause-seen
-returns-clause-seen g c = λ commands stands. returns-clause-is g c ∙ in_force_seen _ c.args.bidder commands stands c.requires
+returns-clause-seen g c =
+    λ commands stands. returns-clause-is g c ∙ in_force_seen _ c.args.bidder commands stands c.requires

@@ -8,20 +8,21 @@ use Rattle.clock_house.proofs.house.House.close.Goals as goal
 pub returns-clause-ok : goal.returns-clause-ok
 returns-clause-ok g c =
     let made = c.in_ok-prepared.ensures in
-    close-done c.args.self.now c.prepare.new.self c.commit.new.self c.args.round c.args.increments.now c.args.ties.now c.in_ok-prepared.prepared made.asked
-    made.fits made.same c.commit.ensures.closed
+    close-done c.args.self.now c.prepare.new.self c.commit.new.self c.args.round c.args.increments.now c.args.ties.now
+    c.in_ok-prepared.prepared made.asked made.fits made.same c.commit.ensures.closed
 
 pub returns-clause-followed : goal.returns-clause-followed
 returns-clause-followed g c =
     let made = c.in_ok-prepared.ensures in
-    λ other. close-done-followed c.args.self.now c.prepare.new.self c.commit.new.self c.args.round c.args.increments.now c.args.ties.now
-    c.in_ok-prepared.prepared made.asked made.stands c.commit.ensures.followed
+    λ other. close-done-followed c.args.self.now c.prepare.new.self c.commit.new.self c.args.round c.args.increments.now
+    c.args.ties.now c.in_ok-prepared.prepared made.asked made.stands c.commit.ensures.followed
 
 pub returns-clause-answer : goal.returns-clause-answer
 returns-clause-answer g c = c.in_ok-prepared.ensures.answer
 
 pub returns-clause-history : goal.returns-clause-history
-returns-clause-history g c = λ commands stands. answers-close _ (Ok c.in_ok-prepared.prepared) (c.in_ok-prepared.ensures.history commands stands)
+returns-clause-history g c =
+    λ commands stands. answers-close _ (Ok c.in_ok-prepared.prepared) (c.in_ok-prepared.ensures.history commands stands)
 
 -- The error of a closing is that of preparing it.
 pub returns-in_err-prepared-clause-answer : goal.returns-in_err-prepared-clause-answer

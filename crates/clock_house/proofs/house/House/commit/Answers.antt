@@ -1,6 +1,7 @@
 -- Proves that the house after a closing stands for one more command, and that what it stores agrees with its closed
 -- rounds.
-use Rattle.std.proofs.Common.{◌≡◌, ℕ, ◌+◌, ◌≤◌, List, [], ◌∷◌, ◌++◌, Bool, true, false, not, refl, ap, sym, subst, ◌∙◌, arith, length}
+use Rattle.std.proofs.Common.{◌≡◌, ℕ, ◌+◌, ◌≤◌, List, [], ◌∷◌, ◌++◌, Bool, true, false, not, refl, ap, sym, subst, ◌∙◌}
+use Rattle.std.proofs.Common.{arith, length}
 use Rattle.std.specs.Prelude.{Option, None, map, reverse, is_ok, if◌then◌else◌, unwrap_or}
 use Rattle.std.specs.List.{range_with_len}
 use Rattle.std.specs.Int.{from_bool}
@@ -28,13 +29,15 @@ at_most true more is = let one : more ≡ 1 = is in omega (arith, one)
 at_most false more is = let none : more ≡ 0 = is in omega (arith, none)
 
 -- The number of the current round after a closing.
-next_number : (ended : Bool) (round more : ℕ) → more ≡ from_bool (not ended) → round + more ≡ (if ended then round else round + 1)
+next_number : (ended : Bool) (round more : ℕ) → more ≡ from_bool (not ended)
+    → round + more ≡ (if ended then round else round + 1)
 next_number true round more is = let none : more ≡ 0 = is in omega (arith, none)
 next_number false round more is = let one : more ≡ 1 = is in omega (arith, one)
 
 pub overflow_add-self : goal.overflow_add-self
 overflow_add-self g c =
-    let number = closed_number c.args.self.now c.args.prepared.round c.args.prepared.increments c.args.prepared.ties c.args.prepared.closed c.requires.fits in
+    let number = closed_number c.args.self.now c.args.prepared.round c.args.prepared.increments c.args.prepared.ties
+    c.args.prepared.closed c.requires.fits in
     let limits = subst (λ (house : HouseFields). IsSetup house.setup) c.self.view_is c.self.invariant.limits in
     let stands = subst (StandsFor c.self.invariant.commands) c.self.view_is c.self.invariant.stands in
     omega (
@@ -48,9 +51,10 @@ overflow_add-self g c =
 
 pub take_slips-requires-clause-eligibilities : goal.take_slips-requires-clause-eligibilities
 take_slips-requires-clause-eligibilities g c =
-    let slips = closed_slips c.args.self.now c.args.prepared.round c.args.prepared.increments c.args.prepared.ties c.args.prepared.closed c.requires.fits in
-    let are = subst (λ (house : HouseFields). c.self.inside.eligibilities ≡ eligibilities_of (open_round_in house)) c.self.view_is
-    c.self.invariant.eligibilities_are in
+    let slips = closed_slips c.args.self.now c.args.prepared.round c.args.prepared.increments c.args.prepared.ties
+    c.args.prepared.closed c.requires.fits in
+    let are = subst (λ (house : HouseFields). c.self.inside.eligibilities
+    ≡ eligibilities_of (open_round_in house)) c.self.view_is c.self.invariant.eligibilities_are in
     ap length c.as_slice-slips.ensures
     ∙ ap (λ (one : ClosedRound). length one.slips) (ap (λ (one : PreparedClosing). one.closed) c.prepared.view_is)
     ∙ slips
@@ -58,7 +62,8 @@ take_slips-requires-clause-eligibilities g c =
 
 pub take_slips-requires-clause-sheets : goal.take_slips-requires-clause-sheets
 take_slips-requires-clause-sheets g c =
-    let slips = closed_slips c.args.self.now c.args.prepared.round c.args.prepared.increments c.args.prepared.ties c.args.prepared.closed c.requires.fits in
+    let slips = closed_slips c.args.self.now c.args.prepared.round c.args.prepared.increments c.args.prepared.ties
+    c.args.prepared.closed c.requires.fits in
     let setup = ap (λ (house : HouseFields). length house.setup.bidders) c.self.view_is in
     ap length c.as_slice-slips.ensures
     ∙ ap (λ (one : ClosedRound). length one.slips) (ap (λ (one : PreparedClosing). one.closed) c.prepared.view_is)
@@ -71,25 +76,32 @@ unwrap-requires g c = c.push.ensures.succeeds (omega (arith, (rw (← c.self.vie
 -- The closed round comes first in the list that has the newest first.
 is_added : (before after : List ClosedRound) (pushed : Bool) (made closed : ClosedRound) → pushed ≡ true →
     after ≡ (if pushed then before ++ made ∷ [] else before) → made ≡ closed → reverse after ≡ closed ∷ reverse before
-is_added before after pushed made closed done is same =
-    ap reverse (rw done at is) ∙ reverse-append before (made ∷ []) ∙ ap (λ (one : ClosedRound). one ∷ reverse before) same
+is_added before after pushed made closed done is same = ap reverse (rw done at is) ∙ reverse-append before (made ∷ [])
+    ∙ ap (λ (one : ClosedRound). one ∷ reverse before) same
 
 pub invariant_of-self : goal.invariant_of-self
 invariant_of-self g c =
-    let house : HouseFields = record { setup = c.self.inside.setup; closed = reverse c.self.inside.rounds.items; sheets = c.self.inside.sheets; spare = 0 } in
+    let house : HouseFields = record {
+      setup = c.self.inside.setup;
+      closed = reverse c.self.inside.rounds.items;
+      sheets = c.self.inside.sheets;
+      spare = 0;
+    } in
     let asked = c.args.prepared in
     let results = c.prepared.inside.results in
     let fits = fits_like _ c.args.self.now c.args.prepared (sym c.self.view_is) c.requires.fits in
     let done = (ap (λ (one : PreparedClosing). one.closed) c.prepared.view_is) in
-    let added = is_added c.self.inside.rounds.items c.push.new.self.items (is_ok c.push.result) c.prepared.inside.results.closed c.args.prepared.closed
+    let added = is_added c.self.inside.rounds.items c.push.new.self.items
+    (is_ok c.push.result) c.prepared.inside.results.closed c.args.prepared.closed
     (c.push.ensures.succeeds (omega (arith, (rw (← c.self.view_is) at c.requires.room)))) c.push.ensures.items done in
-    let none = c.take_slips.ensures.sheets ∙ ap (λ (n : ℕ). map (λ (bidder : ℕ). let sheet : Option (List Bid) = None in sheet) (range_with_len 0 n))
-    (stands_sheets _ c.self.invariant.commands c.self.invariant.stands) in
+    let none = c.take_slips.ensures.sheets ∙ ap (λ (n : ℕ). map (λ (bidder : ℕ). let sheet : Option (List Bid) = None in
+    sheet) (range_with_len 0 n)) (stands_sheets _ c.self.invariant.commands c.self.invariant.stands) in
     let slips = closed_slips house asked.round asked.increments asked.ties asked.closed fits in
     record {
       limits = c.self.invariant.limits;
       commands = close asked.round asked.increments asked.ties ∷ c.self.invariant.commands;
-      stands = close-accepted _ asked.round asked.increments asked.ties c.self.invariant.commands c.self.invariant.stands asked.closed _ _ _ fits added none;
+      stands = close-accepted _ asked.round asked.increments asked.ties c.self.invariant.commands
+          c.self.invariant.stands asked.closed _ _ _ fits added none;
       ended_is = ap (λ (one : ClosedRound). one.sheet.ended) done
           ∙ sym (ap (λ (closed : List ClosedRound). (standing c.self.inside.setup.products closed).ended) added);
       round_is = next_number results.closed.sheet.ended results.closed.sheet.round c.from.result c.from.ensures
@@ -102,30 +114,36 @@ invariant_of-self g c =
           c.prepared.invariant.end c.prepared.invariant.shown
           ∙ ap (λ (one : ClosedRound). (standing_after one.sheet).prices) done
           ∙ sym (ap (λ (closed : List ClosedRound). (standing c.self.inside.setup.products closed).prices) added);
-      eligibilities_are = next_held c.self.inside.setup (λ (held : Holding). held.eligibility) 0 _ results.closed asked.closed _ _
-          (c.take_slips.ensures.eligibilities ∙ ap (map (λ (slip : Slip). slip.eligibility)) c.as_slice-slips.ensures) done slips added;
-      demands_are = next_held c.self.inside.setup (λ (held : Holding). held.demands) [] _ results.closed asked.closed _ _
-          (c.replace.ensures.after ∙ c.prepared.invariant.demands) done slips added;
+      eligibilities_are = next_held c.self.inside.setup
+          (λ (held : Holding). held.eligibility) 0 _ results.closed asked.closed _ _ (c.take_slips.ensures.eligibilities
+          ∙ ap (map (λ (slip : Slip). slip.eligibility)) c.as_slice-slips.ensures) done slips added;
+      demands_are = next_held c.self.inside.setup (λ (held : Holding). held.demands) [] _ results.closed asked.closed _
+          _ (c.replace.ensures.after ∙ c.prepared.invariant.demands) done slips added;
     }
 
 pub returns-clause-closed : goal.returns-clause-closed
 returns-clause-closed g c =
-    let added = is_added c.self.inside.rounds.items c.push.new.self.items (is_ok c.push.result) c.prepared.inside.results.closed c.args.prepared.closed
-    (c.push.ensures.succeeds (omega (arith, (rw (← c.self.view_is) at c.requires.room)))) c.push.ensures.items (ap (λ (one : PreparedClosing). one.closed) c.prepared.view_is) in
-    let none = c.take_slips.ensures.sheets ∙ ap (λ (n : ℕ). map (λ (bidder : ℕ). let sheet : Option (List Bid) = None in sheet) (range_with_len 0 n))
-    (stands_sheets _ c.self.invariant.commands c.self.invariant.stands) in
+    let added = is_added c.self.inside.rounds.items c.push.new.self.items
+    (is_ok c.push.result) c.prepared.inside.results.closed c.args.prepared.closed
+    (c.push.ensures.succeeds (omega (arith, (rw (← c.self.view_is) at c.requires.room)))) c.push.ensures.items
+    (ap (λ (one : PreparedClosing). one.closed) c.prepared.view_is) in
+    let none = c.take_slips.ensures.sheets ∙ ap (λ (n : ℕ). map (λ (bidder : ℕ). let sheet : Option (List Bid) = None in
+    sheet) (range_with_len 0 n)) (stands_sheets _ c.self.invariant.commands c.self.invariant.stands) in
     rw (← c.self.view_is) (record { setup = refl; closed = added; sheets = none })
 
 pub returns-clause-followed : goal.returns-clause-followed
 returns-clause-followed g c =
     let asked = c.args.prepared in
     let fits = fits_like _ c.args.self.now c.args.prepared (sym c.self.view_is) c.requires.fits in
-    let added = is_added c.self.inside.rounds.items c.push.new.self.items (is_ok c.push.result) c.prepared.inside.results.closed c.args.prepared.closed
-    (c.push.ensures.succeeds (omega (arith, (rw (← c.self.view_is) at c.requires.room)))) c.push.ensures.items (ap (λ (one : PreparedClosing). one.closed) c.prepared.view_is) in
-    let none = c.take_slips.ensures.sheets ∙ ap (λ (n : ℕ). map (λ (bidder : ℕ). let sheet : Option (List Bid) = None in sheet) (range_with_len 0 n))
-    (stands_sheets _ c.self.invariant.commands c.self.invariant.stands) in
+    let added = is_added c.self.inside.rounds.items c.push.new.self.items
+    (is_ok c.push.result) c.prepared.inside.results.closed c.args.prepared.closed
+    (c.push.ensures.succeeds (omega (arith, (rw (← c.self.view_is) at c.requires.room)))) c.push.ensures.items
+    (ap (λ (one : PreparedClosing). one.closed) c.prepared.view_is) in
+    let none = c.take_slips.ensures.sheets ∙ ap (λ (n : ℕ). map (λ (bidder : ℕ). let sheet : Option (List Bid) = None in
+    sheet) (range_with_len 0 n)) (stands_sheets _ c.self.invariant.commands c.self.invariant.stands) in
     rw (← c.self.view_is)
     (record {
       setup = refl;
-      stands = λ commands stands. close-accepted _ asked.round asked.increments asked.ties commands stands asked.closed _ _ _ fits added none;
+      stands = λ commands stands.
+          close-accepted _ asked.round asked.increments asked.ties commands stands asked.closed _ _ _ fits added none;
     })

@@ -16,10 +16,10 @@ invariant_of-self g c =
     let fits = fits_inside _ _ _ _ c.prepared.view_is c.self.view_is c.requires in
     record {
       limits = c.self.invariant.limits;
-      commands = put c.prepared.inside.bidder c.prepared.inside.round c.prepared.inside.sheet ∷ c.self.invariant.commands;
-      stands = rw c.set.ensures
-          (put-accepted _ c.prepared.inside.bidder c.prepared.inside.round c.prepared.inside.sheet c.self.invariant.commands c.self.invariant.stands
-          fits.known fits.good);
+      commands =
+          put c.prepared.inside.bidder c.prepared.inside.round c.prepared.inside.sheet ∷ c.self.invariant.commands;
+      stands = rw c.set.ensures (put-accepted _ c.prepared.inside.bidder c.prepared.inside.round c.prepared.inside.sheet
+          c.self.invariant.commands c.self.invariant.stands fits.known fits.good);
       ended_is = c.self.invariant.ended_is;
       round_is = c.self.invariant.round_is;
       prices_are = c.self.invariant.prices_are;
@@ -33,6 +33,6 @@ returns-clause-followed g c =
     rw (← c.self.view_is, ← c.prepared.view_is)
     (record {
       setup = refl;
-      stands = λ commands stands. rw c.set.ensures
-          (put-accepted _ c.prepared.inside.bidder c.prepared.inside.round c.prepared.inside.sheet commands stands fits.known fits.good);
+      stands = λ commands stands. rw c.set.ensures (put-accepted _ c.prepared.inside.bidder c.prepared.inside.round
+          c.prepared.inside.sheet commands stands fits.known fits.good);
     })

@@ -5,6 +5,5 @@ use Rattle.clock_house.proofs.Seen.{standing_seen}
 use Rattle.clock_house.proofs.house.House.ended.Goals as goal
 
 pub returns-clause-seen : goal.returns-clause-seen
-returns-clause-seen g c =
-    rw (← c.self.view_is)
-    (λ bidder commands stands. c.self.invariant.ended_is ∙ ap (λ (now : Standing). now.ended) (standing_seen _ bidder commands stands))
+returns-clause-seen g c = rw (← c.self.view_is) (λ bidder commands stands. c.self.invariant.ended_is
+    ∙ ap (λ (now : Standing). now.ended) (standing_seen _ bidder commands stands))

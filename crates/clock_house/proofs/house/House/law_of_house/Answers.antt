@@ -12,25 +12,31 @@ pub returns-clause-limits : goal.returns-clause-limits
 returns-clause-limits g c = rw (← c.self.view_is) c.self.invariant.limits
 
 pub returns-clause-sound : goal.returns-clause-sound
-returns-clause-sound g c = rw (← c.self.view_is) (λ commands. sound c.self.inside.setup c.self.invariant.limits commands)
+returns-clause-sound g c =
+    rw (← c.self.view_is) (λ commands. sound c.self.inside.setup c.self.invariant.limits commands)
 
 pub returns-clause-within : goal.returns-clause-within
-returns-clause-within g c = rw (← c.self.view_is) (stands_sound _ c.self.invariant.limits c.self.invariant.commands c.self.invariant.stands).within
+returns-clause-within g c = rw (← c.self.view_is)
+    (stands_sound _ c.self.invariant.limits c.self.invariant.commands c.self.invariant.stands).within
 
 pub returns-clause-priced : goal.returns-clause-priced
-returns-clause-priced g c = rw (← c.self.view_is) (stands_sound _ c.self.invariant.limits c.self.invariant.commands c.self.invariant.stands).priced
+returns-clause-priced g c = rw (← c.self.view_is)
+    (stands_sound _ c.self.invariant.limits c.self.invariant.commands c.self.invariant.stands).priced
 
 pub returns-clause-going : goal.returns-clause-going
-returns-clause-going g c = rw (← c.self.view_is) (stands_going _ c.self.invariant.limits c.self.invariant.commands c.self.invariant.stands)
+returns-clause-going g c =
+    rw (← c.self.view_is) (stands_going _ c.self.invariant.limits c.self.invariant.commands c.self.invariant.stands)
 
 pub returns-clause-rounds : goal.returns-clause-rounds
-returns-clause-rounds g c = rw (← c.self.view_is) (stands_sound _ c.self.invariant.limits c.self.invariant.commands c.self.invariant.stands).count
+returns-clause-rounds g c = rw (← c.self.view_is)
+    (stands_sound _ c.self.invariant.limits c.self.invariant.commands c.self.invariant.stands).count
 
 pub returns-clause-sheets : goal.returns-clause-sheets
 returns-clause-sheets g c = rw (← c.self.view_is) (stands_sheets _ c.self.invariant.commands c.self.invariant.stands)
 
 pub returns-clause-others : goal.returns-clause-others
-returns-clause-others g c = record { setup = refl; stands = λ commands stands. record { closed = stands.closed; sheets = stands.sheets } }
+returns-clause-others g c =
+    record { setup = refl; stands = λ commands stands. record { closed = stands.closed; sheets = stands.sheets } }
 
 pub returns-clause-views : goal.returns-clause-views
 returns-clause-views g c = λ setup bidder commands. seen setup bidder commands

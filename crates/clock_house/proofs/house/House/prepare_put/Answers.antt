@@ -5,9 +5,8 @@ use Rattle.clock_house.specs.House.{AnswersPut, AnswersByView, put_fault_in}
 use Rattle.clock_house.proofs.house.House.prepare_put.Goals as goal
 
 pub returns-clause-answer : goal.returns-clause-answer
-returns-clause-answer g c =
-    subst (λ (bids : List Bid). AnswersPut (put_fault_in c.args.self.now c.args.bidder c.args.round bids) c.prepare_sheet.result)
-    c.in_ok-from_slice.ensures c.prepare_sheet.ensures.answer
+returns-clause-answer g c = subst (λ (bids : List Bid). AnswersPut (put_fault_in c.args.self.now c.args.bidder
+    c.args.round bids) c.prepare_sheet.result) c.in_ok-from_slice.ensures c.prepare_sheet.ensures.answer
 
 pub returns-clause-seen : goal.returns-clause-seen
 returns-clause-seen g c =

@@ -7,18 +7,19 @@ use Rattle.clock_house.proofs.Seen.{sheet_seen}
 use Rattle.clock_house.proofs.house.House.sheet.Goals as goal
 
 pub returns-clause-found : goal.returns-clause-found
-returns-clause-found g c =
-    rw (← c.self.view_is) (ap (option_map (λ (one : ClosedRound). one.sheet)) (rw c.as_slice.ensures.value at c.in_ok-closed_at.ensures))
+returns-clause-found g c = rw (← c.self.view_is)
+    (ap (option_map (λ (one : ClosedRound). one.sheet)) (rw c.as_slice.ensures.value at c.in_ok-closed_at.ensures))
 
 pub returns-in_err-closed_at-clause-found : goal.returns-in_err-closed_at-clause-found
 returns-in_err-closed_at-clause-found g c = search rules
 
 pub returns-clause-seen : goal.returns-clause-seen
-returns-clause-seen g c = λ bidder commands stands. returns-clause-found g c ∙ sheet_seen _ bidder commands stands c.args.round
+returns-clause-seen g c =
+    λ bidder commands stands. returns-clause-found g c ∙ sheet_seen _ bidder commands stands c.args.round
 
 pub returns-in_err-closed_at-clause-seen : goal.returns-in_err-closed_at-clause-seen
-returns-in_err-closed_at-clause-seen g c =
-    λ bidder commands stands. returns-in_err-closed_at-clause-found g c ∙ sheet_seen _ bidder commands stands c.args.round
+returns-in_err-closed_at-clause-seen g c = λ bidder commands stands. returns-in_err-closed_at-clause-found g c
+    ∙ sheet_seen _ bidder commands stands c.args.round
 
 pub returns-clause-lines : goal.returns-clause-lines
 returns-clause-lines g c =

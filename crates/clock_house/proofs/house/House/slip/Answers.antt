@@ -9,8 +9,8 @@ use Rattle.clock_house.proofs.Seen.{slip_seen}
 use Rattle.clock_house.proofs.house.House.slip.Goals as goal
 
 -- The results at a bidder's index are the bidder's.
-own_slip : (closed : ClosedRound) (bidder : ℕ) (slips : List Slip) (slip : Slip) → slips ≡ closed.slips → bidder < length slips →
-    slip ≡ get_or slips bidder slip → slip ≡ slip_of bidder closed
+own_slip : (closed : ClosedRound) (bidder : ℕ) (slips : List Slip) (slip : Slip) → slips ≡ closed.slips
+    → bidder < length slips → slip ≡ get_or slips bidder slip → slip ≡ slip_of bidder closed
 own_slip closed bidder slips slip same in_range is =
     let none : Slip = record { round = 0; activity = 0; eligibility = 0; demands = [] } in
     get_or_read slips bidder slip in_range is none ∙ ap (λ (list : List Slip). get_or list bidder none) same
@@ -29,18 +29,19 @@ returns-clause-found g c =
     let found = rw c.as_slice.ensures.value at c.in_ok-closed_at.ensures in
     let whole = numbered_whole _ _ c.args.round _ c.in_ok-closed_at.field-0.now all (sym found) in
     let known = rw (← c.self.view_is) at c.requires in
-    let in_range : c.args.bidder < length c.as_slice-2.result.now = omega (arith, whole.0, known, ap length c.as_slice-2.ensures) in
-    rw (← c.self.view_is)
-    (ap Some (own_slip c.in_ok-closed_at.field-0.now c.args.bidder c.as_slice-2.result.now c.index-as_slice-bidder.result c.as_slice-2.ensures
-    in_range c.index-as_slice-bidder.is)
+    let in_range : c.args.bidder < length c.as_slice-2.result.now =
+    omega (arith, whole.0, known, ap length c.as_slice-2.ensures) in
+    rw (← c.self.view_is) (ap Some (own_slip c.in_ok-closed_at.field-0.now c.args.bidder c.as_slice-2.result.now
+    c.index-as_slice-bidder.result c.as_slice-2.ensures in_range c.index-as_slice-bidder.is)
     ∙ ap (option_map (slip_of c.args.bidder)) found)
 
 pub returns-in_err-closed_at-clause-found : goal.returns-in_err-closed_at-clause-found
 returns-in_err-closed_at-clause-found g c = search rules
 
 pub returns-clause-seen : goal.returns-clause-seen
-returns-clause-seen g c = λ commands stands. returns-clause-found g c ∙ slip_seen _ c.args.bidder commands stands c.args.round
+returns-clause-seen g c =
+    λ commands stands. returns-clause-found g c ∙ slip_seen _ c.args.bidder commands stands c.args.round
 
 pub returns-in_err-closed_at-clause-seen : goal.returns-in_err-closed_at-clause-seen
-returns-in_err-closed_at-clause-seen g c =
-    λ commands stands. returns-in_err-closed_at-clause-found g c ∙ slip_seen _ c.args.bidder commands stands c.args.round
+returns-in_err-closed_at-clause-seen g c = λ commands stands. returns-in_err-closed_at-clause-found g c
+    ∙ slip_seen _ c.args.bidder commands stands c.args.round

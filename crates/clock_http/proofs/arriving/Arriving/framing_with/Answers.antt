@@ -10,8 +10,10 @@ pub returns-in-Waiting-clause-is : goal.returns-in-Waiting-clause-is
 returns-in-Waiting-clause-is c =
     let text = c.args.self.now in
     let head = c.in-Waiting.head in
-    let knows : Knows text c.self.inside.progress = subst (λ (t : List ℕ). Knows t c.self.inside.progress) c.self.view_is c.self.invariant.knows in
-    let size : head.length ≡ length text = omega (arith, ap length c.self.view_is, length-take c.self.inside.count c.self.inside.room.items) in
+    let knows : Knows text c.self.inside.progress =
+    subst (λ (t : List ℕ). Knows t c.self.inside.progress) c.self.view_is c.self.invariant.knows in
+    let size : head.length ≡ length text =
+    omega (arith, ap length c.self.view_is, length-take c.self.inside.count c.self.inside.room.items) in
     whole_with text c.args.piece.now _ head (ap (shown_progress text) (sym c.in-Waiting.is) ∙ knows.is)
     (c.head_in.ensures ∙ ap (λ (t : List ℕ). shown_ended t head) c.as_slice.ensures) size c.if-head-piece.true
 

@@ -7,7 +7,8 @@ use Rattle.clock_http.proofs.ProgressLaws.{knows_start}
 use Rattle.clock_http.proofs.arriving.Arriving.take_piece.Goals as goal
 
 -- the bytes precede the zeros that were added
-taken : (c : goal.After-needs_more) → take c.len-self-inside.result c.make_places-self-inside.new.room.items ≡ c.append.new.room.items
+taken : (c : goal.After-needs_more)
+    → take c.len-self-inside.result c.make_places-self-inside.new.room.items ≡ c.append.new.room.items
 taken c =
     let text = c.append.new.room.items in
     let places = c.make_places-self-inside.ensures.kept in
@@ -16,7 +17,8 @@ taken c =
 
 -- what is known of them
 known : (c : goal.After-needs_more) → Knows c.append.new.room.items c.advance-self-inside.result
-known c = subst (λ (text : List ℕ). Knows text c.advance-self-inside.result) c.as_slice.ensures.value c.advance-self-inside.ensures
+known c = subst
+    (λ (text : List ℕ). Knows text c.advance-self-inside.result) c.as_slice.ensures.value c.advance-self-inside.ensures
 
 pub invariant_of-self-2 : goal.invariant_of-self-2
 invariant_of-self-2 c =
@@ -24,8 +26,8 @@ invariant_of-self-2 c =
     let progress = c.advance-self-inside.result in
     let quiet = c.make_places-self-inside.result in
     let places = c.make_places-self-inside.ensures in
-    let below : WaitsBelow quiet text progress = λ more less.
-    c.awaited-2.ensures (text ++ more) (knows_start text more progress (known c)) (let limit = places.below in omega arith) in
+    let below : WaitsBelow quiet text progress = λ more less. c.awaited-2.ensures (text ++ more)
+    (knows_start text more progress (known c)) (let limit = places.below in omega arith) in
     let size : length c.make_places-self-inside.new.room.items ≡ length text + length places.kept.0 =
     ap length places.kept.1 ∙ length-append text places.kept.0 in
     let count : c.len-self-inside.result ≡ length text = c.len-self-inside.ensures ∙ c.append.new.room.ok.0 in
@@ -42,5 +44,5 @@ returns-clause-ok c =
     ∙ ap (λ bytes. bytes ++ c.args.piece.now) (c.truncate.ensures.items ∙ c.self.view_is)
 
 pub returns-clause-short : goal.returns-clause-short
-returns-clause-short c =
-    c.needs_more.ensures _ (subst (λ (text : List ℕ). Knows text c.advance-self-inside.result) (sym (taken c)) (known c))
+returns-clause-short c = c.needs_more.ensures _
+    (subst (λ (text : List ℕ). Knows text c.advance-self-inside.result) (sym (taken c)) (known c))

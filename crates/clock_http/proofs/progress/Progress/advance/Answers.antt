@@ -6,7 +6,8 @@ use Rattle.clock_http.specs.declared.progress.Progress.{Progress}
 use Rattle.clock_http.specs.declared.progress.Progress.TheVariants as so_far
 use Rattle.clock_http.specs.Scans.{head_length}
 use Rattle.clock_http.specs.Shown.{Knows}
-use Rattle.clock_http.proofs.ProgressLaws.{unended_is, known_waiting, known_complete, request_longer, brought_on, fewer, looked_at}
+use Rattle.clock_http.proofs.ProgressLaws.{unended_is, known_waiting, known_complete, request_longer, brought_on, fewer}
+use Rattle.clock_http.proofs.ProgressLaws.{looked_at}
 use Rattle.clock_http.proofs.progress.Progress.advance.Goals as goal
 
 pub read_on-requires-clause-within : goal.read_on-requires-clause-within
@@ -52,5 +53,5 @@ decided_longer text n (so_far.Refused fault) ended come knows = record {
 }
 
 pub returns-in_default : goal.returns-in_default
-returns-in_default c =
-    decided_longer c.args.text.now c.requires.0 c.args.self c.in_default.not-Unended c.in_default.not-Waiting c.requires.1
+returns-in_default c = decided_longer c.args.text.now c.requires.0 c.args.self c.in_default.not-Unended
+    c.in_default.not-Waiting c.requires.1

@@ -16,4 +16,5 @@ returns-in-Complete c =
     (ap (shown_progress c.args.text.now) (sym c.in-Complete.is) ∙ c.requires.is)
 
 pub returns-in-Refused : goal.returns-in-Refused
-returns-in-Refused c = framed_of c.args.text.now _ (ap (shown_progress c.args.text.now) (sym c.in-Refused.is) ∙ c.requires.is)
+returns-in-Refused c =
+    framed_of c.args.text.now _ (ap (shown_progress c.args.text.now) (sym c.in-Refused.is) ∙ c.requires.is)

@@ -30,16 +30,16 @@ pub returns-in_err-sync-clause-crash : goal.returns-in_err-sync-clause-crash
 returns-in_err-sync-clause-crash g c =
     let disk = c.self.inside.disk in
     subst (λ (at : JournalState). Crash at c.args.recovered (g.D.Durable.moments c.sync.new.self)) c.self.view_is
-    (λ bytes synced read texts least is on_disk placed before.
-    leave_one (g.D.Durable.moments disk) (g.D.Durable.moments c.sync.new.self) (g.D.Durable.synced disk) (g.D.Durable.written disk)
+    (λ bytes synced read texts least is on_disk placed before. leave_one (g.D.Durable.moments disk)
+    (g.D.Durable.moments c.sync.new.self) (g.D.Durable.synced disk) (g.D.Durable.written disk)
     (λ left. LeavesJournal c.self.inside.chain left texts least) c.sync.ensures.moments before)
 
 pub returns-in_err-sync-clause-any_tail : goal.returns-in_err-sync-clause-any_tail
 returns-in_err-sync-clause-any_tail g c =
     let disk = c.self.inside.disk in
     subst (λ (at : JournalState). Tail at c.args.recovered (g.D.Durable.moments c.sync.new.self)) c.self.view_is
-    (λ bytes synced read texts is on_disk placed before.
-    leave_one (g.D.Durable.moments disk) (g.D.Durable.moments c.sync.new.self) (g.D.Durable.synced disk) (g.D.Durable.written disk)
+    (λ bytes synced read texts is on_disk placed before. leave_one (g.D.Durable.moments disk)
+    (g.D.Durable.moments c.sync.new.self) (g.D.Durable.synced disk) (g.D.Durable.written disk)
     (λ left. BeginsWithTexts c.self.inside.chain left texts) c.sync.ensures.moments before)
 
 pub returns-in_err-cut-clause-crash : goal.returns-in_err-cut-clause-crash
@@ -124,17 +124,15 @@ returns-then-recovered-eq0-clause-crash g c =
     let now = before bytes (now_left (on_disk disk) (told disk) synced bytes same is) in
     let cut = cut_is (told disk) (told c.sync.new.self) (told c.cut.new.self) bytes c.args.recovered.end
     c.sync.ensures.written is c.in_ok-cut.ensures.written in
-    leave_then (passed disk) (passed c.cut.new.self) c.begin.new.self.moments (λ left. LeavesJournal chain left texts least)
-    (through_cut (passed disk) (passed c.sync.new.self) (passed c.cut.new.self) (on_disk disk) (told disk)
-    (on_disk c.sync.new.self) (told c.sync.new.self) bytes c.args.recovered.end
-    (λ left. LeavesJournal chain left texts least) c.sync.ensures.moments before c.cut.ensures.moments
-    c.in_ok-sync.ensures.ok c.sync.ensures.written is
-    (λ left may. crash_cut chain bytes texts read least c.args.recovered left long
+    leave_then (passed disk) (passed c.cut.new.self) c.begin.new.self.moments (λ left.
+    LeavesJournal chain left texts least) (through_cut (passed disk) (passed c.sync.new.self) (passed c.cut.new.self)
+    (on_disk disk) (told disk) (on_disk c.sync.new.self) (told c.sync.new.self) bytes c.args.recovered.end (λ left.
+    LeavesJournal chain left texts least) c.sync.ensures.moments before c.cut.ensures.moments c.in_ok-sync.ensures.ok
+    c.sync.ensures.written is (λ left may. crash_cut chain bytes texts read least c.args.recovered left long
     (before bytes (now_left (on_disk disk) (told disk) synced bytes same is)) placed may))
-    (leave_more (passed c.cut.new.self) c.begin.new.self.moments (λ left. LeavesJournal chain left [] 0)
-    (λ left. LeavesJournal chain left texts least)
-    (λ left anew. anew_leaves chain bytes texts read least c.args.recovered left long nowhere now placed anew)
-    (c.begin.ensures.moments (cut ∙ ap (λ (n : ℕ). Some (take n bytes)) nowhere))))
+    (leave_more (passed c.cut.new.self) c.begin.new.self.moments (λ left. LeavesJournal chain left [] 0) (λ left.
+    LeavesJournal chain left texts least) (λ left anew. anew_leaves chain bytes texts read least c.args.recovered left
+    long nowhere now placed anew) (c.begin.ensures.moments (cut ∙ ap (λ (n : ℕ). Some (take n bytes)) nowhere))))
 
 pub returns-then-recovered-eq0-clause-any_tail : goal.returns-then-recovered-eq0-clause-any_tail
 returns-then-recovered-eq0-clause-any_tail g c =
@@ -159,8 +157,8 @@ returns-then-recovered-eq0-clause-kept g c =
     let told = g.D.Durable.written in
     let long : length chain ≡ 32 = search rules in
     let nowhere : c.args.recovered.end ≡ 0 = search rules in
-    subst (λ (at : JournalState). Kept at c.args.recovered (λ chain texts. OnOk c.begin.result (HasTexts chain texts c.begin.new.self))) c.self.view_is
-    (λ bytes texts is placed.
+    subst (λ (at : JournalState). Kept at c.args.recovered (λ chain texts. OnOk c.begin.result
+    (HasTexts chain texts c.begin.new.self))) c.self.view_is (λ bytes texts is placed.
     let none = placed_empty chain bytes texts c.args.recovered long nowhere placed in
     let cut = cut_is (told disk) (told c.sync.new.self) (told c.cut.new.self) bytes c.args.recovered.end
     c.sync.ensures.written is c.in_ok-cut.ensures.written in
@@ -175,10 +173,8 @@ returns-clause-kept g c =
     let on_disk = g.D.Durable.synced in
     let told = g.D.Durable.written in
     let long : length chain ≡ 32 = search rules in
-    subst (λ (at : JournalState). Kept at c.args.recovered
-    (λ chain texts. Keeps chain texts (told c.cut.new.self) (on_disk c.cut.new.self) c.args.recovered.chain)) c.self.view_is
-    (λ bytes texts is placed.
-    kept_when_cut chain bytes texts c.args.recovered (told c.cut.new.self) (on_disk c.cut.new.self) c.if-recovered-eq0.false placed
-    (cut_is (told disk) (told c.sync.new.self) (told c.cut.new.self) bytes c.args.recovered.end
-    c.sync.ensures.written is c.in_ok-cut.ensures.written)
-    c.in_ok-cut.ensures.synced)
+    subst (λ (at : JournalState). Kept at c.args.recovered (λ chain texts. Keeps chain texts (told c.cut.new.self)
+    (on_disk c.cut.new.self) c.args.recovered.chain)) c.self.view_is (λ bytes texts is placed. kept_when_cut chain bytes
+    texts c.args.recovered (told c.cut.new.self) (on_disk c.cut.new.self) c.if-recovered-eq0.false placed
+    (cut_is (told disk) (told c.sync.new.self) (told c.cut.new.self) bytes c.args.recovered.end c.sync.ensures.written
+    is c.in_ok-cut.ensures.written) c.in_ok-cut.ensures.synced)

@@ -10,7 +10,6 @@ returns c =
     let at = c.after_space-at.result in
     let may : may_close (place_of s.expected) ≡ true = c.is_after_comma.ensures.others c.if-is_after_comma.false in
     let there = c.is_at.ensures c.if-not-is_at.false in
-    closed_mark c.args.mark _ (λ t reads.
-    sym c.self.view_is
-    ∙ mark_at may_close c.args.mark t (place_of s.expected) after_value s.bytes.now s.at at reads may c.after_space-at.ensures there.0 there.1
-    ∙ ap (λ ts. t ∷ ts) (sym c.after_value.ensures))
+    closed_mark c.args.mark _
+    (λ t reads. sym c.self.view_is ∙ mark_at may_close c.args.mark t (place_of s.expected) after_value s.bytes.now s.at
+    at reads may c.after_space-at.ensures there.0 there.1 ∙ ap (λ ts. t ∷ ts) (sym c.after_value.ensures))

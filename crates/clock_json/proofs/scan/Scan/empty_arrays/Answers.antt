@@ -26,7 +26,8 @@ lists-preserved c =
     let new = left AfterComma (drop (l.at + 3) bytes) in
     let two = and_parts _ _ c.if-bytes-at.true in
     let one = and_parts _ _ two.0 in
-    let empty = empty_at bytes l.at (c.has_room.ensures c.lists-test.true) (eqb-true _ 91 one.0) (eqb-true _ 93 one.1) (eqb-true _ 44 two.1) in (
+    let empty = empty_at bytes l.at (c.has_room.ensures c.lists-test.true) (eqb-true _ 91 one.0) (eqb-true _ 93 one.1)
+    (eqb-true _ 44 two.1) in (
       subst (λ values. ReadsAll 1 c.args.self.now values new) (sym (replicate_push l.count (numbers [])))
           (all_next 1 c.args.self.now (left AfterComma (drop l.at bytes)) new _ (numbers []) l.invariant.0
           (empty_reads (lex between (drop l.at bytes)) (lex between (drop (l.at + 3) bytes)) empty)),
@@ -38,4 +39,5 @@ returns c =
     let l = c.lists in
     let s = c.self.inside in
     let behind = c.is_after_comma.ensures.comma c.if-not-is_after_comma.false in
-    subst (λ expected. ReadsAll 1 c.args.self.now (replicate l.count (numbers [])) (left expected (drop l.at s.bytes.now))) (sym behind) l.invariant.0
+    subst (λ expected. ReadsAll 1 c.args.self.now (replicate l.count (numbers []))
+    (left expected (drop l.at s.bytes.now))) (sym behind) l.invariant.0

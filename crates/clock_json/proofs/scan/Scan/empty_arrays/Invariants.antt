@@ -6,7 +6,8 @@ use Rattle.clock_json.proofs.scan.Scan.empty_arrays.Given as goal
 
 -- the lists so far
 abbrev pub invariant-lists : goal.invariant-lists
-invariant-lists l = ReadsAll 1 l.fn.self (replicate l.count (numbers [])) (left AfterComma (drop l.at l.bytes)) × (l.count ≤ l.at)
+invariant-lists l =
+    ReadsAll 1 l.fn.self (replicate l.count (numbers [])) (left AfterComma (drop l.at l.bytes)) × (l.count ≤ l.at)
 
 abbrev pub decreases-lists : goal.decreases-lists
 decreases-lists l = length l.bytes - l.at

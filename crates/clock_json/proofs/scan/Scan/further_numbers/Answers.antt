@@ -16,8 +16,11 @@ pub numbers-init : goal.numbers-init
 unfolding ReadsAll
 numbers-init c =
     let s = c.self.inside in
-    let behind = c.is_after_comma.ensures.comma c.if-not-is_after_comma.false in
-    ([], sym (append-nil c.args.list.now.items), sym (ap (λ expected. left expected (drop s.at s.bytes.now)) behind) ∙ c.self.view_is)
+    let behind = c.is_after_comma.ensures.comma c.if-not-is_after_comma.false in (
+      [],
+      sym (append-nil c.args.list.now.items),
+      sym (ap (λ expected. left expected (drop s.at s.bytes.now)) behind) ∙ c.self.view_is,
+    )
 
 pub numbers-preserved : goal.numbers-preserved
 numbers-preserved c =
@@ -26,9 +29,11 @@ numbers-preserved c =
     let row = l.invariant.0 in
     let n = c.in-Some.n in (
       row ++ n ∷ [],
-      c.in_ok-push.ensures.items ∙ ap (λ known. known ++ n ∷ []) l.invariant.1 ∙ append_assoc c.args.list.now.items row (n ∷ []),
-      all_push_next 0 whole c.args.self.now (left AfterComma (drop l.at bytes)) (left AfterComma (drop c.in-Some.end bytes)) row n l.invariant.2
-          (separated_reads (lex between (drop l.at bytes)) (lex between (drop c.in-Some.end bytes)) n c.in-Some.ensures.small c.in-Some.ensures.value),
+      c.in_ok-push.ensures.items ∙ ap (λ known. known ++ n ∷ []) l.invariant.1
+          ∙ append_assoc c.args.list.now.items row (n ∷ []),
+      all_push_next 0 whole c.args.self.now (left AfterComma (drop l.at bytes)) (left AfterComma
+          (drop c.in-Some.end bytes)) row n l.invariant.2 (separated_reads (lex between (drop l.at bytes))
+          (lex between (drop c.in-Some.end bytes)) n c.in-Some.ensures.small c.in-Some.ensures.value),
     )
 
 pub returns : goal.returns
@@ -38,5 +43,6 @@ returns c =
     let behind = c.is_after_comma.ensures.comma c.if-not-is_after_comma.false in (
       l.invariant.0,
       l.invariant.1,
-      subst (λ expected. ReadsAll 0 c.args.self.now (map whole l.invariant.0) (left expected (drop l.at s.bytes.now))) (sym behind) l.invariant.2,
+      subst (λ expected. ReadsAll 0 c.args.self.now (map whole l.invariant.0) (left expected (drop l.at s.bytes.now)))
+          (sym behind) l.invariant.2,
     )

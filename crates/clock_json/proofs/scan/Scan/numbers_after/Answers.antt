@@ -21,13 +21,20 @@ items-preserved c =
     let start = c.opens.new.self in
     let had = c.args.list.now.items in
     let same : c.closes.new.self ≡ l.self = grind arith in
-    let reads : Reads 0 l.self (whole next) here = subst (λ ts. Reads 0 ts (whole next) here) same c.in_ok-next.ensures.value in (
+    let reads : Reads 0 l.self (whole next) here =
+    subst (λ ts. Reads 0 ts (whole next) here) same c.in_ok-next.ensures.value in (
       (row ++ next ∷ []) ++ more.0,
-      more.1
-          ∙ ap (λ known. known ++ more.0) (c.in_ok-push.ensures.items ∙ ap (λ known. known ++ next ∷ []) l.invariant.1 ∙ append_assoc had row (next ∷ []))
-          ∙ append_assoc had (row ++ next ∷ []) more.0,
-      items_push_all 0 whole start here new (row ++ next ∷ []) more.0 (items_push_next 0 whole start l.self here row next l.invariant.2 reads) more.2,
-      omega (arith, l.invariant.3, c.in_ok-next.ensures.shorter, ap length same, all_shorter 0 here (map whole more.0) new more.2),
+      more.1 ∙ ap (λ known. known ++ more.0) (c.in_ok-push.ensures.items ∙ ap (λ known. known ++ next
+          ∷ []) l.invariant.1 ∙ append_assoc had row (next ∷ [])) ∙ append_assoc had (row ++ next ∷ []) more.0,
+      items_push_all 0 whole start here new (row ++ next ∷ []) more.0
+          (items_push_next 0 whole start l.self here row next l.invariant.2 reads) more.2,
+      omega (
+        arith,
+        l.invariant.3,
+        c.in_ok-next.ensures.shorter,
+        ap length same,
+        all_shorter 0 here (map whole more.0) new more.2,
+      ),
     )
 
 pub items-smaller : goal.items-smaller
@@ -35,7 +42,12 @@ items-smaller c =
     let here = c.number.new.self in
     let more = c.in_ok-further_numbers.ensures in
     let same : c.closes.new.self ≡ c.items.self = grind arith in
-    omega (arith, c.in_ok-next.ensures.shorter, ap length same, all_shorter 0 here (map whole more.0) c.further_numbers.new.self more.2)
+    omega (
+      arith,
+      c.in_ok-next.ensures.shorter,
+      ap length same,
+      all_shorter 0 here (map whole more.0) c.further_numbers.new.self more.2,
+    )
 
 pub returns-clause-value : goal.returns-clause-value
 returns-clause-value c =

@@ -10,5 +10,5 @@ returns c =
     let at = c.after_space-at.result in
     let may : may_begin (place_of s.expected) ≡ true = sym c.may_begin.ensures ∙ c.if-not-may_begin.false in
     let there = c.is_at.ensures c.if-not-is_at.false in
-    opened c.args.mark _ (λ t reads.
-    sym c.self.view_is ∙ mark_at may_begin c.args.mark t (place_of s.expected) fresh s.bytes.now s.at at reads may c.after_space-at.ensures there.0 there.1)
+    opened c.args.mark _ (λ t reads. sym c.self.view_is ∙ mark_at may_begin c.args.mark t
+    (place_of s.expected) fresh s.bytes.now s.at at reads may c.after_space-at.ensures there.0 there.1)

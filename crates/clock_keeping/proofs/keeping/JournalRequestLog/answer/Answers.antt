@@ -12,8 +12,8 @@ returns-then-not-is_change-clause-answered g c =
 
 pub returns-then-not-is_change-clause-kept : goal.returns-then-not-is_change-clause-kept
 returns-then-not-is_change-clause-kept g c digest past in_step =
-    passed_over digest past c.args.text.now c.respond-response.result c.args.front.now c.respond-response.new.self _ in_step
-    (c.respond-response.ensures.response c.args.text.now c.framing.ensures)
+    passed_over digest past c.args.text.now c.respond-response.result c.args.front.now c.respond-response.new.self _
+    in_step (c.respond-response.ensures.response c.args.text.now c.framing.ensures)
     (sym c.is_change.ensures ∙ c.if-not-is_change.true)
 
 pub returns-then-not-is_change-clause-accepted : goal.returns-then-not-is_change-clause-accepted

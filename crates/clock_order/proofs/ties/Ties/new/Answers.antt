@@ -9,15 +9,17 @@ use Rattle.clock_order.proofs.Listed.{is_key}
 use Rattle.clock_order.proofs.TieSteps.{tie_at, listed_more, repeated_first, ahead_more, none_from_test}
 use Rattle.clock_order.proofs.ties.Ties.new.Goals as goal
 
-in_range : (bidders products : ℕ) (tie : Tie) → tie.bidder < bidders → tie.product < products → true ≡ is_in_range bidders products tie
-in_range bidders products tie bidder product = rw (lt-ltb tie.bidder bidders bidder, lt-ltb tie.product products product) cc
+in_range : (bidders products : ℕ) (tie : Tie) → tie.bidder < bidders → tie.product < products
+    → true ≡ is_in_range bidders products tie
+in_range bidders products tie bidder product =
+    rw (lt-ltb tie.bidder bidders bidder, lt-ltb tie.product products product) cc
 
 pub returns-then-is_some-clause-fault : goal.returns-then-is_some-clause-fault
 returns-then-is_some-clause-fault c =
     let bidders = c.len-bidders.result in
     let products = c.len-products.result in
-    let found = repeated_first bidders products c.args.ties.now c.loop-i.i c.loop-i.numbers.entries c.in_ok-earlier.earlier
-    c.loop-i-test.true c.loop-i.invariant.ahead c.loop-i.invariant.listed
+    let found = repeated_first bidders products c.args.ties.now c.loop-i.i c.loop-i.numbers.entries
+    c.in_ok-earlier.earlier c.loop-i-test.true c.loop-i.invariant.ahead c.loop-i.invariant.listed
     (in_range bidders products (tie_at c.args.ties.now c.loop-i.i) c.if-tie-bidders.false c.if-tie-products.false)
     c.in_ok-earlier.ensures.old c.if-is_some.ensures in
     search rules

@@ -8,6 +8,6 @@ abbrev pub invariant-loop-product : goal.invariant-loop-product
 invariant-loop-product l = record {
   lengths : length l.lines.items ≡ l.product;
   room : length l.self.products.now ≤ l.product + l.lines.room;
-  so_far : l.lines.items ≡ map (sheet_line l.self.products.now l.self.prices.now l.self.grid.now l.self.posted.now l.self.increments.now)
-      (range_with_len 0 l.product);
+  so_far : l.lines.items ≡ map (sheet_line l.self.products.now l.self.prices.now l.self.grid.now l.self.posted.now
+      l.self.increments.now) (range_with_len 0 l.product);
 }

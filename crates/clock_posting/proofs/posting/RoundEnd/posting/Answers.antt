@@ -12,6 +12,7 @@ returns-clause-laws c =
       sheet = record { round = end.round; ended = c.is_none.result; lines = c.in_ok-lines.lines };
       next = c.in_ok-next.next;
     } in
-    let is : IsPosting end.round end.products.now end.prices.now end.grid.now end.posted.now end.increments.now made = search rules in
+    let is : IsPosting end.round end.products.now end.prices.now end.grid.now end.posted.now end.increments.now made =
+    search rules in
     consistent end.products.now end.prices.now end.grid.now end.posted.now end.increments.now end.round made
     c.requires.between c.in_ok-next.ensures.rising is

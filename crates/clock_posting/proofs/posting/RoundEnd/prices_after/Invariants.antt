@@ -11,10 +11,12 @@ abbrev pub invariant-loop-product : goal.invariant-loop-product
 invariant-loop-product l = record {
   lengths : length l.next.items ≡ l.product;
   room : length l.self.products.now ≤ l.product + l.next.room;
-  so_far : l.next.items ≡ map (next_price l.self.products.now l.self.increments.now l.self.posted.now) (range_with_len 0 l.product);
+  so_far : l.next.items
+      ≡ map (next_price l.self.products.now l.self.increments.now l.self.posted.now) (range_with_len 0 l.product);
   clocks : map (next_clock l.self.products.now l.self.increments.now l.self.posted.now) (range_with_len 0 l.product)
       ≡ map (λ pair. Some pair.clock) l.next.items;
   rising : All IsRising l.next.items;
-  rest : position_from (λ product. is_none (next_clock l.self.products.now l.self.increments.now l.self.posted.now product)) l.product
-      (range_with_len l.product (length l.self.products.now - l.product)) ≡ first_at_limit l.self.products.now l.self.increments.now l.self.posted.now;
+  rest : position_from (λ product. is_none (next_clock l.self.products.now l.self.increments.now l.self.posted.now
+      product)) l.product (range_with_len l.product (length l.self.products.now - l.product))
+      ≡ first_at_limit l.self.products.now l.self.increments.now l.self.posted.now;
 }

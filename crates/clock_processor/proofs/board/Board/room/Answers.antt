@@ -22,20 +22,19 @@ returns-clause-room c =
     let known : change.product < length products = rw (← c.self.view_is) at c.requires.product in
     let bidder : change.bidder < length eligibilities = rw (← c.self.view_is) at c.requires.bidder in
     let supply : (get_or products change.product one.result).supply ≡ supply_of products change.product =
-    ap (λ (product : Product). product.supply) (sym one.is ∙ get_or_read products change.product one.result known one.is no_product) in
-    let unused : get_or c.self.inside.unused change.bidder 0 ≡ get_or eligibilities change.bidder 0 - activity products (row_of grid change.bidder) =
-    omega (arith, c.self.invariant.keeps_unused.sums change.bidder bidder) in
+    ap (λ (product : Product). product.supply)
+    (sym one.is ∙ get_or_read products change.product one.result known one.is no_product) in
+    let unused : get_or c.self.inside.unused change.bidder 0 ≡ get_or eligibilities change.bidder 0 - activity products
+    (row_of grid change.bidder) = omega (arith, c.self.invariant.keeps_unused.sums change.bidder bidder) in
     let most = λ (kind : Kind). min left (room_of kind products eligibilities grid change.bidder change.product) in
     elim c.match-change.branch [
       | in-Reduction w ↦
           w.result-is ∙ w.min.ensures ∙ ap (min left) w.saturating_sub.ensures
           ∙ ap₂ (λ total supply. min left (total - supply)) w.total.ensures supply
           ∙ ap most (sym w.in-Reduction.is)
-      | in-Increase w ↦
-          w.result-is ∙ w.min-in-Increase.ensures
-          ∙ ap₂ (λ unused units. min left (unused / units)) (ap (λ list. get_or list change.bidder 0) w.deref.ensures ∙ unused)
-          (units_read products change.product one.result known one.is)
-          ∙ ap most (sym w.in-Increase.is)
+      | in-Increase w ↦ w.result-is ∙ w.min-in-Increase.ensures ∙ ap₂ (λ unused units. min left (unused / units))
+          (ap (λ list. get_or list change.bidder 0) w.deref.ensures ∙ unused)
+          (units_read products change.product one.result known one.is) ∙ ap most (sym w.in-Increase.is)
     ]
     ∙ ap (λ (board : BoardFields). room board.products board.eligibilities board.grid change left) c.self.view_is
 

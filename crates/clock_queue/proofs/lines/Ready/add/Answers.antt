@@ -18,18 +18,18 @@ returns-then-is_marked c = inl (record {
 
 pub returns : goal.returns
 returns c =
-    inr (subst (λ (places : List ℕ). IsPermutation (c.args.place ∷ places) (places_of (heap_items c.push.new.self))) c.self.view_is
-    (IsPermutation-map (λ (item : Reverse ℕ). item.0) _ _ c.in_ok-push.ensures.permutation))
+    inr (subst (λ (places : List ℕ). IsPermutation (c.args.place ∷ places) (places_of (heap_items c.push.new.self)))
+    c.self.view_is (IsPermutation-map (λ (item : Reverse ℕ). item.0) _ _ c.in_ok-push.ensures.permutation))
 
 pub invariant_of-self : goal.invariant_of-self
-invariant_of-self c =
-    subst (λ (heap : List (Reverse ℕ)). IsMarked heap c.self.inside.marks) (sym c.in_err-push.ensures.unchanged.0) c.self.invariant
+invariant_of-self c = subst (λ (heap : List (Reverse ℕ)). IsMarked heap c.self.inside.marks)
+    (sym c.in_err-push.ensures.unchanged.0) c.self.invariant
 
 pub invariant_of-self-2 : goal.invariant_of-self-2
 invariant_of-self-2 c = record {
   in_order = c.in_ok-push.ensures.heap_order c.self.invariant.in_order;
-  marked = subst (λ (marks : List Bool). (one : ℕ) → get_or marks one false ≡ true → Contains (places_of (heap_items c.push.new.self)) one)
-      (sym c.mark.ensures)
-      (marked_added c.self.inside.marks (places_of (heap_items c.self.inside.heap)) (places_of (heap_items c.push.new.self)) c.args.place
+  marked = subst (λ (marks : List Bool). (one : ℕ) → get_or marks one false ≡ true
+      → Contains (places_of (heap_items c.push.new.self)) one) (sym c.mark.ensures) (marked_added c.self.inside.marks
+      (places_of (heap_items c.self.inside.heap)) (places_of (heap_items c.push.new.self)) c.args.place
       c.self.invariant.marked (IsPermutation-map (λ (item : Reverse ℕ). item.0) _ _ c.in_ok-push.ensures.permutation));
 }

@@ -9,21 +9,21 @@ returns-then-at-len c =
     let index = c.self.inside.index.items in
     let lists = c.self.inside.lists.items in
     let has : c.index-at.result.now < length lists = omega (arith, c.if-at-len.true, c.len.ensures) in
-    shown_written index lists c.args.self.now c.self.invariant c.self.view_is c.args.line c.index-at.result.now _ c.requires c.index-at.ensures
-    c.index_mut.result.now c.index_mut.result.now has c.index_mut.ensures.value c.add.new.self
-    ∙ ap (set c.args.self.now c.args.line) (c.in_ok-add.ensures
-    ∙ ap (λ (list : LineFields). with_waiting list c.args.place c.args.cost)
-    (shown_list index lists c.args.self.now c.self.invariant c.self.view_is c.args.line c.index-at.result.now _ c.requires c.index-at.ensures
-    c.index_mut.result.now c.index_mut.result.now has c.index_mut.ensures.value))
+    shown_written index lists c.args.self.now c.self.invariant c.self.view_is c.args.line c.index-at.result.now _
+    c.requires c.index-at.ensures c.index_mut.result.now c.index_mut.result.now has c.index_mut.ensures.value
+    c.add.new.self ∙ ap (set c.args.self.now c.args.line)
+    (c.in_ok-add.ensures ∙ ap (λ (list : LineFields). with_waiting list c.args.place c.args.cost)
+    (shown_list index lists c.args.self.now c.self.invariant c.self.view_is c.args.line c.index-at.result.now _
+    c.requires c.index-at.ensures c.index_mut.result.now c.index_mut.result.now has c.index_mut.ensures.value))
 
 pub returns : goal.returns
 returns c =
     let index = c.self.inside.index.items in
     let lists = c.self.inside.lists.items in
-    shown_made index lists c.args.self.now c.self.invariant c.self.view_is c.args.line c.index-at.result.now _ c.requires c.index-at.ensures
-    (omega (arith, c.if-at-len.false, c.len.ensures)) _ c.push.new.self.items c.add-2.new.self
-    (omega (arith, c.len-last.ensures, c.len-last.type_inv)) c.in_ok-push.ensures.items (omega (arith, c.len-last.ensures))
-    ∙ ap (set c.args.self.now c.args.line) (c.in_ok-add-2.ensures
-    ∙ ap (λ (list : LineFields). with_waiting list c.args.place c.args.cost) (c.new-first.ensures
-    ∙ sym (shown_empty index lists c.args.self.now c.self.invariant c.self.view_is c.args.line c.index-at.result.now _ c.requires c.index-at.ensures
-    (omega (arith, c.if-at-len.false, c.len.ensures)))))
+    shown_made index lists c.args.self.now c.self.invariant c.self.view_is c.args.line c.index-at.result.now _
+    c.requires c.index-at.ensures (omega (arith, c.if-at-len.false, c.len.ensures)) _ c.push.new.self.items
+    c.add-2.new.self (omega (arith, c.len-last.ensures, c.len-last.type_inv)) c.in_ok-push.ensures.items
+    (omega (arith, c.len-last.ensures)) ∙ ap (set c.args.self.now c.args.line)
+    (c.in_ok-add-2.ensures ∙ ap (λ (list : LineFields). with_waiting list c.args.place c.args.cost)
+    (c.new-first.ensures ∙ sym (shown_empty index lists c.args.self.now c.self.invariant c.self.view_is c.args.line
+    c.index-at.result.now _ c.requires c.index-at.ensures (omega (arith, c.if-at-len.false, c.len.ensures)))))

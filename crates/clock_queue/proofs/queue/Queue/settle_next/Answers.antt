@@ -4,50 +4,54 @@ use Rattle.clock_queue.specs.declared.queue.Queue.{Queue}
 use Rattle.clock_queue.proofs.Admits.{tracked_more, kept_popped, tracked_popped}
 use Rattle.clock_queue.proofs.Members.{Contains-rest}
 use Rattle.clock_queue.proofs.Steps.{goes_further}
-use Rattle.clock_queue.proofs.Turns.{admitted_same, next_has_none, next_is_more, goes_on_first, popped_within, goes_on_popped, less_popped}
+use Rattle.clock_queue.proofs.Turns.{admitted_same, next_has_none, next_is_more, goes_on_first, popped_within}
+use Rattle.clock_queue.proofs.Turns.{goes_on_popped, less_popped}
 use Rattle.clock_queue.proofs.queue.Queue.settle_next.Goals as goal
 
 pub test-requires-clause-tracked : goal.test-requires-clause-tracked
-test-requires-clause-tracked c =
-    tracked_more c.args.changes.now c.args.self.now c.args.self.now.ready (c.args.self.now.admitted ∷ c.args.self.now.ready)
+test-requires-clause-tracked c = tracked_more c.args.changes.now c.args.self.now c.args.self.now.ready
+    (c.args.self.now.admitted ∷ c.args.self.now.ready)
     (λ place here. Contains-rest c.args.self.now.admitted c.args.self.now.ready place here) c.requires.tracked
 
 pub admit-requires-clause-more : goal.admit-requires-clause-more
-admit-requires-clause-more c = next_is_more c.args.changes.now c.args.self.now c.test.new.self c.requires.more c.in_ok-test.ensures
+admit-requires-clause-more c =
+    next_is_more c.args.changes.now c.args.self.now c.test.new.self c.requires.more c.in_ok-test.ensures
 
 pub admit-requires-clause-no_room : goal.admit-requires-clause-no_room
 admit-requires-clause-no_room c = next_has_none c.args.changes.now c.args.self.now c.test.new.self c.in_ok-test.ensures
 
 pub loop-place-init : goal.loop-place-init
 loop-place-init c = record {
-  goes_on = goes_on_first c.args.changes.now c.args.self.now c.test.new.self c.admit.new.self.lines c.requires.kept c.requires.tracked
-      c.requires.counts c.requires.none c.requires.more c.in_ok-test.ensures c.admit.new.self c.in_ok-admit.ensures.same
-      c.in_ok-admit.ensures.kept c.in_ok-admit.ensures.tracked;
-  admitted = ap (λ (queue : Queue). queue.admitted) c.in_ok-admit.ensures.same
-      ∙ ap (λ n. n + 1) (admitted_same c.args.changes.now c.args.self.now.admitted c.args.self.now c.test.new.self c.in_ok-test.ensures);
+  goes_on = goes_on_first c.args.changes.now c.args.self.now c.test.new.self c.admit.new.self.lines c.requires.kept
+      c.requires.tracked c.requires.counts c.requires.none c.requires.more c.in_ok-test.ensures c.admit.new.self
+      c.in_ok-admit.ensures.same c.in_ok-admit.ensures.kept c.in_ok-admit.ensures.tracked;
+  admitted = ap (λ (queue : Queue). queue.admitted) c.in_ok-admit.ensures.same ∙ ap (λ n. n + 1)
+      (admitted_same c.args.changes.now c.args.self.now.admitted c.args.self.now c.test.new.self c.in_ok-test.ensures);
 }
 
 pub test-requires-in-Some-clause-kept : goal.test-requires-in-Some-clause-kept
-test-requires-in-Some-clause-kept c =
-    kept_popped c.args.changes.now c.loop-place.self c.in-Some.place c.pop.new.self c.loop-place.invariant.goes_on.kept c.in-Some.ensures.taken
+test-requires-in-Some-clause-kept c = kept_popped c.args.changes.now c.loop-place.self c.in-Some.place c.pop.new.self
+    c.loop-place.invariant.goes_on.kept c.in-Some.ensures.taken
 
 pub test-requires-in-Some-clause-tracked : goal.test-requires-in-Some-clause-tracked
-test-requires-in-Some-clause-tracked c =
-    tracked_popped c.args.changes.now c.loop-place.self c.in-Some.place c.pop.new.self c.loop-place.invariant.goes_on.tracked c.in-Some.ensures.taken
+test-requires-in-Some-clause-tracked c = tracked_popped c.args.changes.now c.loop-place.self c.in-Some.place
+    c.pop.new.self c.loop-place.invariant.goes_on.tracked c.in-Some.ensures.taken
 
 pub test-requires-in-Some-clause-within : goal.test-requires-in-Some-clause-within
-test-requires-in-Some-clause-within c =
-    popped_within c.args.changes.now c.loop-place.self c.in-Some.place c.pop.new.self c.loop-place.invariant.goes_on.kept c.in-Some.ensures.taken
+test-requires-in-Some-clause-within c = popped_within c.args.changes.now c.loop-place.self c.in-Some.place
+    c.pop.new.self c.loop-place.invariant.goes_on.kept c.in-Some.ensures.taken
 
 pub loop-place-smaller : goal.loop-place-smaller
-loop-place-smaller c =
-    less_popped c.args.changes.now c.loop-place.self c.in-Some.place c.pop.new.self c.loop-place.invariant.goes_on.kept c.in-Some.ensures.taken
-    c.test-in-Some.new.self c.in_ok-test-2.ensures
+loop-place-smaller c = less_popped c.args.changes.now c.loop-place.self c.in-Some.place c.pop.new.self
+    c.loop-place.invariant.goes_on.kept c.in-Some.ensures.taken c.test-in-Some.new.self c.in_ok-test-2.ensures
 
 pub loop-place-preserved : goal.loop-place-preserved
 loop-place-preserved c = record {
-  goes_on = goes_further c.args.changes.now c.args.self.now c.loop-place.self c.test-in-Some.new.self c.loop-place.invariant.goes_on
-      (goes_on_popped c.args.changes.now c.loop-place.self c.in-Some.place c.pop.new.self c.loop-place.invariant.goes_on.kept c.in-Some.ensures.taken
-      c.test-in-Some.new.self c.loop-place.invariant.goes_on.tracked c.loop-place.invariant.goes_on.counts c.in-Some.ensures.least c.in_ok-test-2.ensures);
-  admitted = admitted_same c.args.changes.now c.in-Some.place _ c.test-in-Some.new.self c.in_ok-test-2.ensures ∙ c.loop-place.invariant.admitted;
+  goes_on = goes_further c.args.changes.now c.args.self.now c.loop-place.self c.test-in-Some.new.self
+      c.loop-place.invariant.goes_on (goes_on_popped c.args.changes.now c.loop-place.self c.in-Some.place c.pop.new.self
+      c.loop-place.invariant.goes_on.kept c.in-Some.ensures.taken c.test-in-Some.new.self
+      c.loop-place.invariant.goes_on.tracked c.loop-place.invariant.goes_on.counts c.in-Some.ensures.least
+      c.in_ok-test-2.ensures);
+  admitted = admitted_same c.args.changes.now c.in-Some.place _ c.test-in-Some.new.self c.in_ok-test-2.ensures
+      ∙ c.loop-place.invariant.admitted;
 }

@@ -6,10 +6,12 @@ use Rattle.clock_queue.proofs.Admits.{kept_tested, tracked_tested, tracked_rest}
 use Rattle.clock_queue.proofs.queue.Queue.test.Goals as goal
 
 pub apply-requires-clause-kept : goal.apply-requires-clause-kept
-apply-requires-clause-kept c = subst (HasSoundLines c.args.changes.now) (sym c.room-room.ensures.counted) (kept_tested c.args.changes.now c.args.self.now c.requires.kept)
+apply-requires-clause-kept c = subst (HasSoundLines c.args.changes.now) (sym c.room-room.ensures.counted)
+    (kept_tested c.args.changes.now c.args.self.now c.requires.kept)
 
 pub apply-requires-clause-tracked : goal.apply-requires-clause-tracked
-apply-requires-clause-tracked c = subst (λ (queue : Queue). IsTracking c.args.changes.now queue (c.args.place ∷ queue.ready)) (sym c.room-room.ensures.counted)
+apply-requires-clause-tracked c = subst (λ (queue : Queue). IsTracking c.args.changes.now queue
+    (c.args.place ∷ queue.ready)) (sym c.room-room.ensures.counted)
     (tracked_tested c.args.changes.now c.args.self.now (c.args.place ∷ c.args.self.now.ready) c.requires.tracked)
 
 pub returns-then-room-eq0 : goal.returns-then-room-eq0
@@ -19,7 +21,8 @@ returns-then-room-eq0 c =
     let none : room_in changes old c.args.place ≡ 0 = sym c.room-room.ensures.room ∙ c.if-room-eq0.true in
     subst (IsTested changes c.args.place old) (sym c.room-room.ensures.counted) (record {
       kept = kept_tested changes old c.requires.kept;
-      tracked = tracked_tested changes old old.ready (tracked_rest changes old c.args.place old.ready none c.requires.tracked);
+      tracked = tracked_tested changes old old.ready
+          (tracked_rest changes old c.args.place old.ready none c.requires.tracked);
       terms = record { products = refl; eligibilities = refl };
       step = inl (record { none = none; same = refl });
       no_room = none;

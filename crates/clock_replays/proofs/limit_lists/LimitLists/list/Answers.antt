@@ -1,5 +1,6 @@
 -- The search finds the row of the product, if it has one, and the ends give its prices.
-use Rattle.std.proofs.Common.{◌≡◌, ◌-◌, ◌<◌, ◌≤◌, List, ℕ, [], ◌∷◌, length, get_or, take, drop, sym, ap, ◌∙◌, arith, rules}
+use Rattle.std.proofs.Common.{◌≡◌, ◌-◌, ◌<◌, ◌≤◌, List, ℕ, [], ◌∷◌, length, get_or, take, drop, sym, ap, ◌∙◌, arith}
+use Rattle.std.proofs.Common.{rules}
 use Rattle.std.proofs.lemmas.List.FromFn.{length-map-range_with_len, get_or-map-range_with_len}
 use Rattle.clock_terms.specs.Demands.{row_of}
 use Rattle.clock_replays.specs.EndedRows.{rows_from}
@@ -9,7 +10,10 @@ use Rattle.clock_replays.specs.inside.KeptLimits.{kept_limits}
 use Rattle.clock_replays.specs.declared.limit_lists.LimitRows.{LimitRows}
 use Rattle.clock_replays.proofs.EndedRowLaws.{length-rows, row_at, end_within}
 use Rattle.clock_replays.proofs.KeptLimitLaws.{found, missing}
-use Rattle.clock_replays.proofs.limit_lists.LimitLists.list.Goals.{then-place-products-via-then-place-products, then-place-products-via-else-place-products+then-products-place}
+use Rattle.clock_replays.proofs.limit_lists.LimitLists.list.Goals.{then-place-products-via-then-place-products}
+use Rattle.clock_replays.proofs.limit_lists.LimitLists.list.Goals.{
+  then-place-products-via-else-place-products+then-products-place,
+}
 use Rattle.clock_replays.proofs.limit_lists.LimitLists.list.Goals.{then-place-eq0, else-place-eq0}
 use Rattle.clock_replays.proofs.limit_lists.LimitLists.list.Goals as goal
 
@@ -18,14 +22,18 @@ listed : (rows : LimitRows) (lists : List (List ℕ)) (product : ℕ) → kept_l
     → limits_for rows.products.items (rows_from 0 rows.ends.items rows.prices.items) product ≡ row_of lists product
 listed rows lists product same below =
     let limits = limits_for rows.products.items (rows_from 0 rows.ends.items rows.prices.items) in
-    let within : product < rows.count = omega (arith, length-map-range_with_len limits 0 rows.count, ap length same, below) in
-    sym (get_or-map-range_with_len limits 0 rows.count product product [] within (omega arith)) ∙ ap (λ (all : List (List ℕ)). row_of all product) same
+    let within : product < rows.count =
+    omega (arith, length-map-range_with_len limits 0 rows.count, ap length same, below) in
+    sym (get_or-map-range_with_len limits 0 rows.count product product [] within (omega arith))
+    ∙ ap (λ (all : List (List ℕ)). row_of all product) same
 
 -- the ends of a row, read from slices
-bounds : {products_read products ends_read ends prices_read prices : List ℕ} (place : ℕ) → products_read ≡ products → ends_read ≡ ends → prices_read ≡ prices
-    → place ≤ length products → (place ≡ length products_read → ⊥) → length products ≡ length ends → AreEnds 0 ends (length prices)
+bounds : {products_read products ends_read ends prices_read prices : List ℕ} (place : ℕ) → products_read ≡ products
+    → ends_read ≡ ends → prices_read ≡ prices → place ≤ length products → (place ≡ length products_read → ⊥)
+    → length products ≡ length ends → AreEnds 0 ends (length prices)
     → (get_or (0 ∷ ends_read) place 0 ≤ get_or ends_read place 0) × (get_or ends_read place 0 ≤ length prices_read)
-bounds {products_read} {products} {ends_read} {ends} {prices_read} {prices} place same_products same_ends same_prices most other count are =
+bounds {products_read} {products} {ends_read} {ends} {prices_read}
+    {prices} place same_products same_ends same_prices most other count are =
     let within : place < length ends = omega (arith, ap length same_products, most, other, count) in
     let told = end_within 0 ends (length prices) place are within in
     let first = ap (λ (list : List ℕ). get_or (0 ∷ list) place 0) same_ends in
@@ -45,7 +53,12 @@ returns-then-place-products c =
       | then-place-products-via-then-place-products w ↦
           absurd (omega (arith, w.if-place-products.true, inside, ap (λ (list : List ℕ). length list) same))
       | then-place-products-via-else-place-products+then-products-place w ↦
-          omega (arith, w.if-products-place.true, ap (λ (list : List ℕ). get_or list place 0) same, c.place_of-place.ensures.first inside)
+          omega (
+            arith,
+            w.if-products-place.true,
+            ap (λ (list : List ℕ). get_or list place 0) same,
+            c.place_of-place.ensures.first inside,
+          )
     ] in
     sym (missing 0 rows.products.items lists rows.count product place c.self.invariant.2 start.1 next)
     ∙ listed rows c.args.self.now product c.self.view_is c.requires
@@ -57,7 +70,8 @@ slice_bounds-result-count c =
       | then-place-eq0 w ↦ search rules
       | else-place-eq0 w ↦ search rules
     ] in
-    let told = bounds place c.as_slice-products.ensures.value c.as_slice-ends.ensures.value c.as_slice.ensures.value c.place_of-place.ensures.place.0
+    let told = bounds place c.as_slice-products.ensures.value c.as_slice-ends.ensures.value c.as_slice.ensures.value
+    c.place_of-place.ensures.place.0
     c.if-place-products.false c.self.invariant.1 c.self.invariant.0 in
     omega (arith, told.0, begins)
 
@@ -68,7 +82,8 @@ slice_bounds-result-start c =
       | then-place-eq0 w ↦ search rules
       | else-place-eq0 w ↦ search rules
     ] in
-    let told = bounds place c.as_slice-products.ensures.value c.as_slice-ends.ensures.value c.as_slice.ensures.value c.place_of-place.ensures.place.0
+    let told = bounds place c.as_slice-products.ensures.value c.as_slice-ends.ensures.value c.as_slice.ensures.value
+    c.place_of-place.ensures.place.0
     c.if-place-products.false c.self.invariant.1 c.self.invariant.0 in
     omega (arith, told.0, begins)
 
@@ -79,7 +94,8 @@ slice_bounds-result-end-2 c =
       | then-place-eq0 w ↦ search rules
       | else-place-eq0 w ↦ search rules
     ] in
-    let told = bounds place c.as_slice-products.ensures.value c.as_slice-ends.ensures.value c.as_slice.ensures.value c.place_of-place.ensures.place.0
+    let told = bounds place c.as_slice-products.ensures.value c.as_slice-ends.ensures.value c.as_slice.ensures.value
+    c.place_of-place.ensures.place.0
     c.if-place-products.false c.self.invariant.1 c.self.invariant.0 in
     omega (arith, told.1)
 
@@ -100,7 +116,8 @@ returns c =
       | then-place-eq0 w ↦ search rules
       | else-place-eq0 w ↦ search rules
     ] in
-    let within : place < length c.as_slice-ends.result.now = omega (arith, inside, c.self.invariant.1, ap length c.as_slice-ends.ensures.value) in
+    let within : place < length c.as_slice-ends.result.now =
+    omega (arith, inside, c.self.invariant.1, ap length c.as_slice-ends.ensures.value) in
     ap (λ (from : ℕ). take (get_or c.as_slice-ends.result.now place 0 - from) (drop from c.as_slice.result.now)) begins
     ∙ sym (row_at 0 c.as_slice-ends.result.now c.as_slice.result.now place within)
     ∙ ap (λ (all : List ℕ). row_of (rows_from 0 all c.as_slice.result.now) place) c.as_slice-ends.ensures.value

@@ -3,7 +3,9 @@ use Rattle.std.proofs.Common.{◌-◌, ◌<◌, ◌≤◌, ℕ, List, length, ge
 use Rattle.std.specs.List.{AllWithin}
 use Rattle.clock_replays.specs.inside.KeptLimits.{AreRising}
 use Rattle.clock_replays.proofs.KeptLimitLaws.{smaller_before}
-use Rattle.clock_replays.proofs.limit_lists.LimitRows.place_of.Goals.{then-place-products, else-place-products+else-products-place, then-place-gt0, else-place-gt0}
+use Rattle.clock_replays.proofs.limit_lists.LimitRows.place_of.Goals.{then-place-products}
+use Rattle.clock_replays.proofs.limit_lists.LimitRows.place_of.Goals.{else-place-products+else-products-place}
+use Rattle.clock_replays.proofs.limit_lists.LimitRows.place_of.Goals.{then-place-gt0, else-place-gt0}
 use Rattle.clock_replays.proofs.limit_lists.LimitRows.place_of.Goals as goal
 
 pub lesser-init : goal.lesser-init
@@ -11,8 +13,8 @@ lesser-init c =
     let products = c.as_slice-products.result.now in
     let product = c.args.product in
     let from = c.args.from in
-    let rising : AreRising 0 products c.args.self.now.count =
-    subst (λ (list : List ℕ). AreRising 0 list c.args.self.now.count) (sym c.as_slice-products.ensures.value) c.requires.2 in
+    let rising : AreRising 0 products c.args.self.now.count = subst
+    (λ (list : List ℕ). AreRising 0 list c.args.self.now.count) (sym c.as_slice-products.ensures.value) c.requires.2 in
     elim c.if-place-products.branch [
       | then-place-products w ↦ (omega (arith, w.place-is), λ k d low high. absurd (omega (arith, w.place-is, high)))
       | else-place-products+else-products-place w ↦

@@ -16,5 +16,8 @@ returns-clause-limits c =
 pub returns-clause-kept : goal.returns-clause-kept
 returns-clause-kept c =
     let old = c.args.self.now in
-    let after : c.in_ok-self.field-0 ≡ old.count + c.args.count = search rules in
-    (c.requires.0, c.requires.1, rising_more 0 old.products.items old.count c.in_ok-self.field-0 c.requires.2 (omega (arith, after)))
+    let after : c.in_ok-self.field-0 ≡ old.count + c.args.count = search rules in (
+      c.requires.0,
+      c.requires.1,
+      rising_more 0 old.products.items old.count c.in_ok-self.field-0 c.requires.2 (omega (arith, after)),
+    )

@@ -10,4 +10,5 @@ pub returns-then-null-clause-shorter : goal.returns-then-null-clause-shorter
 returns-then-null-clause-shorter c =
     let old = c.args.scan.now in
     let new = c.null.new.self in
-    reads_shorter 0 old null new (subst (λ passed. MatchBool passed (Reads 0 old null new) (new ≡ old)) c.if-null.true c.null.ensures)
+    reads_shorter 0 old null new
+    (subst (λ passed. MatchBool passed (Reads 0 old null new) (new ≡ old)) c.if-null.true c.null.ensures)

@@ -11,8 +11,9 @@ pub invariant_of-result : goal.invariant_of-result
 invariant_of-result c =
     let scanned = c.in_ok-scanned.scanned in
     let judged : setup_of (setup_data scanned.entries) ≡ Ok c.in-Ok.setup =
-    setup_judged scanned.entries scanned.version scanned.first_version ∙ ap (λ fault. unless fault scanned.entries) c.in-Ok.ensures.ok
-    ∙ ap Ok (sym c.in-Ok.ensures.same) in
+    setup_judged scanned.entries scanned.version scanned.first_version
+    ∙ ap (λ fault. unless fault scanned.entries) c.in-Ok.ensures.ok ∙ ap Ok (sym c.in-Ok.ensures.same) in
     record {
-      accepted = subst (λ (entries : SetupFields). setup_of (setup_data entries) ≡ Ok c.in-Ok.setup) (sym c.in-Ok.ensures.same) judged;
+      accepted = subst (λ (entries : SetupFields). setup_of (setup_data entries) ≡ Ok c.in-Ok.setup)
+          (sym c.in-Ok.ensures.same) judged;
     }

@@ -23,8 +23,8 @@ loop-one-preserved g c =
     → IsFed old c.feed.new.self (waiting_at waiting i).conn (text ++ piece) c.in_ok-feed.field-0 in
     let list = c.deref-one-items.result.now in
     let at_list : List Waiting → Written = λ waiting. (waiting_at waiting i).written in
-    let piece : head_in c.deref.result.now (at_list list) ≡ one.head =
-    ap (λ (text : List ℕ). head_in text (at_list list)) c.deref.ensures.value ∙ ap (λ (waiting : List Waiting). head_in group.text.items (at_list waiting)) same in
-    let came = head_came (requests_in group) i one c.args.hub.now.connections old c.feed.new.self c.in_ok-feed.field-0 c.requires.requests
-    at.0 at.1 c.loop-one.invariant.1 (subst₂ IsResultByCode same piece c.in_ok-feed.ensures.fed) in
+    let piece : head_in c.deref.result.now (at_list list) ≡ one.head = ap (λ (text : List ℕ). head_in text (at_list
+    list)) c.deref.ensures.value ∙ ap (λ (waiting : List Waiting). head_in group.text.items (at_list waiting)) same in
+    let came = head_came (requests_in group) i one c.args.hub.now.connections old c.feed.new.self c.in_ok-feed.field-0
+    c.requires.requests at.0 at.1 c.loop-one.invariant.1 (subst₂ IsResultByCode same piece c.in_ok-feed.ensures.fed) in
     (came.0 ∙ c.loop-one.invariant.0, came.1)

@@ -20,7 +20,11 @@ add_row-requires-clause-small c k d within =
       c.loop-row.invariant.totals k (omega (arith, within, c.loop-row.invariant.each)),
       ap (λ (list : List (List ℕ)). total_of (take index list) k) c.as_slice-row-items.ensures.value,
       total_small (take index rows) k (All-take (λ row. All (λ demand. demand ≤ most_supply) row) index rows small),
-      length-take-le index rows (omega (arith, c.loop-row-test.true, ap (λ (list : List (List ℕ)). length list) c.as_slice-row-items.ensures.value)),
+      length-take-le index rows (omega (
+        arith,
+        c.loop-row-test.true,
+        ap (λ (list : List (List ℕ)). length list) c.as_slice-row-items.ensures.value,
+      )),
       c.loop-row-test.true,
       ap (λ (list : List (List ℕ)). length list) c.as_slice-row-items.ensures.value,
       c.requires.bidders,
@@ -32,8 +36,9 @@ pub invariant_of-result : goal.invariant_of-result
 invariant_of-result c =
     let rows = c.args.rows.items in
     let items = c.as_slice-row-items.result.now in
-    let whole = take_all c.loop-row.row-index items (omega (arith, c.loop-row-test.false)) ∙ c.as_slice-row-items.ensures.value in
+    let whole =
+    take_all c.loop-row.row-index items (omega (arith, c.loop-row-test.false)) ∙ c.as_slice-row-items.ensures.value in
     kept_of_rows c.args.setup.now.products rows c.requires.rows _ c.loop-row.totals c.setup.invariant
-    (ap (λ s. s.products) c.setup.view_is) (c.requires.bidders ∙ sym (ap (λ s. length s.bidders) c.setup.view_is))
-    c.loop-row.invariant.each
-    (λ product within. c.loop-row.invariant.totals product within ∙ ap (λ (list : List (List ℕ)). total_of list product) whole)
+    (ap (λ s. s.products) c.setup.view_is)
+    (c.requires.bidders ∙ sym (ap (λ s. length s.bidders) c.setup.view_is)) c.loop-row.invariant.each (λ product within.
+    c.loop-row.invariant.totals product within ∙ ap (λ (list : List (List ℕ)). total_of list product) whole)

@@ -7,5 +7,6 @@ use Rattle.clock_terms.proofs.grid.Grid.of_rows.Given as goal
 abbrev pub invariant-loop-row : goal.invariant-loop-row
 invariant-loop-row l = record {
   each : length l.totals ≡ length l.setup.products;
-  totals : (product : ℕ) → product < length l.setup.products → slice_index l.totals product ≡ total_of (take l.row-index l.row-items) product;
+  totals : (product : ℕ) → product < length l.setup.products
+      → slice_index l.totals product ≡ total_of (take l.row-index l.row-items) product;
 }

@@ -10,8 +10,8 @@ use Rattle.clock_terms.proofs.increments.Increments.are_within.Goals as goal
 pub returns-then-len-products : goal.returns-then-len-products
 returns-then-len-products c =
     let list = c.in-PerProduct.increments in
-    let each : c.all.result ≡ list_all is_increment c.deref.result.now =
-    all_from_yields_List is_increment _ _ c.all.result c.all.ensures.ran (YieldsList-from_slice c.deref.result.now cc) (λ x b q k. search (rules, tests)) in
+    let each : c.all.result ≡ list_all is_increment c.deref.result.now = all_from_yields_List is_increment _ _
+    c.all.result c.all.ensures.ran (YieldsList-from_slice c.deref.result.now cc) (λ x b q k. search (rules, tests)) in
     let size : length list ≡ c.args.products = sym c.len.ensures ∙ c.if-len-products.true in
     let counted : (length list == c.args.products) ≡ true = grind (arith, nat_tests) in
     each ∙ ap (list_all is_increment) c.deref.ensures

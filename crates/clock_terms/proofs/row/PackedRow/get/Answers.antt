@@ -8,5 +8,6 @@ use Rattle.clock_terms.proofs.row.PackedRow.get.Goals as goal
 pub returns : goal.returns
 returns c =
     let row = c.self.inside in
-    c.demand_at.ensures.is ∙ ap (λ (list : List PositiveDemand). demand_for list c.args.product) c.as_slice-held.ensures.value
+    c.demand_at.ensures.is
+    ∙ ap (λ (list : List PositiveDemand). demand_for list c.args.product) c.as_slice-held.ensures.value
     ∙ kept_demand row.count row.held.items c.args.self.now c.args.product c.self.view_is c.requires

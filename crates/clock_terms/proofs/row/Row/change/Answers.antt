@@ -9,24 +9,34 @@ use Rattle.clock_terms.proofs.row.Row.change.Goals as goal
 pub index-requires : goal.index-requires
 index-requires c =
     let row = c.self.inside in
-    omega (arith, c.self.invariant.searched, below_count row.count row.held.items c.args.self.now c.args.product c.self.view_is c.requires.product)
+    omega (
+      arith,
+      c.self.invariant.searched,
+      below_count row.count row.held.items c.args.self.now c.args.product c.self.view_is c.requires.product,
+    )
 
 pub place_in_group-place-requires-clause-start : goal.place_in_group-place-requires-clause-start
 place_in_group-place-requires-clause-start c =
     let row = c.self.inside in
-    start_read row.count row.held.items c.as_slice.result.now row.starts.items (vec_capacity row.held) c.args.self.now c.args.product c.index.result.now
-    c.self.invariant c.self.view_is c.requires.product c.as_slice.ensures.value c.index.ensures
+    start_read row.count row.held.items c.as_slice.result.now row.starts.items
+    (vec_capacity row.held) c.args.self.now c.args.product c.index.result.now c.self.invariant c.self.view_is
+    c.requires.product c.as_slice.ensures.value c.index.ensures
 
 pub overflow_cast-one : goal.overflow_cast-one
 overflow_cast-one c =
     let row = c.self.inside in
-    omega (arith, c.self.invariant.few, below_count row.count row.held.items c.args.self.now c.args.product c.self.view_is c.requires.product)
+    omega (
+      arith,
+      c.self.invariant.few,
+      below_count row.count row.held.items c.args.self.now c.args.product c.self.view_is c.requires.product,
+    )
 
 pub after-requires : goal.after-requires
 after-requires c =
     let row = c.self.inside in
-    let before = read_demand row.count row.held.items c.as_slice-2.result.now c.args.self.now c.args.product c.demand_at-before.result c.self.view_is
-    c.requires.product c.as_slice-2.ensures.value c.demand_at-before.ensures.is in
+    let before = read_demand row.count row.held.items c.as_slice-2.result.now c.args.self.now c.args.product
+    c.demand_at-before.result c.self.view_is c.requires.product c.as_slice-2.ensures.value
+    c.demand_at-before.ensures.is in
     omega (arith, ap (λ (demand : ℕ). changed_demand c.args.kind demand c.args.amount) before, c.requires.small)
 
 pub store-requires-clause-room : goal.store-requires-clause-room
@@ -42,14 +52,21 @@ store-requires-clause-room c =
 pub store-requires-clause-small : goal.store-requires-clause-small
 store-requires-clause-small c =
     let row = c.self.inside in
-    let before = read_demand row.count row.held.items c.as_slice-2.result.now c.args.self.now c.args.product c.demand_at-before.result c.self.view_is
-    c.requires.product c.as_slice-2.ensures.value c.demand_at-before.ensures.is in
-    omega (arith, c.after.ensures, ap (λ (demand : ℕ). changed_demand c.args.kind demand c.args.amount) before, c.requires.small)
+    let before = read_demand row.count row.held.items c.as_slice-2.result.now c.args.self.now c.args.product
+    c.demand_at-before.result c.self.view_is c.requires.product c.as_slice-2.ensures.value
+    c.demand_at-before.ensures.is in
+    omega (
+      arith,
+      c.after.ensures,
+      ap (λ (demand : ℕ). changed_demand c.args.kind demand c.args.amount) before,
+      c.requires.small,
+    )
 
 pub invariant_of-self : goal.invariant_of-self
 invariant_of-self c =
     let row = c.self.inside in
-    let within = below_count row.count row.held.items c.args.self.now c.args.product c.self.view_is c.requires.product in
+    let within =
+    below_count row.count row.held.items c.args.self.now c.args.product c.self.view_is c.requires.product in
     record {
       few = c.self.invariant.few;
       order = c.store.ensures.order row.count c.self.invariant.order within;
@@ -62,16 +79,17 @@ invariant_of-self c =
 pub returns-clause-before : goal.returns-clause-before
 returns-clause-before c =
     let row = c.self.inside in
-    read_demand row.count row.held.items c.as_slice-2.result.now c.args.self.now c.args.product c.demand_at-before.result c.self.view_is
-    c.requires.product c.as_slice-2.ensures.value c.demand_at-before.ensures.is
+    read_demand row.count row.held.items c.as_slice-2.result.now c.args.self.now c.args.product
+    c.demand_at-before.result c.self.view_is c.requires.product c.as_slice-2.ensures.value c.demand_at-before.ensures.is
 
 pub returns-clause-changed : goal.returns-clause-changed
 returns-clause-changed c =
     let row = c.self.inside in
     let product = c.args.product in
-    let before = read_demand row.count row.held.items c.as_slice-2.result.now c.args.self.now product c.demand_at-before.result c.self.view_is
-    c.requires.product c.as_slice-2.ensures.value c.demand_at-before.ensures.is in
+    let before =
+    read_demand row.count row.held.items c.as_slice-2.result.now c.args.self.now product c.demand_at-before.result
+    c.self.view_is c.requires.product c.as_slice-2.ensures.value c.demand_at-before.ensures.is in
     let within = below_count row.count row.held.items c.args.self.now product c.self.view_is c.requires.product in
     updated row.count row.held.items c.store.new.held.items product c.after.result c.store.ensures.stored within
-    ∙ ap (λ (list : List ℕ). set list product c.after.result) c.self.view_is
-    ∙ ap (λ (demand : ℕ). set c.args.self.now product demand) (c.after.ensures ∙ ap (λ (demand : ℕ). changed_demand c.args.kind demand c.args.amount) before)
+    ∙ ap (λ (list : List ℕ). set list product c.after.result) c.self.view_is ∙ ap (λ (demand : ℕ). set c.args.self.now
+    product demand) (c.after.ensures ∙ ap (λ (demand : ℕ). changed_demand c.args.kind demand c.args.amount) before)

@@ -24,4 +24,5 @@ invariant_of-result c =
     }
 
 pub returns : goal.returns
-returns c = ap (λ (held : List PositiveDemand). demands_of c.args.products held) c.in_ok-with_capacity.ensures.items ∙ none_held c.args.products
+returns c = ap (λ (held : List PositiveDemand). demands_of c.args.products held) c.in_ok-with_capacity.ensures.items
+    ∙ none_held c.args.products
