@@ -1,33 +1,35 @@
 -- The headline: what is proved of a whole run, a list of requests and the replies to them.
 --
--- Right: each reply is the one that the rules give after the requests before it: what is accepted,
--- and all prices, demands, and eligibilities in the pages. `reply` is computed, so exactly one
--- reply is right.
+-- Right: each reply that is not out of memory is the one that the rules give after the earlier
+-- requests that were not: what is accepted, and all prices, demands, and eligibilities in the
+-- pages. `reply` is computed, so exactly one reply is right.
 --
--- Private: the reply to a bidder's own request, one with its token, is computed by `answer` from
--- the public set-up, the bidder's row, its view, and the request. What rivals bid enters only
--- through the results in the view. So after any other list of requests, with other rivals, the
--- right reply has the same bytes if the public set-up, the row, and the view are equal there.
+-- Private: the right reply to a bidder's own request, one with its token, is computed by `answer`
+-- from the public set-up, the bidder's row, its view, and the request. What rivals bid enters only
+-- through the results in the view: the round results, and the bidder's own results. So after any
+-- other list of requests, with other rivals, the right reply has the same bytes if the public
+-- set-up, the row, and the view are equal there.
 --
 -- The view has, in order, the bidder's own requests, accepted or refused, but none that was
--- answered out of memory. Of each accepted closing it has the round results and the bidder results.
--- It has no operator's token, no refused closing, and no tie-breaking number. Read its definition
--- with care (`text_view`).
+-- answered out of memory. Of each accepted closing it has the round results and its own bidder
+-- results. It has no operator's token, no refused closing of the operator, and no tie-breaking
+-- number. Read its definition with care (`text_view`).
 --
 -- Public: a request with no valid token has the same right reply wherever it has none and everyone
 -- sees the same: the public set-up and the round results, whatever bids led to them.
 --
 -- Sound: in addition, the auction made by the requests that were not out of memory is sound at the
--- end (`IsSound`). Bidders are within their caps and eligibility, rounds are numbered and bounded,
--- and prices are in order unless it has ended. Aggregate demand, once at supply, is never below it.
+-- end (`IsSound`). Processed demands are within caps and eligibility, and rounds are numbered and
+-- bounded. If the auction has not ended, the prices of the current round are in order. Once
+-- aggregate demand is at least supply after a round, it is so after each later round.
 --
 -- Out of memory: a request that needs memory may be answered so at any time. It changes nothing,
--- and no later reply depends on it. `run` or `run_events` may also return `NoMemory`: the headline
--- is about those that return `Ok`.
+-- and no later right reply depends on it; whether a later request is out of memory may. `run` or
+-- `run_events` may also return `NoMemory`: the headline is about those that return `Ok`.
 --
 -- Outside the headline: time, crashes (the second headline), tokens on the wire, what rivals or the
--- operator say and choose, and what it reveals that a connection is refused. Replies to the
--- operator are proved to be right, not private: they may show everything.
+-- operator say and choose, and what it reveals that a connection is refused or memory ran out.
+-- Right replies to the operator are not proved private: they may show everything.
 --
 --     SeesTheSame one two ..      a bidder sees the same in two runs
 --     IsPrivate setup bidder past text one      the reply follows from what the bidder sees
@@ -56,9 +58,9 @@ pub record SeesTheSame (one two : SetupFields) (bidder other_number : ℕ)
   pub row : bidder_at one bidder ≡ bidder_at two other_number
   pub view : text_view one bidder past ≡ text_view two other_number other_past
 
--- The reply to a bidder's own request is computed from what the bidder sees, without any rival. It
--- is also the right reply after every other list of requests, under any set-up with distinct
--- tokens, if some bidder there sees the same.
+-- The right reply to a bidder's own request is computed from what the bidder sees, without any
+-- rival. It is also the right reply after every other list of requests, under any set-up with
+-- distinct tokens, if some bidder there sees the same.
 pub record IsPrivate (setup : SetupFields) (bidder : ℕ) (past : List (List ℕ)) (text : List ℕ)
     (one : Answer) : Type 0 where
   pub from_view : one

@@ -47,10 +47,12 @@ fn answer_each<P: Processor>(
 /// Answers the requests of an auction in order: one reply for each.
 ///
 /// Each reply is the right one after the requests before it, or it is out of memory, and then its
-/// request has changed nothing. The reply to a bidder's own request is computed from the public
-/// set-up, the bidder's row, and its view. So it has the same bytes in every other run in which the
-/// bidder sees the same. The reply to a request with no valid token is computed from the public
-/// set-up and the round results.
+/// request has changed nothing.
+///
+/// The reply to a bidder's own request is computed from the public set-up, the bidder's row, and
+/// its view. So in every other run in which the bidder sees the same, the right reply has the same
+/// bytes. The right reply to a request with no valid token depends, besides the request, only on
+/// the public set-up and the round results.
 ///
 /// Errors: out of memory for the front or for the list of replies.
 pub fn run<P: Processor>(
