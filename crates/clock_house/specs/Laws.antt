@@ -1,7 +1,6 @@
 -- What holds after every list of commands.
 --     AreNumbered bidders products closed      the closed rounds are numbered from 1
---     StaysSupplied products later earlier      aggregate demand, once at supply,
---         never falls below it
+--     StaysSupplied products later earlier      aggregate demand, once at least supply, remains so
 --     IsSound setup auction      both, bidders within their limits, sound prices, bounded rounds
 use Rattle.std.specs.Prelude.{◌≡◌, ℕ, suc, ◌+◌, ◌*◌, ◌<◌, ◌≤◌, List, [], ◌∷◌, false, length}
 use Rattle.std.specs.List.{AllPairs}
