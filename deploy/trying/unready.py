@@ -15,6 +15,7 @@ from typing import Any
 
 from loopback import reply_to, text_of
 from readying.auction import Auction
+from readying.published import signs
 from signatures import new_key
 from trying.place import Place, started, wait_for
 
@@ -235,6 +236,8 @@ def no_signing(prepared: Prepared) -> Iterator[None]:
     prepared.signing.wait(10)
     yield
     prepared.sign()
+    process = Path(f"/proc/{prepared.signing.pid}")
+    wait_for("deploy/receipts starts", lambda: signs(process, prepared.folder / "receipts"), 10)
 
 
 def listener(port: str) -> Fault:
@@ -406,7 +409,6 @@ FAULTS: list[tuple[str, str, Fault]] = [
     ("commitment", "is 403", mode("public", 0o700)),
     ("receipts", "the folder receipts is missing", absent("receipts")),
     ("receipts", "with mode 2755", mode("receipts", 0o2755)),
-    ("receipts", "no one signs them", no_signing),
     ("server", "no one listens", no_server),
     ("server", "another set-up", serving(other_setup)),
     ("server", "the operator's token", serving(lambda setup: {**setup, "operator": "0" * 16})),
@@ -435,4 +437,6 @@ FAULTS: list[tuple[str, str, Fault]] = [
     ("space", "for the log", full_log),
     ("file systems", "one file system", one_file_system),
     ("clock", "not synchronized", own_time),
+    # Last, since deploy/receipts reads the set-up when it starts, and other faults change that.
+    ("receipts", "no one signs them", no_signing),
 ]
