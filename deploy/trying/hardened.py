@@ -50,6 +50,11 @@ def lines_of(place, name="access.log"):
     return (place.folder / "log" / name).read_text(errors="surrogateescape").splitlines()
 
 
+def lines_from(place, address):
+    """The number of lines of the log for requests from this address."""
+    return sum(f'"from":"{address}"' in line for line in lines_of(place))
+
+
 def try_refused(place, server):
     """Requests that are refused count against the rate, and those that are too often are not in the log."""
     rows = [
@@ -66,13 +71,14 @@ def try_refused(place, server):
     ]
     before, told = len(server.seen), collections.Counter()
     for status, method, path in rows:
-        written = len(lines_of(place))
-        found, seconds = statuses(place.outside, [text(method, path)] * AT_ONCE)
+        # nginx may log requests of the trials before only now, so the lines of one address count.
+        address = next(ADDRESSES)
+        found, seconds = statuses(place.outside, [text(method, path)] * AT_ONCE, address)
         ensure(f"{AT_ONCE} of {method} {path}", found.keys() == {status, 429}, (found, seconds))
         ensure(f"{AT_ONCE} of {method} {path}", found[status] <= MORE + 1 + A_SECOND * seconds + 1, (found, seconds))
         logged = 0 if status == 405 else found[status]
-        wait_for("the lines of the log", lambda: len(lines_of(place)) - written >= logged, 20)
-        grown = len(lines_of(place)) - written
+        wait_for("the lines of the log", lambda: lines_from(place, address) >= logged, 20)
+        grown = lines_from(place, address)
         ensure(f"lines of the log for {AT_ONCE} of {method} {path}", grown == logged, (grown, found))
         told += found
     ensure("a refused request reached the server", len(server.seen) == before)
