@@ -8,10 +8,11 @@ ghost use Rattle.std.specs.Prelude.{◌≡◌, ◌<◌, [], ◌++◌, Some, ℕ,
 ghost use Rattle.clock_connections.specs.Connections.{text_of, LeavesOthers};
 ghost use Rattle.clock_house.specs.House.{standing_in};
 ghost use Rattle.clock_replays.specs.Replays.{IsScript};
+ghost use Rattle.clock_scripts.specs.Pieces.{AwaitsBody};
 ghost use Rattle.clock_sim.specs.Rehearsal as rules;
 ghost use Rattle.clock_sim.specs.inside.Groups.{AreApart, AreWritten, ComesUnderWay};
-ghost use Rattle.clock_sim.specs.inside.Groups.{IsGroupUnderWay, HaveTextsFrom, AreWaiting};
-ghost use Rattle.clock_sim.specs.inside.Groups.{after_group, requests_in, with_put};
+ghost use Rattle.clock_sim.specs.inside.Groups.{IsGroupUnderWay, IsNext, HaveTextsFrom, AreWaiting};
+ghost use Rattle.clock_sim.specs.inside.Groups.{after_group, requests_in, with_put, with_turn};
 ghost use Rattle.clock_sim.specs.inside.Steps.{AreScriptsOf, IsGoing, IsResultByCode, MakesStep};
 
 use crate::simulation::SimFault;
@@ -153,9 +154,44 @@ fn send<P: Processor>(
     }
 }
 
-/// Submits the sheet that a bidder's script gives, if any. The request joins the group, which is
-/// sent when it is full. A request that is answered at its head is sent by itself, after the
-/// waiting ones. Requires a bidder of the set-up, and an auction that has not ended.
+/// Submits the request of a bidder that was written into the group's text. It joins the group,
+/// which is sent when it is full. A request that is answered at its head is sent by itself, after
+/// the waiting ones.
+fn submit<P: Processor>(
+    hub: &mut Hub<P>,
+    group: &mut Group,
+    bidder: u64,
+    round: u64,
+    written: Written,
+) -> Result<(), SimFault>
+    requires next { IsNext hub.old group.old written }
+    requires awaits { AwaitsBody group.old.text.items written }
+    ensures step { ComesUnderWay (with_turn hub.old.house.setup group.old bidder round written)
+        hub.old hub.new group.new result }
+    ensures held { IfErr result rules.HasRefusalCode }
+{
+    if !written.needs_body() {
+        group.send_all(hub)?;
+        let head = &group.text[written.head..written.end];
+        let body = &group.text[written.body..written.head];
+        return send(hub, Some(bidder), round, head, body);
+    }
+    let conn = hub.connect()?;
+    let one = Waiting {
+        bidder,
+        round,
+        written,
+        conn,
+    };
+    group.waiting.push(one).or(Err(NoMemory))?;
+    if group.waiting.len() >= MOST_WAITING {
+        return group.send_all(hub);
+    }
+    Ok(())
+}
+
+/// Submits the sheet that a bidder's script gives, if any. Requires a bidder of the set-up, and an
+/// auction that has not ended.
 fn put_scripted<P: Processor>(
     hub: &mut Hub<P>,
     group: &mut Group,
@@ -177,25 +213,7 @@ fn put_scripted<P: Processor>(
     let Some(written) = write_put(&mut group.text, house, bidder, script)? else {
         return Ok(());
     };
-    let bidder = bidder as u64;
-    if !written.needs_body() {
-        group.send_all(hub)?;
-        let head = &group.text[written.head..written.end];
-        let body = &group.text[written.body..written.head];
-        return send(hub, Some(bidder), round, head, body);
-    }
-    let conn = hub.connect()?;
-    let one = Waiting {
-        bidder,
-        round,
-        written,
-        conn,
-    };
-    group.waiting.push(one).or(Err(NoMemory))?;
-    if group.waiting.len() >= MOST_WAITING {
-        return group.send_all(hub);
-    }
-    Ok(())
+    submit(hub, group, bidder as u64, round, written)
 }
 
 /// Submits the sheets of all bidders, in the order of the set-up. Stops at the first reply that is
