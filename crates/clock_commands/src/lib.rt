@@ -8,4 +8,4 @@ mod run;
 
 pub use answer::setup_in;
 pub use fault::Fault;
-pub use run::{command, read_all, show_fault};
+pub use run::{command, parsed_command, read_all, show_fault};

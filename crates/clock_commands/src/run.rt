@@ -1,7 +1,7 @@
-ghost use Rattle.std.specs.Prelude.{◌≢◌, ◌≤◌, IfSome, map};
+ghost use Rattle.std.specs.Prelude.{◌≢◌, ◌≤◌, ℕ, List, IfOk, IfSome, map};
 ghost use Rattle.clap.specs.Words.{kind_of};
 ghost use Rattle.clock_device.specs.Told.{IsUnread, IsUnused};
-ghost use Rattle.clock_words.specs.Words.{IsJob, job_of};
+ghost use Rattle.clock_words.specs.Words.{IsAsked, IsJob, IsParsing, job_of};
 ghost use Rattle.clock_commands.specs.FaultLines.{fault_line};
 ghost use Rattle.clock_commands.specs.Input.{most_document_reads, IsReadingOf};
 ghost use Rattle.clock_commands.specs.Run.{ComesTo, IsRunOf, Shows};
@@ -47,7 +47,28 @@ pub fn command<R: Source, W: Sink, F: Sink>(
         (record { before = F.told faults.old; after = F.told faults.new }) result }
     ensures reads { (R.told reader.new).calls ≤ most_document_reads }
 {
-    match read_words(alloc, words) {
+    parsed_command(alloc, read_words(alloc, words), reader, writer, faults)
+}
+
+/// Like [`command`], for arguments that [`read_words`] parsed.
+pub fn parsed_command<R: Source, W: Sink, F: Sink>(
+    alloc: Global,
+    parsed: Result<Option<Asked<'_>>, Error>,
+    reader: &mut R,
+    writer: &mut W,
+    faults: &mut F,
+) -> u8
+    requires limits { IfOk parsed (λ asked. IfSome asked IsAsked) }
+    requires unread { IsUnread (R.told reader.old) }
+    requires unwritten { IsUnused (W.told writer.old) }
+    requires unshown { IsUnused (F.told faults.old) }
+    ensures ending { (words : List (List ℕ)) → IsParsing words parsed.entry → ComesTo (job_of words)
+        (record { before = R.told reader.old; after = R.told reader.new })
+        (record { before = W.told writer.old; after = W.told writer.new })
+        (record { before = F.told faults.old; after = F.told faults.new }) result }
+    ensures reads { (R.told reader.new).calls ≤ most_document_reads }
+{
+    match parsed {
         Ok(Some(Asked::Job(job))) => match run(alloc, job, reader, writer) {
             Ok(()) => 0,
             Err(fault) => {

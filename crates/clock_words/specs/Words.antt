@@ -5,15 +5,18 @@
 --     given words      the words, or those that replace an empty list
 --     asked_by words      what the words ask for, unless they are refused
 --     job_of words      the job that the words ask for, if they ask for one
-use Rattle.std.specs.Prelude.{ℕ, true, List, [], ◌∷◌, Option, Some, None, codes, if◌then◌else◌}
-use Rattle.std.specs.Prelude.{option_and_then, option_map}
+--     IsParsing words parsed      how parsing the words can end
+use Rattle.std.specs.Prelude.{◌≡◌, ◌≢◌, ℕ, true, List, [], ◌∷◌, Option, Some, None, Result, Ok, Err}
+use Rattle.std.specs.Prelude.{codes, if◌then◌else◌, option_and_then, option_map}
 use Rattle.std.specs.Str.{bytes_eq}
 use Rattle.std.specs.Str.Parse.{digits_value, without_leading_plus}
-use Rattle.clap.specs.Words.{App, Kinds, Row, Rule, Shape, Text, fault_of, first_of, new_app}
-use Rattle.clap.specs.Words.{new_rule, one_of, subcommand_of, with_rule, with_subcommand}
+use Rattle.clap.specs.Words.{App, Kinds, Row, Rule, Shape, Text, fault_of, first_of, kind_of}
+use Rattle.clap.specs.Words.{new_app, new_rule, one_of, subcommand_of, with_rule, with_subcommand}
 use Rattle.clap.specs.Simple.{on_top}
 use Rattle.clap.specs.ValueTests.{is_unsigned_in}
 use Rattle.clap.specs.declared.builder.value_parser.ValueParser.TheVariants as parser
+use Rattle.clap.specs.declared.error.Error.{Error}
+use Rattle.clap.specs.declared.error.kind.ErrorKind.TheVariants.{OutOfMemory}
 use Rattle.clock_terms.specs.Increments.{IsIncrement}
 use Rattle.clock_terms.specs.Limits.{least_increment, most_increment}
 use Rattle.clock_words.specs.declared.words.Job.{Job}
@@ -190,6 +193,12 @@ job_in (audit files) = None
 -- the job that the program's arguments ask for, if they ask for one
 abbrev pub job_of : List Text → Option Job
 job_of words = option_and_then job_in (asked_by words)
+
+-- Parsing returns what the words ask for, or an error. An error other than out of memory comes only
+-- for words that ask for nothing.
+abbrev pub IsParsing : List Text → Result (Option Asked) Error → Type 0
+IsParsing words (Ok asked) = option_map asked_fields asked ≡ asked_by words
+IsParsing words (Err error) = kind_of error ≢ OutOfMemory → asked_by words ≡ None
 
 -- the increment of a job is within its limits
 abbrev pub IsJob : Job → Type 0

@@ -1,13 +1,12 @@
 //! What the program's arguments ask for.
-ghost use Rattle.std.specs.Prelude.{◌≡◌, ◌≢◌, None, map, option_map, IfSome, IfOk, IfErr};
+ghost use Rattle.std.specs.Prelude.{◌≡◌, map, option_map, IfSome, IfOk};
 ghost use Rattle.clock_terms.specs.Limits.{IsWithin};
-ghost use Rattle.clap.specs.Words.{first_of, found_of, kind_of, rows_of, subcommand_rows_of};
-ghost use Rattle.clock_words.specs.Words.{IsAsked, asked_by, asked_met, asked_fields, files_from};
-ghost use Rattle.clock_words.specs.Words.{files_fields, given, number_of, serving_from};
-ghost use Rattle.clock_words.specs.Words.{serving_fields};
+ghost use Rattle.clap.specs.Words.{first_of, found_of, rows_of, subcommand_rows_of};
+ghost use Rattle.clock_words.specs.Words.{IsAsked, IsParsing, asked_met, asked_fields};
+ghost use Rattle.clock_words.specs.Words.{files_from, files_fields, given, number_of};
+ghost use Rattle.clock_words.specs.Words.{serving_from, serving_fields};
 
 use crate::commands::{MOST_PORT, MOST_SERVED, program};
-use clap::error::ErrorKind;
 use clap::{ArgMatches, Error};
 use clock_money::{LEAST_INCREMENT, MOST_INCREMENT};
 use clock_terms::is_within;
@@ -140,11 +139,8 @@ fn asked_in<'a>(matches: &ArgMatches<'a>) -> Option<Asked<'a>>
 /// returns `None` or an error. The error's text says what is wrong with them, or is the help or the
 /// version that they ask for. An error of the kind `OutOfMemory` replaces any other result.
 pub fn read_words<'a>(alloc: Global, words: &'a [&'a str]) -> Result<Option<Asked<'a>>, Error>
-    ensures ok { IfOk result (λ asked. option_map asked_fields asked
-        ≡ asked_by (map (λ word. word.now) words.entry.now)) }
+    ensures parsed { IsParsing (map (λ word. word.now) words.entry.now) result }
     ensures limits { IfOk result (λ asked. IfSome asked IsAsked) }
-    ensures err { IfErr result (λ error. kind_of error ≢ ErrorKind.OutOfMemory
-        → asked_by (map (λ word. word.now) words.entry.now) ≡ None) }
 {
     let matches = program(alloc)?.try_get_matches_from(words_given(words))?;
     let asked = asked_in(&matches);
