@@ -17,6 +17,6 @@ mod words;
 pub use compact::CompactBid;
 pub use parts::{PartReader, ScannedMembers, scanned_parts, scanned_text};
 pub use room::{push, with_room};
-pub use rows::{ShortRows, read_row, short_rows};
+pub use rows::{ShortRows, short_rows};
 pub use scan::{Scan, ScanStop};
 pub use words::{is_blank, is_key};

@@ -1,5 +1,5 @@
 //! Rows of numbers of two bytes each.
-ghost use Rattle.std.specs.Prelude.{◌≡◌, map, IsTrue, IfOk, OnOk};
+ghost use Rattle.std.specs.Prelude.{◌≡◌, map, IsTrue, IfOk};
 ghost use Rattle.clock_json.specs.Rows.{shortened};
 
 use clock_device::{Items, NoMemory};
@@ -36,17 +36,4 @@ pub(crate) fn short_row(alloc: Global, numbers: &[u64]) -> Result<(Items<u16>, b
         row[place] = (*number).min(MOST_SHORT) as u16;
     }
     Ok((Items::from_vec(row), !has_long))
-}
-
-/// Replaces the items of `list` by the numbers of `row`.
-pub fn read_row(row: &[u16], list: &mut Vec<u64>) -> Result<(), NoMemory>
-    ensures { OnOk result (list.new.items ≡ row.now) }
-{
-    list.clear();
-    list.resize(row.len(), 0)?;
-    let entries = list.as_mut_slice();
-    for (place, number) in row.iter().enumerate() {
-        entries[place] = *number as u64;
-    }
-    Ok(())
 }

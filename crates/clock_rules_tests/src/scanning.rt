@@ -1,35 +1,33 @@
 use crate::comparing::assert_is_at;
-use clock_json::{Scan, ScanStop, ShortRows, is_blank, read_row};
+use clock_json::{Scan, ScanStop, ShortRows, is_blank};
 use std::alloc::Global;
 
 /// A sum to which numbers are added.
-fn with_numbers(sum: u64, numbers: &[u64]) -> u64 {
+fn with_numbers(sum: u64, numbers: &[u16]) -> u64 {
     let mut sum = sum;
     for number in numbers {
-        sum = sum.wrapping_add(*number);
+        sum = sum.wrapping_add(*number as u64);
     }
     sum
 }
 
 /// The sum of the numbers of all rows.
-fn sum_of(alloc: Global, rows: &ShortRows) -> Option<u64> {
-    let mut row = Vec::new(alloc);
+fn sum_of(rows: &ShortRows) -> u64 {
     let mut sum = 0u64;
     for numbers in rows.as_slice() {
-        read_row(numbers.as_slice(), &mut row).ok()?;
-        sum = with_numbers(sum, row.as_slice());
+        sum = with_numbers(sum, numbers.as_slice());
     }
-    Some(sum)
+    sum
 }
 
 /// The number of rows, the sum of their numbers, and whether each row has three numbers; or 9 and
 /// the reason that reading stopped.
 fn short_rows_of(alloc: Global, text: &str) -> (usize, u64, bool) {
     match Scan::new(text).short_rows(alloc) {
-        Ok(rows) => match sum_of(alloc, &rows) {
-            Some(sum) => (rows.len(), sum, rows.iter().all(|row| row.len() == 3)),
-            None => (9, 1, false),
-        },
+        Ok(rows) => {
+            let has_width = rows.iter().all(|row| row.len() == 3);
+            (rows.len(), sum_of(&rows), has_width)
+        }
         Err(ScanStop::Unusual) => (9, 0, false),
         Err(ScanStop::NoMemory) => (9, 1, false),
     }

@@ -15,8 +15,8 @@ use crate::setup_scan::NestedSetup;
 use clock_device::NoMemory;
 use clock_json::tree::{RowReader, each_at, has_members, number_at, read_value};
 use clock_json::{
-    PartReader, Scan, ScanStop, ScannedMembers, ShortRows, is_key, push, read_row, scanned_text,
-    short_rows, with_room,
+    PartReader, Scan, ScanStop, ScannedMembers, ShortRows, is_key, push, scanned_text, short_rows,
+    with_room,
 };
 use clock_money::{LEAST_INCREMENT, MOST_INCREMENT};
 use clock_terms::{Bidder, Grid, Row, Setup, is_within};
@@ -91,7 +91,7 @@ fn row_within(
     setup: &Setup,
     number: u64,
     bidder: &Bidder,
-    demands: &[u64],
+    demands: &[u16],
 ) -> Result<Row, OpeningFault>
     requires { length demands.now ≡ length setup.now.products }
     ensures same { IfOk result (λ row. row ≡ demands.now) }
@@ -105,15 +105,16 @@ fn row_within(
     let products = setup.products.as_slice();
     let mut units = 0u64;
     for (product, demand) in demands.iter().enumerate() {
-        if *demand > products[product].cap {
+        let blocks = *demand as u64;
+        if blocks > products[product].cap {
             return Err(OpeningFault::Demand(number, product as u64));
         }
-        units += products[product].units * *demand;
+        units += products[product].units * blocks;
     }
     if units > bidder.eligibility {
         return Err(OpeningFault::Activity(number));
     }
-    Ok(Row::of(alloc, setup, demands)?)
+    Ok(Row::of_short(alloc, setup, demands)?)
 }
 
 /// Returns the grid of an opening, or the first fault of the checks after the set-up. May return
@@ -136,14 +137,11 @@ fn opening_grid(
     if !has_counts(setup, demands) {
         return Err(OpeningFault::Shape);
     }
-    let mut numbers = with_room(alloc, setup.products.len())?;
     let mut rows = with_room(alloc, bidders.len())?;
     for (number, bidder) in bidders.iter().enumerate() {
-        read_row(&demands[number], &mut numbers)?;
-        let row = row_within(alloc, setup, number as u64, bidder, numbers.as_slice())?;
+        let row = row_within(alloc, setup, number as u64, bidder, &demands[number])?;
         push(&mut rows, row)?;
     }
-    drop(numbers);
     if !is_within(LEAST_INCREMENT, MOST_INCREMENT, increment) {
         return Err(OpeningFault::Increment);
     }

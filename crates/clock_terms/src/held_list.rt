@@ -157,7 +157,7 @@ pub(crate) fn store(
 ///
 /// Writes every demand to the next index, and advances only past positive ones: a branch around the
 /// write would often be mispredicted.
-pub(crate) fn write_held(room: &mut [PositiveDemand], demands: &[u64]) -> usize
+pub(crate) fn write_held(room: &mut [PositiveDemand], demands: &[u16]) -> usize
     requires room { length room.old ≡ length demands.now }
     requires few { length demands.now ≤ most_products }
     requires small { All (λ demand. demand ≤ most_supply) demands.now }
@@ -170,7 +170,7 @@ pub(crate) fn write_held(room: &mut [PositiveDemand], demands: &[u64]) -> usize
     for (product, demand) in demands.iter().enumerate() {
         room[kept] = PositiveDemand {
             product: product as u16,
-            demand: *demand as u16,
+            demand: *demand,
         };
         if *demand > 0 {
             kept += 1;

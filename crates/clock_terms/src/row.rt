@@ -1,6 +1,6 @@
 ghost use Rattle.std.specs.Prelude.{◌≡◌, ◌≤◌, ◌<◌, ◌+◌, ℕ, List, length, replicate, IfOk};
 ghost use Rattle.std.specs.Prelude.{slice_index, slice_set, vec_capacity, drop, unwrap_or};
-ghost use Rattle.std.specs.Prelude.{option_map, IfSome};
+ghost use Rattle.std.specs.Prelude.{option_map, All, IfSome};
 ghost use Rattle.std.specs.List.{AllWithin};
 ghost use Rattle.clock_terms.specs.{Demands.{changed_demand}, HeldDemands.{demands_of, next_of}};
 ghost use Rattle.clock_terms.specs.inside.Rows.{IsPackedRow, ArePositiveDemands, IsKeptWalk};
@@ -38,6 +38,17 @@ impl Model for Row {
         (vec_capacity r.held) };
 }
 
+/// Writes demands to `short`, in two bytes each.
+fn write_short(short: &mut [u16], demands: &[u64])
+    requires width { length short.old ≡ length demands.now }
+    requires small { All (λ demand. demand ≤ most_supply) demands.now }
+    ensures { short.new ≡ demands.now }
+{
+    for (product, demand) in demands.iter().enumerate() {
+        short[product] = *demand as u16;
+    }
+}
+
 impl Row {
     /// Returns a row of `products` demands of 0. Requires at most the products of a set-up. May
     /// return `NoMemory`.
@@ -55,6 +66,16 @@ impl Row {
     /// Returns a row with these demands. Requires one for each product of the set-up, none above
     /// its cap. May return `NoMemory`.
     pub fn of(alloc: Global, setup: &Setup, demands: &[u64]) -> Result<Row, NoMemory>
+        requires { IsRow setup.now.products demands.now }
+        ensures { IfOk result (λ row. row ≡ demands.now) }
+    {
+        let mut short = vec![in alloc; 0; setup.products.len()]?;
+        write_short(&mut short, demands);
+        Row::of_short(alloc, setup, short.as_slice())
+    }
+
+    /// Like [`Row::of`], for demands of two bytes each.
+    pub fn of_short(alloc: Global, setup: &Setup, demands: &[u16]) -> Result<Row, NoMemory>
         requires { IsRow setup.now.products demands.now }
         ensures { IfOk result (λ row. row ≡ demands.now) }
     {

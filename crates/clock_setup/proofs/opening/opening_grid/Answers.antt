@@ -49,9 +49,9 @@ returns-in_err-row-clause-err c =
     let grid = c.loop-number.invariant.grid.0 in
     let read = row_at c.args.demands.now number c.index-deref-number.result c.deref.ensures
     (omega (arith, grid, c.loop-number-test.true, ap length bidders)) c.index-deref-number.is in
-    let line = row_line setup.bidders c.args.demands.now number c.index-bidders-number.result c.as_slice.result.now
-    bidders c.loop-number-test.true grid c.index-bidders-number.is
-    (c.as_slice.ensures.value ∙ c.in_ok-read_row.ensures ∙ c.deref-in-loop-number.ensures ∙ read) in
+    let line = row_line setup.bidders c.args.demands.now number c.index-bidders-number.result
+    c.deref-in-loop-number.result.now bidders c.loop-number-test.true grid c.index-bidders-number.is
+    (c.deref-in-loop-number.ensures ∙ read) in
     let told = err_from_is_err_and c.from_residual-in_err-row.result c.from_residual-in_err-row.ensures.1 in
     rw (told.1, told.2) (λ known. rows_refused setup c.args.demands.now c.args.increment _ (sym c.has_counts.ensures
     ∙ c.if-not-has_counts.false) (sym c.loop-number.invariant.rest ∙ turn_failed (row_checks setup.products)
@@ -64,11 +64,11 @@ loop-number-preserved c =
     let number = c.loop-number.number in
     let known = c.loop-number.invariant in
     let bidders = c.as_slice-bidders.ensures ∙ ap (λ (s : SetupFields). s.bidders) c.setup.view_is in
-    let read : c.as_slice.result.now ≡ get_or demands number [] = c.as_slice.ensures.value ∙ c.in_ok-read_row.ensures
-    ∙ c.deref-in-loop-number.ensures ∙ row_at demands number c.index-deref-number.result c.deref.ensures
+    let read : c.deref-in-loop-number.result.now ≡ get_or demands number [] = c.deref-in-loop-number.ensures
+    ∙ row_at demands number c.index-deref-number.result c.deref.ensures
     (omega (arith, known.grid.0, c.loop-number-test.true, ap length bidders)) c.index-deref-number.is in
-    let line = row_line setup.bidders demands number c.index-bidders-number.result c.as_slice.result.now bidders
-    c.loop-number-test.true known.grid.0 c.index-bidders-number.is read in
+    let line = row_line setup.bidders demands number c.index-bidders-number.result c.deref-in-loop-number.result.now
+    bidders c.loop-number-test.true known.grid.0 c.index-bidders-number.is read in
     let row = c.in_ok-row.row in
     let pushed = c.in_ok-push.ensures.items in
     record {

@@ -18,12 +18,12 @@ same c = c.as_slice-products.ensures ∙ ap (λ (s : SetupFields). s.products) c
 each : (c : After-as_slice-products) → length c.args.demands.now ≡ length c.as_slice-products.result.now
 each c = c.requires ∙ sym (ap length (same c))
 
-pub returns-then-demand-products-clause-err : goal.returns-then-demand-products-clause-err
-returns-then-demand-products-clause-err c = λ known.
-    let at = (goal.at.returns-then-demand-products-clause-err c).After-as_slice-products in
+pub returns-then-blocks-products-clause-err : goal.returns-then-blocks-products-clause-err
+returns-then-blocks-products-clause-err c = λ known.
+    let at = (goal.at.returns-then-blocks-products-clause-err c).After-as_slice-products in
     row_failed (same at) c.args.number c.args.bidder.now c.args.demands.now _
     (sym c.loop-product.invariant.rest ∙ demand_failed c.args.number c.as_slice-products.result.now c.args.demands.now
-    c.loop-product.product c.index-products-product.result (each at) c.loop-product-test.true c.if-demand-products.true)
+    c.loop-product.product c.index-products-product.result (each at) c.loop-product-test.true c.if-blocks-products.true)
 
 pub loop-product-preserved : goal.loop-product-preserved
 loop-product-preserved c =
@@ -39,14 +39,14 @@ loop-product-preserved c =
     let inside : get_or products i product ≡ get_or products i again =
     get_or_default products i product again (omega (arith, c.loop-product-test.true, each at)) in
     let within : get_or row i 0 ≤ (get_or products i again).cap =
-    subst (λ (one : Product). get_or row i 0 ≤ one.cap) inside c.if-demand-products.false in
+    subst (λ (one : Product). get_or row i 0 ≤ one.cap) inside c.if-blocks-products.false in
     let taken = activity-at products row i again c.loop-product-test.true (each at) in
     let most = units_small products row i again c.loop-product-test.true (each at) all within in
     record {
       rest = sym (demand_passed c.args.number products row i product
-          (each at) c.loop-product-test.true c.if-demand-products.false) ∙ known.rest;
+          (each at) c.loop-product-test.true c.if-blocks-products.false) ∙ known.rest;
       capped = below_more _ _ known.capped (within_cap products i product _
-          (omega (arith, c.loop-product-test.true, each at)) c.if-demand-products.false);
+          (omega (arith, c.loop-product-test.true, each at)) c.if-blocks-products.false);
       so_far = omega (arith, known.so_far, taken);
       small = omega (arith, known.small, most);
     }
