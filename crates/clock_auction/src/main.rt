@@ -9,8 +9,7 @@ mod journal_text;
 mod serve;
 
 use audit::tell_audit;
-use clap::error::ErrorKind;
-use clock_commands::{Fault, command, show_fault};
+use clock_commands::{Fault, parsed_command, show_fault};
 use clock_device::{FromReader, ToWriter};
 use clock_words::{Asked, read_words};
 use journal_text::tell_texts;
@@ -40,17 +39,16 @@ fn main(rt: HostRuntime) -> io::Result<ExitCode> {
 }
 
 /// Runs the command that the words name, and returns the exit status. Commands that name files are
-/// run here, and all others by `command`.
+/// run here, and all others by `parsed_command`.
 fn run(rt: &HostRuntime, words: &[&str]) -> u8 {
     let done = match read_words(rt.alloc(), words) {
         Ok(Some(Asked::Serve(serving))) => serve(rt, &serving),
         Ok(Some(Asked::Journal(files))) => tell_texts(rt, &mut ToWriter::new(rt.stdout()), &files),
         Ok(Some(Asked::Audit(files))) => tell_audit(rt, &mut ToWriter::new(rt.stdout()), &files),
-        Err(error) if error.kind() == ErrorKind::OutOfMemory => Err(Fault::Memory),
-        Ok(_) | Err(_) => {
-            return command(
+        parsed => {
+            return parsed_command(
                 rt.alloc(),
-                words,
+                parsed,
                 &mut FromReader::new(rt.stdin()),
                 &mut ToWriter::new(rt.stdout()),
                 &mut ToWriter::new(rt.stderr()),
