@@ -1,42 +1,43 @@
 -- The headline: what is proved of a whole run, a list of requests and the replies to them.
 --
--- Right: each reply that is not out of memory is the one that the rules give after the earlier
--- requests that were not: what is accepted, and all prices, demands, and eligibilities in the
--- pages. `reply` is computed, so exactly one reply is right.
+-- Right: each reply is right, or out of memory. `reply` states the rules: from the set-up and the
+-- past it computes what is accepted, and all prices, demands, and eligibilities in the page, to the
+-- byte; so only one reply is right. The past has all earlier requests not answered out of memory.
 --
 -- Private: the right reply to a bidder's own request, one with its token, is computed by `answer`
 -- from the public set-up, the bidder's row, its view, and the request. What rivals bid enters only
--- through the results in the view: the round results, and the bidder's own results. So after any
--- other list of requests, with other rivals, the right reply has the same bytes if the public
--- set-up, the row, and the view are equal there.
+-- through the results in the view. So the right reply has the same bytes after any other list of
+-- requests, under any set-up with distinct tokens, if public set-up, row, and view are equal there.
 --
--- The view has, in order, the bidder's own requests, accepted or refused, but none that was
--- answered out of memory. Of each accepted closing it has the round results and its own bidder
--- results. It has no operator's token, no refused closing of the operator, and no tie-breaking
--- number. Read its definition with care (`text_view`).
+-- The view has, in order, the bidder's own requests as bytes: reads and sheets, accepted or
+-- refused. Of each accepted closing it has the round results and its own bidder results. It has
+-- nothing else: no request or bidder results of a rival, no request of the operator or without a
+-- valid token, no tie-breaking number. Read its definition with care (`text_view`).
 --
--- Public: a request with no valid token has the same right reply wherever it has none and everyone
--- sees the same: the public set-up and the round results, whatever bids led to them.
+-- Public: a request with no valid token has the same right reply after any list of requests, under
+-- any set-up, if it has none there either and everyone sees the same. This is the public set-up and
+-- the round results of each accepted closing. The bids that led to them may differ.
 --
--- Sound: in addition, the auction made by the requests that were not out of memory is sound at the
--- end (`IsSound`). Processed demands are within caps and eligibility, and rounds are numbered and
--- bounded. If the auction has not ended, the prices of the current round are in order. Once
--- aggregate demand is at least supply after a round, it is so after each later round.
+-- Sound (`IsSound`), after the last request: each bidder's processed demands are within the caps,
+-- and its activity within its eligibility, of at most 10^12. Closed rounds have the numbers 1, 2,
+-- 3, up to at most `most_rounds`. Unless the auction has ended, start-of-round prices are from 1 to
+-- 10^12 dollars, and at most the clock prices, from round 2 below them. Once a product's aggregate
+-- demand is at least supply after a round, it is so after each later round.
 --
--- Out of memory: a request that needs memory may be answered so at any time. It changes nothing,
--- and no later right reply depends on it; whether a later request is out of memory may. `run` or
--- `run_events` may also return `NoMemory`: the headline is about those that return `Ok`.
+-- Out of memory: only a request that needs memory may be answered so, at any time: any but one that
+-- is refused for its head or length. It changes nothing, and no later right reply depends on it;
+-- which later requests are out of memory may. The headline is about calls that return `Ok`.
 --
--- Outside the headline: time, crashes (the second headline), tokens on the wire, what rivals or the
--- operator say and choose, and what it reveals that a connection is refused or memory ran out.
--- Right replies to the operator are not proved private: they may show everything.
+-- Nothing is said of time, crashes (the second headline), tokens read on the wire, or what replies
+-- to the operator depend on. Nothing is said of how rivals and the operator choose their requests,
+-- or of what it reveals that a connection is refused or memory ran out.
 --
---     SeesTheSame one two ..      a bidder sees the same in two runs
+--     SeesTheSame one two ..      a bidder sees the same after two lists of requests
 --     IsPrivate setup bidder past text one      the reply follows from what the bidder sees
 --     IsPublic setup past text one      the reply follows from what everyone sees
---     IsRight setup past text one      the reply is right; private, or public without a token
+--     IsRight setup past text one      the reply is right, and private or public
 --     Runs setup past texts answers end      each reply is right, or its request is left out
---     IsRun setup texts answers      these are the replies to a run from the beginning; it is sound
+--     IsRun setup texts answers      a run from the beginning of an auction, which is sound
 --     IsEventRun setup events replies      a run of requests that arrive in pieces
 use Rattle.std.specs.Prelude.{◌≡◌, ◌<◌, ◌⊎◌, ℕ, true, List, [], ◌∷◌, length, map}
 use Rattle.clock_terms.specs.Limits.{SetupFields, public_setup}
@@ -50,17 +51,16 @@ use Rattle.clock_front.specs.Fronts.{reply, commands_of, IsOutOfMemoryReply}
 use Rattle.clock_front.specs.Views.{is_own, text_view, answer, HasNoValidToken, public_view}
 use Rattle.clock_connections.specs.Pieces.{requests_of}
 
--- A bidder sees the same in two runs: the public set-up, its own row, and its view are equal. Its
--- number, the rivals, and their number may differ, as far as the results in the view are equal.
+-- A bidder sees the same: the public set-up, its own row, and its view are equal. All else may
+-- differ: its index, the rivals and their requests, the operator's token, tie-breaking numbers.
 pub record SeesTheSame (one two : SetupFields) (bidder other_number : ℕ)
     (past other_past : List (List ℕ)) : Type 0 where
   pub public : public_setup one ≡ public_setup two
   pub row : bidder_at one bidder ≡ bidder_at two other_number
   pub view : text_view one bidder past ≡ text_view two other_number other_past
 
--- The right reply to a bidder's own request is computed from what the bidder sees, without any
--- rival. It is also the right reply after every other list of requests, under any set-up with
--- distinct tokens, if some bidder there sees the same.
+-- The reply to a bidder's own request is computed from what the bidder sees. It is also right after
+-- every other list of requests, under any set-up with distinct tokens, if a bidder sees the same.
 pub record IsPrivate (setup : SetupFields) (bidder : ℕ) (past : List (List ℕ)) (text : List ℕ)
     (one : Answer) : Type 0 where
   pub from_view : one
@@ -85,8 +85,8 @@ pub record IsRight (setup : SetupFields) (past : List (List ℕ)) (text : List �
       → is_own (bidder_at setup bidder) text ≡ true → IsPrivate setup bidder past text one
   pub public : HasNoValidToken setup text → IsPublic setup past text one
 
--- Each request has the right reply, or was answered out of memory: then it is left out of the past
--- of the requests after it. `end` lists the requests that were not left out, newest first.
+-- Each request has the right reply, or was answered out of memory and is left out of the past of
+-- those after it. `end` is the past after the last request. A past has the newest first.
 abbrev pub Runs : SetupFields → List (List ℕ) → List (List ℕ) → List Answer → List (List ℕ) → Type 0
 Runs setup past [] [] end = end ≡ past
 Runs setup past [] (one ∷ answers) end = ⊥
@@ -95,16 +95,16 @@ Runs setup past (text ∷ texts) (one ∷ answers) end =
     (IsOutOfMemoryReply text one × Runs setup past texts answers end)
     ⊎ (IsRight setup past text one × Runs setup (text ∷ past) texts answers end)
 
--- A run from the beginning of an auction: each reply is right, or its request is left out. The
--- auction that the other requests have made is sound.
+-- A run from the beginning of an auction: each reply is right, or its request is left out. After
+-- the last request the auction is sound.
 pub record IsRun (setup : SetupFields) (texts : List (List ℕ))
     (answers : List Answer) : Type 0 where
   pub end : List (List ℕ)
   pub runs : Runs setup [] texts answers end
   pub sound : IsSound setup (history setup (commands_of setup end))
 
--- A run of the requests that arrive in pieces over connections, in the order in which they become
--- complete. Each reply has the number of its connection.
+-- A run of requests that arrive in pieces, in the order in which they are complete: whole, refused,
+-- or cut short as the connection ends. No other has a reply. Each has its connection's number.
 pub record IsEventRun (setup : SetupFields) (events : List Event)
     (replies : List EventReply) : Type 0 where
   pub numbers : map (λ one. one.number) replies ≡ map (λ request. request.0) (requests_of events)
