@@ -17,6 +17,7 @@ use Rattle.clock_bodies.specs.declared.body.BodyFault.{BodyFault}
 use Rattle.clock_bodies.specs.declared.body.BodyFault.TheVariants.{Shape}
 use Rattle.clock_bodies.specs.Bodies.{meant_by}
 
+-- a bidder, a product, and the tie-breaking number
 abbrev pub tie_from : Items → Option Tie
 tie_from (item a (item b (item c no_items))) = do
   bidder ← number_from a

@@ -1,10 +1,11 @@
 -- The closing of a round, from all that is known before it. These are the FCC's procedures for
 -- Auction 105; the rules' sections "What is refused", "Bid processing", and "After a round".
---     requests round ties      all bidders' requests, in the order of processing
---     round_result products round ties      the processed demands and posted prices of the round
---     closed_round setup round increments result      the round results and bidder results
---     closing setup round number increments ties      the round that it adds, or its first fault
---     closing_now round increments ties      that for the current round
+--     requests now ties      all bidders' requests, in the order of processing
+--     round_result products now ties      the processed demands and posted prices of the round
+--     closed_round setup now increments result      the round results and bidder results
+--     closing setup now round increments ties      the round that it adds, or its first fault
+--     closing_now fields increments ties      that for the current round
+-- Here `now` is the open round, with all that is known before it is closed, and `round` a number.
 use Rattle.std.specs.Prelude.{ℕ, List, ◌∷◌, ◌++◌, not, ◌==◌, if◌then◌else◌, Result, length, map}
 use Rattle.std.specs.Prelude.{flat_map}
 use Rattle.clock_terms.specs.declared.setup.Product.{Product}
@@ -41,6 +42,7 @@ abbrev pub requests_by : OpenRound → ℕ → List Change
 requests_by now bidder = changes_of_sheet now.standing.prices
     (holding_at now.holdings bidder).demands bidder (bids_at now.sheets bidder)
 
+-- All bidders' requests, in the order of processing.
 abbrev pub requests : OpenRound → List Tie → List Change
 requests now ties = processing_list ties (flat_map (requests_by now) (bidder_numbers now))
 
@@ -67,6 +69,7 @@ later_result products now changes = record {
       (settlement products now changes).grid;
 }
 
+-- The processed demands and posted prices of the round.
 abbrev pub round_result : List Product → OpenRound → List Tie → RoundResult
 round_result products now ties = if now.standing.round == 1 then first_result products now
     else later_result products now (requests now ties)
@@ -80,6 +83,7 @@ slip_after setup round eligibility demands = record {
   demands = demands;
 }
 
+-- The bidder results of all bidders, from the processed demands.
 abbrev pub slips_after : PublicSetup → OpenRound → List (List ℕ) → List Slip
 slips_after setup now grid = map (λ bidder. slip_after setup now.standing.round
     (holding_at now.holdings bidder).eligibility (row_of grid bidder)) (bidder_numbers now)

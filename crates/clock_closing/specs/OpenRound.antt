@@ -22,14 +22,17 @@ use Rattle.clock_posting.specs.Posting.{IsRising}
 use Rattle.clock_closing.specs.Standing.{Standing}
 use Rattle.clock_closing.specs.Holdings.{Holding, holdings_of}
 
+-- The state of the auction, what each bidder has, and the sheets in force.
 pub record OpenRound : Type 0 where
   pub standing : Standing
   pub holdings : List Holding
   pub sheets : List (Option (List Bid))
 
+-- The bidders' numbers, from 0.
 abbrev pub bidder_numbers : OpenRound → List ℕ
 bidder_numbers now = range_with_len 0 (length now.holdings)
 
+-- What a bidder has. For a number that is no bidder's it is nothing.
 abbrev pub holding_at : List Holding → ℕ → Holding
 holding_at holdings bidder =
     slice_index_or holdings bidder (record { eligibility = 0; demands = [] })

@@ -84,10 +84,12 @@ abbrev pub of_setup : SetupFault → Fault
 of_setup in_setup.NoMemory = fault.Memory
 of_setup other = fault.Setup other
 
+-- the fault of an opening, or out of memory while it was read
 abbrev pub of_opening : OpeningFault → Fault
 of_opening in_opening.NoMemory = fault.Memory
 of_opening other = fault.Opening other
 
+-- the fault of a replay, or out of memory while it was read
 abbrev pub of_script : ScriptFault → Fault
 of_script in_script.NoMemory = fault.Memory
 of_script other = fault.Script other
@@ -97,6 +99,7 @@ abbrev pub of_journal : JournalFault → Fault
 of_journal in_journal.NoMemory = fault.Memory
 of_journal other = fault.Recovery other
 
+-- the words for a file that is not accepted as the journal
 abbrev pub recovery_words : JournalFault → List ℕ
 recovery_words in_journal.Unknown = codes "journal_unknown"
 recovery_words in_journal.Setup = codes "journal_setup"

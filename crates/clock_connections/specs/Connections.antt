@@ -37,6 +37,7 @@ abbrev pub text_with : ℕ → Option OpenConnection → Option (List ℕ)
 text_with serial None = None
 text_with serial (Some standing) = if standing.serial == serial then Some standing.text else None
 
+-- the open connection in a slot
 abbrev pub slot_of : ConnectionFields → ℕ → Option OpenConnection
 slot_of connections slot = slice_index_or connections.slots slot None
 

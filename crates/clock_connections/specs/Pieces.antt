@@ -16,6 +16,7 @@ use Rattle.clock_connections.specs.declared.connections.Event.TheVariants.{Conne
 abbrev pub Numbered : Type 0
 Numbered = List (Option (List ℕ))
 
+-- the text so far of an open connection
 abbrev pub text_at : Numbered → ℕ → Option (List ℕ)
 text_at numbered number = slice_index_or numbered number None
 
@@ -34,6 +35,7 @@ after numbered (Piece number piece) = slice_set numbered number (option_and_then
     if needs_more (text ++ piece) then Some (text ++ piece) else None) (text_at numbered number))
 after numbered (Finish number) = slice_set numbered number None
 
+-- the request that an event completes, before those of later events
 abbrev pub and_then : Option (ℕ × List ℕ) → List (ℕ × List ℕ) → List (ℕ × List ℕ)
 and_then None later = later
 and_then (Some request) later = request ∷ later
@@ -44,5 +46,6 @@ requests_from numbered [] = []
 requests_from numbered (event ∷ events) =
     and_then (completed numbered event) (requests_from (after numbered event) events)
 
+-- the requests that events complete, from the first event on
 abbrev pub requests_of : List Event → List (ℕ × List ℕ)
 requests_of events = requests_from [] events

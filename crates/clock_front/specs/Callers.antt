@@ -10,6 +10,7 @@ use Rattle.clock_http.specs.Heads.{same_bytes}
 use Rattle.clock_front.specs.declared.front.callers.Caller.{Caller}
 use Rattle.clock_front.specs.declared.front.callers.Caller.TheVariants.{Nobody, Operator, Bidder}
 
+-- The token of each bidder with its number, from i on.
 abbrev pub bidder_tokens : ℕ → List BidderRow → List (List ℕ × Caller)
 bidder_tokens i [] = []
 bidder_tokens i (bidder ∷ bidders) = (bidder.token, Bidder i) ∷ bidder_tokens (suc i) bidders

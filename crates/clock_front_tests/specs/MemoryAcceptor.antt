@@ -5,6 +5,7 @@
 use Rattle.std.specs.Prelude.{ℕ, Bool, List}
 use Rattle.clock_serving.specs.Exchanges.{Exchange}
 
+-- the connections to come, the open one, and the closed ones
 pub record MemoryAcceptorState : Type 0 where
   pub coming : List (List ℕ)
   pub is_open : Bool

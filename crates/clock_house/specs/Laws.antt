@@ -30,8 +30,8 @@ StaysSupplied products later earlier =
     → supply_of products product ≤ total_of (demands_of later.slips) product
 
 -- Rounds are numbered and bounded, and each bidder is within its caps and its eligibility. Unless
--- the auction has ended, the current prices are in order. Aggregate demand that was at least supply
--- after a round never falls below supply after a later one.
+-- the auction has ended, the current prices are in order. Once a product's aggregate demand is at
+-- least supply after a round, it is so after each later round.
 pub record IsSound (setup : SetupFields) (auction : Auction) : Type 0 where
   pub numbered : AreNumbered (length setup.bidders) (length setup.products) auction.closed
   pub within : (bidder : ℕ) → bidder < length setup.bidders

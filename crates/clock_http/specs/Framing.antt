@@ -51,6 +51,7 @@ stored_head head = record {
   token = token_of (pairs_of head);
 }
 
+-- a head with the length of its body, unless that is refused
 abbrev pub and_length : RequestHead → Result ℕ Code → Result (Head × ℕ) Code
 and_length head (Err fault) = Err fault
 and_length head (Ok n) = Ok (stored_head head, n)
@@ -62,6 +63,7 @@ length_read (Ok head) = and_length head (body_length (pairs_of head))
 
 -- ---- what a text is
 
+-- more bytes are needed; or refused; or a request: its head and its body
 pub data Framing : Type 0 where
   incomplete : Framing
   refusal : Code → Framing
@@ -78,6 +80,7 @@ abbrev pub framed_at : Option ℕ → List ℕ → Framing
 framed_at None text = if nat_lt (length text) head_limit then incomplete else refusal LongHead
 framed_at (Some n) text = framed_head n text (length_read (ended_head (take n text)))
 
+-- what a text is: its head must end within the first 16384 bytes
 unfoldable pub framing : List ℕ → Framing
 framing text = framed_at (head_length (take head_limit text)) text
 
@@ -86,6 +89,7 @@ is_incomplete incomplete = true
 is_incomplete (refusal code) = false
 is_incomplete (whole head body) = false
 
+-- the text is neither a request nor refused yet
 abbrev pub needs_more : List ℕ → Bool
 needs_more text = is_incomplete (framing text)
 
@@ -119,10 +123,12 @@ abbrev pub known_with_body : ℕ → Head → ℕ → ℕ → Known
 known_with_body count head n body =
     if nat_lt count (n + body) then waiting head n body else complete head n body
 
+-- what is known of a text of `count` bytes with a head of n bytes, or its refusal
 abbrev pub known_with_head : ℕ → ℕ → Result (Head × ℕ) Code → Known
 known_with_head count n (Err fault) = refused fault
 known_with_head count n (Ok read) = known_with_body count read.0 n read.1
 
+-- what is known of a text, given where its head ends
 abbrev pub known_with_end : Option ℕ → List ℕ → Known
 known_with_end None text =
     if nat_lt (length text) head_limit then unended (length text) else refused LongHead

@@ -27,6 +27,7 @@ pairs_of head = map name_and_value head.fields
 abbrev pub is_named : List ℕ → List ℕ × List ℕ → Bool
 is_named name pair = same_bytes (map to_ascii_lowercase pair.0) (map to_ascii_lowercase name)
 
+-- the values of all lines with this name, in order
 abbrev pub values_of : List ℕ → List (List ℕ × List ℕ) → List (List ℕ)
 values_of name pairs = map (λ pair. pair.1) (filter (is_named name) pairs)
 
@@ -36,6 +37,7 @@ length_from [] = Ok 0
 length_from (value ∷ []) = if is_number value then Ok (digits_value 10 value) else Err BadLength
 length_from (value ∷ (other ∷ more)) = Err BadLength
 
+-- a length above the limit of a body is refused
 abbrev pub within_limit : Result ℕ Code → Result ℕ Code
 within_limit (Err code) = Err code
 within_limit (Ok n) = if nat_lt body_limit n then Err LongBody else Ok n
@@ -45,6 +47,7 @@ abbrev pub unless_coded : List (List ℕ) → Result ℕ Code → Result ℕ Cod
 unless_coded [] n = n
 unless_coded (value ∷ more) n = Err Coding
 
+-- the length of the body that these lines state, or why they are refused
 abbrev pub body_length : List (List ℕ × List ℕ) → Result ℕ Code
 body_length pairs = unless_coded (values_of (codes "transfer-encoding") pairs)
     (within_limit (length_from (values_of (codes "content-length") pairs)))
@@ -64,5 +67,6 @@ token_from [] = None
 token_from (value ∷ []) = bearer value
 token_from (value ∷ (other ∷ more)) = None
 
+-- the token of a head, if it has exactly one
 abbrev pub token_of : List (List ℕ × List ℕ) → Option (List ℕ)
 token_of pairs = token_from (values_of (codes "authorization") pairs)

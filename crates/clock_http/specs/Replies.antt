@@ -12,6 +12,7 @@ use Rattle.clock_http.specs.Codes.{status_of}
 use Rattle.clock_http.specs.declared.routes.Page.{Page}
 use Rattle.clock_http.specs.Routes.{methods}
 
+-- a reply: its code, and its bytes from the status line to the end of the page
 pub record Answer : Type 0 where
   pub code : Code
   pub bytes : List ℕ

@@ -29,6 +29,7 @@ paths = (codes "/v1/close", Close) ∷ (codes "/v1/me/bids", Bids) ∷ (codes "/
 abbrev pub is_segment : List ℕ → Bool
 is_segment rest = nat_lt 0 (length rest) && not (list_any (λ b. b == 47) rest)
 
+-- the path is this text, or this text and one more segment if it ends with a slash
 abbrev pub is_path : List ℕ → List ℕ → Bool
 is_path text path = if length (last_segment text) == 0 then starts_with nat_eq path text
     && is_segment (drop (length text) path) else same_bytes text path

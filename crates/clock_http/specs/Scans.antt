@@ -26,5 +26,6 @@ has_bare_line_feed before [] = false
 has_bare_line_feed before (b ∷ rest) =
     (b == line_feed && not (before == carriage_return)) || has_bare_line_feed b rest
 
+-- the first byte is a CR, or an LF follows another byte than a CR
 abbrev pub is_loose : List ℕ → Bool
 is_loose bytes = slice_index bytes 0 == carriage_return || has_bare_line_feed 0 bytes

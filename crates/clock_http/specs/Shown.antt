@@ -20,6 +20,7 @@ abbrev pub IsSomeWithin : ℕ → Option Span → Type 0
 IsSomeWithin n None = Unit {0}
 IsSomeWithin n (Some span) = IsWithin n span
 
+-- the parts of a head, as bytes of the text
 abbrev pub shown_ended : List ℕ → EndedHead → spec.Head
 shown_ended text head = record {
   method = span_bytes text head.method;
@@ -34,6 +35,7 @@ pub record IsHeadWithin (count : ℕ) (head : EndedHead) : Type 0 where
   pub token : IsSomeWithin head.length head.token
   pub fits : head.length ≤ count
 
+-- what a progress says is known of the text
 abbrev pub shown_progress : List ℕ → Progress → spec.Known
 shown_progress text (so_far.Unended n) = spec.unended n
 shown_progress text (so_far.Waiting head) =
@@ -63,13 +65,16 @@ pub record Knows (text : List ℕ) (progress : Progress) : Type 0 where
 abbrev pub KnowsOfStart : List ℕ → Progress → Type 0
 KnowsOfStart text progress = (count : ℕ) × Knows (take count text) progress
 
+-- the bytes of a slice, if there is one
 abbrev pub shown_bytes : Option (Bor (List ℕ)) → Option (List ℕ)
 shown_bytes bytes = option_map (λ b. b.now) bytes
 
+-- the parts of a head, as bytes
 abbrev pub shown_head : Head → spec.Head
 shown_head head =
     record { method = head.method.now; path = head.path.now; token = shown_bytes head.token }
 
+-- what a framing says the text is
 abbrev pub shown_framing : Framing → spec.Framing
 shown_framing framed.NeedMore = spec.incomplete
 shown_framing (framed.Refused fault) = spec.refusal fault

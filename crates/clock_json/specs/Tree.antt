@@ -46,6 +46,7 @@ abbrev pub ◌>>=◌ : {A B : Type 0} → Option A → (A → Option B) → Opti
 None >>= f = None
 (Some x) >>= f = f x
 
+-- the meaning of each item of a list, if all have one
 abbrev pub each : {A : Type 0} → (Data → Option A) → Items → Option (List A)
 each meaning no_items = Some []
 each meaning (item value items) = do

@@ -3,11 +3,11 @@
 --         perhaps further ones
 --     IsResumed digest bytes journal house recovered      journal and auction have the texts of a
 --         file
---     IsNotResumed setup digest bytes house told      the file has this fault, or a call of the
+--     IsNotResumed setup digest bytes house fault      the file has this fault, or a call of the
 --         disk failed after the replay
 --     HasResumed digest texts least journal house      journal and auction have a prefix of the
 --         texts, at least `least` of them
---     IsOwn told      the fault is not one of a journal's own file
+--     IsOwn fault      the fault is not one of a journal's own file
 --     IsLeftBy old new fault      what a call that did not resume did to the file
 use Rattle.std.specs.Prelude.{◌≡◌, ◌≤◌, ◌++◌, ℕ, List, [], drop, length, take, true}
 use Rattle.clock_terms.specs.Limits.{SetupFields}

@@ -29,6 +29,7 @@ request_text line token body = request_head line token (length body) ++ body
 abbrev pub written_put : ℕ → List Bid → List ℕ
 written_put round bids = compact_text (bids_value round (Some bids))
 
+-- the request by which a bidder submits a sheet
 abbrev pub put_text : List ℕ → ℕ → List Bid → List ℕ
 put_text token round bids = request_text (codes "PUT /v1/me/bids") token (written_put round bids)
 
@@ -41,15 +42,18 @@ abbrev pub increments_member : Increments → String × Data
 increments_member (Single increment) = ("increment", whole increment)
 increments_member (PerProduct increments) = ("increments", list_of whole increments)
 
+-- the body of a closing, as a value
 unfoldable pub close_value : ℕ → Increments → List Tie → Data
 close_value round increments ties = object_of (
     increments_member increments ∷
     ("round", whole round) ∷
     ("ties", list_of tie_value ties) ∷ [])
 
+-- the body of a closing
 abbrev pub written_close : ℕ → Increments → List Tie → List ℕ
 written_close round increments ties = compact_text (close_value round increments ties)
 
+-- the request by which the operator closes a round
 abbrev pub close_text : List ℕ → ℕ → Increments → List Tie → List ℕ
 close_text token round increments ties =
     request_text (codes "POST /v1/close") token (written_close round increments ties)

@@ -31,6 +31,7 @@ leaving_prices pair limits = filter_map (leaving_price pair) (reverse limits)
 abbrev pub staying : ℕ → List ℕ → ℕ → ℕ
 staying held leaving price = held - count_by (λ left. nat_le left price) leaving
 
+-- a bid for a quantity of a product at a price
 abbrev pub bid_for : ℕ → ℕ → ℕ → Bid
 bid_for product quantity price = record { product = product; quantity = quantity; price = price }
 

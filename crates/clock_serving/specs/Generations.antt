@@ -83,6 +83,7 @@ MayLeave (failed found fault end) left =
     MayBeLeft found.synced found.written left ⊎ LeftSince found.moments end.moments left
 MayLeave (served found exchanges end) left = MayBeLeft end.synced end.written left
 
+-- the journal before the first call
 abbrev pub found_by : Generation → JournalState
 found_by (failed found fault end) = found
 found_by (served found exchanges end) = found

@@ -23,9 +23,9 @@ use thiserror::Error;
 ///   Do not use the front and the log afterward.
 #[derive(Clone, Copy, Debug, PartialEq, Eq, Error)]
 pub enum ServeFault {
-    #[error("a connection could not be taken")]
+    #[error("a connection could not be accepted")]
     Accept,
-    #[error("a text could not be kept")]
+    #[error("a text could not be logged")]
     Journal,
 }
 

@@ -54,6 +54,7 @@ unfoldable pub after_request : SetupFields → List (List ℕ) → Option ℕ �
 after_request setup texts sender round text = if_done (reply setup texts text).code (text ∷ texts)
     (refused_by sender round (reply setup texts text).code)
 
+-- a request is sent if there is one
 abbrev pub after_request_if : SetupFields → List (List ℕ) → Option ℕ → ℕ → Option (List ℕ)
     → Result (List (List ℕ)) SimFault
 after_request_if setup texts sender round None = Ok texts

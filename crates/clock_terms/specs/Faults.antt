@@ -20,10 +20,12 @@ abbrev pub in_turn : {X F : Type 0} → (ℕ → X → List (F × Bool)) → ℕ
 in_turn checks i [] = []
 in_turn checks i (x ∷ xs) = checks i x ++ in_turn checks (i + 1) xs
 
+-- the fault if there is one, and otherwise the value
 abbrev pub unless : {A F : Type 0} → Option F → A → Result A F
 unless None value = Ok value
 unless (Some fault) value = Err fault
 
+-- the value if there is one, and otherwise the fault
 abbrev pub or_fault : {A F : Type 0} → F → Option A → Result A F
 or_fault fault None = Err fault
 or_fault fault (Some value) = Ok value

@@ -80,6 +80,7 @@ longest_token = 64
 abbrev pub most_bids : ℕ
 most_bids = 8192
 
+-- a number is from `low` to `high`
 abbrev pub is_within : ℕ → ℕ → ℕ → Bool
 is_within low high n = nat_le low n && nat_le n high
 
@@ -200,6 +201,7 @@ units_of products product = (product_at products product).units
 abbrev pub granule_of : List Product → ℕ → ℕ
 granule_of products product = (product_at products product).granule
 
+-- A demand for each product, each within its cap.
 pub record IsRow (products : List Product) (demands : List ℕ) : Type 0 where
   pub each : length demands ≡ length products
   pub capped : EachIndex demands (λ product. slice_index demands product ≤ cap_of products product)

@@ -15,11 +15,13 @@ use Rattle.clock_views.specs.Values.{whole, list_of, object_of, true_or_false}
 unfoldable pub closed_value : ℕ → Bool → Data
 closed_value round ended = object_of (("closed", whole round) ∷ ("ended", boolean ended) ∷ [])
 
+-- a bidder's line in the results: its processed demands, eligibility, and name
 unfoldable pub result_value : List ℕ → Holding → Data
 result_value name held = object_of (
     ("demands", list_of whole held.demands) ∷ ("eligibility", whole held.eligibility)
     ∷ ("name", string name) ∷ [])
 
+-- the line of a bidder of this house
 abbrev pub result_in : HouseFields → ℕ → Data
 result_in house bidder = result_value (bidder_at house.setup bidder).name (holding_in house bidder)
 

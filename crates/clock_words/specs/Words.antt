@@ -160,9 +160,11 @@ serving_fields serving = record {
   journal = option_map (λ text. text.now) serving.journal;
 }
 
+-- the files that are named, as contracts see them
 abbrev pub files_fields : NamedFiles → FilesFields
 files_fields files = record { setup = files.setup.now; journal = files.journal.now }
 
+-- what the words ask for, as contracts see it
 abbrev pub asked_fields : Asked → AskedFields
 asked_fields (case.Job one) = job one
 asked_fields (case.Serve serving) = serve (serving_fields serving)
