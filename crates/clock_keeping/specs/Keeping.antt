@@ -43,7 +43,7 @@ is_change (Closing round) = true
 abbrev pub IsAccepted : SetupFields → List (List ℕ) → List ℕ → Type 0
 IsAccepted setup texts text = is_change (effect setup texts text) ≡ true
 
--- or it does not: it is refused, only asks for a page, or is no request
+-- the text changes nothing: it is refused, only asks for a page, or is no request
 abbrev pub IsRefused : SetupFields → List (List ℕ) → List ℕ → Type 0
 IsRefused setup texts text = is_change (effect setup texts text) ≡ false
 

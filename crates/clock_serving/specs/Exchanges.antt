@@ -46,7 +46,7 @@ abbrev pub Closes : Option (List Exchange) → Option (List Exchange) → Readin
 Closes old new reading writing kept =
     HasClosedConnections old new (record { reading = reading; writing = writing; kept = kept } ∷ [])
 
--- this was the journal, if contracts see it
+-- the journal that was shown, if one was, is this one
 abbrev pub IsSeen : Option JournalState → JournalState → Type 0
 IsSeen None journal = Unit {0}
 IsSeen (Some seen) journal = seen ≡ journal

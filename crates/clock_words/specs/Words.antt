@@ -208,7 +208,7 @@ IsJob (Prices increment) = IsIncrement increment
 IsJob Opening = Unit {0}
 IsJob Replay = Unit {0}
 
--- so is the increment of what is asked for
+-- the increment of what is asked for, if it has one, is within its limits
 abbrev pub IsAsked : Asked → Type 0
 IsAsked (case.Job one) = IsJob one
 IsAsked (case.Serve serving) = Unit {0}

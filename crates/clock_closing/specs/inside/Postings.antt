@@ -37,12 +37,12 @@ posted setup now increments result = unless (first_fault (fault_check close_faul
     (price_limit_fault setup.products result.grid result.posted increments)))
     (closed_round setup now increments result)
 
--- That for round 1.
+-- The round that the demands and posted prices of round 1 give, or its fault.
 abbrev pub first_posted : OpenRoundFields → Increments → Result ClosedRound CloseFault
 first_posted round increments = posted (public_setup round.setup) round.before increments
     (first_result round.setup.products round.before)
 
--- That for the current round.
+-- The round that the demands and posted prices of the current round give, or its fault.
 abbrev pub posted_now : OpenRoundFields → Increments → List Tie → Result ClosedRound CloseFault
 posted_now round increments ties = posted (public_setup round.setup) round.before increments
     (round_result round.setup.products round.before ties)

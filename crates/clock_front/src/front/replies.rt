@@ -25,9 +25,9 @@ use std::alloc::Global;
 /// Why a request is answered out of memory.
 #[derive(Debug, Drop)]
 pub enum AnswerError {
-    /// It asks for no change, and the page of its reply could not be allocated.
+    /// The request asks for no change, and the page of its reply could not be allocated.
     Room(NoRoom),
-    /// It asks for a change, and an allocation failed before that.
+    /// The request asks for a change, and an allocation failed before that.
     Change,
 }
 

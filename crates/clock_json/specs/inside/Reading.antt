@@ -7,15 +7,13 @@ use Rattle.serde_json.specs.Data.{Data, Members, no_members}
 use Rattle.serde_json.specs.Read.{of_items, of_members, converted}
 use Rattle.clock_json.specs.Reading.{items_before}
 
--- of a list whose items begin with the old tokens these were read, and the new
--- tokens are left of it
+-- these items of a list were read, which begin with the old tokens; the new tokens are left
 unfoldable pub HasItems : ℕ → List Token → List Data → List Token → Type 0
 HasItems levels old values new = (count : ℕ) × (length new ≤ count) × ((depth : ℕ) → levels ≤ depth
     → converted of_items (json.items (json.value depth) (length old) old) ≡ json.parse_map
     (items_before values) (converted of_items (json.items (json.value depth) count new)))
 
--- of an object whose members begin with the old tokens these were read, and the new
--- tokens are left of it
+-- these members of an object were read, which begin with the old tokens; the new tokens are left
 unfoldable pub HasMembers : ℕ → List Token → Members → List Token → Type 0
 HasMembers levels old found new = (count : ℕ) × (length new ≤ count) × ((depth : ℕ) → levels ≤ depth
     → converted (λ ms. of_members ms no_members) (json.members (json.value depth) (length old) old)

@@ -40,7 +40,7 @@ pub record StaysWithinCap (products : List Product) (grid : List (List ℕ)) (ch
       ≤ cap_of products product
   pub reduced : left_of Reduction bidder product changes left ≤ demand_at grid bidder product
 
--- this holds for each bidder and product
+-- the demand of each bidder for each product stays within 0 and the cap
 abbrev pub StaysWithinCaps : List Product → List (List ℕ) → List Change → List ℕ → Type 0
 StaysWithinCaps products grid changes left = (bidder product : ℕ) → bidder < length grid
     → product < length products → StaysWithinCap products grid changes left bidder product

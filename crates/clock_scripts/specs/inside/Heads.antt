@@ -6,7 +6,7 @@ use Rattle.clock_views.specs.inside.Values.{Adds}
 use Rattle.clock_scripts.specs.declared.requests.Written.{Written}
 use Rattle.clock_scripts.specs.RequestTexts.{request_head}
 
--- that of a line, with a token and the length of the body
+-- the body is all of the text from an index on, and then its head was added
 pub record HasRequestHead (line token : List ℕ) (body : ℕ) (old text : List ℕ)
     (written : Written) : Type 0 where
   pub from : written.body ≡ body

@@ -6,7 +6,7 @@ use Rattle.clock_terms.specs.declared.increments.Increments.{Increments}
 use Rattle.clock_terms.specs.declared.increments.Increments.TheVariants.{Single, PerProduct}
 use Rattle.clock_views.specs.Values.{whole, list_of}
 
--- they as they are written
+-- the bracket and the member of a closing's increments, byte for byte
 abbrev pub increments_text : Increments → List ℕ
 increments_text (Single increment) = codes "{\"increment\":" ++ decimal increment
 increments_text (PerProduct increments) =

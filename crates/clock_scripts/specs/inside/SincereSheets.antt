@@ -15,7 +15,7 @@ abbrev pub first_bids : List PricePair → List (List ℕ) → ℕ → List Bid
 first_bids prices limits product =
     opening_bids product (prices_at prices product) (row_of limits product)
 
--- and in a later one
+-- the bids for a product in a later round
 abbrev pub bids_held : List PricePair → List ℕ → List (List ℕ) → ℕ → List Bid
 bids_held prices demands limits product = later_bids product (prices_at prices product)
     (slice_index demands product) (row_of limits product)
