@@ -9,34 +9,34 @@
 -- through the results in the view. So the right reply has the same bytes after any other list of
 -- requests, under any set-up with distinct tokens, if public set-up, row, and view are equal there.
 --
--- The view has, in order, the bidder's own requests as bytes: reads and sheets, accepted or
--- refused. Of each accepted closing it has the round results and its own bidder results. It has
--- nothing else: no request or bidder results of a rival, no request of the operator or without a
--- valid token, no tie-breaking number. Read its definition with care (`text_view`).
+-- The view (`text_view`) has, in order, the bidder's own requests as bytes, reads and sheets,
+-- accepted or refused, and of each accepted closing the round results and its own bidder results.
+-- It has nothing else: no request or bidder results of a rival, no request of the operator or
+-- without a valid token, no tie-breaking number. All that is in it may show in replies.
 --
 -- Public: a request with no valid token has the same right reply after any list of requests, under
 -- any set-up, if it has none there either and everyone sees the same. This is the public set-up and
 -- the round results of each accepted closing. The bids that led to them may differ.
 --
 -- Sound (`IsSound`), after the last request: each bidder's processed demands are within the caps,
--- and its activity within its eligibility, of at most 10^12. Closed rounds have the numbers 1, 2,
--- 3, up to at most `most_rounds`. Unless the auction has ended, start-of-round prices are from 1 to
--- 10^12 dollars, and at most the clock prices, from round 2 below them. Once a product's aggregate
--- demand is at least supply after a round, it is so after each later round.
+-- and its activity within its eligibility, of at most 10^12. Closed rounds are numbered 1, 2, 3, up
+-- to at most `most_rounds`. Unless the auction has ended, the current start-of-round prices are
+-- from 1 to 10^12 dollars, at most the clock prices, from round 2 below them. Once a product's
+-- aggregate demand is at least supply after a round, it is so after each later round.
 --
 -- Out of memory: only a request that needs memory may be answered so, at any time: any but one that
--- is refused for its head or length. It changes nothing, and no later right reply depends on it;
--- which later requests are out of memory may. The headline is about calls that return `Ok`.
+-- is refused for its head or length. It changes nothing, and no later right reply depends on it,
+-- but which later requests are out of memory may.
 --
--- Nothing is said of time, crashes (the second headline), tokens read on the wire, or what replies
--- to the operator depend on. Nothing is said of how rivals and the operator choose their requests,
--- or of what it reveals that a connection is refused or memory ran out.
+-- Nothing is said of a `run` or `run_events` that returns an error, time, crashes (the second
+-- headline), or tokens read on the wire. Nor of what replies to the operator depend on, how rivals
+-- and the operator choose their requests, and what a refused connection or lack of memory reveals.
 --
 --     SeesTheSame one two ..      a bidder sees the same after two lists of requests
 --     IsPrivate setup bidder past text one      the reply follows from what the bidder sees
 --     IsPublic setup past text one      the reply follows from what everyone sees
---     IsRight setup past text one      the reply is right, and private or public
---     Runs setup past texts answers end      each reply is right, or its request is left out
+--     IsRight setup past text one      the reply is right; private, or public without valid token
+--     Runs setup past texts answers end      each reply is right, or out of memory and left out
 --     IsRun setup texts answers      a run from the beginning of an auction, which is sound
 --     IsEventRun setup events replies      a run of requests that arrive in pieces
 use Rattle.std.specs.Prelude.{◌≡◌, ◌<◌, ◌⊎◌, ℕ, true, List, [], ◌∷◌, length, map}
@@ -59,8 +59,8 @@ pub record SeesTheSame (one two : SetupFields) (bidder other_number : ℕ)
   pub row : bidder_at one bidder ≡ bidder_at two other_number
   pub view : text_view one bidder past ≡ text_view two other_number other_past
 
--- The reply to a bidder's own request is computed from what the bidder sees. It is also right after
--- every other list of requests, under any set-up with distinct tokens, if a bidder sees the same.
+-- The right reply to a bidder's own request is computed from what it sees. It is right after every
+-- other list of requests, under any set-up with distinct tokens, if a bidder there sees the same.
 pub record IsPrivate (setup : SetupFields) (bidder : ℕ) (past : List (List ℕ)) (text : List ℕ)
     (one : Answer) : Type 0 where
   pub from_view : one
