@@ -1,36 +1,38 @@
 -- The headline: what is proved of a whole run, a list of requests and the replies to them.
 --
 -- Right: each reply is right, or out of memory. `reply` states the rules: from the set-up and the
--- past it computes what is accepted, and all prices, demands, and eligibilities in the page, to the
--- byte; so only one reply is right. The past has all earlier requests not answered out of memory.
+-- past it computes what is accepted, and all prices, demands, and eligibilities in the reply, to
+-- the byte; so only one reply is right. The past has all earlier requests but those answered out of
+-- memory.
 --
 -- Private: the right reply to a bidder's own request, one with its token, is computed by `answer`
 -- from the public set-up, the bidder's row, its view, and the request. What rivals bid enters only
--- through the results in the view. So the right reply has the same bytes after any other list of
--- requests, under any set-up with distinct tokens, if public set-up, row, and view are equal there.
+-- through the results in the view. So the right reply has the same bytes after any requests, under
+-- any set-up with distinct tokens, this or another, if public set-up, row, and view are equal.
 --
--- The view (`text_view`) has, in order, the bidder's own requests as bytes, reads and sheets,
--- accepted or refused, and of each accepted closing the round results and its own bidder results.
--- It has nothing else: no request or bidder results of a rival, no request of the operator or
--- without a valid token, no tie-breaking number. All that is in it may show in replies.
+-- The view of a past (`text_view`) has, in order, the bytes of each of the bidder's own requests in
+-- it: reads, and sheets, also those refused. Of each accepted closing it has the round results and
+-- its own bidder results. It has nothing else: no request or bidder results of a rival, no request
+-- of the operator or without a valid token, no tie-breaking number. Replies may show what it has.
 --
--- Public: a request with no valid token has the same right reply after any list of requests, under
--- any set-up, if it has none there either and everyone sees the same. This is the public set-up and
--- the round results of each accepted closing. The bids that led to them may differ.
+-- Public: a request with no valid token has the same right reply after any requests, under this or
+-- another set-up, if it has none there either and everyone sees the same. This is the public set-up
+-- and the round results of each accepted closing. The bids that led to them may differ.
 --
 -- Sound (`IsSound`), after the last request: each bidder's processed demands are within the caps,
--- and its activity within its eligibility, of at most 10^12. Closed rounds are numbered 1, 2, 3, up
--- to at most `most_rounds`. Unless the auction has ended, the current start-of-round prices are
--- from 1 to 10^12 dollars, at most the clock prices, from round 2 below them. Once a product's
--- aggregate demand is at least supply after a round, it is so after each later round.
+-- and its processed activity within its eligibility, of at most 10^12. Closed rounds are numbered
+-- 1, 2, 3, to at most 4096 * 10^12 + 2. Unless the auction has ended, current start-of-round
+-- prices are from 1 to 10^12 dollars, at most the clock prices, from round 2 below them. Once a
+-- product's aggregate demand is at least supply after a round, it is after each later round.
 --
 -- Out of memory: only a request that needs memory may be answered so, at any time: any but one that
--- is refused for its head or length. It changes nothing, and no later right reply depends on it,
--- but which later requests are out of memory may.
+-- is refused for its head or length. It changes nothing and is in no later past, so no later right
+-- reply depends on it; which later requests are out of memory may depend on it.
 --
--- Nothing is said of a `run` or `run_events` that returns an error, time, crashes (the second
--- headline), or tokens read on the wire. Nor of what replies to the operator depend on, how rivals
--- and the operator choose their requests, and what a refused connection or lack of memory reveals.
+-- Nothing is said of a call of `run` or `run_events` that returns an error, time, crashes (the
+-- second headline), or tokens read on the wire. Nothing is said of what rivals and the operator
+-- tell each other and decide, what a refused connection or lack of memory reveals, or what right
+-- replies to the operator depend on.
 --
 --     SeesTheSame one two ..      a bidder sees the same after two lists of requests
 --     IsPrivate setup bidder past text one      the reply follows from what the bidder sees
@@ -95,8 +97,8 @@ Runs setup past (text ∷ texts) (one ∷ answers) end =
     (IsOutOfMemoryReply text one × Runs setup past texts answers end)
     ⊎ (IsRight setup past text one × Runs setup (text ∷ past) texts answers end)
 
--- A run from the beginning of an auction: each reply is right, or its request is left out. After
--- the last request the auction is sound.
+-- A run from the beginning of an auction, whose past is empty. At the end the auction is sound that
+-- the commands of all requests in `end` make: `history` leaves out the refused commands.
 pub record IsRun (setup : SetupFields) (texts : List (List ℕ))
     (answers : List Answer) : Type 0 where
   pub end : List (List ℕ)
