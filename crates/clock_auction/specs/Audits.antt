@@ -21,7 +21,7 @@ use Rattle.clock_front.specs.declared.front.response.Effect.TheVariants.{Nothing
 use Rattle.clock_commands.specs.FaultLines.{of_journal}
 use Rattle.clock_commands.specs.declared.fault.Fault.{Fault}
 use Rattle.clock_journal.specs.Entries.{Entry, entries_onto, texts_in}
-use Rattle.clock_journal.specs.Format.{head_length}
+use Rattle.clock_journal.specs.Format.{file_head_length}
 use Rattle.clock_journal.specs.Recovering.{IsPlaced, IsJournalRefusal, IsRefusedRightly}
 use Rattle.clock_journal.specs.declared.recovery.JournalFault.{JournalFault}
 use Rattle.clock_journal.specs.declared.recovery.Recovered.{Recovered}
@@ -50,12 +50,13 @@ pub record IsRecounted (entries : List Entry) (house : HouseFields)
   pub digests_are : digests ≡ closing_digests house.setup entries
 
 -- the file has this fault, and a text that is reported as refused is refused after those before it
-pub record IsAuditFault (setup : SetupFields) (first bytes : List ℕ) (told : Fault) : Type 0 where
+pub record IsAuditFault (setup : SetupFields) (first bytes : List ℕ)
+    (reported : Fault) : Type 0 where
   pub fault : JournalFault
-  pub told_is : told ≡ of_journal fault
+  pub reported_is : reported ≡ of_journal fault
   pub is : IsJournalRefusal first bytes fault
   pub rightly : IsRefusedRightly (IsRefused setup) (λ past. past ≡ []) first
-      (drop head_length bytes) (length bytes) fault
+      (drop file_head_length bytes) (length bytes) fault
 
 -- the lines of the closed rounds, each with its closing's digest, and what each bidder won if the
 -- auction has ended

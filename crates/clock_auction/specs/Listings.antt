@@ -1,6 +1,6 @@
 -- What the command `journal` lists of a journal. Lists have the newest entry first. (Own format.)
 --     text_listed record text      the line of a text, and its bytes as they came
---     listed first entries      the line of the set-up document's digest, and then the texts
+--     listing_text first entries      the line of the set-up document's digest, and then the texts
 --     IsListingOf first bytes shown recovered      this is listed of all texts of a file
 --     IsListFault first bytes fault      the reported fault is one of this file
 use Rattle.std.specs.Prelude.{◌≡◌, ◌++◌, ℕ, List, [], ◌∷◌, codes, decimal, length}
@@ -29,19 +29,19 @@ text_listed at text = codes "text " ++ spaced at.number ++ spaced at.place ++ sp
     ++ digest_line at.digest ++ text ++ codes "\n"
 
 -- the line of the set-up document, and then each text's lines, the oldest first
-abbrev pub listed : List ℕ → List Entry → List ℕ
-listed first [] = codes "setup " ++ digest_line first
-listed first (entry ∷ past) = listed first past ++ text_listed entry.0 entry.1
+abbrev pub listing_text : List ℕ → List Entry → List ℕ
+listing_text first [] = codes "setup " ++ digest_line first
+listing_text first (entry ∷ past) = listing_text first past ++ text_listed entry.0 entry.1
 
 -- the file is the journal of these texts, except for a torn tail, and all of them are listed
 pub record IsListingOf (first bytes shown : List ℕ) (recovered : Recovered) : Type 0 where
   pub texts : List (List ℕ)
   pub placed : IsPlaced first bytes texts recovered
-  pub shown_is : shown ≡ listed first (entries_onto first [] texts [])
+  pub shown_is : shown ≡ listing_text first (entries_onto first [] texts [])
 
 -- the file has this fault or memory ran out; no text is refused
-pub record IsListFault (first bytes : List ℕ) (told : Fault) : Type 0 where
+pub record IsListFault (first bytes : List ℕ) (reported : Fault) : Type 0 where
   pub fault : JournalFault
-  pub told_is : told ≡ of_journal fault
+  pub reported_is : reported ≡ of_journal fault
   pub is : IsJournalRefusal first bytes fault
   pub takes_all : (place : ℕ) → fault ≡ Refused place → ⊥

@@ -1,6 +1,6 @@
 //! `journal`: the texts of a journal.
 ghost use Rattle.std.specs.Prelude.{◌≡◌, ◌++◌, List, ℕ, IfErr, IfOk, OnOk};
-ghost use Rattle.clock_auction.specs.Listings.{IsListingOf, IsListFault, digest_line, listed};
+ghost use Rattle.clock_auction.specs.Listings.{IsListingOf, IsListFault, digest_line, listing_text};
 ghost use Rattle.clock_auction.specs.Listings.{spaced, text_listed};
 
 use crate::files::{digits_of, file_bytes, journal_bytes, tell_journal};
@@ -38,7 +38,7 @@ impl Machine for Listing {
 
     ghost rules = { λ listing. listing.first };
 
-    ghost stands_for = { λ listing entries. listing.text ≡ listed listing.first entries };
+    ghost stands_for = { λ listing entries. listing.text ≡ listing_text listing.first entries };
 
     ghost refuses = { λ rules texts text. ⊥ };
 

@@ -157,7 +157,7 @@ struct Telling<'a, R, D: Durable> {
 impl<R: Print, D: Durable> RequestLog for Telling<'_, R, D> {
     ghost journal = { λ telling. telling.journal };
 
-    ghost told = { λ telling. None };
+    ghost rounds = { λ telling. None };
 
     fn answer<P: Processor>(
         &mut self,

@@ -15,7 +15,8 @@ use Rattle.clock_bids.specs.declared.sheet.BidFault.{BidFault}
 use Rattle.clock_bids.specs.declared.sheet.BidFault.TheVariants.{PriceOrder, MixedDirection, KeepPrice}
 use Rattle.clock_bids.specs.inside.Parts.{is_above_prices}
 use Rattle.clock_bids.specs.Sheet.{last_quantity, keeps_direction, is_maintained_at_clock}
-use Rattle.clock_bids.specs.inside.Chains.{Climbs, Falls, Moves, up, down, kept, RisesFrom, IsInRange, IsGoodChain}
+use Rattle.clock_bids.specs.inside.Chains.{Climbs, Falls, Moves, up, down, maintained, RisesFrom, IsInRange}
+use Rattle.clock_bids.specs.inside.Chains.{IsGoodChain}
 use Rattle.clock_bids.specs.inside.Chains.{last_after, last_of, is_step_on, step_checks}
 
 -- the last bid has the last quantity
@@ -92,8 +93,8 @@ same_side held clock first bids (up climbs) = lt-ltb held first.quantity climbs.
     (last_quantity first.quantity bids) (omega (arith, climbs.0, climbs-le first.quantity bids climbs.1)))
 same_side held clock first bids (down falls) = le-ltb held first.quantity (omega (arith, falls.0)) ∙ sym (le-ltb held
     (last_quantity first.quantity bids) (omega (arith, falls.0, falls-le first.quantity bids falls.1)))
-same_side held clock first [] (kept bid is same at) = refl
-same_side held clock first (next ∷ rest) (kept bid is same at) = cc
+same_side held clock first [] (maintained bid is same at) = refl
+same_side held clock first (next ∷ rest) (maintained bid is same at) = cc
 
 pub direction_by_last : (held clock : ℕ) (first : Bid) (bids : List Bid) (bid : Bid) → Moves held clock (first ∷ bids) →
     keeps_direction held (first ∷ bids) bid ≡ is_step_on held (last_after first bids).quantity bid.quantity
@@ -124,7 +125,7 @@ further_down held last quantity below good = ltb-true quantity last (sym (ap (λ
 begins : (held clock : ℕ) (bid : Bid) → (not (bid.quantity == held) || (bid.price == clock)) ≡ true
     → Moves held clock (bid ∷ [])
 begins held clock bid good = elim (cases_order held bid.quantity) as (λ _. Moves held clock (bid ∷ [])) [
-  | inl same ↦ kept bid refl (sym same) (at_clock held clock bid (sym same) good)
+  | inl same ↦ maintained bid refl (sym same) (at_clock held clock bid (sym same) good)
   | inr (inl above) ↦ up (above, tt)
   | inr (inr below) ↦ down (below, tt)
 ]
@@ -143,10 +144,10 @@ goes_on held clock first bids bid (down falls) rises most good =
     let below : last < held = omega (arith, falls.0, falls-le first.quantity bids falls.1) in
     let on = ap (λ last. is_step_on held last bid.quantity) (last_quantity-after first bids) ∙ good in
     down (falls-push held (first ∷ bids) bid falls (further_down held last bid.quantity below on))
-goes_on held clock first [] bid (kept one is same at) rises most good =
+goes_on held clock first [] bid (maintained one is same at) rises most good =
     let one_is : first ≡ one = cc in
     absurd (omega (arith, rises, most, at, ap (λ (b : Bid). b.price) one_is))
-goes_on held clock first (next ∷ rest) bid (kept one is same at) rises most good = cc
+goes_on held clock first (next ∷ rest) bid (maintained one is same at) rises most good = cc
 
 -- a good chain stays good after a bid without a fault
 pub good_chain-push : (pair : PricePair) (cap held : ℕ) (chain : List Bid) (bid : Bid) (i : ℕ)

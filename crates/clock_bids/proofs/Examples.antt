@@ -36,8 +36,8 @@ first setup eligibility demands bids =
 turning_chain : later (bid 0 1 103 ∷ bid 0 2 105 ∷ []) ≡ Some (MixedDirection 1)
 turning_chain = refl
 
-kept_below_clock : later (bid 0 2 105 ∷ []) ≡ Some (KeepPrice 0)
-kept_below_clock = refl
+maintained_below_clock : later (bid 0 2 105 ∷ []) ≡ Some (KeepPrice 0)
+maintained_below_clock = refl
 
 level_price : later (bid 0 1 103 ∷ bid 0 0 103 ∷ []) ≡ Some (PriceOrder 1)
 level_price = refl
@@ -67,8 +67,8 @@ reductions_in_a_chain : changes_of_sheet prices (2 ∷ []) 0 (bid 0 1 103 ∷ bi
     ≡ request Reduction 0 0 0 1 103 ∷ request Reduction 0 0 1 1 107 ∷ []
 reductions_in_a_chain = refl
 
-kept_demand : changes_of_sheet prices (2 ∷ []) 0 (bid 0 2 110 ∷ []) ≡ []
-kept_demand = refl
+maintained_demand : changes_of_sheet prices (2 ∷ []) 0 (bid 0 2 110 ∷ []) ≡ []
+maintained_demand = refl
 
 missing_bid : changes_of_sheet prices (2 ∷ []) 0 [] ≡ request Reduction 0 0 0 2 100 ∷ []
 missing_bid = refl

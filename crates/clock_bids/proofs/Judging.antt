@@ -60,13 +60,13 @@ held_some units {taken} is held =
 pub exact_some : (units taken quantity : ℕ) {next : ℕ} {last : Option (Bor Bid)} {one : Bor Bid} → last ≡ Some one
     → units * quantity_of (option_copied last) ≤ taken → next ≡ taken - units * one.now.quantity + units * quantity
     → next + units * quantity_of (option_copied last) ≡ taken + units * quantity
-exact_some units taken quantity is held told =
-    omega (arith, held, told, ap (λ (bid : Option (Bor Bid)). units * quantity_of (option_copied bid)) is)
+exact_some units taken quantity is held reported =
+    omega (arith, held, reported, ap (λ (bid : Option (Bor Bid)). units * quantity_of (option_copied bid)) is)
 
 pub exact_none : (units taken quantity : ℕ) {next : ℕ} {last : Option (Bor Bid)} → last ≡ None
     → next ≡ taken + units * quantity → next + units * quantity_of (option_copied last) ≡ taken + units * quantity
-exact_none units taken quantity is told =
-    omega (arith, told, ap (λ (bid : Option (Bor Bid)). units * quantity_of (option_copied bid)) is)
+exact_none units taken quantity is reported =
+    omega (arith, reported, ap (λ (bid : Option (Bor Bid)). units * quantity_of (option_copied bid)) is)
 
 pub taken_most : (units taken quantity : ℕ) {next : ℕ} (last : Option Bid) → next + units * quantity_of last
     ≡ taken + units * quantity → units ≤ most_units → quantity ≤ most_supply → next ≤ taken + most_units * most_supply

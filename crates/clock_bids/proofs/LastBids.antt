@@ -61,13 +61,13 @@ no_places products bids places zeros = record {
 pub last_places-more : (products : ℕ) (bids : List Bid) (i : ℕ) (places : List ℕ) → i < length bids
     → (get_or bids i no_bid).product < products → AreLastPlaces products bids i places
     → AreLastPlaces products bids (i + 1) (set places (get_or bids i no_bid).product (i + 1))
-last_places-more products bids i places within known kept =
+last_places-more products bids i places within known maintained =
     let bid = get_or bids i no_bid in
     record {
-      each = length-set places bid.product (i + 1) ∙ kept.each;
+      each = length-set places bid.product (i + 1) ∙ maintained.each;
       table = map-set (bid_at bids) places bid.product (i + 1)
           ∙ ap (λ one. set (map (bid_at bids) places) bid.product one) (bid_here bids i within)
-          ∙ ap (λ entries. set entries bid.product (Some bid)) kept.table
+          ∙ ap (λ entries. set entries bid.product (Some bid)) maintained.table
           ∙ sym (last_bids-more products bids i within known);
     }
 
@@ -75,8 +75,8 @@ last_places-more products bids i places within known kept =
 pub last_read : (products : ℕ) (bids : List Bid) (i : ℕ) (places slice : List ℕ) (product : ℕ) (last : Option Bid)
     → AreLastPlaces products bids i places → slice ≡ places → last ≡ get_or (map (bid_at bids) slice) product None
     → last ≡ get_or (last_bids products (take i bids)) product None
-last_read products bids i places slice product last kept is read = read ∙ ap (λ (xs : List ℕ).
-    get_or (map (bid_at bids) xs) product None) is ∙ ap (λ entries. get_or entries product None) kept.table
+last_read products bids i places slice product last maintained is read = read ∙ ap (λ (xs : List ℕ).
+    get_or (map (bid_at bids) xs) product None) is ∙ ap (λ entries. get_or entries product None) maintained.table
 
 -- with one more bid, all are for products below a number that is above the bid's
 pub below_more : (bids : List Bid) (i least next : ℕ) → i < length bids → least ≤ next → (get_or bids i no_bid).product

@@ -18,7 +18,7 @@ use Rattle.clock_terms.specs.declared.change.Kind.TheVariants.{Increase, Reducti
 use Rattle.clock_bids.specs.Sheet.{last_quantity}
 use Rattle.clock_bids.specs.inside.Parts.{distance, drop_to_zero, changes_of_chain}
 use Rattle.clock_bids.specs.Changes.{change_to, Link, links_from, changes_of_product}
-use Rattle.clock_bids.specs.inside.Chains.{Climbs, Falls, Moves, up, down, kept, IsInRange, IsGoodChain}
+use Rattle.clock_bids.specs.inside.Chains.{Climbs, Falls, Moves, up, down, maintained, IsInRange, IsGoodChain}
 use Rattle.clock_bids.proofs.Chains.{climbs-le, falls-le}
 
 -- a step from one quantity to another in a direction
@@ -280,7 +280,7 @@ module _ (owner item : ℕ) (pair : PricePair) (cap held : ℕ) (small : cap ≤
       pair cap held (length (first ∷ rest) + 1) (changes_of_chain owner item pair held (first ∷ rest))
   moving first rest (up climbs) good most = climbing (first ∷ rest) climbs good most
   moving first rest (down falls) good most = falling (first ∷ rest) falls good
-  moving first rest (kept bid is same at) good most =
+  moving first rest (maintained bid is same at) good most =
       subst (λ list. AreProductSteps owner item pair cap held (length (first ∷ rest) + 1) list) (sym (ap (λ chain.
       changes_of_chain owner item pair held chain) is ∙ keeping bid same)) (nothing (length (first ∷ rest) + 1))
 

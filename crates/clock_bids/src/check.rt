@@ -114,7 +114,7 @@ fn judge(
     let mut near = 0;
     let mut taken: u64 = 0;
     let mut least: u64 = 0;
-    let mut kept = 0;
+    let mut placed = 0;
     let mut places = Vec::new(alloc);
     for (i, bid) in bids.iter().enumerate() {
         let last = if bid.product >= least {
@@ -124,8 +124,8 @@ fn judge(
         } else if let Some(before) = bid_before(bids, i, bid.product) {
             Some(before)
         } else {
-            places = last_places(alloc, places, bids, products.len(), kept, i)?;
-            kept = i;
+            places = last_places(alloc, places, bids, products.len(), placed, i)?;
+            placed = i;
             last_bid(bids, places.as_slice(), bid.product)
         };
         if let Some(fault) = bid_fault(products, prices, demands, &mut near, last, i as u64, bid) {
@@ -154,28 +154,28 @@ fn bid_before(bids: &[Bid], place: usize, product: u64) -> Option<&Bid>
 /// Returns for each product the index of its last bid among the first `place` bids, counted from 1,
 /// or 0 if there is none. May return `NoMemory`.
 ///
-/// `places` has the first `kept` bids already; if `kept` is 0, it is allocated here. Marked as cold
-/// so that LLVM leaves in registers what bids for rising products need.
+/// `places` has the first `placed` bids already; if `placed` is 0, it is allocated here. Marked as
+/// cold so that LLVM leaves in registers what bids for rising products need.
 #[cold]
 fn last_places(
     alloc: Global,
     mut places: Vec<u16>,
     bids: &[Bid],
     products: usize,
-    kept: usize,
+    placed: usize,
     place: usize,
 ) -> Result<Vec<u16>, NoMemory>
     requires few { length bids.now ≤ most_bids }
-    requires order { kept ≤ place }
+    requires order { placed ≤ place }
     requires place { place ≤ length bids.now }
     requires known { All (λ bid. bid.product < products) (take place bids.now) }
-    requires kept { 0 < kept → AreLastPlaces products bids.now kept places.items }
+    requires placed { 0 < placed → AreLastPlaces products bids.now placed places.items }
     ensures { IfOk result (λ places. AreLastPlaces products bids.now place places.items) }
 {
-    if kept == 0 {
+    if placed == 0 {
         places = vec![in alloc; 0; products]?;
     }
-    for i in kept..place {
+    for i in placed..place {
         places[bids[i].product as usize] = i as u16 + 1;
     }
     Ok(places)
@@ -219,8 +219,8 @@ fn bid_fault(
     }
     let held = demands.get_near(near, product);
     let Some(last) = last else {
-        let kept_below = bid.quantity == held && bid.price != pair.clock.get();
-        return kept_below.then_some(BidFault::KeepPrice(place));
+        let maintained_below = bid.quantity == held && bid.price != pair.clock.get();
+        return maintained_below.then_some(BidFault::KeepPrice(place));
     };
     if last.price >= bid.price {
         return Some(BidFault::PriceOrder(place));

@@ -1,5 +1,5 @@
 -- What the body of a closing means, in terms of the JSON values that serde_json reads (own format).
---     tie_of value, increments_of value, close_of value      the tie-breaking number, the
+--     tie_in value, increments_of value, close_of value      the tie-breaking number, the
 --         increments, the closing that a JSON value means
 --     close_body bytes      the closing that bytes mean, or their first fault
 --     is_of_version version increments, in_version version body      a closing has the form of the
@@ -27,8 +27,8 @@ tie_from (item a (item b (item c no_items))) = do
 tie_from _ = None
 
 -- [BIDDER,PRODUCT,NUMBER]
-abbrev pub tie_of : Data → Option Tie
-tie_of value = option_and_then tie_from (as_array value)
+abbrev pub tie_in : Data → Option Tie
+tie_in value = option_and_then tie_from (as_array value)
 
 -- the single increment, or without one the numbers of the list
 abbrev pub or_each : Option ℕ → Option Items → Option Increments
@@ -45,7 +45,7 @@ unfoldable pub close_of : Data → Option CloseBody
 close_of value = do
   round ← number_at (codes "round") value
   increments ← increments_of value
-  ties ← option_and_then (each tie_of) (items_at (codes "ties") value)
+  ties ← option_and_then (each tie_in) (items_at (codes "ties") value)
   if has_members 3 value
       then Some (record { round = round; increments = increments; ties = ties }) else None
 

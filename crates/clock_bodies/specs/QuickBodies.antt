@@ -4,7 +4,7 @@
 --     single_of, listed_of      the increment for all products; the increments of each
 use Rattle.std.specs.Prelude.{ℕ, List, [], ◌∷◌, Option, Some, None, option_map, codes}
 use Rattle.serde_json.specs.Data.{Data, object}
-use Rattle.clock_json.specs.Reading.{whole, numbers, Fields, members_of}
+use Rattle.clock_json.specs.Reading.{whole_number, numbers, Fields, found_members}
 use Rattle.clock_bids.specs.declared.sheet.Bid.{Bid}
 use Rattle.clock_order.specs.declared.ties.Tie.{Tie}
 use Rattle.clock_terms.specs.declared.increments.Increments.{Increments}
@@ -14,14 +14,14 @@ use Rattle.clock_bodies.specs.declared.put_body.FoundBid.{FoundBid}
 -- a bid's keys, each with what was found
 abbrev pub bid_fields : FoundBid → Fields
 bid_fields found =
-    (codes "price", option_map whole found.price)
-    ∷ (codes "product", option_map whole found.product)
-    ∷ (codes "quantity", option_map whole found.quantity)
+    (codes "price", option_map whole_number found.price)
+    ∷ (codes "product", option_map whole_number found.product)
+    ∷ (codes "quantity", option_map whole_number found.quantity)
     ∷ []
 
 -- a bid as a value
 abbrev pub bid_data : Bid → Data
-bid_data bid = object (members_of (bid_fields
+bid_data bid = object (found_members (bid_fields
     (record { price = Some bid.price; product = Some bid.product; quantity = Some bid.quantity })))
 
 -- a tie-breaking number as a value

@@ -34,7 +34,7 @@ pub struct TieReader;
 impl<'v> PlainReader<'v> for TieReader {
     type Part = Tie;
 
-    ghost meaning = { λ _. bodies.tie_of };
+    ghost meaning = { λ _. bodies.tie_in };
 
     fn plain_part(&self, value: &'v Value) -> Option<Tie> {
         let items = value.as_array()?.as_slice();

@@ -1,6 +1,6 @@
 ghost use Rattle.std.specs.Prelude.{◌≡◌, ◌≢◌, ◌++◌, ◌<◌, Ok, Err, IfOk, IfErr, List, length, map};
 ghost use Rattle.std.specs.Prelude.{OnOk};
-ghost use Rattle.clock_json.specs.Reading.{Reads, ReadsAll};
+ghost use Rattle.clock_json.specs.Reading.{ReadsValue, ReadsAll};
 ghost use Rattle.clock_bodies.specs.Bodies as bodies;
 ghost use Rattle.clock_bodies.specs.QuickBodies.{bid_fields, bid_data};
 ghost use Rattle.clock_bodies.specs.inside.QuickBodies.{bids_data, put_fields, put_data};
@@ -160,7 +160,7 @@ fn compact_bids(scan: &mut Scan<'_>, list: &mut Vec<Bid>) -> Result<(), ScanStop
 /// can have.
 #[inline(never)]
 fn bids(alloc: Global, scan: &mut Scan<'_>) -> Result<Items<Bid>, ScanStop>
-    ensures value { IfOk result (λ bids. Reads 2 scan.old (bids_data bids) scan.new) }
+    ensures value { IfOk result (λ bids. ReadsValue 2 scan.old (bids_data bids) scan.new) }
     ensures shorter { OnOk result (length scan.new < length scan.old) }
 {
     scan.opens(b'[')?;

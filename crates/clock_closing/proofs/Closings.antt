@@ -19,8 +19,8 @@ use Rattle.clock_closing.specs.Closing.{ClosedRound, round_result, closed_round,
 -- clock price is too high, and the round added is the one of the rules.
 pub record IsClosing (setup : PublicSetup) (now : OpenRound) (round : ℕ) (increments : Increments) (ties : List Tie)
     (closed : ClosedRound) : Type 0 where
-  pub going : now.standing.ended ≡ false
-  pub current : (round == now.standing.round) ≡ true
+  pub going : now.public_state.ended ≡ false
+  pub current : (round == now.public_state.round) ≡ true
   pub within : are_increments (length setup.products) increments ≡ true
   pub fair : tie_fault (length now.holdings) (length setup.products) ties ≡ None
   pub possible : price_limit_fault setup.products (round_result setup.products now ties).grid
@@ -55,12 +55,12 @@ pub closing_passed : (setup : PublicSetup) (now : OpenRound) (round : ℕ) (incr
     (closed : ClosedRound) → closing setup now round increments ties ≡ Ok closed
     → IsClosing setup now round increments ties closed
 closing_passed setup now round increments ties closed e =
-    let tests : Passed now.standing.ended (round == now.standing.round) (are_increments (length setup.products)
+    let tests : Passed now.public_state.ended (round == now.public_state.round) (are_increments (length setup.products)
     increments) (tie_fault (length now.holdings) (length setup.products) ties) (price_limit_fault setup.products
     (round_result setup.products now ties).grid (round_result setup.products now ties).posted increments)
-    (closed_round setup now increments (round_result setup.products now ties)) closed =
-    passed now.standing.ended (round == now.standing.round) (are_increments (length setup.products) increments)
-    now.standing.round (tie_fault (length now.holdings) (length setup.products) ties) (price_limit_fault setup.products
+    (closed_round setup now increments (round_result setup.products now ties)) closed = passed now.public_state.ended
+    (round == now.public_state.round) (are_increments (length setup.products) increments) now.public_state.round
+    (tie_fault (length now.holdings) (length setup.products) ties) (price_limit_fault setup.products
     (round_result setup.products now ties).grid (round_result setup.products now ties).posted increments)
     (closed_round setup now increments (round_result setup.products now ties)) closed e in
     record { going = tests.0; current = tests.1; within = tests.2; fair = tests.3; possible = tests.4; made = tests.5 }

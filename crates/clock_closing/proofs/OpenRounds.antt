@@ -69,21 +69,22 @@ module _ (setup : PublicSetup) (now : OpenRound) (sound : IsOpen setup now) wher
   asked_row bidder lt = get_or-map-range_with_len (λ b. asked_demands (length setup.products) (bids_at now.sheets b)) 0
       (length now.holdings) bidder bidder [] lt (omega arith)
 
-  pub asked_within : now.standing.round ≡ 1
+  pub asked_within : now.public_state.round ≡ 1
       → IsWithinEligibility setup.products (eligibilities_of now) (asked_grid setup.products now)
   asked_within first = within_by (asked_grid setup.products now) (length-map-range_with_len _ 0 (length now.holdings))
-      (λ bidder lt. subst (IsRow setup.products) (sym (asked_row bidder lt)) (good_sheet_row setup now.standing.round
-      now.standing.prices (holding_at now.holdings bidder) (bids_at now.sheets bidder) (sound.good bidder lt)))
-      (λ bidder lt. subst (λ (row : List ℕ). activity setup.products row ≤ (holding_at now.holdings bidder).eligibility)
-      (sym (asked_row bidder lt)) (subst (λ (most : ℕ). activity setup.products
-      (asked_demands (length setup.products) (bids_at now.sheets bidder)) ≤ most) (first_limit now.standing.round
-      (holding_at now.holdings bidder).eligibility first) (good_sheet_activity setup now.standing.round
-      now.standing.prices (holding_at now.holdings bidder) (bids_at now.sheets bidder) (sound.good bidder lt))))
+      (λ bidder lt. subst (IsRow setup.products) (sym (asked_row bidder lt))
+      (good_sheet_row setup now.public_state.round now.public_state.prices (holding_at now.holdings bidder)
+      (bids_at now.sheets bidder) (sound.good bidder lt))) (λ bidder lt. subst (λ (row : List ℕ).
+      activity setup.products row ≤ (holding_at now.holdings bidder).eligibility) (sym (asked_row bidder lt))
+      (subst (λ (most : ℕ). activity setup.products (asked_demands (length setup.products) (bids_at now.sheets bidder))
+      ≤ most) (first_limit now.public_state.round (holding_at now.holdings bidder).eligibility first)
+      (good_sheet_activity setup now.public_state.round now.public_state.prices (holding_at now.holdings bidder)
+      (bids_at now.sheets bidder) (sound.good bidder lt))))
 
   -- The requests of a bidder's sheet in a later round.
-  pub changes_at : 2 ≤ now.standing.round → (bidder : ℕ) → bidder < length now.holdings → AreChangesOf setup.products
-      now.standing.prices (holding_at now.holdings bidder).demands bidder (requests_by now bidder)
-  changes_at later bidder lt = good_sheet_changes setup now.standing.round now.standing.prices
+  pub changes_at : 2 ≤ now.public_state.round → (bidder : ℕ) → bidder < length now.holdings → AreChangesOf
+      setup.products now.public_state.prices (holding_at now.holdings bidder).demands bidder (requests_by now bidder)
+  changes_at later bidder lt = good_sheet_changes setup now.public_state.round now.public_state.prices
       (holding_at now.holdings bidder) bidder (bids_at now.sheets bidder) sound.few_products sound.limits
       sound.priced.pairs (sound.priced.rising later) (sound.within bidder lt).row (sound.good bidder lt)
 
@@ -91,19 +92,17 @@ module _ (setup : PublicSetup) (now : OpenRound) (sound : IsOpen setup now) wher
   all_requests = flat_map (requests_by now) (bidder_numbers now)
 
   -- No two requests have the same bidder, product, and index in the chain.
-  pub own_places : 2 ≤ now.standing.round → AllPairs AreApart all_requests
-  own_places later = apart_joined (requests_by now) (length now.holdings) (λ bidder lt.
-      All-weaker (IsChangeOf setup.products now.standing.prices bidder) (λ (change : Change). change.bidder ≡ bidder)
-      (λ change is. is.bidder) (requests_by now bidder) (changes_at later bidder lt).all)
+  pub own_places : 2 ≤ now.public_state.round → AllPairs AreApart all_requests
+  own_places later = apart_joined (requests_by now) (length now.holdings)
+      (λ bidder lt. All-weaker (IsChangeOf setup.products now.public_state.prices bidder) (λ (change : Change).
+      change.bidder ≡ bidder) (λ change is. is.bidder) (requests_by now bidder) (changes_at later bidder lt).all)
       (λ bidder lt. (changes_at later bidder lt).apart) 0 (length now.holdings) (omega arith)
 
   -- Each request is at a price of its product.
-  pub priced_requests : 2 ≤ now.standing.round → All (IsWithinPrices now.standing.prices) all_requests
-  priced_requests later =
-      all_joined (requests_by now) (length now.holdings) (IsWithinPrices now.standing.prices) 0 (length now.holdings)
-      (λ bidder from lt. All-weaker (IsChangeOf setup.products now.standing.prices bidder)
-      (IsWithinPrices now.standing.prices)
-      (λ change is. record {
+  pub priced_requests : 2 ≤ now.public_state.round → All (IsWithinPrices now.public_state.prices) all_requests
+  priced_requests later = all_joined (requests_by now) (length now.holdings) (IsWithinPrices now.public_state.prices) 0
+      (length now.holdings) (λ bidder from lt. All-weaker (IsChangeOf setup.products now.public_state.prices bidder)
+      (IsWithinPrices now.public_state.prices) (λ change is. record {
         product = omega (arith, is.product, sound.priced.pairs);
         from_start = is.from_start;
         to_clock = is.to_clock;
@@ -112,12 +111,12 @@ module _ (setup : PublicSetup) (now : OpenRound) (sound : IsOpen setup now) wher
       (omega arith)
 
   -- The requests can be processed in any order.
-  pub can_settle : 2 ≤ now.standing.round → (list : List Change) → IsPermutation all_requests list →
+  pub can_settle : 2 ≤ now.public_state.round → (list : List Change) → IsPermutation all_requests list →
       CanSettle (new_board setup.products (eligibilities_of now) (grid_of now)) list
-  can_settle later list same = can_settle_all setup.products now.standing.prices (eligibilities_of now) (grid_of now)
-      (requests_by now) (length now.holdings) sound.few_bidders (length-map now.holdings _) (length-map now.holdings _)
-      (λ bidder lt. subst (λ (row : List ℕ). AreChangesOf setup.products now.standing.prices row bidder
-      (requests_by now bidder)) (sym (demands_at bidder lt)) (changes_at later bidder lt)) list same
+  can_settle later list same = can_settle_all setup.products now.public_state.prices (eligibilities_of now)
+      (grid_of now) (requests_by now) (length now.holdings) sound.few_bidders (length-map now.holdings _) (length-map
+      now.holdings _) (λ bidder lt. subst (λ (row : List ℕ). AreChangesOf setup.products now.public_state.prices row
+      bidder (requests_by now bidder)) (sym (demands_at bidder lt)) (changes_at later bidder lt)) list same
 
   before_board : IsBoard setup.products (eligibilities_of now) (grid_of now)
   before_board = record {
@@ -128,7 +127,7 @@ module _ (setup : PublicSetup) (now : OpenRound) (sound : IsOpen setup now) wher
   }
 
   -- After a later round, demands are within the eligibilities.
-  pub settled_within : 2 ≤ now.standing.round → (list : List Change) → IsPermutation all_requests list →
+  pub settled_within : 2 ≤ now.public_state.round → (list : List Change) → IsPermutation all_requests list →
       IsWithinEligibility setup.products (eligibilities_of now) (settlement setup.products now list).grid
   settled_within later list same = (settled_board (new_board setup.products (eligibilities_of now) (grid_of now)) list
       before_board (can_settle later list same)).within

@@ -24,7 +24,7 @@ use Rattle.clock_closing.specs.Faults.{fault_check}
 use Rattle.clock_closing.specs.ReportedFaults.{fault_from_post}
 use Rattle.clock_closing.specs.OpenRound.{OpenRound, OpenRoundFields}
 use Rattle.clock_closing.specs.Closing.{ClosedRound, RoundResult, round_result, closed_round, closing, slips_after}
-use Rattle.clock_closing.specs.Results.{demands_of}
+use Rattle.clock_closing.specs.Results.{result_demands}
 use Rattle.clock_closing.specs.Results.{AreConsistent}
 use Rattle.clock_closing.specs.inside.Postings.{AreResults, IsRoundOf, Posts, posted}
 use Rattle.clock_closing.proofs.Closings.{checks}
@@ -36,10 +36,10 @@ module _ (setup : PublicSetup) (now : OpenRound) (increments : Increments) (resu
       unless (first_fault (fault_check close_faults.PriceLimit limit)) (closed_round setup now increments result)
 
   -- The results that a posting and its bidder results make up.
-  module _ (posting : Posting) (results : Results) (is : IsPosting now.standing.round setup.products now.standing.prices
-      result.grid result.posted increments posting) (laws : IsConsistent posting)
+  module _ (posting : Posting) (results : Results) (is : IsPosting now.public_state.round setup.products
+      now.public_state.prices result.grid result.posted increments posting) (laws : IsConsistent posting)
       (sheet : results.closed.sheet ≡ posting.sheet) (next : results.next ≡ posting.next) (slips : results.closed.slips
-      ≡ slips_after setup now result.grid) (demands : results.demands ≡ demands_of results.closed.slips) where
+      ≡ slips_after setup now result.grid) (demands : results.demands ≡ result_demands results.closed.slips) where
     consistent : AreConsistent results
     consistent =
         let end : IsNone results.next ↔ IsTrue posting.sheet.ended =
@@ -65,22 +65,23 @@ module _ (setup : PublicSetup) (now : OpenRound) (increments : Increments) (resu
     }
 
   -- A refused posting refuses the closing for the same reason.
-  posts_told : (limit : Option ℕ) (fault : PostFault) → IsFirstFault post_faults.NoMemory (post_fault limit) fault →
+  posts_reported : (limit : Option ℕ) (fault : PostFault) → IsFirstFault post_faults.NoMemory (post_fault limit) fault →
       IsRefusal close_faults.NoMemory (by_limit limit) (fault_from_post fault)
-  posts_told None (post_faults.PriceLimit product) is = λ other. absurd (none-some _ (is (λ same. cc)))
-  posts_told (Some limit) (post_faults.PriceLimit product) is = λ other. let same : Some (post_faults.PriceLimit limit)
-      ≡ Some (post_faults.PriceLimit product) = is (λ same. cc) in cc
-  posts_told limit post_faults.NoMemory is = λ other. absurd (other refl)
+  posts_reported None (post_faults.PriceLimit product) is = λ other. absurd (none-some _ (is (λ same. cc)))
+  posts_reported (Some limit) (post_faults.PriceLimit product) is = λ other.
+      let same : Some (post_faults.PriceLimit limit) ≡ Some (post_faults.PriceLimit product) = is (λ same. cc) in cc
+  posts_reported limit post_faults.NoMemory is = λ other. absurd (other refl)
 
   pub posts-refused : (fault : PostFault) → IsFirstFault post_faults.NoMemory (post_fault
       (price_limit_fault setup.products result.grid result.posted increments)) fault → IsRefusal close_faults.NoMemory
       (by_limit (price_limit_fault setup.products result.grid result.posted increments)) (fault_from_post fault)
-  posts-refused fault is = posts_told (price_limit_fault setup.products result.grid result.posted increments) fault is
+  posts-refused fault is =
+      posts_reported (price_limit_fault setup.products result.grid result.posted increments) fault is
 
 -- A posting or a refusal, from what its call returned.
 pub posts_by : (round : OpenRoundFields) (increments : Increments) (result : RoundResult)
-    (posting : Result Posting PostFault) → IfOk posting (IsPosting round.before.standing.round round.setup.products
-    round.before.standing.prices result.grid result.posted increments) → IfOk posting IsConsistent
+    (posting : Result Posting PostFault) → IfOk posting (IsPosting round.before.public_state.round round.setup.products
+    round.before.public_state.prices result.grid result.posted increments) → IfOk posting IsConsistent
     → IfErr posting (IsFirstFault post_faults.NoMemory (post_fault (price_limit_fault round.setup.products result.grid
     result.posted increments))) → Posts round increments result posting
 posts_by round increments result (Ok one) is laws refused = (is, laws)
@@ -89,7 +90,7 @@ posts_by round increments result (Err fault) is laws refused = refused
 -- The results of a posting of these demands.
 module _ (round : OpenRoundFields) (demands : List (List ℕ)) (posting : Result Posting PostFault) where
   pub round-made : (one : Posting) (slips : List Slip) → posting ≡ Ok one → slips ≡ slips_after
-      (public_setup round.setup) round.before demands → demands ≡ demands_of slips → IsRoundOf round demands posting
+      (public_setup round.setup) round.before demands → demands ≡ result_demands slips → IsRoundOf round demands posting
       (Ok (record { closed = record { sheet = one.sheet; slips = slips }; next = one.next; demands = demands }))
   round-made one slips same slips_are demands_are = λ increments list is.
       let result : RoundResult = record { grid = demands; posted = list } in
@@ -100,36 +101,37 @@ module _ (round : OpenRoundFields) (demands : List (List ℕ)) (posting : Result
       slips_are demands_are
 
   -- If there is no posting, there are no results.
-  pub round-refused : (fault : PostFault) (told : CloseFault) → posting ≡ Err fault → told ≡ fault_from_post fault →
-      IsRoundOf round demands posting (Err told)
-  round-refused fault told same is_told = λ increments list is.
+  pub round-refused : (fault : PostFault) (reported : CloseFault) → posting ≡ Err fault
+      → reported ≡ fault_from_post fault → IsRoundOf round demands posting (Err reported)
+  round-refused fault reported same is_reported = λ increments list is.
       let result : RoundResult = record { grid = demands; posted = list } in
       subst (λ (one : CloseFault). IsRefusal close_faults.NoMemory (posted (public_setup round.setup) round.before
-      increments result) one) (sym is_told) (posts-refused (public_setup round.setup) round.before increments result
+      increments result) one) (sym is_reported) (posts-refused (public_setup round.setup) round.before increments result
       fault (subst (λ (posted : Result Posting PostFault). Posts round increments result posted) same is))
 
-  pub round-no_memory : (told : CloseFault) → told ≡ close_faults.NoMemory → IsRoundOf round demands posting (Err told)
-  round-no_memory told same = λ increments list is other. absurd (other same)
+  pub round-no_memory : (reported : CloseFault) → reported ≡ close_faults.NoMemory
+      → IsRoundOf round demands posting (Err reported)
+  round-no_memory reported same = λ increments list is other. absurd (other same)
 
 module _ (setup : PublicSetup) (now : OpenRound) (round : ℕ) (increments : Increments) (ties : List Tie) where
   abbrev by_tests : Bool → Bool → Bool → Option TieFault → Result ClosedRound CloseFault
-  by_tests ended current within tied = unless (first_fault (checks ended current within now.standing.round tied
+  by_tests ended current within tied = unless (first_fault (checks ended current within now.public_state.round tied
       (price_limit_fault setup.products (round_result setup.products now ties).grid (round_result setup.products now
       ties).posted increments))) (closed_round setup now increments (round_result setup.products now ties))
 
   -- A closing that has passed the checks before the tie-breaking numbers.
-  closes-tied : now.standing.ended ≡ false → round ≡ now.standing.round → are_increments (length setup.products)
+  closes-tied : now.public_state.ended ≡ false → round ≡ now.public_state.round → are_increments (length setup.products)
       increments ≡ true → (tied : Option TieFault) → tie_fault (length now.holdings) (length setup.products) ties ≡ tied
       → closing setup now round increments ties ≡ by_tests false true true tied
-  closes-tied going current within tied found =
-      ap (λ ended. by_tests ended (round == now.standing.round) (are_increments (length setup.products) increments)
-      (tie_fault (length now.holdings) (length setup.products) ties)) going ∙ ap (λ same. by_tests false same
-      (are_increments (length setup.products) increments) (tie_fault (length now.holdings)
-      (length setup.products) ties)) (eq-eqb round now.standing.round current) ∙ ap (λ good. by_tests false true good
-      (tie_fault (length now.holdings) (length setup.products) ties)) within ∙ ap (by_tests false true true) found
+  closes-tied going current within tied found = ap (λ ended. by_tests ended (round == now.public_state.round)
+      (are_increments (length setup.products) increments) (tie_fault (length now.holdings) (length setup.products)
+      ties)) going ∙ ap (λ same. by_tests false same (are_increments (length setup.products) increments)
+      (tie_fault (length now.holdings) (length setup.products) ties)) (eq-eqb round now.public_state.round current)
+      ∙ ap (λ good. by_tests false true good (tie_fault (length now.holdings) (length setup.products) ties)) within
+      ∙ ap (by_tests false true true) found
 
   -- A closing that has also passed the check of the tie-breaking numbers.
-  pub closes-fair : now.standing.ended ≡ false → round ≡ now.standing.round
+  pub closes-fair : now.public_state.ended ≡ false → round ≡ now.public_state.round
       → are_increments (length setup.products) increments ≡ true → tie_fault (length now.holdings)
       (length setup.products) ties ≡ None → closing setup now round increments ties ≡ by_tests false true true None
   closes-fair going current within fair = closes-tied going current within None fair

@@ -26,7 +26,7 @@ use Rattle.clock_posting.specs.PostedPrice.{posted_prices, IsWithinPrices}
 use Rattle.clock_posting.proofs.Ranges.{all_in_range}
 use Rattle.clock_posting.proofs.Laws.{lines_between, lines_show, opening_between, opening_dollars}
 use Rattle.clock_posting.proofs.Posted.{length-posted_prices, posted_between, posted_dollars, some_at_clock}
-use Rattle.clock_closing.specs.Standing.{Standing}
+use Rattle.clock_closing.specs.PublicState.{PublicState}
 use Rattle.clock_closing.specs.OpenRound.{OpenRound, HasSoundPrices, IsOpen}
 use Rattle.clock_closing.specs.inside.OpenRound.{eligibilities_of, grid_of}
 use Rattle.clock_closing.specs.Closing.{RoundResult, requests, first_result, later_result, round_result, settlement}
@@ -37,16 +37,16 @@ use Rattle.clock_closing.proofs.Sums.{sum_by-lt_sum_by, length-le-sum_by, sum_by
 use Rattle.std.proofs.lemmas.List.Sorted.{All-permutation}
 
 -- The result of round 1; below, that of a later round.
-pub result-first : (products : List Product) (now : OpenRound) (ties : List Tie) → now.standing.round ≡ 1 →
+pub result-first : (products : List Product) (now : OpenRound) (ties : List Tie) → now.public_state.round ≡ 1 →
     round_result products now ties ≡ first_result products now
 result-first products now ties e = ap (λ first. cond first (first_result products now)
-    (later_result products now (requests now ties))) (eq-eqb now.standing.round 1 e)
+    (later_result products now (requests now ties))) (eq-eqb now.public_state.round 1 e)
 
-pub result-later : (products : List Product) (now : OpenRound) (ties : List Tie) → 2 ≤ now.standing.round →
+pub result-later : (products : List Product) (now : OpenRound) (ties : List Tie) → 2 ≤ now.public_state.round →
     round_result products now ties ≡ later_result products now (requests now ties)
 result-later products now ties later =
     ap (λ first. cond first (first_result products now) (later_result products now (requests now ties)))
-    (ne_eqb now.standing.round 1 (λ e. omega (arith, e, later)))
+    (ne_eqb now.public_state.round 1 (λ e. omega (arith, e, later)))
 
 -- A round is the first or a later one.
 pub first_or_later : (round : ℕ) → 1 ≤ round → (round ≡ 1) ⊎ (2 ≤ round)
@@ -62,14 +62,14 @@ pub record ArePosted (products : List Product) (prices : List PricePair) (grid :
   pub between : All IsBetween (lines_of_round products prices grid posted increments)
 
 module _ (setup : PublicSetup) (now : OpenRound) (sound : IsOpen setup now) (ties : List Tie)
-    (first : 1 ≤ now.standing.round) where
+    (first : 1 ≤ now.public_state.round) where
   later_list : IsPermutation (all_requests setup now sound) (requests now ties)
   later_list = processing_permutes ties (all_requests setup now sound)
 
   -- Each bidder's demands are within its eligibility.
   pub result_within : IsWithinEligibility setup.products (eligibilities_of now)
       (round_result setup.products now ties).grid
-  result_within = elim (first_or_later now.standing.round first)
+  result_within = elim (first_or_later now.public_state.round first)
       as (λ _. IsWithinEligibility setup.products (eligibilities_of now) (round_result setup.products now ties).grid) [
         | inl one ↦ subst (λ (result : RoundResult). IsWithinEligibility setup.products (eligibilities_of now)
             result.grid) (sym (result-first setup.products now ties one)) (asked_within setup now sound one)
@@ -78,12 +78,12 @@ module _ (setup : PublicSetup) (now : OpenRound) (sound : IsOpen setup now) (tie
             (settled_within setup now sound later (requests now ties) later_list)
       ]
 
-  priced_list : 2 ≤ now.standing.round → All (IsWithinPrices now.standing.prices) (requests now ties)
-  priced_list later = All-permutation (IsWithinPrices now.standing.prices) (all_requests setup now sound)
+  priced_list : 2 ≤ now.public_state.round → All (IsWithinPrices now.public_state.prices) (requests now ties)
+  priced_list later = All-permutation (IsWithinPrices now.public_state.prices) (all_requests setup now sound)
       (requests now ties) later_list (priced_requests setup now sound later)
 
-  first_posted : (increments : Increments) → now.standing.prices ≡ opening_prices setup.products
-      → ArePosted setup.products now.standing.prices (first_result setup.products now).grid
+  first_posted : (increments : Increments) → now.public_state.prices ≡ opening_prices setup.products
+      → ArePosted setup.products now.public_state.prices (first_result setup.products now).grid
       (first_result setup.products now).posted increments
   first_posted increments opening = record {
     lengths = length-map setup.products _;
@@ -94,12 +94,12 @@ module _ (setup : PublicSetup) (now : OpenRound) (sound : IsOpen setup now) (tie
         setup.products) increments (opening_between setup.products (first_result setup.products now).grid increments));
   }
 
-  later_posted : (increments : Increments) → 2 ≤ now.standing.round →
-      ArePosted setup.products now.standing.prices (later_result setup.products now (requests now ties)).grid
+  later_posted : (increments : Increments) → 2 ≤ now.public_state.round →
+      ArePosted setup.products now.public_state.prices (later_result setup.products now (requests now ties)).grid
       (later_result setup.products now (requests now ties)).posted increments
   later_posted increments later =
       let end = settlement setup.products now (requests now ties) in
-      let prices = now.standing.prices in
+      let prices = now.public_state.prices in
       record {
         lengths = length-posted_prices setup.products prices (requests now ties) end.left end.grid;
         positive = posted_dollars setup.products prices (requests now ties) end.left end.grid sound.priced.pairs
@@ -110,34 +110,35 @@ module _ (setup : PublicSetup) (now : OpenRound) (sound : IsOpen setup now) (tie
       }
 
   -- The posted prices are in order.
-  pub result_posted : (increments : Increments) → (now.standing.round ≡ 1
-      → now.standing.prices ≡ opening_prices setup.products) → ArePosted setup.products now.standing.prices
+  pub result_posted : (increments : Increments) → (now.public_state.round ≡ 1
+      → now.public_state.prices ≡ opening_prices setup.products) → ArePosted setup.products now.public_state.prices
       (round_result setup.products now ties).grid (round_result setup.products now ties).posted increments
   result_posted increments opening =
-      elim (first_or_later now.standing.round first) as (λ _. ArePosted setup.products now.standing.prices
+      elim (first_or_later now.public_state.round first) as (λ _. ArePosted setup.products now.public_state.prices
       (round_result setup.products now ties).grid (round_result setup.products now ties).posted increments) [
         | inl one ↦
-            subst (λ (result : RoundResult). ArePosted setup.products now.standing.prices result.grid result.posted
+            subst (λ (result : RoundResult). ArePosted setup.products now.public_state.prices result.grid result.posted
             increments) (sym (result-first setup.products now ties one)) (first_posted increments (opening one))
-        | inr later ↦ subst (λ (result : RoundResult). ArePosted setup.products now.standing.prices result.grid
+        | inr later ↦ subst (λ (result : RoundResult). ArePosted setup.products now.public_state.prices result.grid
             result.posted increments) (sym (result-later setup.products now ties later)) (later_posted increments later)
       ]
 
   -- In a later round that does not end the auction, some price has risen to the clock price.
-  pub result_risen : (increments : Increments) → 2 ≤ now.standing.round → has_ended setup.products (round_result
-      setup.products now ties).grid ≡ false → Any IsAtClock (lines_of_round setup.products now.standing.prices
+  pub result_risen : (increments : Increments) → 2 ≤ now.public_state.round → has_ended setup.products (round_result
+      setup.products now ties).grid ≡ false → Any IsAtClock (lines_of_round setup.products now.public_state.prices
       (round_result setup.products now ties).grid (round_result setup.products now ties).posted increments)
   result_risen increments later going =
       let end = settlement setup.products now (requests now ties) in
       let same = result-later setup.products now ties later in
       subst (λ (result : RoundResult). Any IsAtClock
-      (lines_of_round setup.products now.standing.prices result.grid result.posted increments)) (sym same)
-      (some_at_clock setup.products now.standing.prices (requests now ties) end.left end.grid increments
+      (lines_of_round setup.products now.public_state.prices result.grid result.posted increments)) (sym same)
+      (some_at_clock setup.products now.public_state.prices (requests now ties) end.left end.grid increments
       (ap (λ (result : RoundResult). has_ended setup.products result.grid) (sym same) ∙ going))
 
   -- A product that was full before the round is full after it.
-  pub result_supplied : 2 ≤ now.standing.round → (product : ℕ) → supply_of setup.products product ≤ total_of (grid_of
-      now) product → supply_of setup.products product ≤ total_of (round_result setup.products now ties).grid product
+  pub result_supplied : 2 ≤ now.public_state.round → (product : ℕ)
+      → supply_of setup.products product ≤ total_of (grid_of now) product
+      → supply_of setup.products product ≤ total_of (round_result setup.products now ties).grid product
   result_supplied later product sold =
       omega (
         arith,
@@ -165,7 +166,7 @@ later_bound : (next now products sum more posted : ℕ) → next ≡ now + 1 →
 later_bound next now products sum more posted is bound same rises = omega (arith, is, bound, same, rises)
 
 -- The next prices of a round that does not end the auction.
-module _ (products : List Product) (now : Standing) (priced : HasSoundPrices products now) (grid : List (List ℕ))
+module _ (products : List Product) (now : PublicState) (priced : HasSoundPrices products now) (grid : List (List ℕ))
     (posted : List ℕ) (increments : Increments) (are : ArePosted products now.prices grid posted increments)
     (limits : All IsProduct products) (rise : AreIncrements (length products) increments)
     (going : has_ended products grid ≡ false) (possible : price_limit_fault products grid posted increments ≡ None)
@@ -253,19 +254,20 @@ module _ (products : List Product) (now : Standing) (priced : HasSoundPrices pro
       ]
 
   -- The next prices are in order.
-  pub priced_next : (standing : Standing) → standing.round ≡ now.round + 1 → standing.prices ≡ map next_pair
-      (lines_of_round products now.prices grid posted increments) → 1 ≤ now.round → HasSoundPrices products standing
-  priced_next standing number prices some =
+  pub priced_next : (public_state : PublicState) → public_state.round ≡ now.round + 1
+      → public_state.prices ≡ map next_pair (lines_of_round products now.prices grid posted increments) → 1 ≤ now.round
+      → HasSoundPrices products public_state
+  priced_next public_state number prices some =
       let P = λ (list : List PricePair). HasSoundPrices products
-      (record { ended = standing.ended; round = standing.round; prices = list }) in
+      (record { ended = public_state.ended; round = public_state.round; prices = list }) in
       subst P (sym prices)
       (record {
-        numbered = from_one standing.round now.round number;
+        numbered = from_one public_state.round now.round number;
         pairs = long_lines;
         ordered = All-weaker IsRising IsPriceRange rising_range
             (map next_pair (lines_of_round products now.prices grid posted increments)) rising;
         positive = next_some;
         highest = next_highest;
         rising = λ _. rising;
-        bounded = λ _. bounded_next standing.round number some;
+        bounded = λ _. bounded_next public_state.round number some;
       })

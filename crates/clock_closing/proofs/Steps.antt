@@ -30,14 +30,15 @@ module _ (round : OpenRoundFields) (is : IsOpenRound round) where
 
     -- Each bid in force is for a product of the set-up.
     pub known_bids : All (λ bid. bid.product < length round.setup.products) (bids_at round.before.sheets bidder)
-    known_bids = (good_sheet_chains (public_setup round.setup) round.before.standing.round round.before.standing.prices
-        (holding_at round.before.holdings bidder) (bids_at round.before.sheets bidder)
+    known_bids = (good_sheet_chains (public_setup round.setup) round.before.public_state.round
+        round.before.public_state.prices (holding_at round.before.holdings bidder) (bids_at round.before.sheets bidder)
         (is.sound.good bidder in_range)).known
 
     -- The requested demands of a sheet are a row: one for each product, within the caps.
     pub asked_row : IsRow round.setup.products
         (asked_demands (length round.setup.products) (bids_at round.before.sheets bidder))
-    asked_row = good_sheet_row (public_setup round.setup) round.before.standing.round round.before.standing.prices
+    asked_row =
+        good_sheet_row (public_setup round.setup) round.before.public_state.round round.before.public_state.prices
         (holding_at round.before.holdings bidder) (bids_at round.before.sheets bidder) (is.sound.good bidder in_range)
 
   -- Demands within the eligibilities are a grid.
@@ -49,20 +50,20 @@ module _ (round : OpenRoundFields) (is : IsOpenRound round) where
   )
 
   -- With allowed increments and tie-breaking numbers without a fault, the result of the closing is that of the posting.
-  pub closes-good : (increments : Increments) (ties : List Tie) → round.before.standing.ended ≡ false →
+  pub closes-good : (increments : Increments) (ties : List Tie) → round.before.public_state.ended ≡ false →
       are_increments (length round.setup.products) increments ≡ true →
       tie_fault (length round.setup.bidders) (length round.setup.products) ties ≡ None →
-      closing (public_setup round.setup) round.before round.before.standing.round increments ties
+      closing (public_setup round.setup) round.before round.before.public_state.round increments ties
       ≡ posted_now round increments ties
   closes-good increments ties going within fair =
-      closes-fair (public_setup round.setup) round.before round.before.standing.round increments ties going refl within
-      (ap (λ (n : ℕ). tie_fault n (length round.setup.products) ties) is.holdings ∙ fair)
+      closes-fair (public_setup round.setup) round.before round.before.public_state.round increments ties going refl
+      within (ap (λ (n : ℕ). tie_fault n (length round.setup.products) ties) is.holdings ∙ fair)
 
   -- So it is if the checks use equal parts of the set-up.
   pub closes-tested : (setup : SetupFields) (listed : List Product) (increments : Increments) (ties : List Tie)
-      → round.before.standing.ended ≡ false → setup ≡ round.setup → listed ≡ setup.products
+      → round.before.public_state.ended ≡ false → setup ≡ round.setup → listed ≡ setup.products
       → are_increments (length listed) increments ≡ true → tie_fault (length setup.bidders) (length setup.products) ties
-      ≡ None → closing (public_setup round.setup) round.before round.before.standing.round increments ties
+      ≡ None → closing (public_setup round.setup) round.before round.before.public_state.round increments ties
       ≡ posted_now round increments ties
   closes-tested setup listed increments ties going same read within fair =
       closes-good increments ties going (subst (λ (list : List Product). are_increments (length list) increments ≡ true)

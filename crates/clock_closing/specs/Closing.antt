@@ -39,7 +39,7 @@ asked_grid products now =
 
 -- The requests that a bidder's sheet in force makes.
 abbrev pub requests_by : OpenRound → ℕ → List Change
-requests_by now bidder = changes_of_sheet now.standing.prices
+requests_by now bidder = changes_of_sheet now.public_state.prices
     (holding_at now.holdings bidder).demands bidder (bids_at now.sheets bidder)
 
 -- All bidders' requests, in the order of processing.
@@ -65,13 +65,13 @@ first_result products now =
 abbrev pub later_result : List Product → OpenRound → List Change → RoundResult
 later_result products now changes = record {
   grid = (settlement products now changes).grid;
-  posted = posted_prices products now.standing.prices changes (settlement products now changes).left
-      (settlement products now changes).grid;
+  posted = posted_prices products now.public_state.prices changes
+      (settlement products now changes).left (settlement products now changes).grid;
 }
 
 -- The processed demands and posted prices of the round.
 abbrev pub round_result : List Product → OpenRound → List Tie → RoundResult
-round_result products now ties = if now.standing.round == 1 then first_result products now
+round_result products now ties = if now.public_state.round == 1 then first_result products now
     else later_result products now (requests now ties)
 
 -- A bidder's results of a round: its processed activity, next eligibility, and processed demands.
@@ -85,13 +85,13 @@ slip_after setup round eligibility demands = record {
 
 -- The bidder results of all bidders, from the processed demands.
 abbrev pub slips_after : PublicSetup → OpenRound → List (List ℕ) → List Slip
-slips_after setup now grid = map (λ bidder. slip_after setup now.standing.round
+slips_after setup now grid = map (λ bidder. slip_after setup now.public_state.round
     (holding_at now.holdings bidder).eligibility (row_of grid bidder)) (bidder_numbers now)
 
 -- The round results and bidder results of a round.
 abbrev pub closed_round : PublicSetup → OpenRound → Increments → RoundResult → ClosedRound
 closed_round setup now increments result = record {
-  sheet = round_sheet now.standing.round setup.products now.standing.prices result.grid
+  sheet = round_sheet now.public_state.round setup.products now.public_state.prices result.grid
       result.posted increments;
   slips = slips_after setup now result.grid;
 }
@@ -100,8 +100,8 @@ closed_round setup now increments result = record {
 abbrev pub closing : PublicSetup → OpenRound → ℕ → Increments → List Tie
     → Result ClosedRound CloseFault
 closing setup now round increments ties = let result = round_result setup.products now ties in
-    unless (first_fault ((close_faults.Ended, not now.standing.ended)
-    ∷ (close_faults.WrongRound now.standing.round, round == now.standing.round)
+    unless (first_fault ((close_faults.Ended, not now.public_state.ended)
+    ∷ (close_faults.WrongRound now.public_state.round, round == now.public_state.round)
     ∷ (close_faults.Increment, are_increments (length setup.products) increments)
     ∷ fault_check close_faults.Tie (tie_fault (length now.holdings) (length setup.products) ties)
     ++ fault_check close_faults.PriceLimit (price_limit_fault setup.products result.grid
@@ -109,5 +109,5 @@ closing setup now round increments ties = let result = round_result setup.produc
 
 -- The round that a closing of the current round adds, or its first fault.
 abbrev pub closing_now : OpenRoundFields → Increments → List Tie → Result ClosedRound CloseFault
-closing_now round increments ties =
-    closing (public_setup round.setup) round.before round.before.standing.round increments ties
+closing_now fields increments ties = closing
+    (public_setup fields.setup) fields.before fields.before.public_state.round increments ties

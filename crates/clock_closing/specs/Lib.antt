@@ -1,4 +1,4 @@
-pub mod Standing
+pub mod PublicState
 pub mod Holdings
 pub mod Faults
 pub mod OpenRound

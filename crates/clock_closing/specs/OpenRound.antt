@@ -19,12 +19,12 @@ use Rattle.clock_terms.specs.Eligibility.{activity}
 use Rattle.clock_bids.specs.declared.sheet.Bid.{Bid}
 use Rattle.clock_bids.specs.Sheet.{IsGoodSheet}
 use Rattle.clock_posting.specs.Posting.{IsRising}
-use Rattle.clock_closing.specs.Standing.{Standing}
+use Rattle.clock_closing.specs.PublicState.{PublicState}
 use Rattle.clock_closing.specs.Holdings.{Holding, holdings_of}
 
 -- The state of the auction, what each bidder has, and the sheets in force.
 pub record OpenRound : Type 0 where
-  pub standing : Standing
+  pub public_state : PublicState
   pub holdings : List Holding
   pub sheets : List (Option (List Bid))
 
@@ -49,7 +49,7 @@ pub record IsWithinLimits (products : List Product) (holding : Holding) : Type 0
 
 -- Prices are ordered, from one dollar to the highest price. From round 2 the clock price is higher,
 -- and each closed round from the second has raised the sum of the start-of-round prices.
-pub record HasSoundPrices (products : List Product) (now : Standing) : Type 0 where
+pub record HasSoundPrices (products : List Product) (now : PublicState) : Type 0 where
   pub numbered : 1 ≤ now.round
   pub pairs : length now.prices ≡ length products
   pub ordered : All (λ pair. pair.start ≤ pair.clock) now.prices
@@ -67,9 +67,9 @@ pub record IsOpen (setup : PublicSetup) (now : OpenRound) : Type 0 where
   pub few_bidders : length now.holdings ≤ most_bidders
   pub within : (bidder : ℕ) → bidder < length now.holdings
       → IsWithinLimits setup.products (holding_at now.holdings bidder)
-  pub priced : HasSoundPrices setup.products now.standing
-  pub good : (bidder : ℕ) → bidder < length now.holdings → IsGoodSheet setup now.standing.round
-      now.standing.prices (holding_at now.holdings bidder) (bids_at now.sheets bidder)
+  pub priced : HasSoundPrices setup.products now.public_state
+  pub good : (bidder : ℕ) → bidder < length now.holdings → IsGoodSheet setup now.public_state.round
+      now.public_state.prices (holding_at now.holdings bidder) (bids_at now.sheets bidder)
 
 -- In contracts, an open round is a set-up, and the input of its closing.
 pub record OpenRoundFields : Type 0 where
@@ -83,7 +83,7 @@ abbrev pub open_at : SetupFields → ℕ → List PricePair → List ℕ → Lis
 open_at setup round prices eligibilities demands sheets = record {
   setup = setup;
   before = record {
-    standing = record { ended = false; round = round; prices = prices };
+    public_state = record { ended = false; round = round; prices = prices };
     holdings = holdings_of eligibilities demands;
     sheets = sheets;
   };
@@ -95,5 +95,5 @@ pub record IsOpenRound (round : OpenRoundFields) : Type 0 where
   pub holdings : length round.before.holdings ≡ length round.setup.bidders
   pub sheets : length round.before.sheets ≡ length round.setup.bidders
   pub sound : IsOpen (public_setup round.setup) round.before
-  pub opening : round.before.standing.round ≡ 1
-      → round.before.standing.prices ≡ opening_prices round.setup.products
+  pub opening : round.before.public_state.round ≡ 1
+      → round.before.public_state.prices ≡ opening_prices round.setup.products

@@ -34,7 +34,7 @@ pub enum CloseFault {
 }
 
 impl From<NoMemory> for CloseFault {
-    ghost from_gives = { λ _ told. told ≡ close_faults.NoMemory };
+    ghost from_gives = { λ _ reported. reported ≡ close_faults.NoMemory };
 
     fn from(_none: NoMemory) -> CloseFault {
         CloseFault::NoMemory
@@ -42,7 +42,7 @@ impl From<NoMemory> for CloseFault {
 }
 
 impl From<TieFault> for CloseFault {
-    ghost from_gives = { λ fault told. told ≡ fault_from_tie fault };
+    ghost from_gives = { λ fault reported. reported ≡ fault_from_tie fault };
 
     fn from(fault: TieFault) -> CloseFault {
         match fault {
@@ -53,7 +53,7 @@ impl From<TieFault> for CloseFault {
 }
 
 impl From<PostFault> for CloseFault {
-    ghost from_gives = { λ fault told. told ≡ fault_from_post fault };
+    ghost from_gives = { λ fault reported. reported ≡ fault_from_post fault };
 
     fn from(fault: PostFault) -> CloseFault {
         match fault {

@@ -6,7 +6,7 @@ ghost use Rattle.clock_bids.specs.Holding.{holding_of};
 ghost use Rattle.clock_order.specs.declared.ties.TieFault.TheVariants as tie_faults;
 ghost use Rattle.clock_processor.specs.Board.{IsWithinEligibility};
 ghost use Rattle.clock_closing.specs.OpenRound.{IsOpenRound, OpenRoundFields, holding_at, open_at};
-ghost use Rattle.clock_closing.specs.{Prepared.{Answers}, Results.{demands_of}};
+ghost use Rattle.clock_closing.specs.{Prepared.{Answers}, Results.{result_demands}};
 ghost use Rattle.clock_closing.specs.inside.OpenRound.{eligibilities_of, grid_of};
 ghost use Rattle.clock_closing.specs.inside.Postings.{AreRequests, ComesTo, IsRoundOf, posted_now};
 ghost use Rattle.clock_closing.specs.Closing as rules;
@@ -75,7 +75,8 @@ impl<'a> OpenRound<'a> {
         ties: &[Tie],
         old: &mut Option<Grid>,
     ) -> Result<Prepared, CloseFault>
-        ensures asked { IfOk result (λ prepared. (prepared.round ≡ self.now.before.standing.round)
+        ensures asked { IfOk result
+            (λ prepared. (prepared.round ≡ self.now.before.public_state.round)
             × (prepared.increments ≡ increments.now) × (prepared.ties ≡ ties.now)) }
         ensures answer { Answers (rules.closing_now self.now increments.now ties.now) result }
         ensures memory { result ≢ Err (CloseFault.Tie tie_faults.NoMemory) }
@@ -143,7 +144,7 @@ impl<'a> OpenRound<'a> {
 
     /// All bidders' requests, in the order of processing. Requires round 2 or later.
     fn requests(&self, alloc: Global, ties: &Ties) -> Result<Changes, NoMemory>
-        requires { 2 ≤ self.now.before.standing.round }
+        requires { 2 ≤ self.now.before.public_state.round }
         ensures ordered { IfOk result (λ list. list ≡ rules.requests self.now.before ties.now) }
         ensures all { IfOk result (AreRequests self.now.before) }
     {
@@ -171,7 +172,7 @@ impl<'a> OpenRound<'a> {
         requests: &Changes,
         old: &mut Option<Grid>,
     ) -> Result<Settled, NoMemory>
-        requires later { 2 ≤ self.now.before.standing.round }
+        requires later { 2 ≤ self.now.before.public_state.round }
         requires requests { AreRequests self.now.before requests.now }
         ensures grid { IfOk result (λ settled. settled.grid ≡
             (rules.settlement self.now.setup.products self.now.before requests.now).grid) }
@@ -221,7 +222,7 @@ impl<'a> OpenRound<'a> {
             (eligibilities_of self.now.before) demands.now }
         ensures slips { IfOk result (λ slips. slips ≡
             rules.slips_after (public_setup self.now.setup) self.now.before demands.now) }
-        ensures demands { IfOk result (λ slips. demands.now ≡ demands_of slips) }
+        ensures demands { IfOk result (λ slips. demands.now ≡ result_demands slips) }
     {
         let mut slips = Vec::with_capacity(alloc, self.bidders() as usize)?;
         for bidder in 0..self.bidders() {
@@ -238,7 +239,7 @@ impl<'a> OpenRound<'a> {
         requires within { activity self.now.setup.products demands.now ≤
             (holding_at self.now.before.holdings bidder).eligibility }
         ensures { IfOk result (λ slip. slip
-            ≡ rules.slip_after (public_setup self.now.setup) self.now.before.standing.round
+            ≡ rules.slip_after (public_setup self.now.setup) self.now.before.public_state.round
             (holding_at self.now.before.holdings bidder).eligibility demands.now) }
     {
         let setup = self.setup;
@@ -248,14 +249,14 @@ impl<'a> OpenRound<'a> {
             round: self.round,
             activity: used,
             eligibility: next_eligibility(held, used, setup.requirement),
-            demands: demands.kept(alloc)?,
+            demands: demands.packed(alloc)?,
         })
     }
 
     /// A bidder's eligibility and demands before the round. Requires a bidder of the set-up.
     fn own(&self, bidder: u32) -> Own<'a>
         requires { bidder < length self.now.setup.bidders }
-        ensures round { result.round ≡ self.now.before.standing.round }
+        ensures round { result.round ≡ self.now.before.public_state.round }
         ensures held { holding_of result ≡ holding_at self.now.before.holdings bidder }
     {
         Own {

@@ -3,7 +3,7 @@ use Rattle.std.proofs.Common.{◌≡◌, ℕ, ◌+◌, ◌≤◌, false, true, L
 use Rattle.std.proofs.lemmas.List.{append-nil, length-append}
 use Rattle.clock_device.specs.Streams.{HasRead}
 use Rattle.clock_device.proofs.Streams.{read_twice}
-use Rattle.clock_device.specs.Told.{Reading, SourceReport}
+use Rattle.clock_device.specs.Reports.{Reading, SourceReport}
 use Rattle.clock_commands.specs.Input.{IsReadingOf, Takes, most_bytes}
 use Rattle.clock_commands.specs.declared.fault.Fault.TheVariants as fault
 

@@ -1,6 +1,6 @@
 -- Each way in which a run can stop is one of the endings. By cases on the fault.
 use Rattle.std.proofs.Common.{◌≡◌, [], Option, Some, Err, refl, arith}
-use Rattle.clock_device.specs.Told.{IsUnread, IsUnused, Reading, SinkReport, SourceReport, Writing}
+use Rattle.clock_device.specs.Reports.{IsUnread, IsUnused, Reading, SinkReport, SourceReport, Writing}
 use Rattle.clock_device.specs.Writings.{WritesNothing}
 use Rattle.clock_commands.specs.Input.{IsReadingOf}
 use Rattle.clock_commands.specs.Run.{ComesTo, IsRunOf, Shows, stopped}
@@ -11,16 +11,19 @@ use Rattle.clock_commands.specs.declared.fault.Fault.TheVariants as fault
 use Rattle.clock_device.proofs.Streams.{read_nothing, same_bytes}
 
 -- a sink without a call is unchanged
-pub untouched : (told : SinkReport) → IsUnused told → WritesNothing (record { before = told; after = told })
-untouched told unused = record { unused = unused; bytes = same_bytes told.taken }
+pub untouched : (report : SinkReport) → IsUnused report → WritesNothing (record { before = report; after = report })
+untouched report unused = record { unused = unused; bytes = same_bytes report.taken }
 
 -- nothing was read, because memory was refused
-pub unread_for_memory : (told : SourceReport) → IsUnread told
-    → IsReadingOf (record { before = told; after = told }) (Err fault.Memory)
-unread_for_memory told unused = (
+pub unread_for_memory : (report : SourceReport) → IsUnread report
+    → IsReadingOf (record { before = report; after = report }) (Err fault.Memory)
+unread_for_memory report unused = (
   [],
   (
-    record { read = read_nothing told.left told.left (same_bytes told.left); used = omega (arith, unused.uncounted) },
+    record {
+      read = read_nothing report.left report.left (same_bytes report.left);
+      used = omega (arith, unused.uncounted);
+    },
     omega arith,
   ),
   unused.unfailed,

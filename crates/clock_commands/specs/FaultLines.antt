@@ -18,7 +18,7 @@ use Rattle.clock_journal.specs.declared.recovery.JournalFault.{JournalFault}
 use Rattle.clock_journal.specs.declared.recovery.JournalFault.TheVariants as in_journal
 use Rattle.clock_serving.specs.declared.serving.ServeFault.{ServeFault}
 use Rattle.clock_serving.specs.declared.serving.ServeFault.TheVariants as in_serving
-use Rattle.clock_http.specs.Codes.{text_of}
+use Rattle.clock_http.specs.Codes.{code_text}
 use Rattle.clock_commands.specs.declared.fault.Fault.{Fault}
 use Rattle.clock_commands.specs.declared.fault.Fault.TheVariants as fault
 
@@ -73,9 +73,9 @@ script_words in_script.NoMemory = codes "memory"
 -- a refused sheet or closing has the code of its reply
 abbrev pub simulation_words : SimFault → List ℕ
 simulation_words (in_simulation.Refused bidder round code) = codes "refused " ++ decimal bidder
-    ++ (codes " " ++ decimal round) ++ (codes " " ++ text_of code)
+    ++ (codes " " ++ decimal round) ++ (codes " " ++ code_text code)
 simulation_words (in_simulation.Closing round code) =
-    codes "closing " ++ decimal round ++ (codes " " ++ text_of code)
+    codes "closing " ++ decimal round ++ (codes " " ++ code_text code)
 simulation_words in_simulation.ClosingsSpent = codes "closings_spent"
 simulation_words in_simulation.NoMemory = codes "memory"
 

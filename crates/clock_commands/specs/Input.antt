@@ -7,7 +7,7 @@
 use Rattle.std.specs.Prelude.{◌≡◌, ◌≤◌, ◌⊎◌, ◌+◌, ℕ, List, length, false, Result, Ok, Err}
 use Rattle.clock_device.specs.Streams.{HasRead, IsReadOut}
 use Rattle.clock_device.specs.Readings.{HasFailedRead, RunsOutOfReads}
-use Rattle.clock_device.specs.Told.{Reading}
+use Rattle.clock_device.specs.Reports.{Reading}
 use Rattle.clock_commands.specs.declared.fault.Fault.{Fault}
 use Rattle.clock_commands.specs.declared.fault.Fault.TheVariants as fault
 

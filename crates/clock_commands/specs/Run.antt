@@ -6,7 +6,7 @@
 --     ComesTo job reading output shown status     a run with this exit status ends so
 use Rattle.std.specs.Prelude.{◌≡◌, ◌⊎◌, ℕ, List, Option, Some, None, Result, Ok, Err, false}
 use Rattle.std.specs.Io.KnownBytes.{Keeps}
-use Rattle.clock_device.specs.Told.{Reading, Writing}
+use Rattle.clock_device.specs.Reports.{Reading, Writing}
 use Rattle.clock_device.specs.Writings.{WritesFront, WritesNothing, WritesWhole}
 use Rattle.clock_commands.specs.Input.{IsReadingOf, ReadsWhole}
 use Rattle.clock_commands.specs.Answers.{answer_to}
@@ -43,10 +43,10 @@ pub data RunEnding : Type 0 where
   refused : RunEnding
 
 -- the exit status
-abbrev pub status_of : RunEnding → ℕ
-status_of printed = 0
-status_of (stopped cause) = 1
-status_of refused = 2
+abbrev pub exit_status : RunEnding → ℕ
+exit_status printed = 0
+exit_status (stopped cause) = 1
+exit_status refused = 2
 
 -- the text was written to the stream for faults, or a prefix of it if a write failed
 abbrev pub Shows : Writing → List ℕ → Type 0
@@ -77,5 +77,5 @@ HasEnding asked reading output shown refused =
 
 -- the run ends in one of these ways, and its exit status says which
 abbrev pub ComesTo : Option Job → Reading → Writing → Writing → ℕ → Type 0
-ComesTo asked reading output shown status =
-    (ending : RunEnding) × (status ≡ status_of ending) × HasEnding asked reading output shown ending
+ComesTo asked reading output shown status = (ending : RunEnding) × (status ≡ exit_status ending)
+    × HasEnding asked reading output shown ending

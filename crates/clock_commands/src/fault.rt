@@ -132,10 +132,10 @@ macro_rules! words {
 /// Writes the line of a fault: `fault: WORDS` and a line feed, or a prefix of it if a write fails.
 /// Allocates nothing.
 pub fn write_fault<W: Sink>(sink: &mut W, fault: Fault) -> Result<(), Failed>
-    ensures bytes { WritesText (W.told sink.old).taken (W.told sink.new).taken
+    ensures bytes { WritesText (W.report sink.old).taken (W.report sink.new).taken
         (fault_line fault) result }
-    ensures failed { (W.told sink.new).has_failed
-        ≡ ((W.told sink.old).has_failed || is_err result) }
+    ensures failed { (W.report sink.new).has_failed
+        ≡ ((W.report sink.old).has_failed || is_err result) }
 {
     let words = words_of(fault);
     write_all(sink, b"fault: ")?;
@@ -148,10 +148,10 @@ pub fn write_fault<W: Sink>(sink: &mut W, fault: Fault) -> Result<(), Failed>
 
 /// Writes a space and a number, if there is one.
 fn write_spaced_number<W: Sink>(sink: &mut W, number: Option<u64>) -> Result<(), Failed>
-    ensures bytes { WritesText (W.told sink.old).taken (W.told sink.new).taken
+    ensures bytes { WritesText (W.report sink.old).taken (W.report sink.new).taken
         (spaced_number number) result }
-    ensures failed { (W.told sink.new).has_failed
-        ≡ ((W.told sink.old).has_failed || is_err result) }
+    ensures failed { (W.report sink.new).has_failed
+        ≡ ((W.report sink.old).has_failed || is_err result) }
 {
     let Some(number) = number else {
         return Ok(());
@@ -162,10 +162,10 @@ fn write_spaced_number<W: Sink>(sink: &mut W, number: Option<u64>) -> Result<(),
 
 /// Writes a space and a code, if there is one.
 fn write_spaced_code<W: Sink>(sink: &mut W, code: Option<Code>) -> Result<(), Failed>
-    ensures bytes { WritesText (W.told sink.old).taken (W.told sink.new).taken
+    ensures bytes { WritesText (W.report sink.old).taken (W.report sink.new).taken
         (spaced_code code) result }
-    ensures failed { (W.told sink.new).has_failed
-        ≡ ((W.told sink.old).has_failed || is_err result) }
+    ensures failed { (W.report sink.new).has_failed
+        ≡ ((W.report sink.old).has_failed || is_err result) }
 {
     let Some(code) = code else {
         return Ok(());

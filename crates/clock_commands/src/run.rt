@@ -1,6 +1,6 @@
 ghost use Rattle.std.specs.Prelude.{◌≢◌, ◌≤◌, ℕ, List, IfOk, IfSome, map};
 ghost use Rattle.clap.specs.Words.{kind_of};
-ghost use Rattle.clock_device.specs.Told.{IsUnread, IsUnused};
+ghost use Rattle.clock_device.specs.Reports.{IsUnread, IsUnused};
 ghost use Rattle.clock_words.specs.Words.{IsAsked, IsJob, IsParsing, job_of};
 ghost use Rattle.clock_commands.specs.FaultLines.{fault_line};
 ghost use Rattle.clock_commands.specs.Input.{most_document_reads, IsReadingOf};
@@ -38,14 +38,14 @@ pub fn command<R: Source, W: Sink, F: Sink>(
     writer: &mut W,
     faults: &mut F,
 ) -> u8
-    requires unread { IsUnread (R.told reader.old) }
-    requires unwritten { IsUnused (W.told writer.old) }
-    requires unshown { IsUnused (F.told faults.old) }
+    requires unread { IsUnread (R.report reader.old) }
+    requires unwritten { IsUnused (W.report writer.old) }
+    requires unshown { IsUnused (F.report faults.old) }
     ensures ending { ComesTo (job_of (map (λ word. word.now) words.entry.now))
-        (record { before = R.told reader.old; after = R.told reader.new })
-        (record { before = W.told writer.old; after = W.told writer.new })
-        (record { before = F.told faults.old; after = F.told faults.new }) result }
-    ensures reads { (R.told reader.new).calls ≤ most_document_reads }
+        (record { before = R.report reader.old; after = R.report reader.new })
+        (record { before = W.report writer.old; after = W.report writer.new })
+        (record { before = F.report faults.old; after = F.report faults.new }) result }
+    ensures reads { (R.report reader.new).calls ≤ most_document_reads }
 {
     parsed_command(alloc, read_words(alloc, words), reader, writer, faults)
 }
@@ -59,14 +59,14 @@ pub fn parsed_command<R: Source, W: Sink, F: Sink>(
     faults: &mut F,
 ) -> u8
     requires limits { IfOk parsed (λ asked. IfSome asked IsAsked) }
-    requires unread { IsUnread (R.told reader.old) }
-    requires unwritten { IsUnused (W.told writer.old) }
-    requires unshown { IsUnused (F.told faults.old) }
+    requires unread { IsUnread (R.report reader.old) }
+    requires unwritten { IsUnused (W.report writer.old) }
+    requires unshown { IsUnused (F.report faults.old) }
     ensures ending { (words : List (List ℕ)) → IsParsing words parsed.entry → ComesTo (job_of words)
-        (record { before = R.told reader.old; after = R.told reader.new })
-        (record { before = W.told writer.old; after = W.told writer.new })
-        (record { before = F.told faults.old; after = F.told faults.new }) result }
-    ensures reads { (R.told reader.new).calls ≤ most_document_reads }
+        (record { before = R.report reader.old; after = R.report reader.new })
+        (record { before = W.report writer.old; after = W.report writer.new })
+        (record { before = F.report faults.old; after = F.report faults.new }) result }
+    ensures reads { (R.report reader.new).calls ≤ most_document_reads }
 {
     match parsed {
         Ok(Some(Asked::Job(job))) => match run(alloc, job, reader, writer) {
@@ -112,11 +112,11 @@ fn run<R: Source, W: Sink>(
     writer: &mut W,
 ) -> Result<(), Fault>
     requires job { IsJob job }
-    requires unread { IsUnread (R.told reader.old) }
-    requires unwritten { IsUnused (W.told writer.old) }
-    ensures run { IsRunOf job (record { before = R.told reader.old; after = R.told reader.new })
-        (record { before = W.told writer.old; after = W.told writer.new }) result }
-    ensures reads { (R.told reader.new).calls ≤ most_document_reads }
+    requires unread { IsUnread (R.report reader.old) }
+    requires unwritten { IsUnused (W.report writer.old) }
+    ensures run { IsRunOf job (record { before = R.report reader.old; after = R.report reader.new })
+        (record { before = W.report writer.old; after = W.report writer.new }) result }
+    ensures reads { (R.report reader.new).calls ≤ most_document_reads }
 {
     let document = read_all(alloc, reader)?;
     let text = answer(alloc, job, document)?;
@@ -135,10 +135,10 @@ const PIECE: usize = 65_536;
 /// Reads the whole input. Retries interrupted reads. Errors: `Input` if a read failed or too many
 /// were made, `LongInput` if there are more than 67,108,864 bytes. May return `Memory`.
 pub fn read_all<R: Source>(alloc: Global, reader: &mut R) -> Result<Text, Fault>
-    requires { IsUnread (R.told reader.old) }
+    requires { IsUnread (R.report reader.old) }
     ensures reading { IsReadingOf
-        (record { before = R.told reader.old; after = R.told reader.new }) result }
-    ensures calls { (R.told reader.new).calls ≤ most_document_reads }
+        (record { before = R.report reader.old; after = R.report reader.new }) result }
+    ensures calls { (R.report reader.new).calls ≤ most_document_reads }
 {
     let mut piece = room_for_read(alloc, PIECE)?;
     let mut document = Text::new(alloc);
@@ -164,8 +164,8 @@ pub fn read_all<R: Source>(alloc: Global, reader: &mut R) -> Result<Text, Fault>
 
 /// Writes the line of a fault, or a prefix of it if a write fails.
 pub fn show_fault<F: Sink>(fault: Fault, faults: &mut F)
-    requires { IsUnused (F.told faults.old) }
-    ensures { Shows (record { before = F.told faults.old; after = F.told faults.new })
+    requires { IsUnused (F.report faults.old) }
+    ensures { Shows (record { before = F.report faults.old; after = F.report faults.new })
         (fault_line fault) }
 {
     let _ = write_fault(faults, fault);

@@ -3,8 +3,8 @@ use Rattle.std.proofs.Common.{◌≡◌, ℕ, ◌+◌, ◌≤◌, true, false, �
 use Rattle.clock_device.specs.Streams.{HasRead}
 use Rattle.clock_device.proofs.Streams.{read_nothing, read_twice, same_bytes}
 use Rattle.clock_http.specs.Framing.{framing, needs_more}
-use Rattle.clock_device.specs.Told.{IsUnread, Reading, SourceReport}
-use Rattle.clock_connections.specs.Arrivals.{IsReadByNeed, HasNoRoom}
+use Rattle.clock_device.specs.Reports.{IsUnread, Reading, SourceReport}
+use Rattle.clock_connections.specs.Arrivals.{IsReadByNeed, HasNoMemory}
 
 pub nothing_needs_more : needs_more [] ≡ true
 unfolding framing
@@ -14,11 +14,12 @@ pub nothing_read : (bytes : Option (List ℕ)) → HasRead bytes bytes []
 nothing_read bytes = read_nothing bytes bytes (same_bytes bytes)
 
 -- memory was refused before any read
-pub no_room_at_first : (told : SourceReport) → IsUnread told → HasNoRoom (record { before = told; after = told })
-no_room_at_first told none = (
+pub no_room_at_first : (report : SourceReport) → IsUnread report
+    → HasNoMemory (record { before = report; after = report })
+no_room_at_first report none = (
   [],
   [],
-  record { read = nothing_read told.left; needed = nothing_needs_more; used = omega (arith, none.uncounted) },
+  record { read = nothing_read report.left; needed = nothing_needs_more; used = omega (arith, none.uncounted) },
   none.unfailed,
 )
 
@@ -37,5 +38,5 @@ module _ (reading : Reading) (mid : SourceReport) (front : List ℕ)
 
   -- memory for them was refused
   pub no_room : (last : List ℕ) → HasRead mid.left reading.after.left last
-      → reading.after.has_failed ≡ (mid.has_failed || false) → HasNoRoom reading
+      → reading.after.has_failed ≡ (mid.has_failed || false) → HasNoMemory reading
   no_room last further fails = (front, last, by_need last further, fails ∙ rw unfailed refl)

@@ -5,7 +5,7 @@ use Rattle.std.proofs.Common.{Err, length, take, refl, inl, inr, cond, ap, arith
 use Rattle.std.specs.Prelude.{codes, nat_lt}
 use Rattle.std.proofs.lemmas.List.{length-take}
 use Rattle.httparse.specs.Grammar.{RequestHead}
-use Rattle.clock_device.specs.Told.{Reading}
+use Rattle.clock_device.specs.Reports.{Reading}
 use Rattle.clock_http.specs.declared.code.Code.{Code}
 use Rattle.clock_http.specs.declared.code.Code.TheVariants.{LongBody, LongHead}
 use Rattle.clock_http.specs.Scans.{head_length}
@@ -25,7 +25,7 @@ not_less a b e = grind arith
 
 -- ---- a body is within its limit
 
-within : (told : Result ℕ Code) (n : ℕ) → within_limit told ≡ Ok n → n ≤ body_limit
+within : (report : Result ℕ Code) (n : ℕ) → within_limit report ≡ Ok n → n ≤ body_limit
 within (Err code) n e = absurd cc
 within (Ok m) n e =
     elim (cond_cases (nat_lt body_limit m) (Err LongBody) (Ok m) _ e) [
@@ -34,12 +34,12 @@ within (Ok m) n e =
           (let is = short.1 in let same : m ≡ n = cc in let least = not_less body_limit m short.0 in omega arith)
     ]
 
-uncoded : (values : List (List ℕ)) (told : Result ℕ Code) (n : ℕ) → unless_coded values told ≡ Ok n → told ≡ Ok n
-uncoded [] told n e = e
-uncoded (value ∷ more) told n e = absurd cc
+uncoded : (values : List (List ℕ)) (report : Result ℕ Code) (n : ℕ) → unless_coded values report ≡ Ok n → report ≡ Ok n
+uncoded [] report n e = e
+uncoded (value ∷ more) report n e = absurd cc
 
-measured : (head : RequestHead) (told : Result ℕ Code) (read : Head × ℕ)
-    → and_length head told ≡ Ok read → told ≡ Ok read.1
+measured : (head : RequestHead) (report : Result ℕ Code) (read : Head × ℕ)
+    → and_length head report ≡ Ok read → report ≡ Ok read.1
 measured head (Err code) read e = absurd cc
 measured head (Ok n) read e = (let same : (stored_head head, n) ≡ read = cc in ap (λ (r : Head × ℕ). Ok r.1) same)
 

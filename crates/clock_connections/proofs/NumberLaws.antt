@@ -10,9 +10,9 @@ use Rattle.std.proofs.lemmas.List.{get_or_append_left, get_or_push, get_or_past,
 use Rattle.std.proofs.lemmas.List.{length-set}
 use Rattle.std.proofs.lemmas.List.Sums.{sum_by_push, sum_by-set}
 use Rattle.clock_connections.specs.declared.connections.Conn.{Conn}
-use Rattle.clock_connections.specs.Connections.{most_connections, most_serials, ConnectionFields, text_of, open_count}
+use Rattle.clock_connections.specs.Connections.{most_connections, most_serials, ConnectionFields, open_text, open_count}
 use Rattle.clock_connections.specs.Connections.{is_full, LeavesOthers, IsConnected, IsTaken, IsGone}
-use Rattle.clock_connections.specs.Pieces.{Numbered, text_at}
+use Rattle.clock_connections.specs.Pieces.{Numbered, text_so_far}
 use Rattle.clock_connections.specs.inside.Numbers.{opened, conn_at, text_of_made, AreNumbered}
 
 -- ---- a client connects
@@ -85,12 +85,12 @@ counted_push numbered o = sum_by_push one_if numbered o
 -- the texts by number, with one more
 pushed_texts : (numbered : Numbered) (new : ConnectionFields) (conns : List (Option Conn)) (o : Option Conn)
     (t : Option (List ℕ)) → length conns ≡ length numbered
-    → ((number : ℕ) → text_of_made new (conn_at conns number) ≡ text_at numbered number) → text_of_made new o ≡ t
-    → (number : ℕ) → text_of_made new (conn_at (conns ++ o ∷ []) number) ≡ text_at (numbered ++ t ∷ []) number
+    → ((number : ℕ) → text_of_made new (conn_at conns number) ≡ text_so_far numbered number) → text_of_made new o ≡ t
+    → (number : ℕ) → text_of_made new (conn_at (conns ++ o ∷ []) number) ≡ text_so_far (numbered ++ t ∷ []) number
 pushed_texts numbered new conns o t all kept last number = by (place number (length conns))
   where
     by : Place number (length conns)
-        → text_of_made new (conn_at (conns ++ o ∷ []) number) ≡ text_at (numbered ++ t ∷ []) number
+        → text_of_made new (conn_at (conns ++ o ∷ []) number) ≡ text_so_far (numbered ++ t ∷ []) number
     by (is_before lt) = ap (text_of_made new) (pushed_before conns o None number lt) ∙ kept number
         ∙ sym (pushed_before numbered t None number (omega arith))
     by (is_end is) = ap (text_of_made new) (pushed_last conns o None number is) ∙ last
@@ -193,7 +193,7 @@ connected_stands numbered old new conns conn stands is =
 
 -- one connection has this text now, or none, and all else is unchanged
 pub record IsChanged (old new : ConnectionFields) (conn : Conn) (before now : Option (List ℕ)) : Type 0 where
-  pub shown : text_of new conn ≡ now
+  pub shown : open_text new conn ≡ now
   pub others : LeavesOthers old new conn
   pub next : new.next ≡ old.next
   pub count : open_count new + one_if before ≡ open_count old + one_if now
@@ -202,16 +202,16 @@ pub record IsChanged (old new : ConnectionFields) (conn : Conn) (before now : Op
 changed_texts : (numbered : Numbered) (old new : ConnectionFields) (conns : List (Option Conn)) (number : ℕ)
     (conn : Conn) (before now : Option (List ℕ)) → AreNumbered numbered old conns → conn_at conns number ≡ Some conn
     → IsChanged old new conn before now → (other : ℕ)
-    → text_of_made new (conn_at conns other) ≡ text_at (set numbered number now) other
+    → text_of_made new (conn_at conns other) ≡ text_so_far (set numbered number now) other
 changed_texts numbered old new conns number conn before now stands at is other =
     elim (cases_Bool (eqb other number)) [
       | inl same ↦ here (eqb-true other number same)
       | inr unlike ↦ elsewhere (eqb-false other number unlike)
     ]
   where
-    here : other ≡ number → text_of_made new (conn_at conns other) ≡ text_at (set numbered number now) other
+    here : other ≡ number → text_of_made new (conn_at conns other) ≡ text_so_far (set numbered number now) other
     here same = ap (λ k. text_of_made new (conn_at conns k)) same ∙ ap (text_of_made new) at ∙ is.shown
-        ∙ sym (ap (text_at (set numbered number now)) same
+        ∙ sym (ap (text_so_far (set numbered number now)) same
         ∙ get_or-set_same numbered number now None (let lt = made_before conns number conn at in
         let e = stands.all in omega arith))
 
@@ -220,19 +220,19 @@ changed_texts numbered old new conns number conn before now stands at is other =
     made (Some one) at_other unlike =
         is.others one (λ same. unlike (stands.apart other number conn (at_other ∙ ap Some same) at))
 
-    elsewhere : other ≢ number → text_of_made new (conn_at conns other) ≡ text_at (set numbered number now) other
+    elsewhere : other ≢ number → text_of_made new (conn_at conns other) ≡ text_so_far (set numbered number now) other
     elsewhere unlike = made (conn_at conns other) refl unlike ∙ stands.texts other
         ∙ sym (get_or-set_other numbered number other now None unlike)
 
 -- the connection of a number has another text, or none
 pub changed_stands : (numbered : Numbered) (old new : ConnectionFields) (conns : List (Option Conn)) (number : ℕ)
     (conn : Conn) (now : Option (List ℕ)) → AreNumbered numbered old conns → conn_at conns number ≡ Some conn
-    → IsChanged old new conn (text_at numbered number) now → AreNumbered (set numbered number now) new conns
+    → IsChanged old new conn (text_so_far numbered number) now → AreNumbered (set numbered number now) new conns
 changed_stands numbered old new conns number conn now stands at is =
     let size = length-set numbered number now in
     record {
       all = stands.all ∙ sym size;
-      texts = changed_texts numbered old new conns number conn (text_at numbered number) now stands at is;
+      texts = changed_texts numbered old new conns number conn (text_so_far numbered number) now stands at is;
       apart = stands.apart;
       earlier = λ other one at_other. (let lt = stands.earlier other one at_other in let n = is.next in omega arith);
       count = (let lt = made_before conns number conn at in let e = stands.all in
@@ -244,7 +244,7 @@ changed_stands numbered old new conns number conn now stands at is =
 -- a piece was appended, and the connection stays open
 pub taken_stands : (numbered : Numbered) (old new : ConnectionFields) (conns : List (Option Conn)) (number : ℕ)
     (conn : Conn) (text joined : List ℕ) → AreNumbered numbered old conns → conn_at conns number ≡ Some conn
-    → text_at numbered number ≡ Some text → IsTaken old new conn joined
+    → text_so_far numbered number ≡ Some text → IsTaken old new conn joined
     → AreNumbered (set numbered number (Some joined)) new conns
 taken_stands numbered old new conns number conn text joined stands at has is =
     changed_stands numbered old new conns number conn (Some joined) stands at
@@ -252,25 +252,25 @@ taken_stands numbered old new conns number conn text joined stands at has is =
       shown = is.stands;
       others = is.others;
       next = is.next;
-      count = (let c = is.count in let e : one_if (text_at numbered number) ≡ 1 = ap one_if has in omega arith);
+      count = (let c = is.count in let e : one_if (text_so_far numbered number) ≡ 1 = ap one_if has in omega arith);
     })
 
 -- the connection was answered
 pub gone_stands : (numbered : Numbered) (old new : ConnectionFields) (conns : List (Option Conn)) (number : ℕ)
     (conn : Conn) (text : List ℕ) → AreNumbered numbered old conns → conn_at conns number ≡ Some conn
-    → text_at numbered number ≡ Some text → IsGone old new conn → AreNumbered (set numbered number None) new conns
+    → text_so_far numbered number ≡ Some text → IsGone old new conn → AreNumbered (set numbered number None) new conns
 gone_stands numbered old new conns number conn text stands at has is =
     changed_stands numbered old new conns number conn None stands at
     (record {
       shown = is.gone;
       others = is.others;
       next = is.next;
-      count = (let c = is.count in let e : one_if (text_at numbered number) ≡ 1 = ap one_if has in omega arith);
+      count = (let c = is.count in let e : one_if (text_so_far numbered number) ≡ 1 = ap one_if has in omega arith);
     })
 
 -- an open connection has the text of its number
 pub standing_text : (numbered : Numbered) (connections : ConnectionFields) (conns : List (Option Conn)) (number : ℕ)
     (conn : Conn) → AreNumbered numbered connections conns → conn_at conns number ≡ Some conn
-    → text_of connections conn ≡ text_at numbered number
+    → open_text connections conn ≡ text_so_far numbered number
 standing_text numbered connections conns number conn stands at =
     ap (text_of_made connections) (sym at) ∙ stands.texts number

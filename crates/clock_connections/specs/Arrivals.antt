@@ -3,13 +3,13 @@
 --     IsReadByNeed reading front last      bytes that needed more were read, and then `last`
 --     HasArrived reading text      the text was read: it is decided, or the input ended after it
 --     IsNotRead reading      no request was read: a read failed, or the limit was reached
---     HasNoRoom reading      memory for the bytes was refused
+--     HasNoMemory reading      memory for the bytes was refused
 --     EndsArrival reading result      how reading a request ends
 use Rattle.std.specs.Prelude.{◌≡◌, ◌≤◌, ◌⊎◌, ◌+◌, ◌++◌, ℕ, List, [], length, Option, true, false}
 use Rattle.std.specs.Prelude.{Result, Ok, Err}
 use Rattle.clock_device.specs.Streams.{HasRead, IsReadOut}
 use Rattle.clock_device.specs.Readings.{HasFailedRead, RunsOutOfReads}
-use Rattle.clock_device.specs.Told.{Reading}
+use Rattle.clock_device.specs.Reports.{Reading}
 use Rattle.clock_http.specs.Framing.{needs_more, IsDecided}
 use Rattle.clock_connections.specs.declared.arrival.RequestReadError.{RequestReadError}
 use Rattle.clock_connections.specs.declared.arrival.RequestReadError.TheVariants as unread
@@ -56,12 +56,12 @@ IsNotRead reading = HasFailedRead (λ text. IsReadByNeed reading text []) readin
     ⊎ RunsOutOfReads (UsesReads reading) most_request_reads reading
 
 -- memory was refused: for a first buffer, or for the bytes of the last read
-abbrev pub HasNoRoom : Reading → Type 0
-HasNoRoom reading = (front : List ℕ) × (last : List ℕ) × IsReadByNeed reading front last
+abbrev pub HasNoMemory : Reading → Type 0
+HasNoMemory reading = (front : List ℕ) × (last : List ℕ) × IsReadByNeed reading front last
     × (reading.after.has_failed ≡ false)
 
 -- how reading a request ends; interrupted reads are retried
 abbrev pub EndsArrival : Reading → Result (List ℕ) RequestReadError → Type 0
 EndsArrival reading (Ok text) = HasArrived reading text
 EndsArrival reading (Err unread.Read) = IsNotRead reading
-EndsArrival reading (Err unread.Memory) = HasNoRoom reading
+EndsArrival reading (Err unread.Memory) = HasNoMemory reading

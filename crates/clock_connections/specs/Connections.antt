@@ -1,5 +1,5 @@
 -- Open connections, each with the bytes of its request so far.
---     text_of connections conn      the bytes of an open connection
+--     open_text connections conn      the bytes of an open connection
 --     is_full connections      no connection can be opened
 --     IsConnected old new conn      a connection was opened
 --     IsConnectFault connections fault      why none was opened
@@ -35,15 +35,15 @@ pub record ConnectionFields : Type 0 where
 -- the text in a slot, if the connection there has this serial number
 abbrev pub text_with : ℕ → Option OpenConnection → Option (List ℕ)
 text_with serial None = None
-text_with serial (Some standing) = if standing.serial == serial then Some standing.text else None
+text_with serial (Some opened) = if opened.serial == serial then Some opened.text else None
 
 -- the open connection in a slot
 abbrev pub slot_of : ConnectionFields → ℕ → Option OpenConnection
 slot_of connections slot = slice_index_or connections.slots slot None
 
 -- the bytes so far of an open connection
-abbrev pub text_of : ConnectionFields → Conn → Option (List ℕ)
-text_of connections conn = text_with conn.serial (slot_of connections conn.slot)
+abbrev pub open_text : ConnectionFields → Conn → Option (List ℕ)
+open_text connections conn = text_with conn.serial (slot_of connections conn.slot)
 
 -- the number of open connections
 abbrev pub open_count : ConnectionFields → ℕ
@@ -56,14 +56,15 @@ is_full connections =
 
 -- every other connection is unchanged
 abbrev pub LeavesOthers : ConnectionFields → ConnectionFields → Conn → Type 0
-LeavesOthers old new conn = (other : Conn) → other ≢ conn → text_of new other ≡ text_of old other
+LeavesOthers old new conn =
+    (other : Conn) → other ≢ conn → open_text new other ≡ open_text old other
 
 -- a connection was opened, with a new serial number and no bytes
 pub record IsConnected (old new : ConnectionFields) (conn : Conn) : Type 0 where
   pub room : is_full old ≡ false
   pub serial : conn.serial ≡ old.next
   pub next : new.next ≡ old.next + 1
-  pub stands : text_of new conn ≡ Some []
+  pub stands : open_text new conn ≡ Some []
   pub others : LeavesOthers old new conn
   pub count : open_count new ≡ open_count old + 1
 
@@ -75,14 +76,14 @@ IsConnectFault connections Unknown = ⊥
 
 -- an open connection now has this text
 pub record IsTaken (old new : ConnectionFields) (conn : Conn) (text : List ℕ) : Type 0 where
-  pub stands : text_of new conn ≡ Some text
+  pub stands : open_text new conn ≡ Some text
   pub others : LeavesOthers old new conn
   pub count : open_count new ≡ open_count old
   pub next : new.next ≡ old.next
 
 -- a connection was closed
 pub record IsGone (old new : ConnectionFields) (conn : Conn) : Type 0 where
-  pub gone : text_of new conn ≡ None
+  pub gone : open_text new conn ≡ None
   pub others : LeavesOthers old new conn
   pub count : open_count new + 1 ≡ open_count old
   pub next : new.next ≡ old.next

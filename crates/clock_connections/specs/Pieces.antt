@@ -17,22 +17,24 @@ abbrev pub Numbered : Type 0
 Numbered = List (Option (List ℕ))
 
 -- the text so far of an open connection
-abbrev pub text_at : Numbered → ℕ → Option (List ℕ)
-text_at numbered number = slice_index_or numbered number None
+abbrev pub text_so_far : Numbered → ℕ → Option (List ℕ)
+text_so_far numbered number = slice_index_or numbered number None
 
 -- the request that an event completes: the text, if it needs no more after a piece, or at its end
 abbrev pub completed : Numbered → Event → Option (ℕ × List ℕ)
 completed numbered Connect = None
 completed numbered (Piece number piece) = option_and_then (λ text. if needs_more (text ++ piece)
-    then None else Some (number, text ++ piece)) (text_at numbered number)
-completed numbered (Finish number) = option_map (λ text. (number, text)) (text_at numbered number)
+    then None else Some (number, text ++ piece)) (text_so_far numbered number)
+completed numbered (Finish number) =
+    option_map (λ text. (number, text)) (text_so_far numbered number)
 
 -- the connections after an event: a new one, unless 256 are open; a completed one becomes `None`
 abbrev pub after : Numbered → Event → Numbered
 after numbered Connect =
     numbered ++ (if nat_lt (count_by is_some numbered) most_connections then Some [] else None) ∷ []
-after numbered (Piece number piece) = slice_set numbered number (option_and_then (λ text.
-    if needs_more (text ++ piece) then Some (text ++ piece) else None) (text_at numbered number))
+after numbered (Piece number piece) =
+    slice_set numbered number (option_and_then (λ text. if needs_more (text ++ piece)
+    then Some (text ++ piece) else None) (text_so_far numbered number))
 after numbered (Finish number) = slice_set numbered number None
 
 -- the request that an event completes, before those of later events

@@ -1,5 +1,5 @@
 ghost use Rattle.std.specs.Prelude.{◌≡◌, ◌≤◌};
-ghost use Rattle.clock_device.specs.Told.{IsUnread};
+ghost use Rattle.clock_device.specs.Reports.{IsUnread};
 ghost use Rattle.clock_connections.specs.Arrivals.{most_request_reads, EndsArrival};
 ghost use Rattle.clock_connections.specs.declared.arrival.RequestReadError.TheVariants as unread;
 
@@ -34,10 +34,10 @@ impl From<NoMemory> for RequestReadError {
 /// reads; makes 2,000,000 reads at most. Requires a source without earlier reads. Errors: `Read`.
 /// May return `Memory`, also after some reads.
 pub fn read_request<R: Source>(alloc: Global, source: &mut R) -> Result<Arriving, RequestReadError>
-    requires { IsUnread (R.told source.old) }
+    requires { IsUnread (R.report source.old) }
     ensures arrival { EndsArrival
-        (record { before = R.told source.old; after = R.told source.new }) result }
-    ensures calls { (R.told source.new).calls ≤ most_request_reads }
+        (record { before = R.report source.old; after = R.report source.new }) result }
+    ensures calls { (R.report source.new).calls ≤ most_request_reads }
 {
     let mut piece = room_for_read(alloc, PIECE)?;
     let mut request = Arriving::new(alloc);

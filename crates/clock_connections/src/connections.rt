@@ -2,7 +2,7 @@ ghost use Rattle.std.specs.Prelude.{◌≡◌, ◌++◌, ℕ, List, [], Some, If
 ghost use Rattle.std.specs.Prelude.{OnSome, false, is_some, IsSome};
 ghost use Rattle.clock_http.specs.{Framing.{needs_more}, Shown.{IsFramed}};
 ghost use Rattle.clock_connections.specs.declared.connections.HubFault.TheVariants as faults;
-ghost use Rattle.clock_connections.specs.Connections.{text_of, ConnectionFields, IsConnected};
+ghost use Rattle.clock_connections.specs.Connections.{open_text, ConnectionFields, IsConnected};
 ghost use Rattle.clock_connections.specs.Connections.{IsConnectFault, IsGone, IsTaken};
 ghost use Rattle.clock_connections.specs.Connections.{OpenConnection};
 
@@ -106,7 +106,7 @@ impl Connections {
     /// Returns whether a connection is open.
     #[inline(always)]
     pub fn stands(&self, conn: Conn) -> bool
-        ensures { result ≡ is_some (text_of self.now conn) }
+        ensures { result ≡ is_some (open_text self.now conn) }
     {
         self.slab
             .get(conn.slot)
@@ -118,10 +118,10 @@ impl Connections {
     /// has changed.
     #[inline(always)]
     pub fn take(&mut self, conn: Conn, piece: &[u8]) -> Result<bool, NoMemory>
-        requires { IsSome (text_of self.old conn) }
-        ensures taken { (text : List ℕ) → text_of self.old conn ≡ Some text
+        requires { IsSome (open_text self.old conn) }
+        ensures taken { (text : List ℕ) → open_text self.old conn ≡ Some text
             → OnOk result (IsTaken self.old self.new conn (text ++ piece.now)) }
-        ensures short { (text : List ℕ) → text_of self.old conn ≡ Some text
+        ensures short { (text : List ℕ) → open_text self.old conn ≡ Some text
             → IfOk result (λ short. short ≡ needs_more (text ++ piece.now)) }
         ensures err { OnErr result (self.new ≡ self.old) }
     {
@@ -132,10 +132,10 @@ impl Connections {
     /// a head and `piece` has its whole body. Otherwise returns `None`. Requires an open
     /// connection. Appends nothing.
     pub fn framing_with<'a>(&'a self, conn: Conn, piece: &'a [u8]) -> Option<Framing<'a>>
-        requires { IsSome (text_of self.now conn) }
-        ensures is { (text : List ℕ) → text_of self.now conn ≡ Some text
+        requires { IsSome (open_text self.now conn) }
+        ensures is { (text : List ℕ) → open_text self.now conn ≡ Some text
             → IfSome result (IsFramed (text ++ piece.now)) }
-        ensures whole { (text : List ℕ) → text_of self.now conn ≡ Some text
+        ensures whole { (text : List ℕ) → open_text self.now conn ≡ Some text
             → OnSome result (needs_more (text ++ piece.now) ≡ false) }
     {
         self.slab[conn.slot].text.framing_with(piece)
@@ -143,8 +143,8 @@ impl Connections {
 
     /// Closes a connection and returns the bytes of its request. Requires an open connection.
     pub fn remove(&mut self, conn: Conn) -> Arriving
-        requires { IsSome (text_of self.old conn) }
-        ensures text { text_of self.old conn ≡ Some result }
+        requires { IsSome (open_text self.old conn) }
+        ensures text { open_text self.old conn ≡ Some result }
         ensures gone { IsGone self.old self.new conn }
     {
         self.slab.remove(conn.slot).text

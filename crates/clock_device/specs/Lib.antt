@@ -3,7 +3,7 @@ pub mod Calls
 pub mod Lends
 pub mod Decimal
 pub mod Streams
-pub mod Told
+pub mod Reports
 pub mod Readings
 pub mod Writings
 pub mod SourceState

@@ -1,7 +1,7 @@
 -- Two ways in which a sequence of reads ends early.
 --     HasFailedRead, RunsOutOfReads
 use Rattle.std.specs.Prelude.{◌≡◌, ℕ, List, true, false}
-use Rattle.clock_device.specs.Told.{Reading}
+use Rattle.clock_device.specs.Reports.{Reading}
 
 -- bytes with this property were read, and then a read failed
 abbrev pub HasFailedRead : (List ℕ → Type 0) → Reading → Type 0

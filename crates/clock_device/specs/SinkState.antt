@@ -2,7 +2,7 @@
 use Rattle.std.specs.Prelude.{◌==◌, ◌-◌, ◌||◌, ◌++◌, ℕ, Bool, false, List, [], length, take, min}
 use Rattle.std.specs.Prelude.{Option, Some, None, if◌then◌else◌, is_some, not}
 use Rattle.clock_device.specs.Calls.{count_after}
-use Rattle.clock_device.specs.Told.{SinkReport}
+use Rattle.clock_device.specs.Reports.{SinkReport}
 
 -- the bytes written, the most in all, the most of one write, the write that fails, and the counts
 pub record SinkState : Type 0 where

@@ -2,7 +2,7 @@
 use Rattle.std.specs.Prelude.{◌==◌, ◌||◌, ℕ, Bool, false, List, length, drop, min, Option, Some}
 use Rattle.std.specs.Prelude.{None, Result, Ok, Err, if◌then◌else◌}
 use Rattle.clock_device.specs.Calls.{count_after, interruptions_after, is_failed_read}
-use Rattle.clock_device.specs.Told.{SourceReport}
+use Rattle.clock_device.specs.Reports.{SourceReport}
 use Rattle.clock_device.specs.declared.stream.Stop.{Stop}
 
 -- the bytes left, the most of one read, the read that stops and how, and the counts

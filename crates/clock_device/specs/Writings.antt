@@ -2,7 +2,7 @@
 --     WritesWhole, WritesFront     the whole text was written; a write failed, and a prefix was
 --     WritesNothing     no write was made
 use Rattle.std.specs.Prelude.{◌≡◌, ℕ, List, true, false}
-use Rattle.clock_device.specs.Told.{IsUnused, Writing}
+use Rattle.clock_device.specs.Reports.{IsUnused, Writing}
 use Rattle.clock_device.specs.Streams.{HasWritten, HasWrittenFront, HasWrittenNothing}
 
 -- the whole text was written

@@ -42,10 +42,10 @@ impl Bounded<u8> {
 
 /// Writes `number` in decimal, or a prefix of its digits if a write fails.
 pub fn write_number<W: Sink>(sink: &mut W, number: u64) -> Result<(), Failed>
-    ensures bytes { WritesText (W.told sink.old).taken (W.told sink.new).taken
+    ensures bytes { WritesText (W.report sink.old).taken (W.report sink.new).taken
         (decimal number) result }
-    ensures failed { (W.told sink.new).has_failed
-        ≡ ((W.told sink.old).has_failed || is_err result) }
+    ensures failed { (W.report sink.new).has_failed
+        ≡ ((W.report sink.old).has_failed || is_err result) }
 {
     write_all(sink, Buffer::new().format(number).as_bytes())
 }
@@ -60,7 +60,7 @@ pub fn put_before(bytes: &mut [u8], end: usize, piece: &[u8]) -> usize
     requires room { length piece.now ≤ end }
     requires within { end ≤ length bytes.old }
     ensures start { result + length piece.now ≡ end }
-    ensures kept { length bytes.new ≡ length bytes.old }
+    ensures same_length { length bytes.new ≡ length bytes.old }
     ensures ahead { take result bytes.new ≡ take result bytes.old }
     ensures put { drop result bytes.new ≡ piece.now ++ drop end bytes.old }
 {

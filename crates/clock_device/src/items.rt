@@ -14,7 +14,7 @@ use thiserror::Error;
 /// The lists of the auction have names of their own for this type, such as [`Text`] for bytes.
 #[derive(Clone, Drop)]
 pub struct Items<T> {
-    held: Vec<T>,
+    inner: Vec<T>,
 }
 
 /// Bytes, such as those of a name, a page, or a document.
@@ -25,7 +25,7 @@ impl<T> Model for Items<T> {
 
     ghost Value = { List T };
 
-    ghost view = { λ a. a.held.items };
+    ghost view = { λ a. a.inner.items };
 }
 
 impl<T> Items<T> {
@@ -42,7 +42,7 @@ impl<T> Items<T> {
         ensures { IfOk result (λ list. list ≡ record { items = []; room = capacity }) }
     {
         Ok(Bounded {
-            held: Vec::with_capacity(alloc, capacity)?,
+            inner: Vec::with_capacity(alloc, capacity)?,
         })
     }
 
@@ -50,7 +50,7 @@ impl<T> Items<T> {
     pub fn from_vec(items: Vec<T>) -> Items<T>
         ensures { result ≡ items.items }
     {
-        Items { held: items }
+        Items { inner: items }
     }
 
     /// Adds an item at the end. May return `NoMemory`; then the item is dropped, and the list is
@@ -61,7 +61,7 @@ impl<T> Items<T> {
         ensures ok { OnOk result (self.new ≡ self.old ++ item ∷ []) }
         ensures err { OnErr result (self.new ≡ self.old) }
     {
-        self.held.push(item)?;
+        self.inner.push(item)?;
         Ok(())
     }
 
@@ -69,21 +69,21 @@ impl<T> Items<T> {
     pub fn len(&self) -> usize
         ensures { result ≡ length self.now }
     {
-        self.held.len()
+        self.inner.len()
     }
 
     /// Returns whether there is no item.
     pub fn is_empty(&self) -> bool
         ensures { IsTrue result ↔ (self.now ≡ []) }
     {
-        self.held.is_empty()
+        self.inner.is_empty()
     }
 
     /// Returns the items in order.
     pub fn as_slice(&self) -> &[T]
         ensures { result.now ≡ self.now }
     {
-        self.held.as_slice()
+        self.inner.as_slice()
     }
 
     /// Returns the items in order, for changes in place.
@@ -91,7 +91,7 @@ impl<T> Items<T> {
         ensures* writes_back { sem 𝓛 (lends_slice T.row self.entry result) }
         ensures value { result.now ≡ self.old }
     {
-        self.held.as_mut_slice()
+        self.inner.as_mut_slice()
     }
 
     /// Replaces the item at index `place`, and drops the old one. Requires that there is one.
@@ -101,7 +101,7 @@ impl<T> Items<T> {
         requires { place < length self.old }
         ensures { self.new ≡ slice_set self.old place item }
     {
-        self.held[place] = item;
+        self.inner[place] = item;
     }
 }
 
@@ -138,7 +138,7 @@ impl<T: Copy> Items<T> {
         ensures ok { OnOk result (self.new ≡ self.old ++ items.now) }
         ensures err { OnErr result (self.new ≡ self.old) }
     {
-        self.held.extend_from_slice(items)?;
+        self.inner.extend_from_slice(items)?;
         Ok(())
     }
 
@@ -163,14 +163,14 @@ impl Items<u64> {
 /// and cannot fail. In contracts, it is its items and the number of items that can be added.
 #[derive(Drop)]
 pub struct Bounded<T> {
-    held: Vec<T>,
+    inner: Vec<T>,
 }
 
 impl<T> Model for Bounded<T> {
     ghost Value = { BoundedList T };
 
     ghost view = { λ b.
-        record { items = b.held.items; room = vec_capacity b.held - vec_len b.held } };
+        record { items = b.inner.items; room = vec_capacity b.inner - vec_len b.inner } };
 }
 
 impl<T> Bounded<T> {
@@ -182,22 +182,22 @@ impl<T> Bounded<T> {
         ensures items { self.new.items ≡ self.old.items ++ item ∷ [] }
         ensures room { self.old.room ≤ self.new.room + 1 }
     {
-        self.held.push(item).unwrap();
+        self.inner.push(item).unwrap();
     }
 
     /// Returns the items in order.
     pub fn as_slice(&self) -> &[T]
         ensures { result.now ≡ self.now.items }
     {
-        self.held.as_slice()
+        self.inner.as_slice()
     }
 
     /// Makes a list of the items, without a copy. Unused capacity stays allocated.
     pub fn into_items(self) -> Items<T>
         ensures { result ≡ self.items }
     {
-        let Bounded { held } = self;
-        Items::from_vec(held)
+        let Bounded { inner } = self;
+        Items::from_vec(inner)
     }
 }
 
@@ -208,7 +208,7 @@ impl<T: Copy> Bounded<T> {
         ensures items { self.new.items ≡ self.old.items ++ items.now }
         ensures room { self.old.room ≤ self.new.room + length items.now }
     {
-        self.held.extend_from_slice(items).unwrap();
+        self.inner.extend_from_slice(items).unwrap();
     }
 }
 

@@ -59,7 +59,7 @@ impl<'a> ListSource<'a> {
 }
 
 impl Source for ListSource<'_> {
-    ghost told = { λ source. source_report source };
+    ghost report = { λ source. source_report source };
 
     /// Stops only at the read that `stop` names. Leaves the buffer unchanged after the bytes that
     /// it returns.
@@ -156,7 +156,7 @@ impl ListSink {
 }
 
 impl Sink for ListSink {
-    ghost told = { λ sink. sink_report sink };
+    ghost report = { λ sink. sink_report sink };
 
     /// Fails at the write that `stop` names, if the sink is full, and if `bytes` is empty.
     fn write(&mut self, bytes: &[u8]) -> Result<usize, Failed>

@@ -2,8 +2,8 @@ ghost use Rattle.std.specs.Prelude.{◌≡◌, ◌||◌, vec_len, IfOk, is_err};
 ghost use Rattle.std.specs.Io.{ReadsAtMost, KnownBytes.{ReadConsumes, WriteAppends}};
 ghost use Rattle.clock_device.specs.Calls.{count_after, interruptions_after, is_failed_read};
 ghost use Rattle.clock_device.specs.Streams.{CountsTaken, WritesText};
-ghost use Rattle.clock_device.specs.Told.{SinkReport, SourceReport, IsUnread, IsUnused, unread};
-ghost use Rattle.clock_device.specs.Told.{unused};
+ghost use Rattle.clock_device.specs.Reports.{SinkReport, SourceReport, IsUnread, IsUnused, unread};
+ghost use Rattle.clock_device.specs.Reports.{unused};
 
 use crate::items::NoMemory;
 use std::alloc::Global;
@@ -32,18 +32,19 @@ pub struct Failed;
 /// In contracts, a source reports the bytes still to be read, if it knows them; the numbers of
 /// reads and of interrupted reads, which stay at the greatest `u64`; and whether a read has failed.
 pub trait Source {
-    ghost told: { Self → SourceReport };
+    ghost report: { Self → SourceReport };
 
     /// Reads the next bytes into the start of the buffer, and returns their number. For a nonempty
     /// buffer this is 0 exactly if no byte is left. The rest of the buffer may have any content.
     fn read(&mut self, buffer: &mut [u8]) -> Result<usize, Stop>
         ensures within { ReadsAtMost result buffer.new }
-        ensures bytes { ReadConsumes (told self.old).left (told self.new).left result buffer.new }
-        ensures counted { (told self.new).calls ≡ count_after (told self.old).calls }
-        ensures interrupted { (told self.new).interruptions
-            ≡ interruptions_after (told self.old).interruptions result }
-        ensures failed { (told self.new).has_failed
-            ≡ ((told self.old).has_failed || is_failed_read result) };
+        ensures bytes { ReadConsumes (report self.old).left
+            (report self.new).left result buffer.new }
+        ensures counted { (report self.new).calls ≡ count_after (report self.old).calls }
+        ensures interrupted { (report self.new).interruptions
+            ≡ interruptions_after (report self.old).interruptions result }
+        ensures failed { (report self.new).has_failed
+            ≡ ((report self.old).has_failed || is_failed_read result) };
 }
 
 /// Allocates a buffer of `size` bytes. May return `NoMemory`.
@@ -58,22 +59,24 @@ pub fn room_for_read(alloc: Global, size: usize) -> Result<Vec<u8>, NoMemory>
 /// In contracts, a sink reports the bytes written to it, if it knows them; the number of writes,
 /// which stays at the greatest `u64`; and whether a write has failed.
 pub trait Sink {
-    ghost told: { Self → SinkReport };
+    ghost report: { Self → SinkReport };
 
     /// Writes some of the bytes, from their start and at least one, and returns their number.
     fn write(&mut self, bytes: &[u8]) -> Result<usize, Failed>
         ensures within { CountsTaken result bytes.now }
-        ensures bytes { WriteAppends (told self.old).taken (told self.new).taken result bytes.now }
-        ensures counted { (told self.new).calls ≡ count_after (told self.old).calls }
-        ensures failed { (told self.new).has_failed
-            ≡ ((told self.old).has_failed || is_err result) };
+        ensures bytes { WriteAppends (report self.old).taken
+            (report self.new).taken result bytes.now }
+        ensures counted { (report self.new).calls ≡ count_after (report self.old).calls }
+        ensures failed { (report self.new).has_failed
+            ≡ ((report self.old).has_failed || is_err result) };
 }
 
 /// Writes all bytes, or a prefix of them if a write fails.
 pub fn write_all<W: Sink>(sink: &mut W, bytes: &[u8]) -> Result<(), Failed>
-    ensures bytes { WritesText (W.told sink.old).taken (W.told sink.new).taken bytes.now result }
-    ensures failed { (W.told sink.new).has_failed
-        ≡ ((W.told sink.old).has_failed || is_err result) }
+    ensures bytes { WritesText (W.report sink.old).taken
+        (W.report sink.new).taken bytes.now result }
+    ensures failed { (W.report sink.new).has_failed
+        ≡ ((W.report sink.old).has_failed || is_err result) }
 {
     let mut done = 0;
     while done < bytes.len() {
@@ -97,8 +100,8 @@ pub struct FromReader<R> {
 impl<R: Read> FromReader<R> {
     /// Makes a source of a reader, without reads so far.
     pub fn new(reader: R) -> FromReader<R>
-        ensures told { ⟦<FromReader<R> as Source>⟧.told result ≡ unread (R.remaining reader) }
-        ensures unread { IsUnread (⟦<FromReader<R> as Source>⟧.told result) }
+        ensures report { ⟦<FromReader<R> as Source>⟧.report result ≡ unread (R.remaining reader) }
+        ensures unread { IsUnread (⟦<FromReader<R> as Source>⟧.report result) }
     {
         FromReader {
             reader,
@@ -110,7 +113,7 @@ impl<R: Read> FromReader<R> {
 }
 
 impl<R: Read> Source for FromReader<R> {
-    ghost told = { λ source. record {
+    ghost report = { λ source. record {
       left = R.remaining source.reader;
       calls = source.calls;
       interruptions = source.interruptions;
@@ -146,8 +149,8 @@ pub struct ToWriter<W> {
 impl<W: Write> ToWriter<W> {
     /// Makes a sink of a writer, without writes so far.
     pub fn new(writer: W) -> ToWriter<W>
-        ensures told { ⟦<ToWriter<W> as Sink>⟧.told result ≡ unused (W.contents writer) }
-        ensures unused { IsUnused (⟦<ToWriter<W> as Sink>⟧.told result) }
+        ensures report { ⟦<ToWriter<W> as Sink>⟧.report result ≡ unused (W.contents writer) }
+        ensures unused { IsUnused (⟦<ToWriter<W> as Sink>⟧.report result) }
     {
         ToWriter {
             writer,
@@ -158,7 +161,7 @@ impl<W: Write> ToWriter<W> {
 }
 
 impl<W: Write> Sink for ToWriter<W> {
-    ghost told = { λ sink. record {
+    ghost report = { λ sink. record {
       taken = W.contents sink.writer;
       calls = sink.calls;
       has_failed = sink.has_failed;

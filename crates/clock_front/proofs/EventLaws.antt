@@ -56,8 +56,8 @@ one_longer before now index few longer = omega arith
 
 -- After an event, each reply has the number of its request's connection.
 next_numbers : (done : List (ℕ × List ℕ)) (replies : List EventReply) (o : Option (ℕ × List ℕ))
-    (told : Option EventReply) (house next : HouseFields) → HasCompleted o house next told → numbers_of replies
-    ≡ numbers_of_requests done → numbers_of (kept replies told) ≡ numbers_of_requests (with_request done o)
+    (reported : Option EventReply) (house next : HouseFields) → HasCompleted o house next reported → numbers_of replies
+    ≡ numbers_of_requests done → numbers_of (kept replies reported) ≡ numbers_of_requests (with_request done o)
 next_numbers done replies None None house next is same = same
 next_numbers done replies None (Some one) house next is same = absurd is
 next_numbers done replies (Some request) None house next is same = absurd is
@@ -68,9 +68,9 @@ next_numbers done replies (Some request) (Some one) house next is same =
 
 -- After an event, the replies are still a run over the requests.
 next_underway : (setup : SetupFields) (limits : IsSetup setup) (done : List (ℕ × List ℕ)) (replies : List EventReply)
-    (o : Option (ℕ × List ℕ)) (told : Option EventReply) (house next : HouseFields)
-    → HasCompleted o house next told → IsUnderWay setup (texts_of done) (answers_of replies) house
-    → IsUnderWay setup (texts_of (with_request done o)) (answers_of (kept replies told)) next
+    (o : Option (ℕ × List ℕ)) (reported : Option EventReply) (house next : HouseFields)
+    → HasCompleted o house next reported → IsUnderWay setup (texts_of done) (answers_of replies) house
+    → IsUnderWay setup (texts_of (with_request done o)) (answers_of (kept replies reported)) next
 next_underway setup limits done replies None None house next is before =
     subst (λ (h : HouseFields). IsUnderWay setup (texts_of done) (answers_of replies) h) (sym is) before
 next_underway setup limits done replies None (Some one) house next is before = absurd is
@@ -84,13 +84,14 @@ next_underway setup limits done replies (Some request) (Some one) house next is 
     (sym (map-append (λ (r : EventReply). r.reply) replies (one ∷ []))) one_more)
 
 -- The invariant after one more event.
-pub goes_on : (setup : SetupFields) (limits : IsSetup setup) (events : List Event) (index : ℕ) (replies : List
-    EventReply) (connections later : ConnectionFields) (conns more : List (Option Conn)) (house next : HouseFields)
-    (event : Event) (told : Option EventReply) (before : IsOnItsWay setup events index replies connections conns house)
-    → index < length events → event ≡ get_or events index event → AreNumbered (after before.numbered event) later more
-    → HasCompleted (completed before.numbered event) house next told
-    → IsOnItsWay setup events (index + 1) (kept replies told) later more next
-goes_on setup limits events index replies connections later conns more house next event told before lt
+pub goes_on : (setup : SetupFields) (limits : IsSetup setup) (events : List Event) (index : ℕ)
+    (replies : List EventReply) (connections later : ConnectionFields) (conns more : List (Option Conn))
+    (house next : HouseFields) (event : Event) (reported : Option EventReply)
+    (before : IsOnItsWay setup events index replies connections conns house) → index < length events
+    → event ≡ get_or events index event → AreNumbered (after before.numbered event) later more
+    → HasCompleted (completed before.numbered event) house next reported
+    → IsOnItsWay setup events (index + 1) (kept replies reported) later more next
+goes_on setup limits events index replies connections later conns more house next event reported before lt
     at stands is = record {
       numbered = after before.numbered event;
       done = with_request before.done (completed before.numbered event);
@@ -100,9 +101,10 @@ goes_on setup limits events index replies connections later conns more house nex
       rest = with_later before.done (completed before.numbered event)
           (requests_from (after before.numbered event) (drop (index + 1) events))
           ∙ ap (λ rest. before.done ++ requests_from before.numbered rest) (sym split) ∙ before.rest;
-      numbers = next_numbers before.done replies (completed before.numbered event) told house next is before.numbers;
+      numbers =
+          next_numbers before.done replies (completed before.numbered event) reported house next is before.numbers;
       underway = next_underway setup limits before.done replies
-          (completed before.numbered event) told house next is before.underway;
+          (completed before.numbered event) reported house next is before.underway;
     }
   where
     split : drop index events ≡ event ∷ drop (index + 1) events

@@ -5,8 +5,8 @@ use Rattle.clock_http.specs.declared.code.Code.TheVariants.{Memory}
 use Rattle.clock_http.specs.Replies.{reply_bytes}
 use Rattle.clock_front.proofs.FrontLaws.{constant_bytes}
 
-want_of_memory_is_told : constant_bytes Memory ≡ codes
+out_of_memory_is_reported : constant_bytes Memory ≡ codes
     "HTTP/1.1 503 Service Unavailable\r\nconnection: close\r\ncontent-length: 30\r\ncontent-type: application/json\r\n"
     ++ codes "\r\n{\"code\":\"memory\",\"status\":503}"
 unfolding reply_bytes digits
-want_of_memory_is_told = refl
+out_of_memory_is_reported = refl

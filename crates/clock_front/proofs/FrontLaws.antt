@@ -67,10 +67,11 @@ unfolding request_of
 ask_by text f is = ap ask_of is
 
 -- A request that is turned away by its bytes or its path gets the refusal with that code.
-pub away_told : (house : HouseFields) (who : Caller) (text : List ℕ) (f : Framing) (code : Code) → f ≡ framing text
+pub away_reported : (house : HouseFields) (who : Caller) (text : List ℕ) (f : Framing) (code : Code) → f ≡ framing text
     → ask_of f ≡ turned_away code
     → answer_of (refused (bare code)) ≡ answer_of (outcome house who (request_of text).ask)
-away_told house who text f code is away = ap (λ ask. answer_of (outcome house who ask)) (sym away ∙ ask_by text f is)
+away_reported house who text f code is away =
+    ap (λ ask. answer_of (outcome house who ask)) (sym away ∙ ask_by text f is)
 
 -- Such a request is no command.
 pub away_command : (setup : SetupFields) (who : Caller) (text : List ℕ) (f : Framing) (code : Code) → f ≡ framing text
@@ -94,16 +95,16 @@ refused_code house who text code is =
 
 -- ---- facts about a reply, moved to an equal one
 
-pub told_as : {N : Type 0} (told : Result Answer N) (a b : Answer) → a ≡ b → IfOk told (λ reply. reply ≡ a)
-    → IfOk told (λ reply. reply ≡ b)
-told_as (Ok reply) a b same is = is ∙ same
-told_as (Err e) a b same is = tt
+pub reported_as : {N : Type 0} (reported : Result Answer N) (a b : Answer) → a ≡ b → IfOk reported (λ reply. reply ≡ a)
+    → IfOk reported (λ reply. reply ≡ b)
+reported_as (Ok reply) a b same is = is ∙ same
+reported_as (Err e) a b same is = tt
 
-pub if_done : {A N : Type 0} {P : Type 0} (told : Result A N) → P → OnOk told P
+pub if_done : {A N : Type 0} {P : Type 0} (reported : Result A N) → P → OnOk reported P
 if_done (Ok reply) is = is
 if_done (Err e) is = tt
 
-pub if_refused : {A N : Type 0} {P : Type 0} (told : Result A N) → P → OnErr told P
+pub if_refused : {A N : Type 0} {P : Type 0} (reported : Result A N) → P → OnErr reported P
 if_refused (Ok reply) is = tt
 if_refused (Err e) is = is
 

@@ -8,13 +8,13 @@ use Rattle.clock_http.specs.declared.code.Code.{Code}
 use Rattle.clock_http.specs.declared.routes.Page.{Page}
 use Rattle.clock_http.specs.Replies.{Answer, reply_bytes}
 use Rattle.clock_front.specs.Outcomes.{with_page}
-use Rattle.clock_front.specs.inside.KeptPage.{head_room}
+use Rattle.clock_front.specs.inside.FixedPage.{head_room}
 
 -- A reply whose page was written after space for the head is the reply with that page.
-pub written_page : (told : Answer) (code : Code) (allowed : Option Page) (text : List ℕ) (value : Data)
-    → told ≡ record { code = code; bytes = reply_bytes code allowed (drop head_room text) }
-    → text ≡ replicate head_room 0 ++ compact_text value → told ≡ with_page code allowed value
-written_page told code allowed text value is behind =
+pub written_page : (reported : Answer) (code : Code) (allowed : Option Page) (text : List ℕ) (value : Data)
+    → reported ≡ record { code = code; bytes = reply_bytes code allowed (drop head_room text) }
+    → text ≡ replicate head_room 0 ++ compact_text value → reported ≡ with_page code allowed value
+written_page reported code allowed text value is behind =
     let made : List ℕ → Answer = λ page. record { code = code; bytes = reply_bytes code allowed page } in
     is ∙ ap made (ap (drop head_room) behind ∙ drop-append_seam (replicate head_room 0) (compact_text value))
 

@@ -20,7 +20,7 @@ use Rattle.clock_front.specs.Requests.{request_of}
 use Rattle.clock_front.proofs.FrontLaws.{ask_by, outcome_after}
 use Rattle.clock_front.proofs.RunLaws.{right}
 use Rattle.clock_front.proofs.CallerLaws.{caller_own}
-use Rattle.clock_front.proofs.TextViews.{told_from_view}
+use Rattle.clock_front.proofs.TextViews.{reported_from_view}
 
 -- The right reply to a bidder's own request is private.
 pub private_reply : (house : HouseFields) (text : List ℕ) (answer : Answer) → IsSetup house.setup
@@ -30,15 +30,15 @@ private_reply house text answer limits is = λ texts bidder stands lt own.
     (right house.setup limits texts text answer (is ∙ ap answer_of (outcome_after house (commands_of house.setup texts)
     (caller house.setup (request_of text).token) (request_of text).ask stands))).private bidder lt own
 
-pub if_private : {N : Type 0} (told : Result Response N) (old new : HouseFields) (text : List ℕ) → IsSetup old.setup
-    → IfOk told (IsRightResponse text old new) → IfOk told (λ response. IsPrivateReply text old response.reply)
+pub if_private : {N : Type 0} (reported : Result Response N) (old new : HouseFields) (text : List ℕ) → IsSetup old.setup
+    → IfOk reported (IsRightResponse text old new) → IfOk reported (λ response. IsPrivateReply text old response.reply)
 if_private (Ok response) old new text limits is = private_reply old text response.reply limits is.reply
 if_private (Err e) old new text limits is = tt
 
 -- ---- what running out of memory reveals
 
-pub want_as : {T : Type 0} (told : Result T AnswerError) (P Q : AnswerError → Type 0)
-    → ((why : AnswerError) → P why → Q why) → IfErr told P → IfErr told Q
+pub want_as : {T : Type 0} (reported : Result T AnswerError) (P Q : AnswerError → Type 0)
+    → ((why : AnswerError) → P why → Q why) → IfErr reported P → IfErr reported Q
 want_as (Ok done) P Q goes is = tt
 want_as (Err why) P Q goes is = goes why is
 
@@ -54,11 +54,11 @@ private_want : (house : HouseFields) (text : List ℕ) (why : AnswerError) → I
     → FailsByAllocation text house why → FailsByPrivateAllocation text house why
 private_want house text why limits want = λ texts bidder stands lt own asks. want (ap (λ who. asks_for_page who
     (request_of text).ask) (caller_own house.setup limits.tokens bidder lt (request_of text).token own) ∙ asks)
-    ∙ ap (λ told. Room (reply_room (request_of text).ask told))
+    ∙ ap (λ reported. Room (reply_room (request_of text).ask reported))
     (outcome_after house (commands_of house.setup texts) (caller house.setup (request_of text).token)
-    (request_of text).ask stands ∙ told_from_view house.setup bidder texts text limits.tokens lt own)
+    (request_of text).ask stands ∙ reported_from_view house.setup bidder texts text limits.tokens lt own)
 
-pub if_private_want : {T : Type 0} (told : Result T AnswerError) (house : HouseFields) (text : List ℕ)
-    → IsSetup house.setup → IfErr told (FailsByAllocation text house) → IfErr told (FailsByPrivateAllocation text house)
-if_private_want told house text limits = want_as told (FailsByAllocation text house)
+pub if_private_want : {T : Type 0} (reported : Result T AnswerError) (house : HouseFields) (text : List ℕ) → IsSetup
+    house.setup → IfErr reported (FailsByAllocation text house) → IfErr reported (FailsByPrivateAllocation text house)
+if_private_want reported house text limits = want_as reported (FailsByAllocation text house)
     (FailsByPrivateAllocation text house) (λ why want. private_want house text why limits want)

@@ -9,8 +9,8 @@ use Rattle.clock_terms.specs.Limits.{SetupFields, PublicSetup, public_setup}
 use Rattle.clock_posting.specs.declared.sheet.RoundSheet.{RoundSheet}
 use Rattle.clock_closing.specs.declared.closed_round.ClosedRound.{ClosedRound}
 use Rattle.clock_house.specs.Command.{Command}
-use Rattle.clock_house.specs.Standing.{Standing, first_standing, standing_after}
-use Rattle.clock_house.specs.History.{history, standing, round_at}
+use Rattle.clock_house.specs.PublicState.{PublicState, first_state, state_after}
+use Rattle.clock_house.specs.History.{history, public_state, round_at}
 use Rattle.clock_house.proofs.Numbers.{reverse_cons}
 use Rattle.clock_http.specs.Decimals.{plain_number}
 use Rattle.clock_http.specs.declared.code.Code.TheVariants.{Token}
@@ -24,9 +24,9 @@ use Rattle.clock_front.specs.Fronts.{commands_of, house_after, reply}
 use Rattle.clock_front.specs.Views.{HasNoValidToken, public_view}
 
 -- The state of the auction, from its round results.
-abbrev standing_by : List Product → List RoundSheet → Standing
-standing_by products [] = first_standing products
-standing_by products (last ∷ earlier) = standing_after last
+abbrev standing_by : List Product → List RoundSheet → PublicState
+standing_by products [] = first_state products
+standing_by products (last ∷ earlier) = state_after last
 
 -- The reply to a request with no valid token, from the public set-up and the round results.
 abbrev public_outcome : PublicSetup → List RoundSheet → Ask → Outcome
@@ -43,7 +43,7 @@ abbrev sheet_of : ClosedRound → RoundSheet
 sheet_of closed = closed.sheet
 
 standing_shown : (products : List Product) (closed : List ClosedRound)
-    → standing products closed ≡ standing_by products (map sheet_of closed)
+    → public_state products closed ≡ standing_by products (map sheet_of closed)
 standing_shown products [] = refl
 standing_shown products (last ∷ rounds) = refl
 
@@ -75,25 +75,25 @@ named_sheet setup closed (Some n) =
 
 -- ---- replies to requests with no valid token
 
-told_of_public : (setup : SetupFields) (commands : List Command) (ask : Ask) → outcome (house_after setup commands)
+reported_of_public : (setup : SetupFields) (commands : List Command) (ask : Ask) → outcome (house_after setup commands)
     Nobody ask ≡ public_outcome (public_setup setup) (map sheet_of (history setup commands).closed) ask
-told_of_public setup commands asked.status = ap (λ now. done (status_value (public_setup setup) now.round now.ended))
-    (standing_shown setup.products (history setup commands).closed)
-told_of_public setup commands (asked.sheet segment) =
+reported_of_public setup commands asked.status = ap (λ now. done (status_value
+    (public_setup setup) now.round now.ended)) (standing_shown setup.products (history setup commands).closed)
+reported_of_public setup commands (asked.sheet segment) =
     ap page_or_no_round (named_sheet (public_setup setup) (history setup commands).closed (plain_number segment))
-told_of_public setup commands _ = refl
+reported_of_public setup commands _ = refl
 
 answered_from_public : (setup : SetupFields) (past : List (List ℕ)) (text : List ℕ) → HasNoValidToken setup text → reply
     setup past text ≡ answer_of (public_outcome (public_setup setup) (public_view setup past) (request_of text).ask)
 answered_from_public setup past text none =
     ap (λ who. answer_of (outcome (house_after setup (commands_of setup past)) who (request_of text).ask)) none
-    ∙ ap answer_of (told_of_public setup (commands_of setup past) (request_of text).ask)
+    ∙ ap answer_of (reported_of_public setup (commands_of setup past) (request_of text).ask)
 
 -- If everyone sees the same in two runs, a request with no valid token gets the same reply in both.
-pub told_alike : (one two : SetupFields) (past other_past : List (List ℕ)) (text : List ℕ) → HasNoValidToken one text
-    → HasNoValidToken two text → public_setup one ≡ public_setup two → public_view one past ≡ public_view two other_past
-    → reply one past text ≡ reply two other_past text
-told_alike one two past other_past text none other_none public seen =
+pub reported_alike : (one two : SetupFields) (past other_past : List (List ℕ)) (text : List ℕ)
+    → HasNoValidToken one text → HasNoValidToken two text → public_setup one ≡ public_setup two
+    → public_view one past ≡ public_view two other_past → reply one past text ≡ reply two other_past text
+reported_alike one two past other_past text none other_none public seen =
     answered_from_public one past text none
     ∙ ap (λ setup. answer_of (public_outcome setup (public_view one past) (request_of text).ask)) public
     ∙ ap (λ view. answer_of (public_outcome (public_setup two) view (request_of text).ask)) seen

@@ -44,8 +44,8 @@ unchanged_right who ask house response reply nothing none = record {
 }
 
 -- The reply of a right response.
-pub right_reply : {N : Type 0} (told : Result Response N) (old new : HouseFields) (who : Caller) (ask : Ask)
-    → IfOk told (IsRightFor who ask old new) → IfOk told (λ response. response.reply ≡ answer_of (outcome old who ask))
+pub right_reply : {N : Type 0} (reported : Result Response N) (old new : HouseFields) (who : Caller) (ask : Ask) → IfOk
+    reported (IsRightFor who ask old new) → IfOk reported (λ response. response.reply ≡ answer_of (outcome old who ask))
 right_reply (Ok response) old new who ask is = is.reply
 right_reply (Err why) old new who ask is = tt
 
@@ -56,10 +56,10 @@ pub sheet_put : (old new : HouseFields) (bidder : ℕ) (sent : Result PutBody Bo
     (reply : Answer) → sent ≡ Ok sheet → reply ≡ answer_of (put_outcome sheet None) → put_fault_in old bidder
     sheet.round sheet.bids ≡ None → IsFollowedBy (command.put bidder sheet.round sheet.bids) old new
     → IsRightFor (Bidder bidder) (put sent) old new (record { reply = reply; effect = Sheet })
-sheet_put old new bidder sent sheet reply is told none followed =
+sheet_put old new bidder sent sheet reply is reported none followed =
     subst (λ body. IsRightFor (Bidder bidder) (put body) old new (record { reply = reply; effect = Sheet })) (sym is)
     (record {
-      reply = told ∙ ap (λ (first : Option PutFault). answer_of (put_outcome sheet first)) (sym none);
+      reply = reported ∙ ap (λ (first : Option PutFault). answer_of (put_outcome sheet first)) (sym none);
       effect = ap put_effect (sym none);
       followed = followed;
       still = λ (nothing : Sheet ≡ Nothing). cc;
@@ -70,10 +70,10 @@ pub sheet_refused : (house : HouseFields) (bidder : ℕ) (sent : Result PutBody 
     → response.reply ≡ answer_of (put_outcome sheet (Some fault)) → response.effect ≡ Nothing
     → put_fault_in house bidder sheet.round sheet.bids ≡ Some fault → IsFollowedBy
     (command.put bidder sheet.round sheet.bids) house house → IsRightFor (Bidder bidder) (put sent) house house response
-sheet_refused house bidder sent sheet fault response is told nothing faulty followed =
+sheet_refused house bidder sent sheet fault response is reported nothing faulty followed =
     subst (λ body. IsRightFor (Bidder bidder) (put body) house house response) (sym is)
     (record {
-      reply = told ∙ ap (λ (first : Option PutFault). answer_of (put_outcome sheet first)) (sym faulty);
+      reply = reported ∙ ap (λ (first : Option PutFault). answer_of (put_outcome sheet first)) (sym faulty);
       effect = nothing ∙ ap put_effect (sym faulty);
       followed = followed;
       still = λ changed. same_stands house;
@@ -86,10 +86,11 @@ refused_body : (who : Caller) (ask : Ask) (house : HouseFields) (response : Resp
 refused_body who ask house response answer is right none = unchanged_right who ask house response
     (ap (λ (one : Response). one.reply) is ∙ right) (ap (λ (one : Response). one.effect) is) none
 
-pub refused_put : {N : Type 0} (told : Result Response N) (house : HouseFields) (bidder : ℕ) (sent : Result PutBody
-    BodyFault) (fault : BodyFault) → (fault ≢ NoMemory → sent ≡ Err fault) → OnOk told (fault ≢ NoMemory) → IfOk told
+pub refused_put : {N : Type 0} (reported : Result Response N) (house : HouseFields) (bidder : ℕ)
+    (sent : Result PutBody BodyFault) (fault : BodyFault) → (fault ≢ NoMemory → sent ≡ Err fault)
+    → OnOk reported (fault ≢ NoMemory) → IfOk reported
     (λ response. response ≡ record { reply = answer_of (refused (bare (body_code fault))); effect = Nothing })
-    → IfOk told (IsRightFor (Bidder bidder) (put sent) house house)
+    → IfOk reported (IsRightFor (Bidder bidder) (put sent) house house)
 refused_put (Ok response) house bidder sent fault err known is =
     subst (λ body. IsRightFor (Bidder bidder) (put body) house house response) (sym (err known))
     (refused_body (Bidder bidder) (put (Err fault)) house response _ is refl refl)
@@ -117,11 +118,11 @@ pub closing_made : (old new : HouseFields) (sent : Result CloseBody BodyFault) (
     → reply ≡ answer_of (close_outcome closing.round (closing_in old closing.round closing.increments closing.ties))
     → IsFollowedBy (command.close closing.round closing.increments closing.ties) old new
     → IsRightFor Operator (close sent) old new (record { reply = reply; effect = Closing closing.round })
-closing_made old new sent closing closed reply is made told followed =
+closing_made old new sent closing closed reply is made reported followed =
     closing_response old new (record { reply = reply; effect = Closing closing.round }) sent
     (subst (IsClosingResponse old new (record { reply = reply; effect = Closing closing.round })) (sym is)
     (record {
-      reply = told;
+      reply = reported;
       effect = ap (close_effect closing.round) (sym made);
       followed = followed;
       still = λ (nothing : Closing closing.round ≡ Nothing). cc;
@@ -133,22 +134,22 @@ pub closing_refused : (old new : HouseFields) (sent : Result CloseBody BodyFault
     ≡ answer_of (close_outcome closing.round (closing_in old closing.round closing.increments closing.ties))
     → response.effect ≡ Nothing → IsFollowedBy (command.close closing.round closing.increments closing.ties) old new
     → StandsForTheSame old new → IsRightFor Operator (close sent) old new response
-closing_refused old new sent closing fault response is faulty told nothing followed still =
+closing_refused old new sent closing fault response is faulty reported nothing followed still =
     closing_response old new response sent
     (subst (IsClosingResponse old new response) (sym is)
     (record {
-      reply = told;
+      reply = reported;
       effect = nothing ∙ ap (close_effect closing.round) (sym faulty);
       followed = followed;
       still = λ changed. still;
     }))
 
 -- The response to a body that is not a closing.
-pub refused_close : {N : Type 0} (told : Result Response N) (house : HouseFields) (sent : Result CloseBody BodyFault)
-    (fault : BodyFault) → (fault ≢ NoMemory → in_version house.setup.version sent ≡ Err fault)
-    → OnOk told (fault ≢ NoMemory) → IfOk told
+pub refused_close : {N : Type 0} (reported : Result Response N) (house : HouseFields)
+    (sent : Result CloseBody BodyFault) (fault : BodyFault) → (fault ≢ NoMemory
+    → in_version house.setup.version sent ≡ Err fault) → OnOk reported (fault ≢ NoMemory) → IfOk reported
     (λ response. response ≡ record { reply = answer_of (refused (bare (body_code fault))); effect = Nothing })
-    → IfOk told (IsRightFor Operator (close sent) house house)
+    → IfOk reported (IsRightFor Operator (close sent) house house)
 refused_close (Ok response) house sent fault err known is =
     closing_response house house response sent
     (subst (IsClosingResponse house house response) (sym (err known))

@@ -6,7 +6,7 @@ use Rattle.clock_http.specs.Replies.{Answer}
 use Rattle.clock_house.specs.House.{HouseFields}
 use Rattle.clock_front.specs.Fronts.{reply, StandsForTexts, AnswersText}
 use Rattle.clock_front.specs.Headline.{IsRight, Runs}
-use Rattle.clock_front.proofs.PublicLaws.{told_alike}
+use Rattle.clock_front.proofs.PublicLaws.{reported_alike}
 use Rattle.clock_front.proofs.TextViews.{answered_from_view, isolated}
 
 -- A right reply is private to its bidder, and public without a valid token.
@@ -20,7 +20,7 @@ right setup limits past text one is = record {
         ∙ isolated setup other bidder number past other_past text limits.tokens other_tokens lt other_lt alike own;
   };
   public = λ none other other_past other_none same seen. is
-      ∙ told_alike setup other past other_past text none other_none same seen;
+      ∙ reported_alike setup other past other_past text none other_none same seen;
 }
 
 -- A run with one more request at its end, which was answered or left out.
@@ -33,7 +33,7 @@ goes_on setup past [] (a ∷ answers) end next text one runs is = absurd runs
 goes_on setup past (t ∷ texts) [] end next text one runs is = absurd runs
 goes_on setup past (t ∷ texts) (a ∷ answers) end next text one runs is =
     elim runs [
-      | inl struck ↦ inl (struck.0, goes_on setup past texts answers end next text one struck.1 is)
+      | inl left_out ↦ inl (left_out.0, goes_on setup past texts answers end next text one left_out.1 is)
       | inr replied ↦ inr (replied.0, goes_on setup (t ∷ past) texts answers end next text one replied.1 is)
     ]
 
@@ -51,16 +51,16 @@ pub step : (setup : SetupFields) (limits : IsSetup setup) (texts : List (List �
     ≡ front.setup → AnswersText text one front next → IsUnderWay setup (texts ++ text ∷ []) (answers ++ one ∷ []) next
 step setup limits texts answers front next text one before same answered =
     elim (answered before.end before.stands) [
-      | inl told ↦ record {
+      | inl reported ↦ record {
         end = text ∷ before.end;
         kept = same ∙ before.kept;
         runs = goes_on setup [] texts answers before.end (text ∷ before.end) text one before.runs
             (inr (
               right setup limits before.end text one
-                  (told.0 ∙ ap (λ of_setup. reply of_setup before.end text) before.kept),
+                  (reported.0 ∙ ap (λ of_setup. reply of_setup before.end text) before.kept),
               refl,
             ));
-        stands = told.1;
+        stands = reported.1;
       }
       | inr none ↦ record {
         end = before.end;

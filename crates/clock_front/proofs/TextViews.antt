@@ -16,10 +16,10 @@ use Rattle.clock_house.specs.Command.{Command}
 use Rattle.clock_closing.specs.declared.closed_round.Slip.{Slip}
 use Rattle.clock_closing.specs.declared.fault.CloseFault.{CloseFault}
 use Rattle.clock_closing.specs.declared.closed_round.ClosedRound.{ClosedRound}
-use Rattle.clock_house.specs.Standing.{Standing}
-use Rattle.clock_house.specs.History.{Auction, history, bidder_at, closing_of, round_at, slip_of, standing, holding}
+use Rattle.clock_house.specs.PublicState.{PublicState}
+use Rattle.clock_house.specs.History.{Auction, history, bidder_at, closing_of, round_at, slip_of, public_state, holding}
 use Rattle.clock_house.specs.History.{sheet_in_force, for_each_bidder}
-use Rattle.clock_house.specs.View.{Seen, own_put, view_of, seen_of, seen_closing, seen_standing, seen_holding}
+use Rattle.clock_house.specs.View.{Seen, own_put, view_of, seen_of, seen_closing, seen_state, seen_holding}
 use Rattle.clock_house.specs.View.{seen_in_force, seen_round, shown_to, IsSeen}
 use Rattle.clock_house.specs.View as typed
 use Rattle.clock_house.proofs.Isolation.{seen}
@@ -114,8 +114,8 @@ typed_view-text_view setup b tokens lt (text ∷ past) = typed_view-append (seen
 abbrev Rounds : Type 0
 Rounds = ℕ → Option (RoundSheet × Slip)
 
-module _ (setup : PublicSetup) (row : Bidder) (standing_now : Standing) (held : Holding) (in_force : Option (List Bid))
-    (one two : Rounds) (alike : (n : ℕ) → one n ≡ two n) where
+module _ (setup : PublicSetup) (row : Bidder) (standing_now : PublicState) (held : Holding)
+    (in_force : Option (List Bid)) (one two : Rounds) (alike : (n : ℕ) → one n ≡ two n) where
   same_slip : (named : Option ℕ) → page_or_no_round (option_map
       (λ (one_seen : RoundSheet × Slip). slip_value one_seen.1) (option_and_then one named)) ≡ page_or_no_round
       (option_map (λ (one_seen : RoundSheet × Slip). slip_value one_seen.1) (option_and_then two named))
@@ -131,8 +131,8 @@ module _ (setup : PublicSetup) (row : Bidder) (standing_now : Standing) (held : 
       page_or_no_round (option_map (λ (one_seen : RoundSheet × Slip). sheet_value setup one_seen.0) found)) (alike n)
 
   pub same_rounds : (asked : Ask) → known_outcome setup row
-      (record { standing = standing_now; holding = held; in_force = in_force; rounds = one }) asked ≡ known_outcome
-      setup row (record { standing = standing_now; holding = held; in_force = in_force; rounds = two }) asked
+      (record { public_state = standing_now; holding = held; in_force = in_force; rounds = one }) asked ≡ known_outcome
+      setup row (record { public_state = standing_now; holding = held; in_force = in_force; rounds = two }) asked
   unfolding known_outcome
   same_rounds (ask.slip segment) = same_slip (plain_number segment)
   same_rounds (ask.sheet segment) = same_sheet (plain_number segment)
@@ -144,101 +144,101 @@ module _ (setup : SetupFields) (b : ℕ) (lt : b < length setup.bidders) (comman
   -- What the bidder knows after all commands.
   abbrev pub known_in : Knowledge
   known_in = record {
-    standing = standing setup.products (history setup commands).closed;
+    public_state = public_state setup.products (history setup commands).closed;
     holding = holding setup (history setup commands).closed b;
     in_force = sheet_in_force setup (history setup commands) b;
     rounds = λ n. option_map (shown_to b) (round_at n (history setup commands).closed);
   }
 
-  slip_told : (found : Option ClosedRound) → option_map (λ closed. slip_value (slip_of b closed)) found
+  slip_reported : (found : Option ClosedRound) → option_map (λ closed. slip_value (slip_of b closed)) found
       ≡ option_map (λ (one_seen : RoundSheet × Slip). slip_value one_seen.1) (option_map (shown_to b) found)
-  slip_told None = refl
-  slip_told (Some closed) = refl
+  slip_reported None = refl
+  slip_reported (Some closed) = refl
 
-  sheet_told : (found : Option ClosedRound) →
+  sheet_reported : (found : Option ClosedRound) →
       option_map (λ closed. sheet_value (public_setup setup) closed.sheet) found ≡ option_map
       (λ (one_seen : RoundSheet × Slip). sheet_value (public_setup setup) one_seen.0) (option_map (shown_to b) found)
-  sheet_told None = refl
-  sheet_told (Some closed) = refl
+  sheet_reported None = refl
+  sheet_reported (Some closed) = refl
 
   named_slip : (named : Option ℕ) → option_map (λ closed. slip_value (slip_of b closed))
       (option_and_then (λ n. round_at n (history setup commands).closed) named)
       ≡ option_map (λ (one_seen : RoundSheet × Slip). slip_value one_seen.1) (option_and_then known_in.rounds named)
   named_slip None = refl
-  named_slip (Some n) = slip_told (round_at n (history setup commands).closed)
+  named_slip (Some n) = slip_reported (round_at n (history setup commands).closed)
 
   named_sheet : (named : Option ℕ) → option_map (λ closed. sheet_value (public_setup setup) closed.sheet)
       (option_and_then (λ n. round_at n (history setup commands).closed) named) ≡ option_map (λ (one_seen : RoundSheet
       × Slip). sheet_value (public_setup setup) one_seen.0) (option_and_then known_in.rounds named)
   named_sheet None = refl
-  named_sheet (Some n) = sheet_told (round_at n (history setup commands).closed)
+  named_sheet (Some n) = sheet_reported (round_at n (history setup commands).closed)
 
   own_sheet : slice_index_or (for_each_bidder setup (sheet_in_force setup (history setup commands))) b None
       ≡ sheet_in_force setup (history setup commands) b
   own_sheet = get_or-map-range_with_len (sheet_in_force setup (history setup commands)) 0
       (length setup.bidders) b b None lt (zero-add b)
 
-  pub told_of_known : (asked : Ask) → outcome (house_after setup commands) (who.Bidder b) asked ≡ known_outcome
+  pub reported_of_known : (asked : Ask) → outcome (house_after setup commands) (who.Bidder b) asked ≡ known_outcome
       (public_setup setup) (bidder_at setup b) known_in asked
   unfolding known_outcome
-  told_of_known (ask.slip segment) = ap page_or_no_round (named_slip (plain_number segment))
-  told_of_known (ask.sheet segment) = ap page_or_no_round (named_sheet (plain_number segment))
-  told_of_known ask.bids =
-      ap (λ sheet. done (bids_value (standing setup.products (history setup commands).closed).round sheet)) own_sheet
-  told_of_known (ask.put (Ok body)) = refl
-  told_of_known _ = refl
+  reported_of_known (ask.slip segment) = ap page_or_no_round (named_slip (plain_number segment))
+  reported_of_known (ask.sheet segment) = ap page_or_no_round (named_sheet (plain_number segment))
+  reported_of_known ask.bids = ap (λ sheet.
+      done (bids_value (public_state setup.products (history setup commands).closed).round sheet)) own_sheet
+  reported_of_known (ask.put (Ok body)) = refl
+  reported_of_known _ = refl
 
   -- The reply follows from the view of the commands.
-  pub told_of_view : (asked : Ask)
+  pub reported_of_view : (asked : Ask)
       → outcome (house_after setup commands) (who.Bidder b) asked ≡ known_outcome (public_setup setup)
       (bidder_at setup b) (known_from (public_setup setup) (bidder_at setup b) (view_of setup b commands)) asked
-  told_of_view asked =
+  reported_of_view asked =
       let is : IsSeen setup b commands = seen setup b commands in
       let public = public_setup setup in
       let row = bidder_at setup b in
       let view = view_of setup b commands in
-      told_of_known asked ∙ ap (λ s. known_outcome public row
-      (record { standing = s; holding = known_in.holding; in_force = known_in.in_force; rounds = known_in.rounds })
-      asked) is.standing ∙ ap (λ h. known_outcome public row (record {
-        standing = seen_standing public view;
+      reported_of_known asked ∙ ap (λ s. known_outcome public row
+      (record { public_state = s; holding = known_in.holding; in_force = known_in.in_force; rounds = known_in.rounds })
+      asked) is.public_state ∙ ap (λ h. known_outcome public row (record {
+        public_state = seen_state public view;
         holding = h;
         in_force =
             known_in.in_force;
         rounds = known_in.rounds;
       }) asked) is.holding
       ∙ ap (λ f. known_outcome public row (record {
-        standing = seen_standing public view;
+        public_state = seen_state public view;
         holding = seen_holding public row view;
         in_force = f;
         rounds = known_in.rounds;
       }) asked) is.in_force
-      ∙ same_rounds public row (seen_standing public view) (seen_holding public row view)
+      ∙ same_rounds public row (seen_state public view) (seen_holding public row view)
       (seen_in_force public row view) known_in.rounds
       (λ n. seen_round n view) is.rounds asked
 
 -- The reply computed from what a view makes known is the reply computed from the view.
-told_by_known : (setup : PublicSetup) (row : Bidder) (view : List Seen) (asked : Ask) →
+reported_by_known : (setup : PublicSetup) (row : Bidder) (view : List Seen) (asked : Ask) →
     known_outcome setup row (known_from setup row view) asked ≡ bidder_outcome setup row view asked
 unfolding known_outcome bidder_outcome
-told_by_known setup row view (ask.put (Ok body)) = refl
-told_by_known setup row view _ = refl
+reported_by_known setup row view (ask.put (Ok body)) = refl
+reported_by_known setup row view _ = refl
 
 -- ---- isolation
 
 -- The reply to an own request follows from the view.
-pub told_from_view : (setup : SetupFields) (b : ℕ) (past : List (List ℕ)) (text : List ℕ) → HasOwnTokens setup
+pub reported_from_view : (setup : SetupFields) (b : ℕ) (past : List (List ℕ)) (text : List ℕ) → HasOwnTokens setup
     → b < length setup.bidders → is_own (bidder_at setup b) text ≡ true → outcome (house_after setup
     (commands_of setup past)) (caller setup (request_of text).token) (request_of text).ask ≡ bidder_outcome
     (public_setup setup) (bidder_at setup b) (typed_view (text_view setup b past)) (request_of text).ask
-told_from_view setup b past text tokens lt is =
-    ap (λ author. outcome (house_after setup (commands_of setup past)) author (request_of text).ask) (caller_own setup
-    tokens b lt (request_of text).token is) ∙ told_of_view setup b lt (commands_of setup past) (request_of text).ask
-    ∙ ap (λ view. known_outcome (public_setup setup) (bidder_at setup b) (known_from (public_setup setup)
-    (bidder_at setup b) view) (request_of text).ask) (sym (typed_view-text_view setup b tokens lt past))
-    ∙ told_by_known (public_setup setup) (bidder_at setup b) (typed_view (text_view setup b past)) (request_of text).ask
+reported_from_view setup b past text tokens lt is = ap (λ author. outcome (house_after setup (commands_of setup past))
+    author (request_of text).ask) (caller_own setup tokens b lt (request_of text).token is)
+    ∙ reported_of_view setup b lt (commands_of setup past) (request_of text).ask ∙ ap (λ view.
+    known_outcome (public_setup setup) (bidder_at setup b) (known_from (public_setup setup) (bidder_at setup b) view)
+    (request_of text).ask) (sym (typed_view-text_view setup b tokens lt past)) ∙ reported_by_known (public_setup setup)
+    (bidder_at setup b) (typed_view (text_view setup b past)) (request_of text).ask
 
 pub answered_from_view : IsAnsweredFromView
-answered_from_view setup b past text tokens lt is = ap answer_of (told_from_view setup b past text tokens lt is)
+answered_from_view setup b past text tokens lt is = ap answer_of (reported_from_view setup b past text tokens lt is)
 
 pub isolated : IsIsolated
 isolated one two b d past other_past text tokens other_tokens lb ld alike is =

@@ -13,7 +13,7 @@ use Rattle.clock_terms.specs.Limits.{SetupFields}
 use Rattle.clock_http.specs.Heads.{same_bytes}
 use Rattle.clock_front.specs.Callers.{holder, bidder_tokens, caller}
 use Rattle.clock_front.specs.inside.Callers.{IsKnown}
-use Rattle.clock_front.specs.inside.HeldTokens.{found, caller_by}
+use Rattle.clock_front.specs.inside.TokenTable.{found, caller_by}
 use Rattle.clock_front.specs.declared.front.callers.Caller.{Caller}
 use Rattle.clock_front.specs.declared.front.callers.Caller.TheVariants.{Nobody, Operator, Bidder}
 

@@ -5,7 +5,7 @@
 --     IsFeedFault known, IsFinishFault known      when each refusal comes
 use Rattle.std.specs.Prelude.{◌≡◌, ◌⊎◌, ◌++◌, ℕ, true, false, List, Option, None, Some, IsSome}
 use Rattle.clock_house.specs.House.{HouseFields}
-use Rattle.clock_connections.specs.Connections.{ConnectionFields, IsTaken, IsGone, text_of}
+use Rattle.clock_connections.specs.Connections.{ConnectionFields, IsTaken, IsGone, open_text}
 use Rattle.clock_connections.specs.declared.connections.Conn.{Conn}
 use Rattle.clock_connections.specs.declared.connections.HubFault.{HubFault}
 use Rattle.clock_connections.specs.declared.connections.HubFault.TheVariants.{Full, NoMemory}
@@ -41,7 +41,7 @@ IsFed old new conn text (Reply reply) =
 
 -- What a piece led to, which is appended to the bytes of its connection.
 abbrev pub IsFedBy : HubFields → HubFields → Conn → List ℕ → Fed → Type 0
-IsFedBy old new conn piece fed = (text : List ℕ) → text_of old.connections conn ≡ Some text
+IsFedBy old new conn piece fed = (text : List ℕ) → open_text old.connections conn ≡ Some text
     → IsFed old new conn (text ++ piece) fed
 
 -- Why a piece was refused: out of memory on an open connection, or the connection is not open.

@@ -13,7 +13,7 @@ use Rattle.clock_house.specs.Command.{Command}
 use Rattle.clock_house.specs.Command as command
 use Rattle.clock_house.specs.History.{bidder_at, slip_of, round_at}
 use Rattle.clock_closing.specs.declared.closed_round.ClosedRound.{ClosedRound}
-use Rattle.clock_house.specs.House.{HouseFields, standing_in, holding_in, put_fault_in, closing_in}
+use Rattle.clock_house.specs.House.{HouseFields, state_in, holding_in, put_fault_in, closing_in}
 use Rattle.clock_house.specs.declared.fault.PutFault.{PutFault}
 use Rattle.clock_closing.specs.declared.fault.CloseFault.{CloseFault}
 use Rattle.clock_http.specs.declared.code.Code.{Code}
@@ -111,15 +111,15 @@ abbrev pub outcome_of : HouseFields → Caller → Ask → Outcome
 outcome_of house caller (asked.turned_away why) = refused (bare why)
 outcome_of house caller (asked.no_method page) = not_allowed page
 outcome_of house caller asked.status = done
-    (status_value (public_setup house.setup) (standing_in house).round (standing_in house).ended)
+    (status_value (public_setup house.setup) (state_in house).round (state_in house).ended)
 outcome_of house caller asked.products = done (products_value (public_setup house.setup))
 outcome_of house caller (asked.sheet segment) = page_or_no_round (option_map
     (λ closed. sheet_value (public_setup house.setup) closed.sheet) (round_in house segment))
 outcome_of house caller asked.account = to_bidder caller
     (λ bidder. done (account_value house.setup.products (bidder_at house.setup bidder).name
-    (standing_in house).round (holding_in house bidder) (standing_in house).ended))
+    (state_in house).round (holding_in house bidder) (state_in house).ended))
 outcome_of house caller asked.bids = to_bidder caller (λ bidder.
-    done (bids_value (standing_in house).round (slice_index_or house.sheets bidder None)))
+    done (bids_value (state_in house).round (slice_index_or house.sheets bidder None)))
 outcome_of house caller (asked.put body) = to_bidder caller (λ bidder. put_to house bidder body)
 outcome_of house caller (asked.slip segment) = to_bidder caller (λ bidder. page_or_no_round
     (option_map (λ closed. slip_value (slip_of bidder closed)) (round_in house segment)))

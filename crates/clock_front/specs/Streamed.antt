@@ -10,9 +10,9 @@ use Rattle.clock_http.specs.Replies.{Answer}
 use Rattle.clock_front.specs.FixedReplies.{no_memory}
 use Rattle.clock_front.specs.Fronts.{AnswersText, IsOutOfMemoryReply, StandsForTexts}
 use Rattle.clock_front.specs.Private.{IsPrivateReply}
-use Rattle.clock_device.specs.Told.{Reading, Writing}
+use Rattle.clock_device.specs.Reports.{Reading, Writing}
 use Rattle.clock_device.specs.Writings.{WritesWhole, WritesFront, WritesNothing}
-use Rattle.clock_connections.specs.Arrivals.{HasArrived, IsNotRead, HasNoRoom}
+use Rattle.clock_connections.specs.Arrivals.{HasArrived, IsNotRead, HasNoMemory}
 use Rattle.clock_front.specs.declared.stream.StreamFault.{StreamFault}
 use Rattle.clock_front.specs.declared.stream.StreamFault.TheVariants as fault
 
@@ -26,7 +26,7 @@ IsLeftUnread reading old new = IsNotRead reading × (new ≡ old)
 abbrev pub IsAnswerTo : Reading → Answer → HouseFields → HouseFields → Type 0
 IsAnswerTo reading answer old new = ((text : List ℕ) × HasArrived reading text × AnswersText text
     answer old new × (IsOutOfMemoryReply text answer ⊎ IsPrivateReply text old answer))
-    ⊎ (HasNoRoom reading × (answer ≡ no_memory) × (new ≡ old))
+    ⊎ (HasNoMemory reading × (answer ≡ no_memory) × (new ≡ old))
 
 -- How a stream was served, by the result. `Ok`: the whole reply with this code was written. `Read`:
 -- no request was read, and nothing was written. `Write`: a write failed, a prefix of the reply was

@@ -13,9 +13,9 @@ use Rattle.clock_terms.specs.declared.setup.Bidder.{Bidder}
 use Rattle.clock_terms.specs.Limits.{SetupFields, PublicSetup}
 use Rattle.clock_posting.specs.declared.sheet.RoundSheet.{RoundSheet}
 use Rattle.clock_closing.specs.declared.closed_round.Slip.{Slip}
-use Rattle.clock_house.specs.Standing.{put_fault}
+use Rattle.clock_house.specs.PublicState.{put_fault}
 use Rattle.clock_house.specs.History.{history, bidder_at}
-use Rattle.clock_house.specs.View.{Seen, seen_of, seen_standing, seen_holding, seen_in_force}
+use Rattle.clock_house.specs.View.{Seen, seen_of, seen_state, seen_holding, seen_in_force}
 use Rattle.clock_house.specs.View.{seen_round}
 use Rattle.clock_house.specs.View as typed
 use Rattle.clock_http.specs.declared.code.Code.TheVariants as code
@@ -86,17 +86,17 @@ unfoldable pub bidder_outcome : PublicSetup → Bidder → List Seen → Ask →
 bidder_outcome setup row view (asked.turned_away why) = refused (bare why)
 bidder_outcome setup row view (asked.no_method page) = not_allowed page
 bidder_outcome setup row view asked.status =
-    done (status_value setup (seen_standing setup view).round (seen_standing setup view).ended)
+    done (status_value setup (seen_state setup view).round (seen_state setup view).ended)
 bidder_outcome setup row view asked.products = done (products_value setup)
 bidder_outcome setup row view (asked.sheet segment) =
     page_or_no_round (option_map (λ seen. sheet_value setup seen.0) (round_of_segment view segment))
 bidder_outcome setup row view asked.account = done (account_value setup.products row.name
-    (seen_standing setup view).round (seen_holding setup row view) (seen_standing setup view).ended)
+    (seen_state setup view).round (seen_holding setup row view) (seen_state setup view).ended)
 bidder_outcome setup row view asked.bids =
-    done (bids_value (seen_standing setup view).round (seen_in_force setup row view))
+    done (bids_value (seen_state setup view).round (seen_in_force setup row view))
 bidder_outcome setup row view (asked.put (Err fault)) = refused (bare (body_code fault))
 bidder_outcome setup row view (asked.put (Ok body)) = put_outcome body
-    (put_fault setup (seen_standing setup view) (seen_holding setup row view) body.round body.bids)
+    (put_fault setup (seen_state setup view) (seen_holding setup row view) body.round body.bids)
 bidder_outcome setup row view (asked.slip segment) =
     page_or_no_round (option_map (λ seen. slip_value seen.1) (round_of_segment view segment))
 bidder_outcome setup row view (asked.close body) = refused (bare code.Role)

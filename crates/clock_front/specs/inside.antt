@@ -3,9 +3,9 @@ pub mod Callers
 pub mod EventRuns
 pub mod FixedReplies
 pub mod Hubs
-pub mod HeldTokens
+pub mod TokenTable
 pub mod NumberedHubs
-pub mod KeptPage
+pub mod FixedPage
 pub mod Isolation
 pub mod Roomless
 pub mod Replies

@@ -9,7 +9,7 @@ ghost use Rattle.clock_front.specs.Fronts.{StandsForTexts};
 ghost use Rattle.clock_front.specs.Effects.{IsRightResponse, RespondsTo};
 ghost use Rattle.clock_front.specs.Private.{IsPrivateReply};
 ghost use Rattle.clock_front.specs.Rooms.{FailsByPrivateAllocation, FailsByAllocation};
-ghost use Rattle.clock_front.specs.inside.{HeldTokens.{IsTableOf}, KeptPage.{IsProductsPage}};
+ghost use Rattle.clock_front.specs.inside.{TokenTable.{IsTableOf}, FixedPage.{IsProductsPage}};
 
 mod answering;
 mod callers;
@@ -39,7 +39,7 @@ use std::marker::Model;
 pub struct Front<P> {
     alloc: Global,
     house: House<P>,
-    kept: FixedParts,
+    base: FixedParts,
 }
 
 /// The parts of a front that never change: whose each token is, the routes, and the page of
@@ -53,8 +53,8 @@ struct FixedParts {
 
 /// Builds the constant parts of a front from a set-up.
 fn fixed_parts(alloc: Global, setup: &Setup) -> Result<FixedParts, NoMemory>
-    ensures { IfOk result (λ kept. IsTableOf setup.now kept.tokens.entries
-        × IsProductsPage setup.now kept.products) }
+    ensures { IfOk result (λ base. IsTableOf setup.now base.tokens.entries
+        × IsProductsPage setup.now base.products) }
 {
     Ok(FixedParts {
         tokens: tokens_of(alloc, setup)?,
@@ -68,8 +68,8 @@ impl<P> Model for Front<P> {
 
     ghost view = { λ f. f.house };
 
-    ghost invariant = { λ f. IsTableOf f.house.setup f.kept.tokens.entries
-        × IsProductsPage f.house.setup f.kept.products };
+    ghost invariant = { λ f. IsTableOf f.house.setup f.base.tokens.entries
+        × IsProductsPage f.house.setup f.base.products };
 }
 
 impl<P: Processor> Front<P> {
@@ -78,9 +78,9 @@ impl<P: Processor> Front<P> {
         ensures setup { IfOk result (λ front. front.setup ≡ setup) }
         ensures stands { IfOk result (StandsForTexts []) }
     {
-        let kept = fixed_parts(alloc, &setup)?;
+        let base = fixed_parts(alloc, &setup)?;
         let house = House::new(alloc, setup, processor)?;
-        Ok(Front { alloc, house, kept })
+        Ok(Front { alloc, house, base })
     }
 
     /// Answers a request that `framing` has split into head and body, after which the input has
@@ -111,8 +111,8 @@ impl<P: Processor> Front<P> {
             }
             Framing::Refused(code) => Ok(unchanged(fixed_reply(code))),
             Framing::Whole { head, body } => {
-                let caller = caller_of(&self.kept.tokens, head.token);
-                answer_request(self.alloc, &mut self.house, &self.kept, caller, &head, body)
+                let caller = caller_of(&self.base.tokens, head.token);
+                answer_request(self.alloc, &mut self.house, &self.base, caller, &head, body)
             }
         }
     }

@@ -5,7 +5,7 @@ ghost use Rattle.clock_front.specs.Hubs.{IsFinishFault};
 ghost use Rattle.clock_front.specs.inside.Hubs.{hub_of};
 ghost use Rattle.clock_http.specs.Framing.{needs_more};
 ghost use Rattle.clock_connections.specs.inside.Waiting.{AllNeedMore};
-ghost use Rattle.clock_connections.specs.Connections.{text_of, IsConnected, IsConnectFault};
+ghost use Rattle.clock_connections.specs.Connections.{open_text, IsConnected, IsConnectFault};
 
 use crate::front::Front;
 use clock_connections::{Conn, Connections, HubFault};
@@ -46,10 +46,10 @@ impl<P> Model for Hub<P> {
 /// Answers the request of a connection, and removes the connection. Requires an open connection.
 #[inline(never)]
 fn complete<P: Processor>(front: &mut Front<P>, connections: &mut Connections, conn: Conn) -> Reply
-    requires { IsSome (text_of connections.old conn) }
-    ensures answered { (text : List ℕ) → text_of connections.old conn ≡ Some text → IsAnswered
+    requires { IsSome (open_text connections.old conn) }
+    ensures answered { (text : List ℕ) → open_text connections.old conn ≡ Some text → IsAnswered
         (hub_of front.old connections.old) (hub_of front.new connections.new) conn text result }
-    ensures cut_short { (text : List ℕ) → text_of connections.old conn ≡ Some text
+    ensures cut_short { (text : List ℕ) → open_text connections.old conn ≡ Some text
         → needs_more text ≡ true → IsCutShort result }
 {
     let request = connections.remove(conn);
@@ -84,7 +84,7 @@ impl<P: Processor> Hub<P> {
     /// Requires an open connection. After an error nothing has changed.
     #[inline(always)]
     fn feed_on(&mut self, conn: Conn, piece: &[u8]) -> Result<Fed, NoMemory>
-        requires { IsSome (text_of self.old.connections conn) }
+        requires { IsSome (open_text self.old.connections conn) }
         ensures fed { IfOk result (IsFedBy self.old self.new conn piece.now) }
         ensures still { OnErr result (self.new ≡ self.old) }
     {
@@ -99,7 +99,7 @@ impl<P: Processor> Hub<P> {
     /// function of its own so that [`Hub::feed`] stays cheap for single bytes.
     #[inline(never)]
     fn feed_piece(&mut self, conn: Conn, piece: &[u8]) -> Result<Fed, NoMemory>
-        requires { IsSome (text_of self.old.connections conn) }
+        requires { IsSome (open_text self.old.connections conn) }
         ensures fed { IfOk result (IsFedBy self.old self.new conn piece.now) }
         ensures still { OnErr result (self.new ≡ self.old) }
     {
@@ -119,8 +119,8 @@ impl<P: Processor> Hub<P> {
     #[inline(always)]
     pub fn feed(&mut self, conn: Conn, piece: &[u8]) -> Result<Fed, HubFault>
         ensures fed { IfOk result (IsFedBy self.old self.new conn piece.now) }
-        ensures stood { OnOk result (IsSome (text_of self.old.connections conn)) }
-        ensures fault { IfErr result (IsFeedFault (text_of self.old.connections conn)) }
+        ensures stood { OnOk result (IsSome (open_text self.old.connections conn)) }
+        ensures fault { IfErr result (IsFeedFault (open_text self.old.connections conn)) }
         ensures still { OnErr result (self.new ≡ self.old) }
     {
         if !self.connections.stands(conn) {
@@ -137,11 +137,11 @@ impl<P: Processor> Hub<P> {
     ///
     /// Errors: `Unknown`, if the connection is not open.
     pub fn finish(&mut self, conn: Conn) -> Result<Reply, HubFault>
-        ensures answered { (text : List ℕ) → text_of self.old.connections conn ≡ Some text
+        ensures answered { (text : List ℕ) → open_text self.old.connections conn ≡ Some text
             → IfOk result (IsAnswered self.old self.new conn text) }
         ensures cut_short { IfOk result IsCutShort }
-        ensures stood { OnOk result (IsSome (text_of self.old.connections conn)) }
-        ensures fault { IfErr result (IsFinishFault (text_of self.old.connections conn)) }
+        ensures stood { OnOk result (IsSome (open_text self.old.connections conn)) }
+        ensures fault { IfErr result (IsFinishFault (open_text self.old.connections conn)) }
         ensures still { OnErr result (self.new ≡ self.old) }
     {
         if !self.connections.stands(conn) {

@@ -133,7 +133,7 @@ impl<P: Processor> NumberedHub<P> {
         ensures stands { (numbered : Numbered)
             → AreNumbered numbered self.old.hub.connections self.old.conns → OnOk result
             (AreNumbered (after numbered event.now) self.new.hub.connections self.new.conns) }
-        ensures told { (numbered : Numbered)
+        ensures reported { (numbered : Numbered)
             → AreNumbered numbered self.old.hub.connections self.old.conns → IfOk result
             (HasCompleted (completed numbered event.now) self.old.hub.house self.new.hub.house) }
     {

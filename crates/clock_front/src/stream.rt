@@ -1,5 +1,5 @@
 ghost use Rattle.std.specs.Prelude.{◌≡◌, ◌≤◌, ℕ, List};
-ghost use Rattle.clock_device.specs.Told.{IsUnread, IsUnused};
+ghost use Rattle.clock_device.specs.Reports.{IsUnread, IsUnused};
 ghost use Rattle.clock_connections.specs.Arrivals.{most_request_reads};
 ghost use Rattle.clock_front.specs.{Fronts.{StandsForTexts}, Streamed.{HasServed, IsServed}};
 
@@ -37,13 +37,14 @@ pub fn serve_stream<P: Processor, R: Source, W: Sink>(
     source: &mut R,
     sink: &mut W,
 ) -> Result<Code, StreamFault>
-    requires unread { IsUnread (R.told source.old) }
-    requires unused { IsUnused (W.told sink.old) }
-    ensures served { IsServed (record { before = R.told source.old; after = R.told source.new })
-        (record { before = W.told sink.old; after = W.told sink.new }) front.old front.new result }
+    requires unread { IsUnread (R.report source.old) }
+    requires unused { IsUnused (W.report sink.old) }
+    ensures served { IsServed (record { before = R.report source.old; after = R.report source.new })
+        (record { before = W.report sink.old; after = W.report sink.new })
+        front.old front.new result }
     ensures stands { (texts : List (List ℕ)) → StandsForTexts texts front.old
         → HasServed 1 texts front.new }
-    ensures calls { (R.told source.new).calls ≤ most_request_reads }
+    ensures calls { (R.report source.new).calls ≤ most_request_reads }
     ensures setup { front.new.setup ≡ front.old.setup }
 {
     let reply = match read_request(alloc, source) {

@@ -1,6 +1,6 @@
 ghost use Rattle.std.specs.Prelude.{◌≡◌, ◌≤◌, ◌+◌, [], drop, length, map, IfOk, MatchBool, None};
 ghost use Rattle.std.specs.Prelude.{Some, true, false};
-ghost use Rattle.clock_device.specs.{Told.{unread, unused}, SourceState.{source_report}};
+ghost use Rattle.clock_device.specs.{Reported.{unread, unused}, SourceState.{source_report}};
 ghost use Rattle.clock_device.specs.SinkState.{sink_report};
 ghost use Rattle.clock_serving.specs.Exchanges.{Closes, Exchange};
 ghost use Rattle.clock_front_tests.specs.MemoryAcceptor.{MemoryAcceptorState};
@@ -40,7 +40,7 @@ impl<'a> Model for Closed<'a> {
     ghost view = { λ c. record {
       reading = record { before = unread (Some c.offered.now); after = source_report c.source };
       writing = record { before = unused (Some []); after = sink_report c.sink };
-      kept = None;
+      logged = None;
     } };
 }
 

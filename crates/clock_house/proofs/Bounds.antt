@@ -4,7 +4,7 @@ use Rattle.std.specs.Prelude.{sum_by}
 use Rattle.std.proofs.lemmas.List.Sums.{sum_by-le}
 use Rattle.clock_terms.specs.declared.setup.Product.{Product}
 use Rattle.clock_terms.specs.declared.prices.PricePair.{PricePair}
-use Rattle.clock_house.specs.Standing.{Standing}
+use Rattle.clock_house.specs.PublicState.{PublicState}
 use Rattle.clock_terms.specs.Limits.{most_products}
 use Rattle.clock_house.specs.Laws.{HasSoundPrices, most_rounds}
 
@@ -14,7 +14,7 @@ by_round (suc zero) bound = omega arith
 by_round (suc (suc n)) bound = bound (omega arith)
 
 -- The number of the current round is bounded by the sum of the highest prices.
-pub round_bounded : (products : List Product) (now : Standing) → length products ≤ most_products
+pub round_bounded : (products : List Product) (now : PublicState) → length products ≤ most_products
     → HasSoundPrices products now → now.round ≤ most_rounds
 round_bounded products now few priced =
     let starts : sum_by (λ (pair : PricePair). pair.start) now.prices ≤ length now.prices * 1000000000000 =

@@ -15,19 +15,19 @@ use Rattle.clock_closing.specs.declared.fault.CloseFault.TheVariants as close_fa
 use Rattle.clock_house.specs.Command.{Command, close}
 use Rattle.clock_closing.specs.OpenRound.{OpenRound, OpenRoundFields}
 use Rattle.clock_closing.specs.Closing.{closing, closing_now}
-use Rattle.clock_house.specs.History.{ClosedRound, history, standing, closing_of, after_closing, for_each_bidder}
+use Rattle.clock_house.specs.History.{ClosedRound, history, public_state, closing_of, after_closing, for_each_bidder}
 use Rattle.clock_house.specs.History.{sheet_in_force}
 use Rattle.clock_house.specs.House.{HouseFields, StandsFor, IsFollowedBy, StandsForTheSame, IsUnchanged, HasClosed}
 use Rattle.clock_house.specs.House.{AnswersClose, ToHistory}
-use Rattle.clock_house.specs.Standing.{Standing}
-use Rattle.clock_house.specs.House.{standing_in, closing_in}
+use Rattle.clock_house.specs.PublicState.{PublicState}
+use Rattle.clock_house.specs.House.{state_in, closing_in}
 use Rattle.clock_house.specs.inside.OpenRounds.{open_round_in}
 use Rattle.clock_closing.specs.Prepared.{Answers}
 use Rattle.clock_house.specs.Prepared.{PreparedClosing, FitsClosing}
 use Rattle.clock_closing.proofs.Closings.{IsClosing, closing_passed}
 use Rattle.std.proofs.lemmas.List.FromFn.{length-map-range_with_len}
 use Rattle.clock_house.proofs.InHouse.{in-many}
-use Rattle.clock_house.proofs.Kept.{stands_open}
+use Rattle.clock_house.proofs.Stored.{stands_open}
 
 module _ (house : HouseFields) (round : ℕ) (increments : Increments) (ties : List Tie) (commands : List Command)
     (stands : StandsFor commands house) where
@@ -89,7 +89,7 @@ stands_unchanged old new commands same stands = record {
 -- An accepted closing is of the current round.
 pub closed_number : (house : HouseFields) (round : ℕ) (increments : Increments) (ties : List Tie) (done : ClosedRound) →
     closing_in house round increments ties ≡ Ok done →
-    ((standing_in house).ended ≡ false) × (done.sheet.round ≡ (standing_in house).round)
+    ((state_in house).ended ≡ false) × (done.sheet.round ≡ (state_in house).round)
 closed_number house round increments ties done e =
     let is : IsClosing (public_setup house.setup) (open_round_in house) round increments ties done =
     closing_passed (public_setup house.setup) (open_round_in house) round increments ties done e in
@@ -122,9 +122,9 @@ closing_unchanged old new same round increments ties =
     ∙ ap (by old.setup old.closed) same.sheets
 
 -- Nor does the state of the auction.
-pub standing_unchanged : (old new : HouseFields) → IsUnchanged old new → standing_in new ≡ standing_in old
-standing_unchanged old new same = ap (λ (setup : SetupFields). standing setup.products new.closed) same.setup
-    ∙ ap (standing old.setup.products) same.closed
+pub standing_unchanged : (old new : HouseFields) → IsUnchanged old new → state_in new ≡ state_in old
+standing_unchanged old new same = ap (λ (setup : SetupFields). public_state setup.products new.closed) same.setup
+    ∙ ap (public_state old.setup.products) same.closed
 
 -- Houses that differ only in this memory stand for the same commands.
 pub still_unchanged : (old new : HouseFields) → IsUnchanged old new → StandsForTheSame old new
@@ -151,16 +151,16 @@ fits-asked house round increments ties (Err fault) is asked = tt
 
 -- The result of preparing a closing of the current round, in a house that has just allocated memory for it.
 module _ (old new : HouseFields) (same : IsUnchanged old new) (round : ℕ) (increments : Increments) (ties : List Tie)
-    (current : round ≡ (standing_in old).round) (result : Result PreparedClosing CloseFault)
+    (current : round ≡ (state_in old).round) (result : Result PreparedClosing CloseFault)
     (round_now : OpenRoundFields) (is_now : round_now ≡ record { setup = new.setup; before = open_round_in new })
     (is : Answers (closing_now round_now increments ties) result) where
-  pub answers-now : Answers (closing_in new (standing_in new).round increments ties) result
+  pub answers-now : Answers (closing_in new (state_in new).round increments ties) result
   answers-now = subst (λ (one : OpenRoundFields). Answers (closing_now one increments ties) result) is_now is
 
   answers-new : Answers (closing_in new round increments ties) result
   answers-new =
       subst (λ (n : ℕ). Answers (closing_in new n increments ties) result)
-      (ap (λ (now : Standing). now.round) (standing_unchanged old new same) ∙ sym current) answers-now
+      (ap (λ (now : PublicState). now.round) (standing_unchanged old new same) ∙ sym current) answers-now
 
   pub answers-old : Answers (closing_in old round increments ties) result
   answers-old = subst (λ (closing : Result ClosedRound CloseFault). Answers closing result)
@@ -172,7 +172,7 @@ module _ (old new : HouseFields) (same : IsUnchanged old new) (round : ℕ) (inc
 
   -- After a refused closing, the house stands for one more command.
   refused_by : (result : Result PreparedClosing CloseFault) → Answers (closing_in new round increments ties) result →
-      IfErr result (λ told. told ≢ close_faults.NoMemory → IsFollowedBy (close round increments ties) old new)
+      IfErr result (λ reported. reported ≢ close_faults.NoMemory → IsFollowedBy (close round increments ties) old new)
   refused_by (Ok prepared) is = tt
   refused_by (Err fault) is = λ other. record {
     setup = same.setup;
@@ -180,7 +180,7 @@ module _ (old new : HouseFields) (same : IsUnchanged old new) (round : ℕ) (inc
         (stands_unchanged old new commands same stands) fault (is other);
   }
 
-  pub refused-followed : IfErr result (λ told. told ≢ close_faults.NoMemory
+  pub refused-followed : IfErr result (λ reported. reported ≢ close_faults.NoMemory
       → IsFollowedBy (close round increments ties) old new)
   refused-followed = refused_by result answers-new
 

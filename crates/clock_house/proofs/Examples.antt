@@ -14,9 +14,9 @@ use Rattle.clock_house.specs.declared.fault.PutFault.{PutFault}
 use Rattle.clock_house.specs.declared.fault.PutFault.TheVariants as put_faults
 use Rattle.clock_closing.specs.declared.fault.CloseFault.TheVariants as close_faults
 use Rattle.clock_house.specs.Command.{Command, put, close}
-use Rattle.clock_house.specs.Standing.{put_fault}
+use Rattle.clock_house.specs.PublicState.{put_fault}
 use Rattle.clock_closing.specs.Closing.{settlement, requests}
-use Rattle.clock_house.specs.History.{history, Auction, ClosedRound, closing_of, standing, holding, sheet_in_force}
+use Rattle.clock_house.specs.History.{history, Auction, ClosedRound, closing_of, public_state, holding, sheet_in_force}
 use Rattle.clock_house.specs.inside.OpenRounds.{open_round}
 
 abbrev bid : ℕ → ℕ → ℕ → Bid
@@ -122,11 +122,11 @@ second_close = refl
 
 -- Refused sheets and closings.
 sheet_for_another_round : put_fault (public_setup one_product)
-    (standing one_product.products (run one_product first_round).closed)
+    (public_state one_product.products (run one_product first_round).closed)
     (holding one_product (run one_product first_round).closed 0) 1 (bid 0 2 110 ∷ []) ≡ Some (put_faults.WrongRound 2)
 sheet_for_another_round = refl
 
-sheet_after_the_end : put_fault (public_setup one_product) (standing one_product.products
+sheet_after_the_end : put_fault (public_setup one_product) (public_state one_product.products
     (run one_product (append first_round (close 2 (Single 10) [] ∷ []))).closed) (holding one_product
     (run one_product (append first_round (close 2 (Single 10) [] ∷ []))).closed 0) 2 [] ≡ Some put_faults.Ended
 sheet_after_the_end = refl
@@ -156,7 +156,7 @@ third_round : Newest (run one_product (append first_round (put 0 2 (bid 0 2 110 
     ∷ close 3 (Single 10) [] ∷ []))) 3 true (line 110 121 115 None None ∷ []) ((1 ∷ []) ∷ (1 ∷ []) ∷ []) (2 ∷ 2 ∷ [])
 third_round = refl
 
-quantity_over_the_cap : put_fault (public_setup one_product) (standing one_product.products [])
+quantity_over_the_cap : put_fault (public_setup one_product) (public_state one_product.products [])
     (holding one_product [] 0) 1 (bid 0 3 100 ∷ []) ≡ Some (put_faults.Bid (OverCap 0))
 quantity_over_the_cap = refl
 
@@ -195,8 +195,8 @@ an_increment_of_51_among_others = refl
 
 -- The activity limit: requested activity may be 8 in round 1, the eligibility, and 10 in round 2.
 abbrev judged : SetupFields → List Command → ℕ → ℕ → List Bid → Option PutFault
-judged setup commands bidder round bids = put_fault (public_setup setup)
-    (standing setup.products (run setup commands).closed) (holding setup (run setup commands).closed bidder) round bids
+judged setup commands bidder round bids = put_fault (public_setup setup) (public_state setup.products
+    (run setup commands).closed) (holding setup (run setup commands).closed bidder) round bids
 
 abbrev tens : Increments
 tens = PerProduct (10 ∷ 10 ∷ [])

@@ -10,7 +10,7 @@ use Rattle.clock_closing.specs.inside.OpenRound.{eligibilities_of, grid_of}
 use Rattle.clock_closing.proofs.Held.{held_again}
 use Rattle.clock_house.specs.History.{for_each_bidder}
 use Rattle.clock_house.specs.inside.OpenRounds.{open_round_in}
-use Rattle.clock_house.specs.House.{HouseFields, standing_in, holding_in}
+use Rattle.clock_house.specs.House.{HouseFields, state_in, holding_in}
 
 abbrev nothing : Holding
 nothing = record { eligibility = 0; demands = [] }
@@ -51,8 +51,8 @@ module _ (house : HouseFields) where
 
   -- If the auction has not ended, the stored parts are the input of a closing.
   pub open_is : (ended : Bool) (round : ℕ) (prices : List PricePair) (eligibilities : List ℕ) (demands : List (List ℕ))
-      → ended ≡ false → ended ≡ (standing_in house).ended → round ≡ (standing_in house).round
-      → prices ≡ (standing_in house).prices → eligibilities ≡ eligibilities_of (open_round_in house)
+      → ended ≡ false → ended ≡ (state_in house).ended → round ≡ (state_in house).round
+      → prices ≡ (state_in house).prices → eligibilities ≡ eligibilities_of (open_round_in house)
       → demands ≡ grid_of (open_round_in house) → open_at house.setup round prices eligibilities demands house.sheets
       ≡ record { setup = house.setup; before = open_round_in house }
   open_is ended round prices eligibilities demands going ended_is round_is prices_are eligibilities_are demands_are =
@@ -60,7 +60,7 @@ module _ (house : HouseFields) where
       λ (end : Bool) (number : ℕ) (pairs : List PricePair) (held : List Holding). let one : OpenRoundFields = record {
         setup = house.setup;
         before = record {
-          standing = record { ended = end; round = number; prices = pairs };
+          public_state = record { ended = end; round = number; prices = pairs };
           holdings = held;
           sheets = house.sheets;
         };
@@ -70,8 +70,8 @@ module _ (house : HouseFields) where
       (holdings_of (eligibilities_of (open_round_in house)) grid)) demands_are
       ∙ ap (by false round prices) (held_again (for_each_bidder house.setup (holding_in house)))
       ∙ ap (λ (number : ℕ). by false number prices (for_each_bidder house.setup (holding_in house))) round_is
-      ∙ ap (λ (pairs : List PricePair). by false (standing_in house).round pairs
+      ∙ ap (λ (pairs : List PricePair). by false (state_in house).round pairs
       (for_each_bidder house.setup (holding_in house))) prices_are
-      ∙ ap (λ (end : Bool). by end (standing_in house).round (standing_in house).prices
+      ∙ ap (λ (end : Bool). by end (state_in house).round (state_in house).prices
       (for_each_bidder house.setup (holding_in house)))
       (sym going ∙ ended_is)

@@ -9,23 +9,24 @@ use Rattle.clock_terms.specs.Limits.{SetupFields, public_setup}
 use Rattle.clock_order.specs.declared.ties.Tie.{Tie}
 use Rattle.clock_closing.specs.declared.fault.CloseFault.{CloseFault}
 use Rattle.clock_house.specs.Command.{Command, put, close, other}
-use Rattle.clock_house.specs.History.{ClosedRound, Auction, standing, closing_of, after_closing, history}
+use Rattle.clock_house.specs.History.{ClosedRound, Auction, public_state, closing_of, after_closing, history}
 use Rattle.clock_house.specs.inside.OpenRounds.{open_round}
 use Rattle.clock_house.specs.Laws.{AreNumbered}
 use Rattle.clock_closing.proofs.Closings.{IsClosing, closing_passed}
 
 module _ (setup : SetupFields) where
   -- Before the end, the current round is one more than the number of closed rounds.
-  pub round-closed : (closed : List ClosedRound) → AreNumbered (length setup.bidders) (length setup.products) closed →
-      (standing setup.products closed).ended ≡ false → (standing setup.products closed).round ≡ suc (length closed)
+  pub round-closed : (closed : List ClosedRound) → AreNumbered (length setup.bidders) (length setup.products) closed
+      → (public_state setup.products closed).ended ≡ false
+      → (public_state setup.products closed).round ≡ suc (length closed)
   round-closed [] all going = refl
   round-closed (last ∷ rounds) all going =
       ap (λ ended. cond ended last.sheet.round (last.sheet.round + 1)) going ∙ omega (arith, all.0)
 
   -- The prices of round 1 are the opening prices.
-  pub first_prices : (closed : List ClosedRound) → (standing setup.products closed).round ≡ suc (length closed)
-      → (standing setup.products closed).round ≡ 1
-      → (standing setup.products closed).prices ≡ (standing setup.products []).prices
+  pub first_prices : (closed : List ClosedRound) → (public_state setup.products closed).round ≡ suc (length closed)
+      → (public_state setup.products closed).round ≡ 1
+      → (public_state setup.products closed).prices ≡ (public_state setup.products []).prices
   first_prices [] number one = refl
   first_prices (last ∷ rounds) number one = absurd (omega (arith, number, one))
 
@@ -36,7 +37,7 @@ module _ (setup : SetupFields) where
   numbered_closing auction round increments ties (Ok done) e all =
       let is : IsClosing (public_setup setup) (open_round setup auction) round increments ties done
       = closing_passed (public_setup setup) (open_round setup auction) round increments ties done e in
-      let number : (standing setup.products auction.closed).round ≡ suc (length auction.closed) =
+      let number : (public_state setup.products auction.closed).round ≡ suc (length auction.closed) =
       round-closed auction.closed all is.going in
       let bidders : length (open_round setup auction).holdings ≡ length setup.bidders =
       length-map-range_with_len _ 0 (length setup.bidders) in (

@@ -14,9 +14,9 @@ use Rattle.clock_bids.specs.declared.sheet.Bid.{Bid}
 use Rattle.clock_house.specs.declared.fault.PutFault.{PutFault}
 use Rattle.clock_house.specs.declared.fault.PutFault.TheVariants as put_faults
 use Rattle.clock_house.specs.Command.{Command, put}
-use Rattle.clock_house.specs.Standing.{put_fault}
-use Rattle.clock_house.specs.History.{ClosedRound, history, standing, holding, sheet_in_force}
-use Rattle.clock_house.specs.House.{HouseFields, StandsFor, IsFollowedBy, AnswersPut, standing_in, holding_in}
+use Rattle.clock_house.specs.PublicState.{put_fault}
+use Rattle.clock_house.specs.History.{ClosedRound, history, public_state, holding, sheet_in_force}
+use Rattle.clock_house.specs.House.{HouseFields, StandsFor, IsFollowedBy, AnswersPut, state_in, holding_in}
 use Rattle.clock_house.specs.House.{put_fault_in, with_sheet}
 use Rattle.clock_house.specs.Prepared.{PreparedSheet, FitsSheet}
 use Rattle.clock_house.proofs.Steps.{in_force-accepted, in_force-skipped}
@@ -39,10 +39,10 @@ module _ (house : HouseFields) (bidder round : ℕ) (bids : List Bid) (commands 
     (stands : StandsFor commands house) where
   -- The fault of the sheet by the history of the commands is its fault by the house.
   fault_same : put_fault (public_setup house.setup)
-      (standing house.setup.products (history house.setup commands).closed) (holding house.setup
+      (public_state house.setup.products (history house.setup commands).closed) (holding house.setup
       (history house.setup commands).closed bidder) round bids ≡ put_fault_in house bidder round bids
   fault_same =
-      ap (λ (closed : List ClosedRound). put_fault (public_setup house.setup) (standing house.setup.products closed)
+      ap (λ (closed : List ClosedRound). put_fault (public_setup house.setup) (public_state house.setup.products closed)
       (holding house.setup closed bidder) round bids) (sym stands.closed)
 
   -- The sheet in force that the house has for a bidder is the one by the commands.
@@ -58,11 +58,11 @@ module _ (house : HouseFields) (bidder round : ℕ) (bids : List Bid) (commands 
 
   -- A sheet that is refused is not an accepted sheet of any bidder.
   refused : (fault : PutFault) → put_fault_in house bidder round bids ≡ Some fault → (who : ℕ) → (bidder == who)
-      && is_none (put_fault (public_setup house.setup) (standing house.setup.products (history house.setup
+      && is_none (put_fault (public_setup house.setup) (public_state house.setup.products (history house.setup
       commands).closed) (holding house.setup (history house.setup commands).closed who) round bids) ≡ false
   refused fault e who =
-      let judged = λ (one : ℕ). put_fault (public_setup house.setup) (standing house.setup.products (history house.setup
-      commands).closed) (holding house.setup (history house.setup commands).closed one) round bids in
+      let judged = λ (one : ℕ). put_fault (public_setup house.setup) (public_state house.setup.products (history
+      house.setup commands).closed) (holding house.setup (history house.setup commands).closed one) round bids in
       elim (cases_eq bidder who) as (λ _. (bidder == who) && is_none (judged who) ≡ false) [
         | inl same ↦ skip_by (bidder == who) (is_none (judged who)) (ap is_none (ap judged (sym same) ∙ fault_same ∙ e))
         | inr differ ↦ other_by (bidder == who) (is_none (judged who)) (ne_eqb bidder who differ)
@@ -91,7 +91,7 @@ module _ (house : HouseFields) (bidder round : ℕ) (bids : List Bid) (commands 
         | inr differ ↦ get_or-set_other house.sheets bidder who (Some bids) None differ ∙ sheet_at who who_in
             ∙ sym (in_force-skipped house.setup (history house.setup commands) bidder round bids who
             (other_by (bidder == who) (is_none (put_fault (public_setup house.setup)
-            (standing house.setup.products (history house.setup commands).closed) (holding house.setup
+            (public_state house.setup.products (history house.setup commands).closed) (holding house.setup
             (history house.setup commands).closed who) round bids)) (ne_eqb bidder who (λ e. differ (sym e)))))
       ]
 
@@ -110,18 +110,18 @@ module _ (house : HouseFields) (bidder round : ℕ) (bids : List Bid) where
   abbrev by_tests : Bool → Bool → Option PutFault
   by_tests ended current = first_fault (
       (put_faults.Ended, not ended)
-      ∷ (put_faults.WrongRound (standing_in house).round, current)
+      ∷ (put_faults.WrongRound (state_in house).round, current)
       ∷ fault_check put_faults.Bid
-      (sheet_fault (public_setup house.setup) (standing_in house).round (standing_in house).prices
+      (sheet_fault (public_setup house.setup) (state_in house).round (state_in house).prices
       (holding_in house bidder) bids))
 
-  pub put-ended : (standing_in house).ended ≡ true → put_fault_in house bidder round bids ≡ Some put_faults.Ended
-  put-ended ended = ap (λ end. by_tests end (round == (standing_in house).round)) ended
+  pub put-ended : (state_in house).ended ≡ true → put_fault_in house bidder round bids ≡ Some put_faults.Ended
+  put-ended ended = ap (λ end. by_tests end (round == (state_in house).round)) ended
 
-  pub put-other : (standing_in house).ended ≡ false → round ≢ (standing_in house).round →
-      put_fault_in house bidder round bids ≡ Some (put_faults.WrongRound (standing_in house).round)
-  put-other going other = ap (λ end. by_tests end (round == (standing_in house).round)) going
-      ∙ ap (by_tests false) (ne_eqb round (standing_in house).round other)
+  pub put-other : (state_in house).ended ≡ false → round ≢ (state_in house).round →
+      put_fault_in house bidder round bids ≡ Some (put_faults.WrongRound (state_in house).round)
+  put-other going other = ap (λ end. by_tests end (round == (state_in house).round)) going
+      ∙ ap (by_tests false) (ne_eqb round (state_in house).round other)
 
 -- The result of a house that checks a sheet.
 module _ (house : HouseFields) (bidder round : ℕ) (bids : List Bid) where
@@ -135,8 +135,9 @@ module _ (house : HouseFields) (bidder round : ℕ) (bids : List Bid) where
   fits-judged (Err fault) known is asked = tt
 
   -- After a refused sheet, the house stands for one more command.
-  pub judged-followed : (result : Result PreparedSheet PutFault) → AnswersPut (put_fault_in house bidder round bids)
-      result → IfErr result (λ told. told ≢ put_faults.NoMemory → IsFollowedBy (put bidder round bids) house house)
+  pub judged-followed : (result : Result PreparedSheet PutFault)
+      → AnswersPut (put_fault_in house bidder round bids) result
+      → IfErr result (λ reported. reported ≢ put_faults.NoMemory → IsFollowedBy (put bidder round bids) house house)
   judged-followed (Ok prepared) is = tt
   judged-followed (Err fault) is = λ other. record {
     setup = refl;

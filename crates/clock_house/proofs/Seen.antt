@@ -6,19 +6,19 @@ use Rattle.clock_bids.specs.declared.sheet.Bid.{Bid}
 use Rattle.clock_posting.specs.declared.sheet.RoundSheet.{RoundSheet}
 use Rattle.clock_closing.specs.declared.closed_round.Slip.{Slip}
 use Rattle.clock_house.specs.Command.{Command}
-use Rattle.clock_house.specs.Standing.{Standing, Holding, put_fault}
-use Rattle.clock_house.specs.History.{ClosedRound, standing, holding, bidder_at, slip_of, round_at}
-use Rattle.clock_house.specs.View.{view_of, seen_standing, seen_holding, seen_in_force, seen_put_fault, seen_round}
+use Rattle.clock_house.specs.PublicState.{PublicState, Holding, put_fault}
+use Rattle.clock_house.specs.History.{ClosedRound, public_state, holding, bidder_at, slip_of, round_at}
+use Rattle.clock_house.specs.View.{view_of, seen_state, seen_holding, seen_in_force, seen_put_fault, seen_round}
 use Rattle.clock_house.specs.View.{shown_to}
 use Rattle.clock_house.specs.declared.fault.PutFault.{PutFault}
-use Rattle.clock_house.specs.House.{HouseFields, StandsFor, AnswersPut, AnswersByView, standing_in, holding_in}
+use Rattle.clock_house.specs.House.{HouseFields, StandsFor, AnswersPut, AnswersByView, state_in, holding_in}
 use Rattle.clock_house.specs.House.{put_fault_in}
 use Rattle.clock_house.proofs.Isolation.{seen}
 use Rattle.clock_house.proofs.Puts.{sheet_at}
 
 module _ (house : HouseFields) (bidder : ℕ) (commands : List Command) (stands : StandsFor commands house) where
-  pub standing_seen : standing_in house ≡ seen_standing (public_setup house.setup) (view_of house.setup bidder commands)
-  standing_seen = ap (standing house.setup.products) stands.closed ∙ (seen house.setup bidder commands).standing
+  pub standing_seen : state_in house ≡ seen_state (public_setup house.setup) (view_of house.setup bidder commands)
+  standing_seen = ap (public_state house.setup.products) stands.closed ∙ (seen house.setup bidder commands).public_state
 
   pub holding_seen : holding_in house bidder
       ≡ seen_holding (public_setup house.setup) (bidder_at house.setup bidder) (view_of house.setup bidder commands)
@@ -28,9 +28,9 @@ module _ (house : HouseFields) (bidder : ℕ) (commands : List Command) (stands 
   pub put_fault_seen : (round : ℕ) (bids : List Bid) →
       put_fault_in house bidder round bids ≡ seen_put_fault (public_setup house.setup) (bidder_at house.setup bidder)
       (view_of house.setup bidder commands) round bids
-  put_fault_seen round bids = ap (λ (now : Standing). put_fault (public_setup house.setup) now
+  put_fault_seen round bids = ap (λ (now : PublicState). put_fault (public_setup house.setup) now
       (holding_in house bidder) round bids) standing_seen ∙ ap (λ (own : Holding). put_fault (public_setup house.setup)
-      (seen_standing (public_setup house.setup) (view_of house.setup bidder commands)) own round bids) holding_seen
+      (seen_state (public_setup house.setup) (view_of house.setup bidder commands)) own round bids) holding_seen
 
   pub in_force_seen : bidder < length house.setup.bidders → slice_index_or house.sheets bidder None
       ≡ seen_in_force (public_setup house.setup) (bidder_at house.setup bidder) (view_of house.setup bidder commands)

@@ -12,7 +12,7 @@ use Rattle.clock_house.specs.declared.fault.PutFault.{PutFault}
 use Rattle.clock_house.specs.declared.fault.PutFault.TheVariants as put_faults
 use Rattle.clock_house.specs.Command.{Command, put, close, other}
 use Rattle.clock_closing.specs.Faults.{fault_check}
-use Rattle.clock_house.specs.Standing.{Standing, Holding, put_fault}
+use Rattle.clock_house.specs.PublicState.{PublicState, Holding, put_fault}
 use Rattle.clock_house.specs.History.{accepted_bids}
 
 judged : (ended current : Bool) (round : ℕ) (fault : Option BidFault) → first_fault ((put_faults.Ended, not ended)
@@ -23,7 +23,7 @@ judged false true round None e = refl
 judged false true round (Some fault) e = absurd (none-some _ (sym e))
 
 -- A sheet that may be submitted passes the checks.
-pub good_of_put : (setup : PublicSetup) (now : Standing) (held : Holding) (round : ℕ) (bids : List Bid)
+pub good_of_put : (setup : PublicSetup) (now : PublicState) (held : Holding) (round : ℕ) (bids : List Bid)
     → put_fault setup now held round bids ≡ None → IsGoodSheet setup now.round now.prices held bids
 good_of_put setup now held round bids e =
     judged now.ended (round == now.round) now.round (sheet_fault setup now.round now.prices held bids) e
@@ -32,7 +32,7 @@ is_none_none : {A : Type 0} (o : Option A) → is_none o ≡ true → o ≡ None
 is_none_none None e = refl
 is_none_none (Some x) e = let bad : false ≡ true = e in cc
 
-module _ (setup : PublicSetup) (now : Standing) (held : Holding) (bidder : ℕ) where
+module _ (setup : PublicSetup) (now : PublicState) (held : Holding) (bidder : ℕ) where
   first_good : (command_bids : Option (List Bid)) (rest : List (List Bid)) (bids : List Bid) →
       ((one : List Bid) → command_bids ≡ Some one → IsGoodSheet setup now.round now.prices held one) →
       (slice_get rest 0 ≡ Some bids → IsGoodSheet setup now.round now.prices held bids) →

@@ -24,11 +24,11 @@ use Rattle.clock_posting.specs.Posting.{has_ended, next_pair}
 use Rattle.clock_closing.specs.declared.closed_round.Slip.{Slip}
 use Rattle.clock_closing.specs.declared.fault.CloseFault.{CloseFault}
 use Rattle.clock_house.specs.Command.{Command, put, close, other}
-use Rattle.clock_house.specs.Standing.{Standing, Holding, first_holding, holding_after}
+use Rattle.clock_house.specs.PublicState.{PublicState, Holding, first_holding, holding_after}
 use Rattle.clock_closing.specs.OpenRound.{OpenRound, holding_at, bids_at, bidder_numbers}
 use Rattle.clock_closing.specs.inside.OpenRound.{eligibilities_of}
 use Rattle.clock_closing.specs.Closing.{RoundResult, round_result, closed_round, slip_after}
-use Rattle.clock_house.specs.History.{ClosedRound, Auction, standing, holding, bidder_at, slip_of}
+use Rattle.clock_house.specs.History.{ClosedRound, Auction, public_state, holding, bidder_at, slip_of}
 use Rattle.clock_house.specs.inside.OpenRounds.{no_slip, open_round, grid_after}
 use Rattle.clock_house.specs.History.{sheet_in_force, closing_of, after_closing, history}
 use Rattle.clock_house.specs.Laws.{IsWithinLimits, HasSoundPrices, AreNumbered, StaysSupplied, IsSound, IsOpen}
@@ -69,7 +69,7 @@ module _ (setup : SetupFields) (limits : IsSetup setup) where
     most = (limits.bidders bidder (record { name = []; token = []; eligibility = 0 }) lt).eligibility;
   }
 
-  first_priced : HasSoundPrices setup.products (standing setup.products [])
+  first_priced : HasSoundPrices setup.products (public_state setup.products [])
   first_priced =
       let opening = λ (product : Product). let pair : PricePair =
       record { start = product.opening; clock = product.opening } in pair in
@@ -105,15 +105,15 @@ module _ (setup : SetupFields) (limits : IsSetup setup) where
 
     -- Each bidder's sheet in force, or none, passes the checks.
     good_or_none : (bidder : ℕ) (sheet : Option (List Bid)) → sheet_in_force setup auction bidder ≡ sheet
-        → IsGoodSheet (public_setup setup) (standing setup.products auction.closed).round
-        (standing setup.products auction.closed).prices (holding setup auction.closed bidder) (unwrap_or sheet [])
-    good_or_none bidder None e = empty_sheet_good (public_setup setup) (standing setup.products auction.closed).round
-        (standing setup.products auction.closed).prices (holding setup auction.closed bidder)
+        → IsGoodSheet (public_setup setup) (public_state setup.products auction.closed).round
+        (public_state setup.products auction.closed).prices (holding setup auction.closed bidder) (unwrap_or sheet [])
+    good_or_none bidder None e = empty_sheet_good (public_setup setup) (public_state setup.products
+        auction.closed).round (public_state setup.products auction.closed).prices (holding setup auction.closed bidder)
     good_or_none bidder (Some bids) e = first_accepted_good (public_setup setup)
-        (standing setup.products auction.closed) (holding setup auction.closed bidder) bidder auction.since bids e
+        (public_state setup.products auction.closed) (holding setup auction.closed bidder) bidder auction.since bids e
 
     -- If the auction has not ended, the input of a closing is sound.
-    pub open_sound : (standing setup.products auction.closed).ended ≡ false
+    pub open_sound : (public_state setup.products auction.closed).ended ≡ false
         → IsOpen (public_setup setup) (open_round setup auction)
     open_sound going = record {
       limits = limits.products;
@@ -123,16 +123,16 @@ module _ (setup : SetupFields) (limits : IsSetup setup) where
           (sound.within bidder (omega (arith, lt, many)));
       priced = sound.priced going;
       good = λ bidder lt. subst (λ (held : Holding). IsGoodSheet (public_setup setup)
-          (standing setup.products auction.closed).round (standing setup.products auction.closed).prices held
+          (public_state setup.products auction.closed).round (public_state setup.products auction.closed).prices held
           (bids_at (open_round setup auction).sheets bidder)) (sym (held_at bidder (omega (arith, lt, many))))
-          (subst (IsGoodSheet (public_setup setup) (standing setup.products auction.closed).round
-          (standing setup.products auction.closed).prices (holding setup auction.closed bidder)) (sym (bids_of bidder
-          (omega (arith, lt, many)))) (good_or_none bidder (sheet_in_force setup auction bidder) refl));
+          (subst (IsGoodSheet (public_setup setup) (public_state setup.products auction.closed).round
+          (public_state setup.products auction.closed).prices (holding setup auction.closed bidder)) (sym (bids_of
+          bidder (omega (arith, lt, many)))) (good_or_none bidder (sheet_in_force setup auction bidder) refl));
     }
 
     -- Before the end, the current round is one more than the number of closed rounds.
-    pub round_is : (standing setup.products auction.closed).ended ≡ false
-        → (standing setup.products auction.closed).round ≡ suc (length auction.closed)
+    pub round_is : (public_state setup.products auction.closed).ended ≡ false
+        → (public_state setup.products auction.closed).round ≡ suc (length auction.closed)
     round_is going = round-closed setup auction.closed sound.numbered going
 
     -- The demands before a later round are those in the bidder results of the round before.
@@ -159,7 +159,7 @@ module _ (setup : SetupFields) (limits : IsSetup setup) where
       here : IsOpen (public_setup setup) (open_round setup auction)
       here = open_sound is.going
 
-      some_round : 1 ≤ (standing setup.products auction.closed).round
+      some_round : 1 ≤ (public_state setup.products auction.closed).round
       some_round = omega (arith, round_is is.going)
 
       within : IsWithinEligibility setup.products (eligibilities_of (open_round setup auction))
@@ -171,13 +171,14 @@ module _ (setup : SetupFields) (limits : IsSetup setup) where
 
       -- The results of a bidder.
       slip_is : (bidder : ℕ) → bidder < length setup.bidders → slip_of bidder done ≡ slip_after (public_setup setup)
-          (standing setup.products auction.closed).round (holding setup auction.closed bidder).eligibility
+          (public_state setup.products auction.closed).round (holding setup auction.closed bidder).eligibility
           (row_of (round_result setup.products (open_round setup auction) ties).grid bidder)
       slip_is bidder lt = ap (slip_of bidder) is.made ∙ get_or-map-range_with_len (λ b. slip_after (public_setup setup)
-          (standing setup.products auction.closed).round (holding_at (open_round setup auction).holdings b).eligibility
-          (row_of (round_result setup.products (open_round setup auction) ties).grid b)) 0 (length (open_round setup
-          auction).holdings) bidder bidder no_slip (omega (arith, lt, many)) (omega arith) ∙ ap (λ (held : Holding).
-          slip_after (public_setup setup) (standing setup.products auction.closed).round held.eligibility
+          (public_state setup.products auction.closed).round (holding_at (open_round setup auction).holdings
+          b).eligibility (row_of (round_result setup.products (open_round setup auction) ties).grid b)) 0
+          (length (open_round setup auction).holdings) bidder bidder no_slip (omega (arith, lt, many)) (omega arith)
+          ∙ ap (λ (held : Holding). slip_after (public_setup setup)
+          (public_state setup.products auction.closed).round held.eligibility
           (row_of (round_result setup.products (open_round setup auction) ties).grid bidder)) (held_at bidder lt)
 
       -- Each bidder stays within its limits.
@@ -206,31 +207,31 @@ module _ (setup : SetupFields) (limits : IsSetup setup) where
 
       -- The prices stay in order.
       pub priced_after : done.sheet.ended ≡ false
-          → HasSoundPrices setup.products (standing setup.products (done ∷ auction.closed))
+          → HasSoundPrices setup.products (public_state setup.products (done ∷ auction.closed))
       priced_after going =
           let result : RoundResult = round_result setup.products (open_round setup auction) ties in
-          let before : Standing = standing setup.products auction.closed in
+          let before : PublicState = public_state setup.products auction.closed in
           let made : closed_round (public_setup setup) (open_round setup auction) increments
           (round_result setup.products (open_round setup auction) ties) ≡ done = sym is.made in
           let goes_on : has_ended setup.products (round_result setup.products (open_round setup auction) ties).grid
           ≡ false = ap (λ (one : ClosedRound). one.sheet.ended) made ∙ going in
-          let number : (standing setup.products (done ∷ auction.closed)).round
-          ≡ (standing setup.products auction.closed).round + 1 = ap (λ ended. cond ended done.sheet.round
+          let number : (public_state setup.products (done ∷ auction.closed)).round
+          ≡ (public_state setup.products auction.closed).round + 1 = ap (λ ended. cond ended done.sheet.round
           (done.sheet.round + 1)) going ∙ ap (λ (one : ClosedRound). one.sheet.round + 1) is.made in
-          priced_next setup.products (standing setup.products auction.closed) (sound.priced is.going)
+          priced_next setup.products (public_state setup.products auction.closed) (sound.priced is.going)
           (round_result setup.products (open_round setup auction) ties).grid
           (round_result setup.products (open_round setup auction) ties).posted increments
           (result_posted (public_setup setup) (open_round setup auction) here ties some_round increments
           (first_prices setup auction.closed (round_is is.going))) limits.products (increments_of_test
           (length setup.products) increments is.within) goes_on is.possible (λ later. result_risen (public_setup setup)
-          (open_round setup auction) here ties some_round increments later goes_on) (standing setup.products
+          (open_round setup auction) here ties some_round increments later goes_on) (public_state setup.products
           (done ∷ auction.closed)) number (ap (λ (one : ClosedRound). map next_pair one.sheet.lines) is.made) some_round
 
       -- The demands in the bidder results are those of bid processing.
       grid_is : grid_after done ≡ (round_result setup.products (open_round setup auction) ties).grid
       grid_is = ap grid_after is.made ∙ map-map (λ (slip : Slip). slip.demands) (λ b. slip_after (public_setup setup)
-          (standing setup.products auction.closed).round (holding_at (open_round setup auction).holdings b).eligibility
-          (row_of (round_result setup.products (open_round setup auction) ties).grid b))
+          (public_state setup.products auction.closed).round (holding_at (open_round setup auction).holdings
+          b).eligibility (row_of (round_result setup.products (open_round setup auction) ties).grid b))
           (bidder_numbers (open_round setup auction)) ∙ map-get_or (round_result setup.products
           (open_round setup auction) ties).grid (length (open_round setup auction).holdings) [] (rows_many ∙ sym many)
 
@@ -238,7 +239,7 @@ module _ (setup : SetupFields) (limits : IsSetup setup) where
       supplied_next : (last : ClosedRound) (rounds : List ClosedRound) → auction.closed ≡ last ∷ rounds
           → StaysSupplied setup.products done last
       supplied_next last rounds e product sold =
-          let later : 2 ≤ (standing setup.products auction.closed).round =
+          let later : 2 ≤ (public_state setup.products auction.closed).round =
           omega (arith, round_is is.going, ap length e) in
           let kept = result_supplied (public_setup setup) (open_round setup auction) here ties some_round later product
           (omega (
@@ -261,7 +262,7 @@ module _ (setup : SetupFields) (limits : IsSetup setup) where
         count = omega (
           arith,
           round_is is.going,
-          round_bounded setup.products (standing setup.products auction.closed) limits.product_count.1
+          round_bounded setup.products (public_state setup.products auction.closed) limits.product_count.1
               (sound.priced is.going),
         );
       }

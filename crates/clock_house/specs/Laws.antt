@@ -9,8 +9,8 @@ use Rattle.clock_terms.specs.declared.setup.Product.{Product}
 use Rattle.clock_terms.specs.Limits.{SetupFields, most_products, supply_of}
 use Rattle.clock_terms.specs.Demands.{total_of}
 pub use Rattle.clock_closing.specs.OpenRound.{IsWithinLimits, HasSoundPrices, IsOpen}
-use Rattle.clock_closing.specs.Results.{demands_of}
-use Rattle.clock_house.specs.History.{ClosedRound, Auction, standing, holding}
+use Rattle.clock_closing.specs.Results.{result_demands}
+use Rattle.clock_house.specs.History.{ClosedRound, Auction, public_state, holding}
 
 -- The most rounds of an auction. Each from round 2 raises some price by a dollar at least.
 abbrev pub most_rounds : ℕ
@@ -26,8 +26,8 @@ AreNumbered bidders products (round ∷ rounds) =
 -- If aggregate demand was at least supply after the earlier round, it is after the later one.
 abbrev pub StaysSupplied : List Product → ClosedRound → ClosedRound → Type 0
 StaysSupplied products later earlier =
-    (product : ℕ) → supply_of products product ≤ total_of (demands_of earlier.slips) product
-    → supply_of products product ≤ total_of (demands_of later.slips) product
+    (product : ℕ) → supply_of products product ≤ total_of (result_demands earlier.slips) product
+    → supply_of products product ≤ total_of (result_demands later.slips) product
 
 -- Rounds are numbered and bounded, and each bidder is within its caps and its eligibility. Unless
 -- the auction has ended, the current prices are in order. Once a product's aggregate demand is at
@@ -36,7 +36,7 @@ pub record IsSound (setup : SetupFields) (auction : Auction) : Type 0 where
   pub numbered : AreNumbered (length setup.bidders) (length setup.products) auction.closed
   pub within : (bidder : ℕ) → bidder < length setup.bidders
       → IsWithinLimits setup.products (holding setup auction.closed bidder)
-  pub priced : (standing setup.products auction.closed).ended ≡ false
-      → HasSoundPrices setup.products (standing setup.products auction.closed)
+  pub priced : (public_state setup.products auction.closed).ended ≡ false
+      → HasSoundPrices setup.products (public_state setup.products auction.closed)
   pub supplied : AllPairs (StaysSupplied setup.products) auction.closed
   pub count : length auction.closed ≤ most_rounds

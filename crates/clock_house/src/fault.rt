@@ -27,7 +27,7 @@ pub enum PutFault {
 }
 
 impl From<NoMemory> for PutFault {
-    ghost from_gives = { λ _ told. told ≡ put_faults.NoMemory };
+    ghost from_gives = { λ _ reported. reported ≡ put_faults.NoMemory };
 
     fn from(_none: NoMemory) -> PutFault {
         PutFault::NoMemory
@@ -35,7 +35,7 @@ impl From<NoMemory> for PutFault {
 }
 
 impl From<BidFault> for PutFault {
-    ghost from_gives = { λ fault told. told ≡ fault_from_bid fault };
+    ghost from_gives = { λ fault reported. reported ≡ fault_from_bid fault };
 
     fn from(fault: BidFault) -> PutFault {
         match fault {

@@ -34,12 +34,12 @@ some_digits text is = (let test : nat_lt 0 (length text) ≡ true = first_so _ _
 module _ {E : Type 0} (text : List ℕ) (is : IsTrue (is_number text)) where
   by_result : (r : Result ℕ E) → OkIff r ((0 < length text) × (digits_value 10 text < 2 ^ 64)) (digits_value 10 text)
       → SomeIff (result_ok r) (digits_value 10 text < 2 ^ 64) (digits_value 10 text)
-  by_result (Ok n) told = (told.0.1, told.1)
-  by_result (Err e) told = λ short. told (some_digits text is, short)
+  by_result (Ok n) reported = (reported.0.1, reported.1)
+  by_result (Err e) reported = λ short. reported (some_digits text is, short)
 
   pub number_read : (bytes : List ℕ) (r : Result ℕ E) (o : Option ℕ) → bytes ≡ text → ParsesUnsigned 64 10 bytes r
       → o ≡ result_ok r → SomeIff o (digits_value 10 text < 2 ^ 64) (digits_value 10 text)
   number_read bytes r o same reads made =
       let plain : ParsesUnsigned 64 10 text r = subst (λ (b : List ℕ). ParsesUnsigned 64 10 b r) same reads in
-      subst (λ (told : Option ℕ). SomeIff told (digits_value 10 text < 2 ^ 64) (digits_value 10 text)) (sym made)
-      (by_result r (parse_digits own 64 text r plain (all_digits text is)))
+      subst (λ (reported : Option ℕ). SomeIff reported (digits_value 10 text < 2 ^ 64) (digits_value 10 text))
+      (sym made) (by_result r (parse_digits own 64 text r plain (all_digits text is)))

@@ -30,9 +30,9 @@ a_closing_is_posted : map (λ page. has_method page (codes "POST")) pages
 unfolding pages
 a_closing_is_posted = refl
 
-methods_are_told_apart_by_case : map (λ page. has_method page (codes "put")) pages ≡ map (λ _. false) pages
+methods_differ_by_case : map (λ page. has_method page (codes "put")) pages ≡ map (λ _. false) pages
 unfolding pages
-methods_are_told_apart_by_case = refl
+methods_differ_by_case = refl
 
 no_page_has_another_method : map (λ page. has_method page (codes "HEAD")) pages ≡ map (λ _. false) pages
 unfolding pages
@@ -61,12 +61,12 @@ a_reply_is_its_head_and_page :
 unfolding reply_bytes digits
 a_reply_is_its_head_and_page = refl
 
-the_methods_of_a_page_are_told :
+the_methods_of_a_page_are_listed :
     reply_bytes Method (Some Bids) (codes "{\"code\":\"method\",\"status\":405}")
     ≡ codes "HTTP/1.1 405 Method Not Allowed\r\nallow: GET, PUT\r\nconnection: close\r\ncontent-length: 30\r\ncontent-type: application/json\r\n"
     ++ codes "\r\n{\"code\":\"method\",\"status\":405}"
 unfolding reply_bytes digits
-the_methods_of_a_page_are_told = refl
+the_methods_of_a_page_are_listed = refl
 
 a_token_is_asked_for :
     reply_bytes Token None (codes "{\"code\":\"token\",\"status\":401}")

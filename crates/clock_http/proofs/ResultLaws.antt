@@ -3,13 +3,13 @@ use Rattle.std.proofs.Common.{◌≡◌, Some, None, Result, Ok, Err, MatchResul
 use Rattle.std.specs.Result.{result_ok}
 
 -- of its value
-pub value_told : {T E : Type 0} (result : Result T E) (P : T → Type 0) (Q : E → Type 0) {value : T}
+pub value_reported : {T E : Type 0} (result : Result T E) (P : T → Type 0) (Q : E → Type 0) {value : T}
     → Some value ≡ result_ok result → MatchResult result P Q → P value
-value_told (Ok same) P Q is told = subst P (let e : same ≡ _ = cc in e) told
-value_told (Err fault) P Q is told = absurd (cc)
+value_reported (Ok same) P Q is reported = subst P (let e : same ≡ _ = cc in e) reported
+value_reported (Err fault) P Q is reported = absurd (cc)
 
 -- of its error
-pub fault_told : {T E : Type 0} (result : Result T E) (P : T → Type 0) (Q : E → Type 0) → None ≡ result_ok result
+pub fault_reported : {T E : Type 0} (result : Result T E) (P : T → Type 0) (Q : E → Type 0) → None ≡ result_ok result
     → MatchResult result P Q → (fault : E) × Q fault
-fault_told (Ok value) P Q is told = absurd (cc)
-fault_told (Err fault) P Q is told = (fault, told)
+fault_reported (Ok value) P Q is reported = absurd (cc)
+fault_reported (Err fault) P Q is reported = (fault, reported)

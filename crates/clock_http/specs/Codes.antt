@@ -1,6 +1,6 @@
 -- The codes of replies, which are our own, and their statuses of HTTP (RFC 9110).
---     row_of code      the table: the status of a code, and the code as pages show it
---     status_of code, text_of code      its two columns
+--     code_row code      the table: the status of a code, and the code as pages show it
+--     status_of code, code_text code      its two columns
 use Rattle.std.specs.Prelude.{ℕ, List, codes}
 use Rattle.clock_http.specs.declared.code.Code.{Code}
 use Rattle.clock_http.specs.declared.code.Code.TheVariants.{Done, BadHead, BadLength, CutShort}
@@ -14,40 +14,40 @@ use Rattle.clock_http.specs.declared.code.Code.TheVariants.{Increment, TieRange,
 use Rattle.clock_http.specs.declared.code.Code.TheVariants.{TooManyTies}
 use Rattle.clock_http.specs.declared.code.Code.TheVariants.{PriceLimit, LongHead, Coding, Memory}
 
-abbrev pub row_of : Code → ℕ × List ℕ
-row_of Done = (200, codes "done")
-row_of BadHead = (400, codes "bad_head")
-row_of BadLength = (400, codes "bad_length")
-row_of CutShort = (400, codes "cut_short")
-row_of BadJson = (400, codes "bad_json")
-row_of Token = (401, codes "token")
-row_of Role = (403, codes "role")
-row_of NoPage = (404, codes "no_page")
-row_of NoRound = (404, codes "no_round")
-row_of Method = (405, codes "method")
-row_of Ended = (409, codes "ended")
-row_of WrongRound = (409, codes "wrong_round")
-row_of LongBody = (413, codes "long_body")
-row_of Shape = (422, codes "shape")
-row_of TooMany = (422, codes "too_many")
-row_of UnknownProduct = (422, codes "unknown_product")
-row_of PriceRange = (422, codes "price_range")
-row_of OverCap = (422, codes "over_cap")
-row_of PriceOrder = (422, codes "price_order")
-row_of MixedDirection = (422, codes "mixed_direction")
-row_of KeepPrice = (422, codes "keep_price")
-row_of OverActivity = (422, codes "over_activity")
-row_of Increment = (422, codes "increment")
-row_of TooManyTies = (422, codes "too_many_ties")
-row_of TieRange = (422, codes "tie_range")
-row_of TieRepeated = (422, codes "tie_repeated")
-row_of PriceLimit = (422, codes "price_limit")
-row_of LongHead = (431, codes "long_head")
-row_of Coding = (501, codes "coding")
-row_of Memory = (503, codes "memory")
+abbrev pub code_row : Code → ℕ × List ℕ
+code_row Done = (200, codes "done")
+code_row BadHead = (400, codes "bad_head")
+code_row BadLength = (400, codes "bad_length")
+code_row CutShort = (400, codes "cut_short")
+code_row BadJson = (400, codes "bad_json")
+code_row Token = (401, codes "token")
+code_row Role = (403, codes "role")
+code_row NoPage = (404, codes "no_page")
+code_row NoRound = (404, codes "no_round")
+code_row Method = (405, codes "method")
+code_row Ended = (409, codes "ended")
+code_row WrongRound = (409, codes "wrong_round")
+code_row LongBody = (413, codes "long_body")
+code_row Shape = (422, codes "shape")
+code_row TooMany = (422, codes "too_many")
+code_row UnknownProduct = (422, codes "unknown_product")
+code_row PriceRange = (422, codes "price_range")
+code_row OverCap = (422, codes "over_cap")
+code_row PriceOrder = (422, codes "price_order")
+code_row MixedDirection = (422, codes "mixed_direction")
+code_row KeepPrice = (422, codes "keep_price")
+code_row OverActivity = (422, codes "over_activity")
+code_row Increment = (422, codes "increment")
+code_row TooManyTies = (422, codes "too_many_ties")
+code_row TieRange = (422, codes "tie_range")
+code_row TieRepeated = (422, codes "tie_repeated")
+code_row PriceLimit = (422, codes "price_limit")
+code_row LongHead = (431, codes "long_head")
+code_row Coding = (501, codes "coding")
+code_row Memory = (503, codes "memory")
 
 abbrev pub status_of : Code → ℕ
-status_of code = (row_of code).0
+status_of code = (code_row code).0
 
-abbrev pub text_of : Code → List ℕ
-text_of code = (row_of code).1
+abbrev pub code_text : Code → List ℕ
+code_text code = (code_row code).1

@@ -8,5 +8,5 @@ pub mod FramingLaws
 pub mod Shown
 pub mod Routes
 pub mod Replies
-pub mod HeldReply
+pub mod ShownReply
 pub mod inside

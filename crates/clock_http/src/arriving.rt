@@ -20,7 +20,7 @@ pub struct Arriving {
     progress: Progress,
     /// A text of fewer bytes than this fits, and only waits for more of its body, whatever its
     /// further bytes are.
-    quiet: usize,
+    next_check: usize,
 }
 
 impl Model for Arriving {
@@ -28,13 +28,13 @@ impl Model for Arriving {
 
     ghost view = { λ a. take a.count a.room.items };
 
-    ghost invariant = { λ a. IsFollowed a.room.items a.count a.progress a.quiet };
+    ghost invariant = { λ a. IsFollowed a.room.items a.count a.progress a.next_check };
 }
 
 /// Appends zeros within the capacity, up to one byte less than `awaited`. Returns a length: each
 /// shorter text fits among these bytes, and still lacks a byte of those awaited. Allocates nothing.
 fn make_places(room: &mut Vec<u8>, awaited: usize) -> usize
-    ensures kept { (zeros : List ℕ) × (room.new.items ≡ room.old.items ++ zeros) }
+    ensures appended { (zeros : List ℕ) × (room.new.items ≡ room.old.items ++ zeros) }
     ensures placed { result ≤ length room.new.items + 1 }
     ensures below { result ≤ awaited }
 {
@@ -83,7 +83,7 @@ impl Arriving {
             room: Vec::new(alloc),
             count: 0,
             progress: Progress::new(),
-            quiet: 0,
+            next_check: 0,
         }
     }
 
@@ -98,7 +98,7 @@ impl Arriving {
     {
         let place = self.count;
         match piece {
-            [byte] if place + 1 < self.quiet => {
+            [byte] if place + 1 < self.next_check => {
                 self.room[place] = *byte;
                 self.count = place + 1;
                 Ok(true)
@@ -115,17 +115,17 @@ impl Arriving {
         ensures short { IfOk result (λ short. short ≡ needs_more self.new) }
         ensures err { OnErr result (self.new ≡ self.old) }
     {
-        if piece.len() < self.quiet.saturating_sub(self.count) {
+        if piece.len() < self.next_check.saturating_sub(self.count) {
             write_at(&mut self.room, self.count, piece);
             self.count += piece.len();
             return Ok(true);
         }
-        self.quiet = 0;
+        self.next_check = 0;
         self.room.truncate(self.count);
         append(&mut self.room, piece, self.progress.awaited())?;
         self.count = self.room.len();
         self.progress = self.progress.advance(self.room.as_slice());
-        self.quiet = make_places(&mut self.room, self.progress.awaited());
+        self.next_check = make_places(&mut self.room, self.progress.awaited());
         Ok(self.progress.needs_more())
     }
 

@@ -1,6 +1,6 @@
 ghost use Rattle.std.specs.Prelude.{◌≡◌, Some};
 ghost use Rattle.http.specs.StatusCode.{reason_phrase};
-ghost use Rattle.clock_http.specs.Codes.{status_of, text_of};
+ghost use Rattle.clock_http.specs.Codes.{status_of, code_text};
 
 use http::StatusCode;
 
@@ -91,7 +91,7 @@ impl Code {
 
     /// Returns the code as pages show it. Allocates nothing.
     pub fn text(&self) -> &'static str
-        ensures { result.now ≡ text_of self.now }
+        ensures { result.now ≡ code_text self.now }
     {
         self.row().1
     }
@@ -99,7 +99,7 @@ impl Code {
     /// Returns the status, as the type of the crate http, and the code as pages show it.
     fn row(&self) -> (StatusCode, &'static str)
         ensures status { result.0 ≡ status_of self.now }
-        ensures text { result.1.now ≡ text_of self.now }
+        ensures text { result.1.now ≡ code_text self.now }
     {
         match self {
             Code::Done => (StatusCode::OK, "done"),

@@ -73,15 +73,15 @@ enum ReplyBytes {
 #[derive(Drop)]
 pub struct Reply {
     code: Code,
-    held: ReplyBytes,
+    inner: ReplyBytes,
 }
 
 impl Model for Reply {
-    ghost use Rattle.clock_http.specs.{Replies.{Answer}, HeldReply.{shown_held}};
+    ghost use Rattle.clock_http.specs.{Replies.{Answer}, ShownReply.{shown_bytes}};
 
     ghost Value = { Answer };
 
-    ghost view = { λ r. record { code = r.code; bytes = shown_held r.held } };
+    ghost view = { λ r. record { code = r.code; bytes = shown_bytes r.inner } };
 }
 
 /// Returns the `allow` line, which lists the methods of the page `allowed`. Empty without such a
@@ -117,7 +117,7 @@ fn put_before(text: &mut Text, end: usize, piece: &[u8]) -> usize
     requires room { length piece.now ≤ end }
     requires within { end ≤ length text.old }
     ensures start { result + length piece.now ≡ end }
-    ensures kept { length text.new ≡ length text.old }
+    ensures same_length { length text.new ≡ length text.old }
     ensures put { drop result text.new ≡ piece.now ++ drop end text.old }
 {
     let start = end - piece.len();
@@ -132,7 +132,7 @@ impl Reply {
     {
         Reply {
             code,
-            held: ReplyBytes::Constant(bytes),
+            inner: ReplyBytes::Constant(bytes),
         }
     }
 
@@ -159,7 +159,7 @@ impl Reply {
         let start = put_before(&mut text, status, b"HTTP/1.1 ");
         Reply {
             code,
-            held: ReplyBytes::Written(TextFrom { text, start }),
+            inner: ReplyBytes::Written(TextFrom { text, start }),
         }
     }
 
@@ -174,7 +174,7 @@ impl Reply {
     pub fn bytes(&self) -> &[u8]
         ensures { result.now ≡ self.now.bytes }
     {
-        match &self.held {
+        match &self.inner {
             ReplyBytes::Constant(bytes) => bytes,
             ReplyBytes::Written(written) => &written.text.as_slice()[written.start..],
         }

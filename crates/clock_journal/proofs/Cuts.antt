@@ -8,8 +8,9 @@ use Rattle.std.proofs.lemmas.List.{length-take, take_at, drop_at}
 use Rattle.std.proofs.Math.Seq.{take-append-add}
 use Rattle.std.proofs.lemmas.Bool.{cases_lt}
 use Rattle.clock_journal.specs.Format.{before_text, mark_length, head, link, records, last_link, most_text}
-use Rattle.clock_journal.specs.Kept.{file_of}
-use Rattle.clock_journal.specs.Reading.{Next, ended, torn, damaged, whole, marked_length, is_marked, next, Reads, Ends}
+use Rattle.clock_journal.specs.Logged.{file_of}
+use Rattle.clock_journal.specs.Reading.{Next, ended, torn, damaged, whole, marked_length, is_marked, next, ReadsTexts}
+use Rattle.clock_journal.specs.Reading.{Ends}
 use Rattle.clock_journal.specs.Crash.{ReadsSome, LeavesTexts}
 use Rattle.clock_journal.specs.Recovering.{BeginsWithHead}
 use Rattle.clock_journal.specs.Laws.{CutLeaves}
@@ -145,7 +146,7 @@ leaves_front digest bytes texts read least recovered left count leaves headed en
     let some = leaves.reads in
     let same = reads_once digest (records digest read ++ drop recovered.end bytes)
     (take some.count texts) read some.rest (drop recovered.end bytes) (subst
-    (λ (b : List ℕ). Reads digest b (take some.count texts) some.rest) behind some.reads) (ends_stop _ _ some.ends)
+    (λ (b : List ℕ). ReadsTexts digest b (take some.count texts) some.rest) behind some.reads) (ends_stop _ _ some.ends)
     (reads_records digest read (drop recovered.end bytes) headed.fit) (ends_stop _ _ headed.ends) in
     let some_front : ReadsSome digest
     (records digest read ++ take (count - recovered.end) (drop recovered.end bytes)) texts least = record {
@@ -153,7 +154,7 @@ leaves_front digest bytes texts read least recovered left count leaves headed en
       rest = take (count - recovered.end) (drop recovered.end bytes);
       enough = some.enough;
       most = some.most;
-      reads = subst (λ (ts : List (List ℕ)). Reads digest (records digest read ++ take (count - recovered.end)
+      reads = subst (λ (ts : List (List ℕ)). ReadsTexts digest (records digest read ++ take (count - recovered.end)
           (drop recovered.end bytes)) ts (take (count - recovered.end) (drop recovered.end bytes))) same.0
           (reads_records digest read (take (count - recovered.end) (drop recovered.end bytes)) headed.fit);
       ends = subst (λ (ts : List (List ℕ)). Ends (last_link digest ts)

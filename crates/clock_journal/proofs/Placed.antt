@@ -3,7 +3,7 @@ use Rattle.std.proofs.Common.{◌≡◌, ◌≢◌, inl, inr, ℕ, List, [], len
 use Rattle.std.proofs.Common.{length-append}
 use Rattle.clock_journal.specs.Disks.{IsCut}
 use Rattle.clock_journal.specs.Format.{head, records}
-use Rattle.clock_journal.specs.Kept.{Keeps}
+use Rattle.clock_journal.specs.Logged.{Keeps}
 use Rattle.clock_journal.specs.Recovering.{IsPlaced}
 use Rattle.clock_journal.specs.declared.recovery.Recovered.{Recovered}
 use Rattle.clock_journal.proofs.Moments.{length-head}
@@ -24,14 +24,14 @@ pub cut_is : (old mid new : Option (List ℕ)) (bytes : List ℕ) (place : ℕ) 
 cut_is old mid new bytes place same is cut = subst (λ (known : Option (List ℕ)). IsCut known new place) (same ∙ is) cut
 
 -- after it is truncated to its whole records and synced, the file has these texts
-pub kept_when_cut : (digest bytes : List ℕ) (texts : List (List ℕ)) (recovered : Recovered)
+pub logged_when_cut : (digest bytes : List ℕ) (texts : List (List ℕ)) (recovered : Recovered)
     (written synced : Option (List ℕ)) → recovered.end ≢ 0 → IsPlaced digest bytes texts recovered
     → written ≡ Some (take recovered.end bytes) → synced ≡ written → Keeps digest texts written synced recovered.chain
-kept_when_cut digest bytes texts recovered written synced somewhere (inl headed) cut on_disk = record {
+logged_when_cut digest bytes texts recovered written synced somewhere (inl headed) cut on_disk = record {
   file = cut ∙ ap Some headed.file;
   synced_is = on_disk;
   chain_is = headed.chain_is;
   fit = headed.fit;
 }
-kept_when_cut digest bytes texts recovered written synced somewhere (inr begun) cut on_disk =
+logged_when_cut digest bytes texts recovered written synced somewhere (inr begun) cut on_disk =
     absurd (somewhere begun.end_is)

@@ -6,9 +6,9 @@ use Rattle.std.proofs.lemmas.List.{take-append-drop, drop_at}
 use Rattle.std.proofs.lemmas.Bool.{cases_lt}
 use Rattle.clock_device.specs.Streams.{HasWrittenFront}
 use Rattle.clock_journal.specs.Disks.{LeaveOnly, MayBeLeft, Moment, Passes, up_to}
-use Rattle.clock_journal.specs.Format.{head, head_length, records, last_link}
-use Rattle.clock_journal.specs.Kept.{file_of}
-use Rattle.clock_journal.specs.Reading.{Ends, Reads}
+use Rattle.clock_journal.specs.Format.{head, file_head_length, records, last_link}
+use Rattle.clock_journal.specs.Logged.{file_of}
+use Rattle.clock_journal.specs.Reading.{Ends, ReadsTexts}
 use Rattle.clock_journal.specs.Crash.{BeginsWithTexts, IsPartOfHead, LeavesJournal, LeavesTexts}
 use Rattle.clock_journal.specs.Recovering.{IsPlaced, BeginsWithHead}
 use Rattle.clock_journal.specs.declared.recovery.Recovered.{Recovered}
@@ -20,8 +20,8 @@ use Rattle.clock_journal.proofs.Tails.{long_front, parts_of, records-append}
 
 -- ---- the head
 
-part_is : (digest left : List ℕ) (n : ℕ) → length digest ≡ 32 → left ≡ take n (head digest) → length left < head_length
-    → IsPartOfHead digest left
+part_is : (digest left : List ℕ) (n : ℕ) → length digest ≡ 32 → left ≡ take n (head digest)
+    → length left < file_head_length → IsPartOfHead digest left
 part_is digest left n size is short =
     let before = length-head digest size in
     elim (cases_lt n (length (head digest))) [
@@ -35,7 +35,7 @@ pub front_of_head : (digest left : List ℕ) (n : ℕ) → length digest ≡ 32 
     → LeavesJournal digest left [] 0
 front_of_head digest left n size is =
     let before = length-head digest size in
-    elim (cases_lt (length left) head_length) [
+    elim (cases_lt (length left) file_head_length) [
       | inl short ↦ inr (refl, part_is digest left n size is short)
       | inr long ↦ (let count = ap length is ∙ length-take n (head digest) in
           let all = length-append (head digest) [] in
@@ -96,8 +96,8 @@ now_left synced written on_disk bytes same is =
     (length on_disk + length bytes, omega arith, sym (take_all (length on_disk + length bytes) bytes (omega arith))))
 
 long_file : (digest bytes : List ℕ) (read : List (List ℕ)) (recovered : Recovered) → length digest ≡ 32
-    → BeginsWithHead digest bytes read recovered
-    → (length (file_of digest read) ≡ recovered.end) × (head_length ≤ recovered.end) × (recovered.end ≤ length bytes)
+    → BeginsWithHead digest bytes read recovered → (length (file_of digest read) ≡ recovered.end)
+    × (file_head_length ≤ recovered.end) × (recovered.end ≤ length bytes)
 long_file digest bytes read recovered size headed =
     let same = sym (ap length headed.file) ∙ length-take-le recovered.end bytes headed.within in
     let parts = length-append (head digest) (records digest read) in
@@ -134,14 +134,13 @@ first_before digest bytes texts read recovered size begins headed =
     let all : bytes ≡ head digest ++ (records digest read ++ rest) =
     sym (take-append-drop recovered.end bytes) ∙ (ap (λ (b : List ℕ). b ++ rest) headed.file
     ∙ append_assoc (head digest) (records digest read) rest) in
-    let one : drop head_length bytes ≡ records digest texts ++ more =
-    ap (drop head_length) (parts_of digest bytes texts begins)
-    ∙ drop_at (head digest) (records digest texts ++ more) head_length before in
-    let other : drop head_length bytes ≡ records digest read ++ rest =
-    ap (drop head_length) all ∙ drop_at (head digest) (records digest read ++ rest) head_length before in
-    let first = reads_first digest texts more read rest begins.fit
-    (subst (λ (b : List ℕ). Reads digest b read rest) (sym other ∙ one) (reads_records digest read rest headed.fit))
-    (ends_stop _ _ headed.ends) in
+    let one : drop file_head_length bytes ≡ records digest texts ++ more =
+    ap (drop file_head_length) (parts_of digest bytes texts begins)
+    ∙ drop_at (head digest) (records digest texts ++ more) file_head_length before in
+    let other : drop file_head_length bytes ≡ records digest read ++ rest =
+    ap (drop file_head_length) all ∙ drop_at (head digest) (records digest read ++ rest) file_head_length before in
+    let first = reads_first digest texts more read rest begins.fit (subst (λ (b : List ℕ). ReadsTexts digest b read
+    rest) (sym other ∙ one) (reads_records digest read rest headed.fit)) (ends_stop _ _ headed.ends) in
     let longer : length (records digest read) ≡ length (records digest texts) + length (records
     (last_link digest texts) first.0) = ap length (ap (records digest) first.1 ∙ records-append digest texts first.0)
     ∙ length-append (records digest texts) (records (last_link digest texts) first.0) in
@@ -169,17 +168,17 @@ tail_cut digest bytes texts read recovered left size begins (inr begun) may =
 
 -- ---- a journal that begins again
 
-nothing_told : (digest bytes : List ℕ) (texts : List (List ℕ)) (least : ℕ) → length digest ≡ 32
-    → LeavesJournal digest bytes texts least → length bytes < head_length → least ≡ 0
-nothing_told digest bytes texts least size (inl leaves) short =
+nothing_reported : (digest bytes : List ℕ) (texts : List (List ℕ)) (least : ℕ) → length digest ≡ 32
+    → LeavesJournal digest bytes texts least → length bytes < file_head_length → least ≡ 0
+nothing_reported digest bytes texts least size (inl leaves) short =
     let same = ap length leaves.headed in
     let before = length-head digest size in
     let part = length-take (length (head digest)) bytes in
     absurd (omega (arith, same, before, part, short))
-nothing_told digest bytes texts least size (inr part) short = part.0
+nothing_reported digest bytes texts least size (inr part) short = part.0
 
 begun_anew : (digest bytes : List ℕ) (read : List (List ℕ)) (recovered : Recovered) → length digest ≡ 32
-    → recovered.end ≡ 0 → IsPlaced digest bytes read recovered → length bytes < head_length
+    → recovered.end ≡ 0 → IsPlaced digest bytes read recovered → length bytes < file_head_length
 begun_anew digest bytes read recovered size nowhere (inl headed) =
     let long = long_file digest bytes read recovered size headed in
     absurd (omega (arith, long.1, nowhere))
@@ -196,7 +195,7 @@ none_of_any digest left texts leaves =
         rest = some.rest;
         enough = omega arith;
         most = omega arith;
-        reads = subst (λ (ts : List (List ℕ)). Reads digest (drop (length (head digest)) left) ts some.rest)
+        reads = subst (λ (ts : List (List ℕ)). ReadsTexts digest (drop (length (head digest)) left) ts some.rest)
             (take_none some.count) some.reads;
         ends = subst (λ (ts : List (List ℕ)). Ends (last_link digest ts) some.rest) (take_none some.count) some.ends;
       };
@@ -207,12 +206,13 @@ pub anew_leaves : (digest bytes : List ℕ) (texts read : List (List ℕ)) (leas
     (left : List ℕ) → length digest ≡ 32 → recovered.end ≡ 0 → LeavesJournal digest bytes texts least
     → IsPlaced digest bytes read recovered → LeavesJournal digest left [] 0 → LeavesJournal digest left texts least
 anew_leaves digest bytes texts read least recovered left size nowhere leaves placed (inl now) =
-    let none =
-    nothing_told digest bytes texts least size leaves (begun_anew digest bytes read recovered size nowhere placed) in
+    let none = nothing_reported digest bytes texts least size leaves
+    (begun_anew digest bytes read recovered size nowhere placed) in
     inl (subst (λ (n : ℕ). LeavesTexts digest left texts n) (sym none) (none_of_any digest left texts now))
 anew_leaves digest bytes texts read least recovered left size nowhere leaves placed (inr now) =
     inr (
-      nothing_told digest bytes texts least size leaves (begun_anew digest bytes read recovered size nowhere placed),
+      nothing_reported digest bytes texts least size leaves
+          (begun_anew digest bytes read recovered size nowhere placed),
       now.1,
     )
 

@@ -2,11 +2,11 @@
 use Rattle.std.proofs.Common.{◌≡◌, ◌≤◌, ◌<◌, ◌+◌, ◌++◌, ℕ, List, [], ◌∷◌, length, get_or, take, drop, refl, sym, ap}
 use Rattle.std.proofs.Common.{◌∙◌, subst, arith, length-append, length-drop}
 use Rattle.std.proofs.lemmas.List.{append_assoc, take-append-drop, take_at, drop_at, get_or-drop}
-use Rattle.clock_journal.specs.Format.{head_length, head, link, record_of, records, last_link}
+use Rattle.clock_journal.specs.Format.{file_head_length, head, link, record_of, records, last_link}
 use Rattle.clock_journal.specs.Headings.{Heading, headed, heading}
-use Rattle.clock_journal.specs.Reading.{Reads, Stops, damaged}
+use Rattle.clock_journal.specs.Reading.{ReadsTexts, Stops, damaged}
 use Rattle.clock_journal.specs.Entries.{Entry, entries_onto}
-use Rattle.clock_journal.specs.Kept.{file_of}
+use Rattle.clock_journal.specs.Logged.{file_of}
 use Rattle.clock_journal.specs.Crash.{BeginsWith, BeginsWithTexts}
 use Rattle.clock_journal.specs.Recovering.{HasTakenFirst, IsFoundAt}
 use Rattle.clock_journal.specs.declared.recovery.Recovered.{Recovered}
@@ -39,7 +39,7 @@ headed_front digest bytes texts begins = ap (take (length (head digest))) (parts
     (head digest) (records digest texts ++ drop (length (file_of digest texts)) bytes) (length (head digest)) refl
 
 pub long_front : (digest bytes : List ℕ) (texts : List (List ℕ)) → length digest ≡ 32
-    → BeginsWithTexts digest bytes texts → head_length ≤ length bytes
+    → BeginsWithTexts digest bytes texts → file_head_length ≤ length bytes
 long_front digest bytes texts size begins =
     let more = drop (length (file_of digest texts)) bytes in
     omega (
@@ -52,42 +52,43 @@ long_front digest bytes texts size begins =
 -- what is read of it begins with the texts, and what is left comes after them
 pub texts_first : (digest bytes : List ℕ) (texts read : List (List ℕ)) (rest : List ℕ)
     → ((place : ℕ) → get_or bytes place 0 < 256) → length digest ≡ 32 → BeginsWithTexts digest bytes texts
-    → Reads digest (drop head_length bytes) read rest → Stops (last_link digest read) rest
+    → ReadsTexts digest (drop file_head_length bytes) read rest → Stops (last_link digest read) rest
     → BeginsWith texts read × (length (file_of digest texts) + length rest ≤ length bytes)
 texts_first digest bytes texts read rest small size begins reads stops =
     let more = drop (length (file_of digest texts)) bytes in
     let parts = parts_of digest bytes texts begins in
     let before = length-head digest size in
-    let behind : drop head_length bytes ≡ records digest texts ++ more =
-    ap (drop head_length) parts ∙ drop_at (head digest) (records digest texts ++ more) head_length before in
+    let behind : drop file_head_length bytes ≡ records digest texts ++ more =
+    ap (drop file_head_length) parts ∙ drop_at (head digest) (records digest texts ++ more) file_head_length before in
     let first = reads_first digest texts more read rest begins.fit
-    (subst (λ (b : List ℕ). Reads digest b read rest) behind reads) stops in
-    let back = read_back digest (drop head_length bytes) read rest (λ place. subst (λ (n : ℕ). n < 256)
-    (sym (get_or-drop head_length bytes place 0)) (small (head_length + place))) reads in
+    (subst (λ (b : List ℕ). ReadsTexts digest b read rest) behind reads) stops in
+    let back = read_back digest (drop file_head_length bytes) read rest (λ place. subst (λ (n : ℕ). n < 256)
+    (sym (get_or-drop file_head_length bytes place 0)) (small (file_head_length + place))) reads in
     let further = records (last_link digest texts) first.0 in
-    let all : drop head_length bytes ≡ (records digest texts ++ further) ++ rest =
+    let all : drop file_head_length bytes ≡ (records digest texts ++ further) ++ rest =
     back.0 ∙ ap (λ (b : List ℕ). b ++ rest) (ap (records digest) first.1 ∙ records-append digest texts first.0) in
     let whole = ap length parts ∙ length-append (head digest) (records digest texts ++ more) in
     let part = ap length all ∙ length-append (records digest texts ++ further) rest in
     let inner = length-append (records digest texts) further in
     let file = length-append (head digest) (records digest texts) in
-    let rest_is = length-drop head_length bytes in
+    let rest_is = length-drop file_head_length bytes in
     (first, omega (arith, whole, part, inner, file, before, rest_is))
 
 -- so its heading is found
-pub told_of_front : (digest bytes : List ℕ) (texts : List (List ℕ)) (told : Heading) → length digest ≡ 32
-    → BeginsWithTexts digest bytes texts → told ≡ heading digest bytes → told ≡ headed (drop head_length bytes)
-told_of_front digest bytes texts told size begins is =
-    let same : take head_length bytes ≡ head digest =
+pub reported_of_front : (digest bytes : List ℕ) (texts : List (List ℕ)) (reported : Heading) → length digest ≡ 32
+    → BeginsWithTexts digest bytes texts → reported ≡ heading digest bytes
+    → reported ≡ headed (drop file_head_length bytes)
+reported_of_front digest bytes texts reported size begins is =
+    let same : take file_head_length bytes ≡ head digest =
     ap (λ (n : ℕ). take n bytes) (sym (length-head digest size)) ∙ headed_front digest bytes texts begins in
     is ∙ headed_is digest bytes (long_front digest bytes texts size begins)
-    (bytes_eq_same (take head_length bytes) (head digest) same)
+    (bytes_eq_same (take file_head_length bytes) (head digest) same)
 
 -- the texts are taken first
 pub has_taken_first : (old new : List Entry → Type 0) (digest bytes : List ℕ) (texts : List (List ℕ))
     (recovered : Recovered) → ((place : ℕ) → get_or bytes place 0 < 256) → length digest ≡ 32
-    → BeginsWithTexts digest bytes texts → IsReplayed old new digest (drop head_length bytes) (length bytes) recovered
-    → HasTakenFirst old new digest texts recovered
+    → BeginsWithTexts digest bytes texts → IsReplayed old new digest (drop file_head_length bytes)
+    (length bytes) recovered → HasTakenFirst old new digest texts recovered
 has_taken_first old new digest bytes texts recovered small size begins done =
     let first =
     texts_first digest bytes texts done.texts done.rest small size begins done.reads (ends_stop _ _ done.ends) in
@@ -99,9 +100,9 @@ has_taken_first old new digest bytes texts recovered small size begins done =
     }
 
 -- nothing before their end is damaged
-pub damaged_behind : (digest bytes : List ℕ) (texts : List (List ℕ)) (place : ℕ)
-    → ((at : ℕ) → get_or bytes at 0 < 256) → length digest ≡ 32 → BeginsWithTexts digest bytes texts
-    → IsFoundAt digest (drop head_length bytes) (length bytes) place damaged → length (file_of digest texts) ≤ place
+pub damaged_behind : (digest bytes : List ℕ) (texts : List (List ℕ)) (place : ℕ) → ((at : ℕ) → get_or bytes at 0 < 256)
+    → length digest ≡ 32 → BeginsWithTexts digest bytes texts → IsFoundAt digest (drop file_head_length bytes)
+    (length bytes) place damaged → length (file_of digest texts) ≤ place
 damaged_behind digest bytes texts place small size begins found =
     let first = texts_first digest bytes texts found.texts found.rest small size begins found.reads
     (damage_stops _ _ found.found_is) in

@@ -7,7 +7,7 @@
 --         texts that follow others
 use Rattle.std.specs.Prelude.{◌++◌, ◌+◌, ℕ, List, [], ◌∷◌, length}
 use Rattle.clock_journal.specs.Format.{last_link}
-use Rattle.clock_journal.specs.Kept.{file_of}
+use Rattle.clock_journal.specs.Logged.{file_of}
 use Rattle.clock_journal.specs.declared.recovery.Record.{Record}
 
 abbrev pub Entry : Type 0

@@ -5,8 +5,8 @@
 --     ReadsBack      what reads as texts is the records of these texts
 use Rattle.std.specs.Prelude.{◌≡◌, ◌<◌, get_or, ◌≤◌, ◌++◌, ℕ, List, length, take, Some}
 use Rattle.clock_journal.specs.Format.{records, last_link, AllFit}
-use Rattle.clock_journal.specs.Reading.{Reads, Stops}
-use Rattle.clock_journal.specs.Kept.{file_of}
+use Rattle.clock_journal.specs.Reading.{ReadsTexts, Stops}
+use Rattle.clock_journal.specs.Logged.{file_of}
 use Rattle.clock_journal.specs.Disks.{MayBeLeft}
 use Rattle.clock_journal.specs.Recovering.{IsPlaced}
 use Rattle.clock_journal.specs.declared.recovery.Recovered.{Recovered}
@@ -22,14 +22,14 @@ EveryFront = (digest : List ℕ) (texts : List (List ℕ)) (least count : ℕ) �
 -- what is read of the records of some texts and any bytes after them begins with the texts
 abbrev pub WhateverFollows : Type 0
 WhateverFollows = (digest : List ℕ) (texts : List (List ℕ)) (more : List ℕ) (read : List (List ℕ))
-    (rest : List ℕ) → AllFit texts → Reads digest (records digest texts ++ more) read rest
+    (rest : List ℕ) → AllFit texts → ReadsTexts digest (records digest texts ++ more) read rest
     → Stops (last_link digest read) rest → BeginsWith texts read
 
 -- bytes that read as some texts are the records of these texts, and what is left: there is no other
 -- encoding
 abbrev pub ReadsBack : Type 0
 ReadsBack = (chain bytes : List ℕ) (texts : List (List ℕ)) (rest : List ℕ)
-    → ((place : ℕ) → get_or bytes place 0 < 256) → Reads chain bytes texts rest
+    → ((place : ℕ) → get_or bytes place 0 < 256) → ReadsTexts chain bytes texts rest
     → (bytes ≡ records chain texts ++ rest) × AllFit texts
 
 -- if what a crash left is synced and truncated after its last whole record, a crash during that

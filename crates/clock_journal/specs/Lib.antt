@@ -2,7 +2,7 @@ pub mod Format
 pub mod Reading
 pub mod Crash
 pub mod Disks
-pub mod Kept
+pub mod Logged
 pub mod Headings
 pub mod Entries
 pub mod Recovering

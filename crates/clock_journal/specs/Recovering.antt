@@ -15,10 +15,10 @@
 --         is refused
 use Rattle.std.specs.Prelude.{◌≡◌, ◌⊎◌, ◌<◌, ◌≤◌, ◌+◌, ◌++◌, ℕ, List, [], length, take, drop}
 use Rattle.clock_journal.specs.Entries.{Entry, entries_onto, texts_in}
-use Rattle.clock_journal.specs.Format.{head, head_length, last_link, AllFit}
-use Rattle.clock_journal.specs.Kept.{file_of}
+use Rattle.clock_journal.specs.Format.{head, file_head_length, last_link, AllFit}
+use Rattle.clock_journal.specs.Logged.{file_of}
 use Rattle.clock_journal.specs.Headings.{heading, headed, of_another, unknown}
-use Rattle.clock_journal.specs.Reading.{Reads, Ends, Next, next, damaged, whole, onto}
+use Rattle.clock_journal.specs.Reading.{ReadsTexts, Ends, Next, next, damaged, whole, onto}
 use Rattle.clock_journal.specs.declared.recovery.Recovered.{Recovered}
 use Rattle.clock_journal.specs.declared.recovery.JournalFault.{JournalFault}
 use Rattle.clock_journal.specs.declared.recovery.JournalFault.TheVariants as fault
@@ -63,7 +63,7 @@ pub record BeginsWithHead (digest bytes : List ℕ) (texts : List (List ℕ))
 pub record IsBegun (digest bytes : List ℕ) (texts : List (List ℕ))
     (recovered : Recovered) : Type 0 where
   pub none : texts ≡ []
-  pub short : length bytes < head_length
+  pub short : length bytes < file_head_length
   pub front : bytes ≡ take (length bytes) (head digest)
   pub chain_is : recovered.chain ≡ digest
   pub end_is : recovered.end ≡ 0
@@ -95,7 +95,7 @@ pub record IsRecovered (old new : List Entry → Type 0) (digest bytes : List �
 pub record IsFoundAt (first bytes : List ℕ) (size place : ℕ) (found : Next) : Type 0 where
   pub texts : List (List ℕ)
   pub rest : List ℕ
-  pub reads : Reads first bytes texts rest
+  pub reads : ReadsTexts first bytes texts rest
   pub found_is : next (last_link first texts) rest ≡ found
   pub place_is : place + length rest ≡ size
 
@@ -103,11 +103,11 @@ abbrev pub IsJournalRefusal : List ℕ → List ℕ → JournalFault → Type 0
 IsJournalRefusal digest bytes fault.Unknown = heading digest bytes ≡ unknown
 IsJournalRefusal digest bytes fault.Setup = heading digest bytes ≡ of_another
 IsJournalRefusal digest bytes (fault.Damaged place) =
-    (heading digest bytes ≡ headed (drop head_length bytes))
-    × IsFoundAt digest (drop head_length bytes) (length bytes) place damaged
+    (heading digest bytes ≡ headed (drop file_head_length bytes))
+    × IsFoundAt digest (drop file_head_length bytes) (length bytes) place damaged
 IsJournalRefusal digest bytes (fault.Refused place) =
-    (heading digest bytes ≡ headed (drop head_length bytes)) × ((text : List ℕ)
-    × IsFoundAt digest (drop head_length bytes) (length bytes) place (whole text))
+    (heading digest bytes ≡ headed (drop file_head_length bytes)) × ((text : List ℕ)
+    × IsFoundAt digest (drop file_head_length bytes) (length bytes) place (whole text))
 IsJournalRefusal digest bytes fault.NoMemory = Unit {0}
 
 -- all before `place` reads as texts, and then comes one that the machine refuses after them,

@@ -1,7 +1,7 @@
 ghost use Rattle.std.specs.Prelude.{◌≡◌, ◌++◌, [], ◌∷◌, List, ℕ, OnOk, OnErr, Some, false, is_err};
 ghost use Rattle.std.specs.Prelude.{length};
 ghost use Rattle.clock_journal.specs.{Disks.{LeaveOnly, MayBeLeft}, Format.{Fits, link}};
-ghost use Rattle.clock_journal.specs.{Kept.{HasTexts, JournalState}, Recovering.{IsPlaced}};
+ghost use Rattle.clock_journal.specs.{Logged.{HasTexts, JournalState}, Recovering.{IsPlaced}};
 ghost use Rattle.clock_journal.specs.Crash.{BeginsWithTexts, LeavesJournal, LeavesTexts, StaysSo};
 ghost use Rattle.clock_journal.specs.Chain.{ChainBinds, JournalsBind};
 ghost use Rattle.clock_journal.specs.Laws.{CutLeaves, EveryFront, ReadsBack, WhateverFollows};
@@ -54,7 +54,7 @@ impl<D: Durable> Journal<D> {
     /// Requires that no call of the disk has failed.
     pub fn begin(&mut self) -> Result<(), Failed>
         requires unfailed { self.old.has_failed ≡ false }
-        ensures kept { self.old.written ≡ Some []
+        ensures logged { self.old.written ≡ Some []
             → OnOk result (HasTexts self.old.chain [] self.new) }
         ensures moments { self.old.written ≡ Some [] → LeaveOnly self.old.moments self.new.moments
             (λ left. LeavesJournal self.old.chain left [] 0) }
@@ -74,7 +74,7 @@ impl<D: Durable> Journal<D> {
     /// Requires that no call of the disk has failed.
     pub fn resume(&mut self, recovered: Recovered) -> Result<(), Failed>
         requires unfailed { self.old.has_failed ≡ false }
-        ensures kept { (bytes : List ℕ) (texts : List (List ℕ))
+        ensures logged { (bytes : List ℕ) (texts : List (List ℕ))
             → self.old.written ≡ Some bytes → IsPlaced self.old.chain bytes texts recovered
             → OnOk result (HasTexts self.old.chain texts self.new) }
         ensures crash { (bytes synced : List ℕ) (read texts : List (List ℕ)) (least : ℕ)
@@ -108,7 +108,7 @@ impl<D: Durable> Journal<D> {
     pub fn append(&mut self, text: &[u8]) -> Result<(), Failed>
         requires fits { Fits text.now }
         requires unfailed { self.old.has_failed ≡ false }
-        ensures kept { (digest : List ℕ) (texts : List (List ℕ)) → HasTexts digest texts self.old
+        ensures logged { (digest : List ℕ) (texts : List (List ℕ)) → HasTexts digest texts self.old
             → OnOk result (HasTexts digest (texts ++ text.now ∷ []) self.new) }
         ensures any_moment { (digest : List ℕ) (texts : List (List ℕ))
             → HasTexts digest texts self.old

@@ -1,8 +1,8 @@
 //! Recovery: a machine takes the texts of a file, one after the other.
 
 ghost use Rattle.std.specs.Prelude.{◌≡◌, ◌∷◌, List, ℕ, Err, MatchResult, OnOk, drop, length};
-ghost use Rattle.clock_journal.specs.{Crash.{BeginsWithTexts, LeavesJournal}, Kept.{file_of}};
-ghost use Rattle.clock_journal.specs.{Entries.{Entry, texts_in}, Format.{head_length}};
+ghost use Rattle.clock_journal.specs.{Crash.{BeginsWithTexts, LeavesJournal}, Logged.{file_of}};
+ghost use Rattle.clock_journal.specs.{Entries.{Entry, texts_in}, Format.{file_head_length}};
 ghost use Rattle.clock_journal.specs.Recovering.{HasTaken, HasTakenFirst, IsDamagedAfter};
 ghost use Rattle.clock_journal.specs.Recovering.{IsRecovered};
 ghost use Rattle.clock_journal.specs.Recovering.{IsJournalRefusal, IsRefusedRightly, IsTakeFault};
@@ -108,7 +108,7 @@ pub fn recover<M: Machine>(
         (IsDamagedAfter (length (file_of digest.now texts))) }
     ensures refused { MatchResult result (λ _. Unit {0})
         (IsRefusedRightly (M.refuses (M.rules machine.old)) (M.stands_for machine.old) digest.now
-        (drop head_length bytes.now) (length bytes.now)) }
+        (drop file_head_length bytes.now) (length bytes.now)) }
     ensures rules { M.rules machine.new ≡ M.rules machine.old }
 {
     let mut chain = *digest;

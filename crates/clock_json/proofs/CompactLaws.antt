@@ -11,7 +11,7 @@ use Rattle.json.specs.Word.{ends_word}
 use Rattle.json.specs.Lex as lexer
 use Rattle.json.specs.Lex.{Lexeme, Place, may_begin, token, comma, colon, lex, between, punctuate}
 use Rattle.serde_json.specs.Data.{no_members, put}
-use Rattle.clock_json.specs.Reading.{whole, numbers, Reads}
+use Rattle.clock_json.specs.Reading.{whole_number, numbers, ReadsValue}
 use Rattle.clock_json.specs.inside.Reading.{HasMembers}
 use Rattle.clock_json.specs.Compact.{compact_bid}
 use Rattle.clock_json.specs.declared.compact.CompactBid.{CompactBid}
@@ -123,7 +123,7 @@ punctuated p bid ls rest h is = begun p ls _ h (ap (punctuate lexer.fresh) is) (
 
 -- the tokens are read as the bid
 pub bid_reads : (bid : CompactBid) (old new : List Token) → (bid.price < 2 ^ 64) × (bid.product < 2 ^ 64)
-    × (bid.quantity < 2 ^ 64) → old ≡ tokens_of bid new → Reads 1 old (compact_bid bid) new
+    × (bid.quantity < 2 ^ 64) → old ≡ tokens_of bid new → ReadsValue 1 old (compact_bid bid) new
 bid_reads bid old new small is =
     let last = end_object ∷ new in
     let third = number (decimal bid.quantity) ∷ last in
@@ -132,16 +132,17 @@ bid_reads bid old new small is =
     let second_key = key (codes "product") ∷ second in
     let first = number (decimal bid.price) ∷ second_key in
     let start = key (codes "price") ∷ first in
-    let found_1 = put (codes "price") (whole bid.price) no_members in
-    let found_2 = put (codes "product") (whole bid.product) found_1 in
-    let found_3 = put (codes "quantity") (whole bid.quantity) found_2 in
-    let has_1 : HasMembers 0 start found_1 second_key = members_next 0 start start first second_key no_members (codes
-    "price") (whole bid.price) (members_start 0 start) refl (number_reads bid.price first second_key small.0 refl) in
+    let found_1 = put (codes "price") (whole_number bid.price) no_members in
+    let found_2 = put (codes "product") (whole_number bid.product) found_1 in
+    let found_3 = put (codes "quantity") (whole_number bid.quantity) found_2 in
+    let has_1 : HasMembers 0 start found_1 second_key =
+    members_next 0 start start first second_key no_members (codes "price") (whole_number bid.price)
+    (members_start 0 start) refl (number_reads bid.price first second_key small.0 refl) in
     let has_2 : HasMembers 0 start found_2 third_key =
-    members_next 0 start second_key second third_key found_1 (codes "product") (whole bid.product) has_1 refl
+    members_next 0 start second_key second third_key found_1 (codes "product") (whole_number bid.product) has_1 refl
     (number_reads bid.product second third_key small.1 refl) in
     let has_3 : HasMembers 0 start found_3 last =
-    members_next 0 start third_key third last found_2 (codes "quantity") (whole bid.quantity) has_2 refl
+    members_next 0 start third_key third last found_2 (codes "quantity") (whole_number bid.quantity) has_2 refl
     (number_reads bid.quantity third last small.2 refl) in
     members_end 0 old start last new found_3 is has_3 refl
 
@@ -164,7 +165,7 @@ comma_stands bytes rest is = (ap ends_word is, ap (lex between) is)
 
 -- a number and its comma, after a comma, are read
 pub separated_reads : (ls rest : List Lexeme) (n : ℕ) → n < 2 ^ 64 → ls ≡ token (number (decimal n)) ∷ comma ∷ rest
-    → Reads 0 (punctuate lexer.after_comma ls) (whole n) (punctuate lexer.after_comma rest)
+    → ReadsValue 0 (punctuate lexer.after_comma ls) (whole_number n) (punctuate lexer.after_comma rest)
 separated_reads ls rest n small is =
     number_reads n _ _ small (number_and_comma lexer.after_comma ls rest (decimal n) refl is)
 
@@ -181,7 +182,7 @@ empty_at bytes at room opens closes mark =
 
 -- an empty list and its comma, after a comma, are read
 pub empty_reads : (ls rest : List Lexeme) → ls ≡ token begin_array ∷ token end_array ∷ comma ∷ rest
-    → Reads 1 (punctuate lexer.after_comma ls) (numbers []) (punctuate lexer.after_comma rest)
+    → ReadsValue 1 (punctuate lexer.after_comma ls) (numbers []) (punctuate lexer.after_comma rest)
 unfolding punctuate
 empty_reads ls rest is =
     let new = punctuate lexer.after_comma rest in

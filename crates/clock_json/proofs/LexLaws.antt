@@ -22,7 +22,7 @@ use Rattle.json.specs.Lex.{Class, Lexeme, Place, may_begin, may_close, token, co
 use Rattle.json.specs.Lex.{between, punctuate}
 use Rattle.json.specs.Align.{is_blank}
 use Rattle.clock_json.specs.Left.{place_of}
-use Rattle.clock_json.specs.Marks.{opening, closing}
+use Rattle.clock_json.specs.Marks.{opening_mark, closing_mark}
 use Rattle.clock_json.specs.inside.Marks.{IsMark}
 use Rattle.clock_json.specs.declared.scan.Expected.{Expected}
 use Rattle.clock_json.specs.declared.scan.Expected.TheVariants as ours
@@ -134,7 +134,7 @@ module _ (mark : ℕ) (P : Token → Type 0) where
       (subst (λ m. IsMark may_begin m begin_object lexer.fresh) (sym (eqb-true mark 123 is)) brace_opens)
   opened_by false false _ _ has = tt
 
-  pub opened : ((t : Token) → IsMark may_begin mark t lexer.fresh → P t) → IfSome (opening mark) P
+  pub opened : ((t : Token) → IsMark may_begin mark t lexer.fresh → P t) → IfSome (opening_mark mark) P
   opened = opened_by (eqb mark 91) (eqb mark 123) refl refl
 
   closed_by : (list object : Bool) → eqb mark 93 ≡ list → eqb mark 125 ≡ object → ((t : Token) → IsMark may_close mark t
@@ -145,7 +145,7 @@ module _ (mark : ℕ) (P : Token → Type 0) where
       (subst (λ m. IsMark may_close m end_object lexer.after_value) (sym (eqb-true mark 125 is)) brace_closes)
   closed_by false false _ _ has = tt
 
-  pub closed_mark : ((t : Token) → IsMark may_close mark t lexer.after_value → P t) → IfSome (closing mark) P
+  pub closed_mark : ((t : Token) → IsMark may_close mark t lexer.after_value → P t) → IfSome (closing_mark mark) P
   closed_mark = closed_by (eqb mark 93) (eqb mark 125) refl refl
 
 -- a mark after white space

@@ -14,7 +14,7 @@ use Rattle.json.proofs.Grammar.{left, skip_value-shorter, value_is}
 use Rattle.serde_json.specs.Data.{Data, Items, item, array, object, string, null, Members, no_members, put}
 use Rattle.serde_json.specs.Read.{of_json, converted, read}
 use Rattle.serde_json.proofs.Numbers.{number_of-decimal}
-use Rattle.clock_json.specs.Reading.{whole, items_before, items_of, Fields, members_of, Reads, ReadsAll}
+use Rattle.clock_json.specs.Reading.{whole_number, items_before, items_in, Fields, found_members, ReadsValue, ReadsAll}
 use Rattle.clock_json.specs.Members.{value_at, with_field, is_field, ReadsField}
 use Rattle.clock_json.specs.inside.Reading.{HasItems, HasMembers}
 use Rattle.clock_json.proofs.Turns.{converted_some, item_read, items_over, member_read, members_over, object_read}
@@ -25,23 +25,23 @@ use Rattle.clock_json.proofs.LexLaws.{space_at, at_end}
 -- ---- single values
 
 pub number_reads : (n : ℕ) (old new : List Token) → n < 2 ^ 64 → old ≡ Token.number (decimal n) ∷ new
-    → Reads 0 old (whole n) new
+    → ReadsValue 0 old (whole_number n) new
 number_reads n old new small is =
     λ depth _. ap (converted of_json) (ap (json.value depth) is ∙ value_is depth _) ∙ rw (number_of-decimal n small)
 
-pub text_reads : (s : List ℕ) (old new : List Token) → old ≡ Token.string s ∷ new → Reads 0 old (string s) new
+pub text_reads : (s : List ℕ) (old new : List Token) → old ≡ Token.string s ∷ new → ReadsValue 0 old (string s) new
 text_reads s old new is = λ depth _. ap (converted of_json) (ap (json.value depth) is ∙ value_is depth _)
 
-pub null_reads : (old new : List Token) → old ≡ Token.null ∷ new → Reads 0 old null new
+pub null_reads : (old new : List Token) → old ≡ Token.null ∷ new → ReadsValue 0 old null new
 null_reads old new is = λ depth _. ap (converted of_json) (ap (json.value depth) is ∙ value_is depth _)
 
 -- a value that reads at few levels reads at more
 pub reads_deeper : (few levels : ℕ) (old : List Token) (d : Data) (new : List Token) → few ≤ levels
-    → Reads few old d new → Reads levels old d new
+    → ReadsValue few old d new → ReadsValue levels old d new
 reads_deeper few levels old d new h reads = λ depth enough. reads depth (omega (arith, h, enough))
 
 -- a value takes at least one token
-pub reads_shorter : (levels : ℕ) (old : List Token) (d : Data) (new : List Token) → Reads levels old d new
+pub reads_shorter : (levels : ℕ) (old : List Token) (d : Data) (new : List Token) → ReadsValue levels old d new
     → length new < length old
 reads_shorter levels old d new reads =
     let j = converted_some of_json (json.value levels old) d new (reads levels (omega arith)) in
@@ -64,7 +64,7 @@ not_closed depth (Token.boolean b ∷ ts) j r e = refl
 not_closed depth (Token.null ∷ ts) j r e = refl
 not_closed depth (Token.bad ∷ ts) j r e = refl
 
-reads_open : (levels : ℕ) (old : List Token) (d : Data) (new : List Token) → Reads levels old d new
+reads_open : (levels : ℕ) (old : List Token) (d : Data) (new : List Token) → ReadsValue levels old d new
     → after_end_array old ≡ None
 reads_open levels old d new reads =
     let j = converted_some of_json (json.value levels old) d new (reads levels (omega arith)) in
@@ -91,7 +91,7 @@ unfolding HasItems
 items_start levels old = (length old, omega arith, λ depth _. none_before _)
 
 pub items_next : (levels : ℕ) (start old new : List Token) (values : List Data) (d : Data)
-    → HasItems levels start values old → Reads levels old d new → HasItems levels start (values ++ d ∷ []) new
+    → HasItems levels start values old → ReadsValue levels old d new → HasItems levels start (values ++ d ∷ []) new
 unfolding HasItems
 items_next levels start old new values d has reads =
     let shorter = reads_shorter levels old d new reads in (
@@ -113,34 +113,34 @@ map-append f (x ∷ xs) ys = ap (λ r. f x ∷ r) (map-append f xs ys)
 -- one item more of a list of values of one kind
 pub items_push_next : {A : Type 0} (levels : ℕ) (data_of : A → Data) (start old new : List Token) (xs : List A) (x : A)
     → HasItems levels start (map data_of xs) old
-    → Reads levels old (data_of x) new → HasItems levels start (map data_of (xs ++ x ∷ [])) new
+    → ReadsValue levels old (data_of x) new → HasItems levels start (map data_of (xs ++ x ∷ [])) new
 items_push_next levels data_of start old new xs x has reads = subst (λ values. HasItems levels start values new)
     (sym (map-push data_of xs x)) (items_next levels start old new (map data_of xs) (data_of x) has reads)
 
 pub items_end : (levels : ℕ) (first start old new : List Token) (values : List Data) → first ≡ Token.begin_array ∷ start
     → HasItems levels start values old → old ≡ Token.end_array ∷ new
-    → Reads (suc levels) first (array (items_of values)) new
+    → ReadsValue (suc levels) first (array (items_in values)) new
 unfolding HasItems
 items_end levels first start old new values opened has closed = λ depth enough.
     let less : suc (depth - 1) ≡ depth = omega (arith, enough) in
     let inside = has.2 (depth - 1) (omega (arith, enough)) ∙ ap (parse_map (items_before values))
     (items_over (json.value (depth - 1)) has.0 old new has.1 (ap after_end_array closed)) in
-    subst (λ n. converted of_json (json.value n first) ≡ Some (array (items_of values), new)) less
-    (array_read (depth - 1) first start new (items_of values) opened inside)
+    subst (λ n. converted of_json (json.value n first) ≡ Some (array (items_in values), new)) less
+    (array_read (depth - 1) first start new (items_in values) opened inside)
 
 -- ---- values one after the other
 
 -- one value more
 pub all_next : (levels : ℕ) (old here new : List Token) (values : List Data) (d : Data)
-    → ReadsAll levels old values here → Reads levels here d new → ReadsAll levels old (values ++ d ∷ []) new
+    → ReadsAll levels old values here → ReadsValue levels here d new → ReadsAll levels old (values ++ d ∷ []) new
 unfolding ReadsAll
-all_next levels old here new [] d all reads = (new, subst (λ ts. Reads levels ts d new) all reads, refl)
+all_next levels old here new [] d all reads = (new, subst (λ ts. ReadsValue levels ts d new) all reads, refl)
 all_next levels old here new (value ∷ values) d all reads =
     (all.0, all.1, all_next levels all.0 here new values d all.2 reads)
 
 -- one more of one kind
 pub all_push_next : {A : Type 0} (levels : ℕ) (data_of : A → Data) (old here new : List Token) (xs : List A) (x : A)
-    → ReadsAll levels old (map data_of xs) here → Reads levels here (data_of x) new
+    → ReadsAll levels old (map data_of xs) here → ReadsValue levels here (data_of x) new
     → ReadsAll levels old (map data_of (xs ++ x ∷ [])) new
 all_push_next levels data_of old here new xs x all reads = subst (λ values. ReadsAll levels old values new)
     (sym (map-push data_of xs x)) (all_next levels old here new (map data_of xs) (data_of x) all reads)
@@ -190,7 +190,7 @@ unfolding HasMembers
 members_start levels old = (length old, omega arith, λ depth _. refl)
 
 pub members_next : (levels : ℕ) (start old value new : List Token) (found : Members) (name : List ℕ) (d : Data)
-    → HasMembers levels start found old → old ≡ Token.key name ∷ value → Reads levels value d new
+    → HasMembers levels start found old → old ≡ Token.key name ∷ value → ReadsValue levels value d new
     → HasMembers levels start (put name d found) new
 unfolding HasMembers
 members_next levels start old value new found name d has named reads =
@@ -203,7 +203,8 @@ members_next levels start old value new found name d has named reads =
     )
 
 pub members_end : (levels : ℕ) (first start old new : List Token) (found : Members) → first ≡ Token.begin_object ∷ start
-    → HasMembers levels start found old → old ≡ Token.end_object ∷ new → Reads (suc levels) first (object found) new
+    → HasMembers levels start found old → old ≡ Token.end_object ∷ new
+    → ReadsValue (suc levels) first (object found) new
 unfolding HasMembers
 members_end levels first start old new found opened has closed = λ depth enough.
     let less : suc (depth - 1) ≡ depth = omega (arith, enough) in
@@ -214,18 +215,18 @@ members_end levels first start old new found opened has closed = λ depth enough
 
 -- a member more, whose value was found
 found_member : (levels : ℕ) (start old value new : List Token) (key : List ℕ) (before after : Fields)
-    (found : Option Data) → HasMembers levels start (members_of before) old → old ≡ Token.key key ∷ value
-    → is_field key before ≡ true → after ≡ with_field key found before → IsSomeAnd found (λ d. Reads levels value d new)
-    → HasMembers levels start (members_of after) new
+    (found : Option Data) → HasMembers levels start (found_members before) old → old ≡ Token.key key ∷ value
+    → is_field key before ≡ true → after ≡ with_field key found before
+    → IsSomeAnd found (λ d. ReadsValue levels value d new) → HasMembers levels start (found_members after) new
 found_member levels start old value new key before after None has named known kept reads = absurd reads
 found_member levels start old value new key before after (Some d) has named known kept reads =
-    subst (λ ms. HasMembers levels start ms new) (put_in key d before known ∙ ap members_of (sym kept))
-    (members_next levels start old value new (members_of before) key d has named reads)
+    subst (λ ms. HasMembers levels start ms new) (put_in key d before known ∙ ap found_members (sym kept))
+    (members_next levels start old value new (found_members before) key d has named reads)
 
 -- a member more under one of the keys
 pub adds_member : (levels : ℕ) (start old value new : List Token) (key : List ℕ) (before after : Fields)
-    → HasMembers levels start (members_of before) old → old ≡ Token.key key ∷ value
-    → ReadsField levels key value before new after → HasMembers levels start (members_of after) new
+    → HasMembers levels start (found_members before) old → old ≡ Token.key key ∷ value
+    → ReadsField levels key value before new after → HasMembers levels start (found_members after) new
 adds_member levels start old value new key before after has named reads =
     found_member levels start old value new key before after (value_at key after) has named reads.0 reads.1 reads.2
 
@@ -233,7 +234,7 @@ adds_member levels start old value new key before after has named reads =
 
 -- one value, and nothing after it
 pub text_is : (levels : ℕ) (text : List ℕ) (ts new : List Token) (d : Data) → levels ≤ 127 → ts ≡ tokens text
-    → Reads levels ts d new → new ≡ [] → read text ≡ Some d
+    → ReadsValue levels ts d new → new ≡ [] → read text ≡ Some d
 text_is levels text ts new d enough is reads ended = ap (λ t. last (json.value 127 t)) (sym is)
     ∙ last_read (json.value 127 ts) d (reads 127 enough ∙ ap (λ rest. Some (d, rest)) ended)
 

@@ -9,7 +9,7 @@ use Rattle.std.specs.Ordering.{nat_cmp, match_ordering}
 use Rattle.std.specs.Cmp.Lexicographic.{slice_cmp}
 pub use Rattle.json.specs.Token.{Token}
 use Rattle.serde_json.specs.Data.{Data}
-use Rattle.clock_json.specs.Reading.{Fields, Reads}
+use Rattle.clock_json.specs.Reading.{Fields, ReadsValue}
 
 -- what was found at a key
 abbrev pub value_at : List ℕ → Fields → Option Data
@@ -44,4 +44,4 @@ abbrev pub ReadsField : ℕ → List ℕ → List Token → Fields → List Toke
 ReadsField levels key old before new after =
     (is_field key before ≡ true)
     × (after ≡ with_field key (value_at key after) before)
-    × IsSomeAnd (value_at key after) (λ value. Reads levels old value new)
+    × IsSomeAnd (value_at key after) (λ value. ReadsValue levels old value new)

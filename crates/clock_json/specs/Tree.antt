@@ -4,7 +4,7 @@
 --     number_at key value, text_at key value, items_at key value      the member of a key
 --     has_members count value      the value is an object with `count` members
 --     number_from value      a whole number of 64 bits; RFC 8259's other numbers are none
---     row_of value      a list of whole numbers
+--     numbers_from value      a list of whole numbers
 --     each meaning items      the meanings of all items, if each has one
 use Rattle.std.specs.Prelude.{ℕ, Bool, false, List, [], ◌∷◌, ◌==◌, if◌then◌else◌, Option, Some}
 use Rattle.std.specs.Prelude.{None, option_and_then}
@@ -55,5 +55,5 @@ each meaning (item value items) = do
   Some (first ∷ rest)
 
 -- [N,..]: a list of whole numbers
-unfoldable pub row_of : Data → Option (List ℕ)
-row_of value = option_and_then (each number_from) (as_array value)
+unfoldable pub numbers_from : Data → Option (List ℕ)
+numbers_from value = option_and_then (each number_from) (as_array value)

@@ -3,7 +3,7 @@ ghost use Rattle.std.specs.Prelude.{◌≡◌, ◌<◌, ◌≤◌, ℕ, suc, len
 ghost use Rattle.std.specs.Prelude.{OnOk};
 ghost use Rattle.std.specs.Str.{IsUtf8};
 ghost use Rattle.serde_json.specs.{Data.{Data, array, no_members, object}, Read.{read}};
-ghost use Rattle.clock_json.specs.Reading.{items_of, Reads, Fields, members_of};
+ghost use Rattle.clock_json.specs.Reading.{items_in, ReadsValue, Fields, found_members};
 ghost use Rattle.clock_json.specs.Members.{ReadsField};
 
 use crate::room::with_room;
@@ -25,7 +25,7 @@ pub trait PartReader<'v> {
 
     /// Reads the next part.
     fn part(alloc: Global, scan: &mut Scan<'v>) -> Result<Self::Part, ScanStop>
-        ensures value { IfOk result (λ part. Reads levels scan.old (shown part) scan.new) }
+        ensures value { IfOk result (λ part. ReadsValue levels scan.old (shown part) scan.new) }
         ensures shorter { OnOk result (length scan.new < length scan.old) };
 }
 
@@ -36,7 +36,7 @@ pub fn scanned_parts<'v, R: PartReader<'v>>(
     room: usize,
 ) -> Result<Items<R::Part>, ScanStop>
     ensures value { IfOk result (λ parts.
-        Reads (suc R.levels) scan.old (array (items_of (map R.shown parts))) scan.new) }
+        ReadsValue (suc R.levels) scan.old (array (items_in (map R.shown parts))) scan.new) }
     ensures shorter { OnOk result (length scan.new < length scan.old) }
 {
     scan.opens(b'[')?;
@@ -85,7 +85,7 @@ pub trait ScannedMembers<'v>: Sized + Drop {
 
     /// Returns an object of which nothing was read.
     fn nothing() -> Self
-        ensures { members_of (fields result) ≡ no_members };
+        ensures { found_members (fields result) ≡ no_members };
 
     /// Reads the next value, which is that of `key`, if the object has this key.
     fn read(&mut self, alloc: Global, key: &[u8], scan: &mut Scan<'v>) -> Result<(), ScanStop>
@@ -95,7 +95,7 @@ pub trait ScannedMembers<'v>: Sized + Drop {
 
     /// Returns the object, if all of it was read.
     fn whole(self) -> Option<Self::Whole>
-        ensures { IfSome result (λ whole. object (members_of (fields self)) ≡ shown whole) };
+        ensures { IfSome result (λ whole. object (found_members (fields self)) ≡ shown whole) };
 }
 
 impl<'v, M: ScannedMembers<'v>> PartReader<'v> for M {

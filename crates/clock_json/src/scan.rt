@@ -6,8 +6,8 @@ ghost use Rattle.json.specs.Token.{Token, key as key_token, tokens_code};
 ghost use Rattle.json.specs.Lex.{may_begin, may_close, tokens};
 ghost use Rattle.serde_json.specs.Data.{null, string};
 ghost use Rattle.clock_json.specs.{Compact.{compact_bid}, Left.{left, place_of}};
-ghost use Rattle.clock_json.specs.Marks.{opening, closing};
-ghost use Rattle.clock_json.specs.Reading.{whole, numbers, rows, Reads, ReadsAll};
+ghost use Rattle.clock_json.specs.Marks.{opening_mark, closing_mark};
+ghost use Rattle.clock_json.specs.Reading.{whole_number, numbers, rows, ReadsValue, ReadsAll};
 ghost use Rattle.clock_json.specs.declared.scan.ScanStop.TheVariants as stops;
 
 use crate::compact::{CompactBid, compact_bid_at, has_room};
@@ -108,7 +108,7 @@ impl<'a> Scan<'a> {
     /// Reads a mark that opens, `[` or `{`.
     #[inline(always)]
     pub fn opens(&mut self, mark: u8) -> Result<(), ScanStop>
-        ensures { OnOk result (IfSome (opening mark) (λ token. self.old ≡ token ∷ self.new)) }
+        ensures { OnOk result (IfSome (opening_mark mark) (λ token. self.old ≡ token ∷ self.new)) }
     {
         let at = after_space(self.bytes, self.at);
         if !self.expected.may_begin() || !is_at(self.bytes, at, mark) {
@@ -121,8 +121,8 @@ impl<'a> Scan<'a> {
     /// Reads a mark that closes, `]` or `}`, if it comes next.
     #[inline(always)]
     pub fn closes(&mut self, mark: u8) -> bool
-        ensures { MatchBool result (IfSome (closing mark) (λ token. self.old ≡ token ∷ self.new))
-            (self.new ≡ self.old) }
+        ensures { MatchBool result (IfSome (closing_mark mark)
+            (λ token. self.old ≡ token ∷ self.new)) (self.new ≡ self.old) }
     {
         if self.expected.is_after_comma() {
             return false;
@@ -156,7 +156,7 @@ impl<'a> Scan<'a> {
     /// Reads a number below 10^19 that has only digits.
     #[inline(always)]
     pub fn number(&mut self) -> Result<u64, ScanStop>
-        ensures value { IfOk result (λ n. Reads 0 self.old (whole n) self.new) }
+        ensures value { IfOk result (λ n. ReadsValue 0 self.old (whole_number n) self.new) }
         ensures shorter { OnOk result (length self.new < length self.old) }
     {
         let at = after_space(self.bytes, self.at);
@@ -171,7 +171,7 @@ impl<'a> Scan<'a> {
     /// Reads a bid without white space, its keys in order of their bytes, if a comma follows it.
     #[inline(always)]
     pub fn compact_bid(&mut self) -> Option<CompactBid>
-        ensures value { IfSome result (λ bid. Reads 1 self.old (compact_bid bid) self.new) }
+        ensures value { IfSome result (λ bid. ReadsValue 1 self.old (compact_bid bid) self.new) }
         ensures shorter { IfSome result (λ _. length self.new < length self.old) }
         ensures same { IfNone result (self.new ≡ self.old) }
     {
@@ -185,7 +185,7 @@ impl<'a> Scan<'a> {
 
     /// Reads a list of numbers below 10^19 that have only digits.
     pub fn numbers(&mut self, alloc: Global) -> Result<Items<u64>, ScanStop>
-        ensures value { IfOk result (λ list. Reads 1 self.old (numbers list) self.new) }
+        ensures value { IfOk result (λ list. ReadsValue 1 self.old (numbers list) self.new) }
         ensures shorter { OnOk result (length self.new < length self.old) }
     {
         let mut list = Vec::new(alloc);
@@ -196,7 +196,7 @@ impl<'a> Scan<'a> {
     /// Like [`Scan::numbers`], but appends the numbers to `list`.
     pub fn numbers_after(&mut self, list: &mut Vec<u64>) -> Result<(), ScanStop>
         ensures value { OnOk result ((row : List ℕ) × (list.new.items ≡ list.old.items ++ row)
-            × Reads 1 self.old (numbers row) self.new) }
+            × ReadsValue 1 self.old (numbers row) self.new) }
         ensures shorter { OnOk result (length self.new < length self.old) }
     {
         self.opens(b'[')?;
@@ -212,7 +212,7 @@ impl<'a> Scan<'a> {
     #[inline(never)]
     fn further_numbers(&mut self, list: &mut Vec<u64>) -> Result<(), ScanStop>
         ensures { OnOk result ((row : List ℕ) × (list.new.items ≡ list.old.items ++ row)
-            × ReadsAll 0 self.old (map whole row) self.new) }
+            × ReadsAll 0 self.old (map whole_number row) self.new) }
     {
         if !self.expected.is_after_comma() {
             return Ok(());
@@ -229,7 +229,7 @@ impl<'a> Scan<'a> {
 
     /// Reads a list of lists of numbers up to 65,535.
     pub fn short_rows(&mut self, alloc: Global) -> Result<ShortRows, ScanStop>
-        ensures value { IfOk result (λ list. Reads 2 self.old (rows list) self.new) }
+        ensures value { IfOk result (λ list. ReadsValue 2 self.old (rows list) self.new) }
         ensures shorter { OnOk result (length self.new < length self.old) }
     {
         self.opens(b'[')?;
@@ -272,7 +272,7 @@ impl<'a> Scan<'a> {
     /// Reads the word `null`, if it comes next.
     #[inline(always)]
     pub fn null(&mut self) -> bool
-        ensures { MatchBool result (Reads 0 self.old null self.new) (self.new ≡ self.old) }
+        ensures { MatchBool result (ReadsValue 0 self.old null self.new) (self.new ≡ self.old) }
     {
         let at = after_space(self.bytes, self.at);
         if !self.expected.may_begin()
@@ -289,7 +289,7 @@ impl<'a> Scan<'a> {
     /// Reads a text without escapes.
     #[inline(always)]
     pub fn text(&mut self) -> Result<&'a str, ScanStop>
-        ensures value { IfOk result (λ text. Reads 0 self.old (string text.now) self.new) }
+        ensures value { IfOk result (λ text. ReadsValue 0 self.old (string text.now) self.new) }
         ensures shorter { OnOk result (length self.new < length self.old) }
     {
         let at = after_space(self.bytes, self.at);

@@ -124,11 +124,11 @@ impl<'v> PlainReader<'v> for NumberReader {
 #[derive(Drop)]
 pub struct RowReader;
 
-#[tactic(auto, unfolding(crate::specs::Tree::row_of))]
+#[tactic(auto, unfolding(crate::specs::Tree::numbers_from))]
 impl<'v> ValueReader<'v> for RowReader {
     type Part = Items<u64>;
 
-    ghost meaning = { λ _. members.row_of };
+    ghost meaning = { λ _. members.numbers_from };
 
     fn part_of(&self, alloc: Global, value: &'v Value) -> Result<Option<Items<u64>>, NoMemory> {
         match value.as_array() {

@@ -6,10 +6,10 @@ use Rattle.std.proofs.lemmas.List.{length-take-le}
 use Rattle.clock_terms.specs.Limits.{SetupFields}
 use Rattle.clock_house.specs.House.{HouseFields}
 use Rattle.clock_front.specs.Effects.{effect}
-use Rattle.clock_journal.specs.Format.{before_text, head, head_length, kind, last_link, link}
+use Rattle.clock_journal.specs.Format.{before_text, head, file_head_length, kind, last_link, link}
 use Rattle.clock_journal.specs.Entries.{Entry}
 use Rattle.clock_journal.specs.Headings.{begun, headed, heading, of_another, unknown}
-use Rattle.clock_journal.specs.Reading.{Reads, Stops, next, onto, whole}
+use Rattle.clock_journal.specs.Reading.{ReadsTexts, Stops, next, onto, whole}
 use Rattle.clock_journal.specs.Crash.{IsPartOfHead, LeavesJournal, LeavesTexts}
 use Rattle.clock_journal.specs.Recovering.{IsFoundAt, IsRefusedAt}
 use Rattle.clock_journal.specs.declared.recovery.JournalFault.{JournalFault}
@@ -58,7 +58,7 @@ accepted_after setup texts text accepted =
 
 -- a text that is found after some texts of a file is one of the texts that the file reads as
 found_among : (chain bytes : List ℕ) (all before : List (List ℕ)) (rest other_rest text : List ℕ)
-    → Reads chain bytes all rest → Stops (last_link chain all) rest → Reads chain bytes before other_rest
+    → ReadsTexts chain bytes all rest → Stops (last_link chain all) rest → ReadsTexts chain bytes before other_rest
     → next (last_link chain before) other_rest ≡ whole text → (more : List (List ℕ)) × (all ≡ before ++ text ∷ more)
 found_among chain bytes [] [] rest other_rest text reads stops others is =
     absurd (stops text (ap (next chain) (reads ∙ sym others) ∙ is))
@@ -72,7 +72,7 @@ found_among chain bytes (first ∷ all) (one ∷ before) rest other_rest text re
     let twice : whole one ≡ whole first = sym others.0 ∙ reads.0 in
     let same : one ≡ first = cc in
     let later = subst
-    (λ (t : List ℕ). Reads (link chain t) (drop (before_text + length t) bytes) before other_rest) same others.1 in
+    (λ (t : List ℕ). ReadsTexts (link chain t) (drop (before_text + length t) bytes) before other_rest) same others.1 in
     let now = subst (λ (t : List ℕ). next (last_link (link chain t) before) other_rest ≡ whole text) same is in
     let inner = found_among (link chain first) (drop (before_text + length first) bytes) all before rest other_rest text
     reads.1 stops later now in
@@ -92,33 +92,34 @@ headed_where false part false true rest found is = cc
 headed_where false part false false rest found is = cc
 
 -- a file that has its head has all of it
-whole_head : (digest bytes found : List ℕ) → heading digest bytes ≡ headed found → length (head digest) ≡ head_length
+whole_head : (digest bytes found : List ℕ) → heading digest bytes ≡ headed found
+    → length (head digest) ≡ file_head_length
 unfolding heading
 whole_head digest bytes found is =
-    let parts = headed_where (nat_lt (length bytes) head_length) (bytes_eq bytes (take (length bytes) (head digest)))
-    (bytes_eq (take head_length bytes) (head digest)) (bytes_eq (take (length kind) bytes) kind)
-    (drop head_length bytes) found is in
-    sym (ap length (same_where (take head_length bytes) (head digest) parts.1))
-    ∙ length-take-le head_length bytes (not_less (length bytes) head_length parts.0)
+    let parts = headed_where (nat_lt (length bytes) file_head_length)
+    (bytes_eq bytes (take (length bytes) (head digest))) (bytes_eq (take file_head_length bytes) (head digest))
+    (bytes_eq (take (length kind) bytes) kind) (drop file_head_length bytes) found is in
+    sym (ap length (same_where (take file_head_length bytes) (head digest) parts.1))
+    ∙ length-take-le file_head_length bytes (not_less (length bytes) file_head_length parts.0)
 
 begun_is : (digest left : List ℕ) → IsPartOfHead digest left → heading digest left ≡ begun
 unfolding heading
 begun_is digest left part =
     rw (
-      lt_true (length left) head_length part.short,
+      lt_true (length left) file_head_length part.short,
       bytes_eq_same left (take (length left) (head digest)) part.front,
     ) refl
 
 -- so no text of the file is refused
-none_refused : (setup : SetupFields) (digest bytes : List ℕ) (texts : List (List ℕ)) (least size place : ℕ)
-    → length (head digest) ≡ head_length → AreAccepted setup [] texts → LeavesTexts digest bytes texts least
-    → IsRefusedAt (IsRefused setup) (λ (past : List Entry). past ≡ []) digest (drop head_length bytes) size place → ⊥
+none_refused : (setup : SetupFields) (digest bytes : List ℕ) (texts : List (List ℕ)) (least size place : ℕ) → length
+    (head digest) ≡ file_head_length → AreAccepted setup [] texts → LeavesTexts digest bytes texts least → IsRefusedAt
+    (IsRefused setup) (λ (past : List Entry). past ≡ []) digest (drop file_head_length bytes) size place → ⊥
 none_refused setup digest bytes texts least size place long accepted leaves refused =
     let some = leaves.reads in
     let found = refused.found in
-    let reads = subst (λ (n : ℕ). Reads digest (drop n bytes) (take some.count texts) some.rest) long some.reads in
-    let among = found_among digest (drop head_length bytes) (take some.count texts) found.texts some.rest found.rest
-    refused.text reads (ends_stop _ _ some.ends) found.reads found.found_is in
+    let reads = subst (λ (n : ℕ). ReadsTexts digest (drop n bytes) (take some.count texts) some.rest) long some.reads in
+    let among = found_among digest (drop file_head_length bytes) (take some.count texts) found.texts some.rest
+    found.rest refused.text reads (ends_stop _ _ some.ends) found.reads found.found_is in
     let all = subst (λ (list : List (List ℕ)). AreAccepted setup [] list) among.1
     (accepted_take setup [] texts some.count accepted) in
     not_both (is_change (effect setup (onto found.texts []) refused.text))
@@ -130,9 +131,9 @@ own_starts setup digest bytes texts least house (Refused fault.Setup) accepted l
 own_starts setup digest bytes texts least house (Refused (fault.Damaged place)) accepted leaves own refused = absurd own
 own_starts setup digest bytes texts least house (Refused (fault.Refused place)) accepted (inl leaves) own refused =
     absurd (none_refused setup digest bytes texts least (length bytes) place
-    (whole_head digest bytes (drop head_length bytes) refused.0.0) accepted leaves refused.1)
+    (whole_head digest bytes (drop file_head_length bytes) refused.0.0) accepted leaves refused.1)
 own_starts setup digest bytes texts least house (Refused (fault.Refused place)) accepted (inr part) own refused =
-    let both : begun ≡ headed (drop head_length bytes) = sym (begun_is digest bytes part.1) ∙ refused.0.0 in
+    let both : begun ≡ headed (drop file_head_length bytes) = sym (begun_is digest bytes part.1) ∙ refused.0.0 in
     absurd (let no : ⊥ = cc in no)
 own_starts setup digest bytes texts least house (Refused fault.NoMemory) accepted leaves own refused = tt
 own_starts setup digest bytes texts least house Failed accepted leaves own refused = tt

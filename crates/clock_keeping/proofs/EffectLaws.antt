@@ -6,9 +6,9 @@ use Rattle.clock_bids.specs.declared.sheet.Bid.{Bid}
 use Rattle.clock_closing.specs.declared.closed_round.ClosedRound.{ClosedRound}
 use Rattle.clock_closing.specs.Closing.{closing}
 use Rattle.clock_house.specs.Command.{Command, put, close, other}
-use Rattle.clock_house.specs.History.{history, holding, round_to_close, standing}
+use Rattle.clock_house.specs.History.{history, holding, round_to_close, public_state}
 use Rattle.clock_house.specs.House.{HouseFields, StandsFor, StandsForTheSame}
-use Rattle.clock_house.specs.Standing.{put_fault}
+use Rattle.clock_house.specs.PublicState.{put_fault}
 use Rattle.clock_http.specs.declared.code.Code.TheVariants.{CutShort}
 use Rattle.clock_http.specs.Framing.{framing, incomplete, needs_more}
 use Rattle.clock_front.specs.Callers.{caller}
@@ -27,7 +27,7 @@ effect_after : (house : HouseFields) (commands : List Command) (command : Comman
     → effect_in house command ≡ effect_in (house_after house.setup commands) command
 effect_after house commands (put bidder round bids) stands =
     ap (λ (closed : List ClosedRound). put_effect (put_fault (public_setup house.setup)
-    (standing house.setup.products closed) (holding house.setup closed bidder) round bids)) stands.closed
+    (public_state house.setup.products closed) (holding house.setup closed bidder) round bids)) stands.closed
 effect_after house commands (close round increments ties) stands =
     ap (λ (closed : List ClosedRound). close_effect round (closing (public_setup house.setup)
     (round_to_close house.setup closed house.sheets) round increments ties)) stands.closed
@@ -63,8 +63,8 @@ pub answers : (text : List ℕ) (response : Response) (old new : HouseFields) �
     → AnswersText text response.reply old new
 answers text response old new (inl right) texts stands =
     let after = right_after texts text response old new stands right in inl (after.replied, after.stands)
-answers text response old new (inr (struck, nothing, still)) texts stands =
-    inr (struck, stands_still texts old new stands still)
+answers text response old new (inr (left_out, nothing, still)) texts stands =
+    inr (left_out, stands_still texts old new stands still)
 
 -- ---- what changes the auction
 
@@ -77,7 +77,7 @@ nothing_where (Closing round) is = absurd (let no : ⊥ = cc in no)
 pub right_where : (text : List ℕ) (response : Response) (old new : HouseFields) → RespondsTo text response old new
     → is_change response.effect ≡ true → IsRightResponse text old new response
 right_where text response old new (inl right) is = right
-right_where text response old new (inr (struck, nothing, still)) is =
+right_where text response old new (inr (left_out, nothing, still)) is =
     let no : true ≡ false = sym is ∙ ap is_change nothing in absurd (let bad : ⊥ = cc in bad)
 
 pub accepted_where : (texts : List (List ℕ)) (text : List ℕ) (response : Response) (old new : HouseFields)

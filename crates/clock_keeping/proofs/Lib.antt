@@ -1,6 +1,6 @@
 pub mod EffectLaws
 mod TakenTexts
 mod Untouched
-mod KeptLaws
+mod LoggedLaws
 pub mod TakenUp
 pub mod AcceptedLaws

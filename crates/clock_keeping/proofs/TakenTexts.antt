@@ -48,9 +48,9 @@ module _ (texts : List (List ℕ)) (text : List ℕ) (response : Response) (old 
       → IsRefused old.setup texts text
   refused_here (inl right) none refused =
       sym (ap is_change (right_after texts text response old new stands right).changed) ∙ none
-  refused_here (inr (struck, nothing, still)) none refused =
+  refused_here (inr (left_out, nothing, still)) none refused =
       let memory : take_error_as code ≡ NoMemory =
-      ap take_error_as (same ∙ ap (λ (answer : Answer). answer.code) struck.is) in
+      ap take_error_as (same ∙ ap (λ (answer : Answer). answer.code) left_out.is) in
       let no : NoMemory ≡ Refused = sym memory ∙ refused in
       absurd (let bad : ⊥ = cc in bad)
 

@@ -3,10 +3,10 @@ use Rattle.std.proofs.Common.{◌≡◌, ◌≤◌, ◌++◌, ℕ, List, [], ◌
 use Rattle.std.proofs.Common.{arith, length-append}
 use Rattle.std.proofs.lemmas.List.{take-append-le}
 use Rattle.clock_journal.specs.Format.{last_link}
-use Rattle.clock_journal.specs.Reading.{Reads, Ends}
+use Rattle.clock_journal.specs.Reading.{ReadsTexts, Ends}
 use Rattle.clock_journal.specs.Crash.{LeavesTexts, ReadsSome}
 use Rattle.clock_journal.specs.Disks.{MayBeLeft}
-use Rattle.clock_journal.specs.Kept.{JournalState, HasTexts, file_of}
+use Rattle.clock_journal.specs.Logged.{JournalState, HasTexts, file_of}
 use Rattle.clock_journal.proofs.Moments.{every_front}
 use Rattle.clock_keeping.specs.Keeping.{LeavesOneMore}
 
@@ -28,7 +28,7 @@ wider chain bytes texts more least some =
       rest = some.rest;
       enough = some.enough;
       most = omega (arith, some.most, length-append texts more);
-      reads = subst (λ (read : List (List ℕ)). Reads chain bytes read some.rest) same some.reads;
+      reads = subst (λ (read : List (List ℕ)). ReadsTexts chain bytes read some.rest) same some.reads;
       ends = subst (λ (read : List (List ℕ)). Ends (last_link chain read) some.rest) same some.ends;
     }
 

@@ -9,7 +9,7 @@ use Rattle.clock_terms.specs.Limits.{SetupFields}
 use Rattle.clock_house.specs.House.{HouseFields}
 use Rattle.clock_journal.specs.Crash.{LeavesJournal}
 use Rattle.clock_journal.specs.Disks.{MayBeLeft}
-use Rattle.clock_journal.specs.Kept.{JournalState}
+use Rattle.clock_journal.specs.Logged.{JournalState}
 use Rattle.clock_journal.specs.declared.recovery.JournalFault.TheVariants.{NoMemory}
 use Rattle.clock_keeping.specs.Keeping.{IsAccepted}
 use Rattle.clock_keeping.specs.Starts.{IsNotResumed, IsOwn}

@@ -28,7 +28,7 @@ use Rattle.clock_front.specs.declared.front.response.Effect.{Effect}
 use Rattle.clock_front.specs.declared.front.response.Effect.TheVariants.{Nothing, Sheet, Closing}
 use Rattle.clock_journal.specs.Crash.{LeavesTexts}
 use Rattle.clock_journal.specs.Disks.{MayBeLeft}
-use Rattle.clock_journal.specs.Kept.{JournalState, HasTexts}
+use Rattle.clock_journal.specs.Logged.{JournalState, HasTexts}
 use Rattle.clock_journal.specs.Reading.{onto}
 use Rattle.clock_journal.specs.Recovering.{IsPlaced}
 use Rattle.clock_journal.specs.declared.recovery.Recovered.{Recovered}

@@ -12,8 +12,8 @@
 use Rattle.std.specs.Prelude.{◌≡◌, ◌≤◌, ◌++◌, ℕ, List, [], drop, length, take, true}
 use Rattle.clock_terms.specs.Limits.{SetupFields}
 use Rattle.clock_house.specs.House.{HouseFields}
-use Rattle.clock_journal.specs.Format.{head_length}
-use Rattle.clock_journal.specs.Kept.{JournalState, file_of}
+use Rattle.clock_journal.specs.Format.{file_head_length}
+use Rattle.clock_journal.specs.Logged.{JournalState, file_of}
 use Rattle.clock_journal.specs.Recovering.{IsPlaced, IsJournalRefusal, IsRefusedRightly}
 use Rattle.clock_journal.specs.Recovering.{IsTakeFault}
 use Rattle.clock_journal.specs.declared.recovery.Recovered.{Recovered}
@@ -42,7 +42,7 @@ pub record IsResumed (digest bytes : List ℕ) (journal : JournalState) (house :
 abbrev pub IsNotResumed : SetupFields → List ℕ → List ℕ → HouseFields → ResumeFault → Type 0
 IsNotResumed setup digest bytes house (Refused fault) =
     IsJournalRefusal digest bytes fault × IsRefusedRightly (IsRefused setup)
-    (λ past. past ≡ []) digest (drop head_length bytes) (length bytes) fault
+    (λ past. past ≡ []) digest (drop file_head_length bytes) (length bytes) fault
 IsNotResumed setup digest bytes house Failed =
     (recovered : Recovered) × HasReplayedFile digest bytes recovered house
 

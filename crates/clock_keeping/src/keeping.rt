@@ -3,7 +3,7 @@ ghost use Rattle.std.specs.Prelude.{OnErr, length, true, false};
 ghost use Rattle.clock_http.specs.Shown.{Knows};
 ghost use Rattle.clock_front.specs.{Effects.{RespondsTo}, Private.{IsPrivateReply}};
 ghost use Rattle.clock_front.specs.Fronts.{AnswersText, IsOutOfMemoryReply, StandsForTexts};
-ghost use Rattle.clock_journal.specs.{Format.{most_text}, Kept.{JournalState}};
+ghost use Rattle.clock_journal.specs.{Format.{most_text}, Logged.{JournalState}};
 ghost use Rattle.clock_keeping.specs.Keeping.{GrowsBy, IsAccepted, IsInStep, IsLogged};
 ghost use Rattle.clock_keeping.specs.Keeping.{LeavesOneMore};
 ghost use Rattle.clock_keeping.specs.Keeping.{is_change as is_change_of, no_journal};
@@ -21,7 +21,7 @@ use clock_processor::Processor;
 pub trait RequestLog {
     ghost journal: { Self → JournalState };
 
-    ghost told: { Self → Option (List ℕ) };
+    ghost rounds: { Self → Option (List ℕ) };
 
     /// Responds to a text, after which the input has ended. If the text changed the auction, it is
     /// in the journal, and on the disk.
@@ -46,7 +46,7 @@ pub trait RequestLog {
         ensures private { IfOk result (λ response. IsOutOfMemoryReply text.now response.reply
             ⊎ IsPrivateReply text.now front.old response.reply) }
         ensures setup { front.new.setup ≡ front.old.setup }
-        ensures kept { (digest : List ℕ) (past : List (List ℕ))
+        ensures logged { (digest : List ℕ) (past : List (List ℕ))
             → IsInStep digest past (journal self.old) front.old → IfOk result (λ response.
             IsLogged digest past text.now response.reply (journal self.new) front.old front.new) }
         ensures accepted { (texts : List (List ℕ)) → StandsForTexts texts front.old
@@ -56,18 +56,18 @@ pub trait RequestLog {
         ensures ok { OnOk result ((journal self.new).has_failed ≡ false) }
         ensures err { OnErr result
             (((journal self.new).has_failed ≡ true) ⊎ (most_text < length text.now)) }
-        ensures told { told self.new ≡ told self.old };
+        ensures rounds { rounds self.new ≡ rounds self.old };
 
     /// Is called after each closing of a round, and after its reply.
     fn round_closed(&mut self, round: u64)
-        ensures kept { journal self.new ≡ journal self.old }
-        ensures told { GrowsBy (told self.old) (told self.new) (round ∷ []) };
+        ensures logged { journal self.new ≡ journal self.old }
+        ensures rounds { GrowsBy (rounds self.old) (rounds self.new) (round ∷ []) };
 }
 
 impl<D: Durable> RequestLog for Journal<D> {
     ghost journal = { λ journal. journal };
 
-    ghost told = { λ journal. None };
+    ghost rounds = { λ journal. None };
 
     fn answer<P: Processor>(
         &mut self,
@@ -96,7 +96,7 @@ pub struct NoLog;
 impl RequestLog for NoLog {
     ghost journal = { λ log. no_journal };
 
-    ghost told = { λ log. None };
+    ghost rounds = { λ log. None };
 
     fn answer<P: Processor>(
         &mut self,

@@ -1,6 +1,6 @@
 ghost use Rattle.std.specs.Prelude.{◌≡◌, [], ◌∷◌, List, ℕ, MatchResult, drop, length, Err};
 ghost use Rattle.std.specs.Prelude.{IfErr, IfOk, OnOk, Some, false};
-ghost use Rattle.clock_journal.specs.{Entries.{texts_in}, Kept.{file_of}};
+ghost use Rattle.clock_journal.specs.{Entries.{texts_in}, Logged.{file_of}};
 ghost use Rattle.clock_journal.specs.Crash.{BeginsWithTexts, LeavesJournal, StaysSo};
 ghost use Rattle.clock_journal.specs.Recovering.{IsDamagedAfter, IsJournalRefusal};
 ghost use Rattle.clock_journal.specs.Recovering.{IsRefusedRightly, IsTakeFault};

@@ -94,7 +94,7 @@ fn put_field(bytes: &mut [u8], end: usize, number: Option<u64>) -> usize
     requires within { end ≤ length bytes.old }
     ensures start { end ≤ result + 21 }
     ensures order { result ≤ end }
-    ensures kept { length bytes.new ≡ length bytes.old }
+    ensures same_length { length bytes.new ≡ length bytes.old }
     ensures put { drop result bytes.new
         ≡ codes " " ++ (number_or_dash number ++ drop end bytes.old) }
 {

@@ -61,7 +61,7 @@ fn first_with_room(
     ensures found { result ≡ settling.first_with_room board.old.products board.old.eligibilities
         changes.now (progress_of board.old admitted left.now) }
     ensures same { SameButTests board.old board.new }
-    ensures kept { OnSome result
+    ensures in_order { OnSome result
         (IsBoard board.new.products board.new.eligibilities board.new.grid) }
 {
     for i in 0..admitted {

@@ -73,7 +73,7 @@ fn run(alloc: Global, words: &[&str], document: &str, streams: Streams) -> Optio
 }
 
 /// The expected end of a run: its status, its output, and its fault line.
-type Told<'a> = (u8, &'a str, &'a str);
+type Reported<'a> = (u8, &'a str, &'a str);
 
 /// Asserts the end of a run.
 fn ends(
@@ -82,10 +82,10 @@ fn ends(
     words: &[&str],
     document: &str,
     trouble: Trouble,
-    told: Told<'_>,
+    reported: Reported<'_>,
 ) -> Option<()> {
     let run = run(alloc, words, document, streams_with(trouble))?;
-    let (status, output, fault) = told;
+    let (status, output, fault) = reported;
     let row = (words, document, trouble);
     assert_is_at(rt, row, run.status, status);
     assert_reads_at(rt, row, run.output.bytes(), output);
@@ -95,12 +95,12 @@ fn ends(
 }
 
 /// A run: its arguments, its document, its trouble, and its end.
-type Run<'a> = (&'a [&'a str], &'a str, Trouble, Told<'a>);
+type Run<'a> = (&'a [&'a str], &'a str, Trouble, Reported<'a>);
 
 /// Asserts the ends of runs.
 fn all_end(rt: &impl Abort, alloc: Global, runs: &[Run]) {
-    for &(words, document, trouble, told) in runs {
-        let done = ends(rt, alloc, words, document, trouble, told);
+    for &(words, document, trouble, reported) in runs {
+        let done = ends(rt, alloc, words, document, trouble, reported);
         assert_is_at(rt, (words, document, trouble), done, Some(()));
     }
 }
@@ -165,7 +165,7 @@ const CLOSINGS: &str =
     r#"{"increment":10,"ties":[]},{"increment":10,"ties":[]},{"increment":10,"ties":[]}"#;
 
 /// Scripts and closings, and the end of their replay.
-const REPLAYS: &[(&str, &str, Told<'static>)] = &[
+const REPLAYS: &[(&str, &str, Reported<'static>)] = &[
     (SINCERE, CLOSINGS, (0, REPORT, "")),
     ("{", CLOSINGS, (1, "", "fault: not_json\n")),
     ("1", CLOSINGS, (1, "", "fault: shape\n")),
@@ -207,16 +207,16 @@ fn replay_ends(
     alloc: Global,
     scripts: &str,
     closings: &str,
-    told: Told<'_>,
+    reported: Reported<'_>,
 ) -> Option<()> {
     let document = replay_document(alloc, scripts, closings)?;
-    ends(rt, alloc, &["replay"], document.as_str(), Nothing, told)
+    ends(rt, alloc, &["replay"], document.as_str(), Nothing, reported)
 }
 
 #[test]
 fn a_replay_has_a_report_or_a_fault(rt: HostRuntime) {
-    for &(scripts, closings, told) in REPLAYS {
-        let done = replay_ends(&rt, rt.alloc(), scripts, closings, told);
+    for &(scripts, closings, reported) in REPLAYS {
+        let done = replay_ends(&rt, rt.alloc(), scripts, closings, reported);
         assert_is_at(&rt, (scripts, closings), done, Some(()));
     }
 }

@@ -110,10 +110,10 @@ fn fault_of_parts(
 }
 
 #[test]
-fn the_first_fault_is_told(rt: HostRuntime) {
+fn the_first_fault_is_reported(rt: HostRuntime) {
     for &(closings, scripts, setup, fault) in ROWS {
-        let told = fault_of_parts(rt.alloc(), closings, scripts, setup);
-        assert_is_at(&rt, (closings, scripts, setup), told, Some(fault));
+        let reported = fault_of_parts(rt.alloc(), closings, scripts, setup);
+        assert_is_at(&rt, (closings, scripts, setup), reported, Some(fault));
     }
     assert_is(&rt, fault_of(rt.alloc(), b"{"), Some(ScriptFault::NotJson));
 }

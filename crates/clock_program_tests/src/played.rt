@@ -31,7 +31,7 @@ pub const REPORT: &str =
     "round 1\nA 100 100 100 3 110\nround 2\nA 100 110 110 3 121\nround 3\nA 110 121 115 - -\nwon X 1 115\nwon Y 1 115\n";
 
 /// The text of a report, or the fault instead.
-fn told(alloc: Global, report: Result<Report, SimFault>) -> Result<Text, SimFault> {
+fn reported(alloc: Global, report: Result<Report, SimFault>) -> Result<Text, SimFault> {
     match report {
         Ok(report) => {
             let text = report_text(alloc, &report);
@@ -56,8 +56,8 @@ const ALL_WAYS: &[Settled] = &[Settled::Woken, Settled::Rescanned, Settled::Writ
 /// Plays a replay. Returns its report or fault.
 fn played(alloc: Global, replay: Replay, settled: Settled) -> Result<Text, SimFault> {
     match settled {
-        Settled::Woken => told(alloc, simulate(alloc, &replay)),
-        Settled::Rescanned => told(alloc, simulate_with(alloc, &replay, Plain)),
+        Settled::Woken => reported(alloc, simulate(alloc, &replay)),
+        Settled::Rescanned => reported(alloc, simulate_with(alloc, &replay, Plain)),
         Settled::Written => replay_text(alloc, replay),
     }
 }
@@ -117,12 +117,12 @@ type Row<'a> = (&'a str, &'a str, Settled);
 fn comes_to(
     rt: &impl Abort,
     row: Row<'_>,
-    told: Result<Text, SimFault>,
+    reported: Result<Text, SimFault>,
     expected: Result<&str, SimFault>,
 ) {
-    match (told, expected) {
+    match (reported, expected) {
         (Ok(text), Ok(report)) => assert_reads_at(rt, row, text.as_slice(), report),
-        (told, expected) => assert_is_at(rt, row, told.err(), expected.err()),
+        (reported, expected) => assert_is_at(rt, row, reported.err(), expected.err()),
     }
 }
 
@@ -136,14 +136,14 @@ fn script_comes_to(
 ) -> Option<()> {
     let document = with_scripts(alloc, closings, script, ONE_BLOCK)?;
     for settled in ALL_WAYS {
-        let told = outcome(alloc, document.as_slice(), *settled);
-        comes_to(rt, (script, closings, *settled), told, expected);
+        let reported = outcome(alloc, document.as_slice(), *settled);
+        comes_to(rt, (script, closings, *settled), reported, expected);
     }
     Some(())
 }
 
 #[test]
-fn a_report_or_the_first_fault_is_told(rt: HostRuntime) {
+fn a_report_or_the_first_fault_is_reported(rt: HostRuntime) {
     for &(script, closings, expected) in PLAYED {
         let done = script_comes_to(&rt, rt.alloc(), script, closings, expected);
         assert_is_at(&rt, (script, closings), done, Some(()));
@@ -236,8 +236,8 @@ fn fault_in(alloc: Global, document: Option<Text>) -> Option<Option<SimFault>> {
 #[test]
 fn groups_are_answered_in_the_order_of_the_bidders(rt: HostRuntime) {
     for &(scripts, fault) in GROUPS {
-        let told = fault_in(rt.alloc(), many_sheets(rt.alloc(), scripts));
-        assert_is_at(&rt, scripts, told, Some(fault));
+        let reported = fault_in(rt.alloc(), many_sheets(rt.alloc(), scripts));
+        assert_is_at(&rt, scripts, reported, Some(fault));
     }
 }
 
@@ -272,7 +272,7 @@ const BEFORE: &[(&str, SimFault)] = &[
 #[test]
 fn a_sheet_that_is_too_long_waits_for_those_before_it(rt: HostRuntime) {
     for &(script, fault) in BEFORE {
-        let told = fault_in(rt.alloc(), before_long(rt.alloc(), script));
-        assert_is_at(&rt, script, told, Some(Some(fault)));
+        let reported = fault_in(rt.alloc(), before_long(rt.alloc(), script));
+        assert_is_at(&rt, script, reported, Some(Some(fault)));
     }
 }

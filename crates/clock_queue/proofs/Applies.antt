@@ -427,7 +427,7 @@ module _ (changes : List Change) (old : Queue) (first : ℕ) (is : HasSoundLines
 
       pub applied_whole : IsTracking changes old (first ∷ old.ready) → IsAppliedWhole changes first old new
       applied_whole tracked = subst (IsAppliedWhole changes first old) (sym new_as) (record {
-        kept = subst (HasSoundLines changes) new_as kept_new;
+        in_order = subst (HasSoundLines changes) new_as kept_new;
         tracked = λ place within. ⊎_map (λ none. none) (λ (behind : IsBehind changes after new.ready place). record {
           at = behind.at;
           is_ready = behind.is_ready;

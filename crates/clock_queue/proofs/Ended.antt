@@ -20,7 +20,7 @@ handed_on queue =
 
 -- what holds of a queue when every request is admitted
 pub record IsDone (board : BoardFields) (changes : List Change) (queue : Queue) : Type 0 where
-  pub kept : HasSoundLines changes queue
+  pub in_order : HasSoundLines changes queue
   pub tracked : IsTracking changes queue queue.ready
   pub counts : StaysWithinTests changes queue
   pub none : queue.ready ≡ []
@@ -36,7 +36,7 @@ module _ (board : BoardFields) (changes : List Change) (queue : Queue) (end : Se
   has_ended =
       subst (λ products. HasEnded products board.eligibilities changes (progress queue)) done.products
       (subst (λ eligibilities. HasEnded queue.board.products eligibilities changes (progress queue)) done.eligibilities
-      (ends changes queue done.kept done.tracked done.none done.admitted))
+      (ends changes queue done.in_order done.tracked done.none done.admitted))
 
   pub is_settlement : CanSettle board changes → IsSettlement board changes end
   is_settlement can = settlement_reached board changes queue.board queue.left queue.admitted end can.applied
@@ -44,8 +44,8 @@ module _ (board : BoardFields) (changes : List Change) (queue : Queue) (end : Se
 
   pub is_proper : CanSettle board changes → IsBoard queue.board.products queue.board.eligibilities queue.board.grid
       → IsProperEnd board changes end
-  is_proper can kept = proper_end board changes end (is_settlement can) (held_at_end board queue.board end.grid
-      (done.products, done.eligibilities) (ap (λ (one : SettledFields). one.grid) is) kept)
+  is_proper can in_order = proper_end board changes end (is_settlement can) (held_at_end board queue.board end.grid
+      (done.products, done.eligibilities) (ap (λ (one : SettledFields). one.grid) is) in_order)
 
   pub is_within : IsWithinTests changes end
   is_within = subst (IsWithinTests changes) (sym is) (omega (arith, done.counts, done.admitted, ap length done.none))

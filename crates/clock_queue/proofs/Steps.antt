@@ -156,7 +156,7 @@ reaches_on changes start old new same to_old to_new = reaches_from changes start
 pub goes_further : (changes : List Change) (start old new : Queue) → GoesOn changes start old → GoesOn changes old new
     → GoesOn changes start new
 goes_further changes start old new to_old to_new = record {
-  kept = to_new.kept;
+  in_order = to_new.in_order;
   tracked = to_new.tracked;
   counts = to_new.counts;
   terms = record {

@@ -41,8 +41,8 @@ module _ (changes : List Change) where
     goes_on_admitted : HasSoundLines changes (record between { admitted = between.admitted + 1; lines = lines }) →
         IsTracking changes (record between { admitted = between.admitted + 1; lines = lines }) between.ready →
         GoesOn changes old (record between { admitted = between.admitted + 1; lines = lines })
-    goes_on_admitted kept tracked_new = record {
-      kept = kept;
+    goes_on_admitted in_order tracked_new = record {
+      in_order = in_order;
       tracked = tracked_new;
       counts = omega (arith, counts, tested.counts, same_admitted);
       terms = record { products = tested.terms.products; eligibilities = tested.terms.eligibilities };
@@ -53,8 +53,8 @@ module _ (changes : List Change) where
 
     pub goes_on_first : (new : Queue) → new ≡ record between { admitted = between.admitted + 1; lines = lines }
         → HasSoundLines changes new → IsTracking changes new new.ready → GoesOn changes old new
-    goes_on_first new same kept tracked_new = subst (GoesOn changes old) (sym same)
-        (goes_on_admitted (subst (HasSoundLines changes) same kept)
+    goes_on_first new same in_order tracked_new = subst (GoesOn changes old) (sym same)
+        (goes_on_admitted (subst (HasSoundLines changes) same in_order)
         (subst (λ (queue : Queue). IsTracking changes queue queue.ready) same tracked_new))
 
   -- after the first ready request is removed
@@ -74,7 +74,7 @@ module _ (changes : List Change) where
     pub goes_on_popped : (new : Queue) → IsTracking changes old old.ready → StaysWithinTests changes old → All (λ other.
         first ≤ other) ready → IsTested changes first (record old { ready = ready }) new → GoesOn changes old new
     goes_on_popped new tracked counts least tested = record {
-      kept = tested.kept;
+      in_order = tested.in_order;
       tracked = tested.tracked;
       counts =
           omega (arith, counts, tested.counts, fewer, admitted_same first (record old { ready = ready }) new tested);

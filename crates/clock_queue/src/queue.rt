@@ -70,7 +70,7 @@ impl<'a> Queue<'a> {
     /// Tests the next request and admits it, then tests ready requests until none is left. The next
     /// request never enters the heap, because most requests make no other one ready.
     fn settle_next(&mut self, changes: &[Change]) -> Result<(), NoMemory>
-        requires kept { HasSoundLines changes.now self.old }
+        requires in_order { HasSoundLines changes.now self.old }
         requires tracked { IsTracking changes.now self.old self.old.ready }
         requires counts { StaysWithinTests changes.now self.old }
         requires none { self.old.ready ≡ [] }
@@ -91,7 +91,7 @@ impl<'a> Queue<'a> {
     /// Tests a request, and applies it by its whole room if it has any. It is the first of the
     /// ready requests, or the next one to be admitted.
     fn test(&mut self, changes: &[Change], place: usize) -> Result<(), NoMemory>
-        requires kept { HasSoundLines changes.now self.old }
+        requires in_order { HasSoundLines changes.now self.old }
         requires tracked { IsTracking changes.now self.old (place ∷ self.old.ready) }
         requires within { place < length changes.now }
         ensures { OnOk result (IsTested changes.now place self.old self.new) }
@@ -106,7 +106,7 @@ impl<'a> Queue<'a> {
 
     /// Tests the room of a request.
     fn room(&mut self, changes: &[Change], place: usize) -> u64
-        requires kept { HasSoundLines changes.now self.old }
+        requires in_order { HasSoundLines changes.now self.old }
         requires within { place < length changes.now }
         ensures room { result ≡ room_in changes.now self.old place }
         ensures counted { self.new ≡ after_test self.old }
@@ -120,7 +120,7 @@ impl<'a> Queue<'a> {
     /// Applies a request by its whole room. Makes ready the first request that waits for its
     /// product and the first that waits for its bidder, if they may have room now.
     fn apply(&mut self, changes: &[Change], place: usize, room: u64) -> Result<(), NoMemory>
-        requires kept { HasSoundLines changes.now self.old }
+        requires in_order { HasSoundLines changes.now self.old }
         requires tracked { IsTracking changes.now self.old (place ∷ self.old.ready) }
         requires within { place < length changes.now }
         requires is_board { IsBoard self.old.board.products self.old.board.eligibilities
@@ -170,11 +170,11 @@ impl<'a> Queue<'a> {
     /// Admits the next request. Requires that it has no room. If it has blocks left, it waits in
     /// its line.
     fn admit(&mut self, changes: &[Change]) -> Result<(), NoMemory>
-        requires kept { HasSoundLines changes.now self.old }
+        requires in_order { HasSoundLines changes.now self.old }
         requires tracked { IsTracking changes.now self.old self.old.ready }
         requires more { self.old.admitted < length changes.now }
         requires no_room { room_in changes.now self.old self.old.admitted ≡ 0 }
-        ensures kept { OnOk result (HasSoundLines changes.now self.new) }
+        ensures in_order { OnOk result (HasSoundLines changes.now self.new) }
         ensures tracked { OnOk result (IsTracking changes.now self.new self.new.ready) }
         ensures same { OnOk result (self.new
             ≡ record self.old { admitted = self.old.admitted + 1; lines = self.new.lines }) }

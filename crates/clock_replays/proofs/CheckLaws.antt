@@ -79,20 +79,21 @@ behind price prices k d test is =
     subst (λ (n : ℕ). test ≡ nat_le (get_or (price ∷ prices) n d) (get_or prices k d)) on is
 
 -- no price is above an earlier one exactly if none is above the one before it
-pub told_by_next : (prices : List ℕ) (told : Bool)
-    → IsAllAdjacentAnswer (λ earlier later b. b ≡ nat_le later earlier) prices told → told ≡ never_rises prices
-told_by_next [] true each = refl
-told_by_next [] false rise = absurd (omega (arith, rise.1))
-told_by_next (price ∷ []) true each = refl
-told_by_next (price ∷ []) false rise = absurd (omega (arith, rise.1))
-told_by_next (price ∷ next ∷ rest) true each = told_by_next (next ∷ rest) true (λ k d within. behind price (next ∷ rest)
-    k d true (each (suc k) d (omega (arith, within)))) ∙ sym (no_rise price next rest (sym (each 0 0 (omega arith))))
-told_by_next (price ∷ next ∷ rest) false (zero, within, rise) =
+pub reported_by_next : (prices : List ℕ) (reported : Bool)
+    → IsAllAdjacentAnswer (λ earlier later b. b ≡ nat_le later earlier) prices reported → reported ≡ never_rises prices
+reported_by_next [] true each = refl
+reported_by_next [] false rise = absurd (omega (arith, rise.1))
+reported_by_next (price ∷ []) true each = refl
+reported_by_next (price ∷ []) false rise = absurd (omega (arith, rise.1))
+reported_by_next (price ∷ next ∷ rest) true each = reported_by_next (next ∷ rest) true
+    (λ k d within. behind price (next ∷ rest) k d true (each (suc k) d (omega (arith, within))))
+    ∙ sym (no_rise price next rest (sym (each 0 0 (omega arith))))
+reported_by_next (price ∷ next ∷ rest) false (zero, within, rise) =
     ap (λ test. (test && list_all (λ p. nat_le p price) rest) && never_rises (next ∷ rest)) (rise 0)
-told_by_next (price ∷ next ∷ rest) false (suc k, within, rise) =
+reported_by_next (price ∷ next ∷ rest) false (suc k, within, rise) =
     sym (no_test (list_all (λ later. nat_le later price) (next ∷ rest)))
-    ∙ ap (λ test. list_all (λ later. nat_le later price) (next ∷ rest) && test)
-    (told_by_next (next ∷ rest) false (k, omega (arith, within), λ d. behind price (next ∷ rest) k d false (rise d)))
+    ∙ ap (λ test. list_all (λ later. nat_le later price) (next ∷ rest) && test) (reported_by_next (next ∷ rest) false
+    (k, omega (arith, within), λ d. behind price (next ∷ rest) k d false (rise d)))
 
 -- prices that pass the test never rise
 pub falling_of_test : (prices : List ℕ) → never_rises prices ≡ true → NeverRises prices

@@ -13,10 +13,10 @@ use Rattle.clock_json.specs.Tree.{number_from, number_at, text_at, items_at, has
 use Rattle.clock_terms.specs.Faults.{or_fault}
 use Rattle.clock_order.specs.declared.ties.Tie.{Tie}
 use Rattle.clock_bids.proofs.HoldingLaws.{activity_limit_of_100}
-use Rattle.clock_setup.specs.SetupShape.{product_of, bidder_of, fields_of}
+use Rattle.clock_setup.specs.SetupShape.{product_of, bidder_of, fields_from}
 use Rattle.clock_bodies.specs.declared.body.BodyFault.TheVariants.{Shape}
 use Rattle.clock_bodies.specs.Bodies.{meant_by}
-use Rattle.clock_bodies.specs.CloseBodies.{tie_of, or_each, close_of, close_body, in_version}
+use Rattle.clock_bodies.specs.CloseBodies.{tie_in, or_each, close_of, close_body, in_version}
 use Rattle.clock_replays.specs.FirstVersion.{FirstVersion, first_product, first_setup, first_closing, first_body}
 
 -- a product of version 1 is one without a granule
@@ -35,8 +35,8 @@ listed_same : (items : Option Items)
 listed_same None = refl
 listed_same (Some items) = products_same items
 
-setup_same : (value : Data) → number_at (codes "version") value ≡ Some 1 → fields_of value ≡ first_setup value
-unfolding fields_of first_setup
+setup_same : (value : Data) → number_at (codes "version") value ≡ Some 1 → fields_from value ≡ first_setup value
+unfolding fields_from first_setup
 setup_same value first = rw first (ap (λ (products : Option (List Product)).
     number_at (codes "requirement") value
     >>= λ requirement. (text_at (codes "operator") value >>= λ operator. (products >>= λ products.
@@ -77,7 +77,7 @@ body_same : (value : Option Data) → in_version 1 (meant_by close_of value) ≡
 unfolding close_of first_closing
 body_same None = refl
 body_same (Some value) = closing_same (number_at (codes "round") value) (number_at (codes "increment") value) (items_at
-    (codes "increments") value) (option_and_then (each tie_of) (items_at (codes "ties") value)) (has_members 3 value)
+    (codes "increments") value) (option_and_then (each tie_in) (items_at (codes "ties") value)) (has_members 3 value)
 
 bodies_same : (bytes : List ℕ) → in_version 1 (close_body bytes) ≡ first_body bytes
 unfolding close_body

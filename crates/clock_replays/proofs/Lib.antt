@@ -1,5 +1,5 @@
 pub mod EndedRowLaws
-pub mod KeptLimitLaws
+pub mod PackedLimitLaws
 pub mod CheckLaws
 pub mod DocumentLaws
 mod FirstVersionLaws

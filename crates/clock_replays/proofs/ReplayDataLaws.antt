@@ -3,24 +3,24 @@ use Rattle.std.proofs.Common.{◌≡◌, ℕ, List, Option, Some, None, option_m
 use Rattle.std.specs.Str.{IsUtf8}
 use Rattle.serde_json.specs.Data.{Data}
 use Rattle.serde_json.specs.Read.{read}
-use Rattle.clock_json.specs.Reading.{whole, numbers}
+use Rattle.clock_json.specs.Reading.{whole_number, numbers}
 use Rattle.clock_terms.specs.Faults.{first_fault, unless}
 use Rattle.clock_setup.specs.SetupData.{setup_data}
 use Rattle.clock_setup.specs.declared.setup_scan.NestedSetup.{NestedSetup}
-use Rattle.clock_json.specs.Tree.{number_from, row_of}
+use Rattle.clock_json.specs.Tree.{number_from, numbers_from}
 use Rattle.clock_json.proofs.JsonLaws.{json_value}
 use Rattle.clock_terms.specs.declared.increments.Increments.{Increments}
 use Rattle.clock_terms.specs.declared.increments.Increments.TheVariants.{Single, PerProduct}
 use Rattle.clock_bids.specs.declared.sheet.Bid.{Bid}
 use Rattle.clock_order.specs.declared.ties.Tie.{Tie}
 use Rattle.clock_bodies.specs.Bodies.{bid_of}
-use Rattle.clock_bodies.specs.CloseBodies.{tie_of}
+use Rattle.clock_bodies.specs.CloseBodies.{tie_in}
 use Rattle.clock_bodies.specs.QuickBodies.{bid_data, tie_data}
 use Rattle.clock_bodies.proofs.BodyScanLaws.{bid_means, tie_means, number_means, each_means}
 use Rattle.clock_replays.specs.declared.replay.Script.{Script}
 use Rattle.clock_replays.specs.declared.replay.Script.TheVariants.{Literal, Sincere}
 use Rattle.clock_replays.specs.declared.replay.Closing.{Closing}
-use Rattle.clock_replays.specs.ReplayShape.{ReplayParts, sheet_of, script_of, closing_from, parts_of}
+use Rattle.clock_replays.specs.ReplayShape.{ReplayParts, sheet_of, script_of, closing_from, replay_parts}
 use Rattle.clock_replays.specs.inside.PartData.{sheet_data, script_data, closing_data}
 use Rattle.clock_replays.specs.inside.ReplayData.{replay_data, found_data}
 use Rattle.clock_replays.specs.Replays.{ReplayFields}
@@ -33,9 +33,9 @@ all_of found = record { setup = found.0.setup; scripts = found.1; closings = fou
 
 -- ---- what the values mean
 
-row_means : (row : List ℕ) → row_of (numbers row) ≡ Some row
-unfolding row_of
-row_means row = each_means number_from whole number_means row
+row_means : (row : List ℕ) → numbers_from (numbers row) ≡ Some row
+unfolding numbers_from
+row_means row = each_means number_from whole_number number_means row
 
 sheet_means : (sheet : Option (List Bid)) → sheet_of (sheet_data sheet) ≡ Some sheet
 unfolding sheet_of
@@ -45,7 +45,7 @@ sheet_means (Some bids) = ap (option_map Some) (each_means bid_of bid_data bid_m
 script_means : (script : Script) → script_of (script_data script) ≡ Some script
 unfolding script_of
 script_means (Literal sheets) = rw (each_means sheet_of sheet_data sheet_means sheets) refl
-script_means (Sincere limits) = rw (each_means row_of numbers row_means limits) refl
+script_means (Sincere limits) = rw (each_means numbers_from numbers row_means limits) refl
 
 abbrev closing : Increments → List Tie → Closing
 closing increments ties = record { increments = increments; ties = ties }
@@ -53,13 +53,13 @@ closing increments ties = record { increments = increments; ties = ties }
 closing_means : (increments : Increments) (ties : List Tie)
     → closing_from (closing_data (closing increments ties)) ≡ Some (closing increments ties)
 unfolding closing_from
-closing_means (Single increment) ties = rw (each_means tie_of tie_data tie_means ties) refl
+closing_means (Single increment) ties = rw (each_means tie_in tie_data tie_means ties) refl
 closing_means (PerProduct increments) ties =
-    rw (each_means number_from whole number_means increments, each_means tie_of tie_data tie_means ties) refl
+    rw (each_means number_from whole_number number_means increments, each_means tie_in tie_data tie_means ties) refl
 
-parts_mean : (setup : Data) (scripts : List Script) (closings : List Closing) → parts_of
+parts_mean : (setup : Data) (scripts : List Script) (closings : List Closing) → replay_parts
     (replay_data setup scripts closings) ≡ Some (record { setup = setup; scripts = scripts; closings = closings })
-unfolding parts_of
+unfolding replay_parts
 parts_mean setup scripts closings =
     rw (
       each_means script_of script_data script_means scripts,

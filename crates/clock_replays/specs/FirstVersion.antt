@@ -15,11 +15,11 @@ use Rattle.clock_terms.specs.Limits.{first_granule, first_limit}
 use Rattle.clock_terms.specs.Increments.{increment_at, are_increments}
 use Rattle.clock_json.specs.Tree.{number_at, text_at, items_at, has_members, each, json, ◌>>=◌}
 use Rattle.clock_bids.specs.Holding.{activity_limit}
-use Rattle.clock_setup.specs.SetupShape.{bidder_of, fields_of}
+use Rattle.clock_setup.specs.SetupShape.{bidder_of, fields_from}
 use Rattle.clock_bodies.specs.declared.close_body.CloseBody.{CloseBody}
 use Rattle.clock_bodies.specs.declared.body.BodyFault.{BodyFault}
 use Rattle.clock_bodies.specs.Bodies.{meant_by}
-use Rattle.clock_bodies.specs.CloseBodies.{tie_of, close_body, in_version}
+use Rattle.clock_bodies.specs.CloseBodies.{tie_in, close_body, in_version}
 
 -- {"name":T,"units":N,"supply":N,"cap":N,"opening":N}
 unfoldable pub first_product : Data → Option Product
@@ -63,7 +63,7 @@ unfoldable pub first_closing : Data → Option CloseBody
 first_closing value = do
   round ← number_at (codes "round") value
   increment ← number_at (codes "increment") value
-  ties ← option_and_then (each tie_of) (items_at (codes "ties") value)
+  ties ← option_and_then (each tie_in) (items_at (codes "ties") value)
   if has_members 3 value
       then Some (record { round = round; increments = Single increment; ties = ties }) else None
 
@@ -77,7 +77,7 @@ first_body bytes = meant_by first_closing (json bytes)
 pub record FirstVersion : Type 0 where
   pub setups : (setup : SetupFields) → IsSetup setup → setup.version ≡ 1 → IsOfFirstVersion setup
   pub documents : (value : Data) → number_at (codes "version") value ≡ Some 1
-      → fields_of value ≡ first_setup value
+      → fields_from value ≡ first_setup value
   pub bodies : (bytes : List ℕ) → in_version 1 (close_body bytes) ≡ first_body bytes
   pub limit : (setup : PublicSetup) (round eligibility : ℕ) → setup.limit ≡ first_limit
       → activity_limit setup round eligibility ≡ eligibility

@@ -1,5 +1,5 @@
 pub mod EndedRows
-pub mod KeptLimits
+pub mod PackedLimits
 pub mod Replays
 pub mod ReplayShape
 pub mod ReplayChecks

@@ -11,7 +11,7 @@ use Rattle.clock_setup.specs.SetupDocument.{setup_of}
 use Rattle.clock_replays.specs.declared.replay.ScriptFault.{ScriptFault}
 use Rattle.clock_replays.specs.declared.replay.ScriptFault.TheVariants.{NotJson, Shape, Setup}
 use Rattle.clock_replays.specs.Replays.{ReplayFields}
-use Rattle.clock_replays.specs.ReplayShape.{ReplayParts, parts_of}
+use Rattle.clock_replays.specs.ReplayShape.{ReplayParts, replay_parts}
 use Rattle.clock_replays.specs.ReplayChecks.{replay_checks}
 
 -- the set-up with the other parts of its document
@@ -27,7 +27,7 @@ in_replay (Err fault) = Err (Setup fault)
 -- the shape first, then the set-up, then the other checks
 unfoldable pub replay_of : Data → Result ReplayFields ScriptFault
 replay_of value = do
-  parts ← or_fault Shape (parts_of value)
+  parts ← or_fault Shape (replay_parts value)
   setup ← in_replay (setup_of parts.setup)
   unless (first_fault (replay_checks (replay_with setup parts))) (replay_with setup parts)
 

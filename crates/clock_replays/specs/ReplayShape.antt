@@ -1,16 +1,16 @@
 -- The shape of a replay document: exactly these keys, each with a value of its kind (own format).
 --     sheet_of value      a sheet of a literal script, or none
 --     script_of value, closing_from value      an item of "scripts" and of "closings"
---     parts_of value      the whole document, before its set-up is read or parts are compared
+--     replay_parts value      the whole document, before its set-up is read or parts are compared
 use Rattle.std.specs.Prelude.{ℕ, List, Option, Some, None, option_and_then, option_map, is_some}
 use Rattle.std.specs.Prelude.{if◌then◌else◌, codes}
 use Rattle.std.specs.Str.{bytes_eq}
 use Rattle.serde_json.specs.Data.{Data}
 use Rattle.serde_json.specs.Find.{get, as_null, as_array}
-use Rattle.clock_json.specs.Tree.{text_at, items_at, has_members, each, row_of, ◌>>=◌}
+use Rattle.clock_json.specs.Tree.{text_at, items_at, has_members, each, numbers_from, ◌>>=◌}
 use Rattle.clock_bids.specs.declared.sheet.Bid.{Bid}
 use Rattle.clock_bodies.specs.Bodies.{bid_of}
-use Rattle.clock_bodies.specs.CloseBodies.{tie_of, increments_of}
+use Rattle.clock_bodies.specs.CloseBodies.{tie_in, increments_of}
 use Rattle.clock_replays.specs.declared.replay.Script.{Script}
 use Rattle.clock_replays.specs.declared.replay.Script.TheVariants.{Literal, Sincere}
 use Rattle.clock_replays.specs.declared.replay.Closing.{Closing}
@@ -31,7 +31,7 @@ abbrev pub script_by_kind : List ℕ → Data → Option Script
 script_by_kind kind value = if bytes_eq kind (codes "literal")
     then option_map Literal (option_and_then (each sheet_of) (items_at (codes "sheets") value))
     else (if bytes_eq kind (codes "sincere") then option_map Sincere
-    (option_and_then (each row_of) (items_at (codes "limits") value)) else None)
+    (option_and_then (each numbers_from) (items_at (codes "limits") value)) else None)
 
 -- {"kind":"literal","sheets":[SHEET,..]} or {"kind":"sincere","limits":[[N,..],..]}
 unfoldable pub script_of : Data → Option Script
@@ -43,12 +43,12 @@ script_of value = do
 unfoldable pub closing_from : Data → Option Closing
 closing_from value = do
   increments ← increments_of value
-  ties ← option_and_then (each tie_of) (items_at (codes "ties") value)
+  ties ← option_and_then (each tie_in) (items_at (codes "ties") value)
   if has_members 2 value then Some (record { increments = increments; ties = ties }) else None
 
 -- {"closings":[CLOSING,..],"scripts":[SCRIPT,..],"setup":VALUE}
-unfoldable pub parts_of : Data → Option ReplayParts
-parts_of value = do
+unfoldable pub replay_parts : Data → Option ReplayParts
+replay_parts value = do
   setup ← get (codes "setup") value
   scripts ← option_and_then (each script_of) (items_at (codes "scripts") value)
   closings ← option_and_then (each closing_from) (items_at (codes "closings") value)

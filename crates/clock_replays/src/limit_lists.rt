@@ -2,9 +2,9 @@
 ghost use Rattle.std.specs.Prelude.{◌≡◌, ℕ, ◌<◌, ◌≤◌, List, [], ◌++◌, ◌∷◌, length, replicate};
 ghost use Rattle.std.specs.Prelude.{slice_index, IfOk, OnOk};
 ghost use Rattle.clock_terms.specs.Demands.{row_of};
-ghost use Rattle.clock_replays.specs.{EndedRows.{rows_from}, KeptLimits.{limits_of}};
-ghost use Rattle.clock_replays.specs.inside.KeptLimits.{AreKept, IsPlaceOf, kept_limits};
-ghost use Rattle.clock_json.specs.Reading.{rows, Reads};
+ghost use Rattle.clock_replays.specs.{EndedRows.{rows_from}, PackedLimits.{limits_of}};
+ghost use Rattle.clock_replays.specs.inside.PackedLimits.{ArePacked, IsPlaceOf, packed_limits};
+ghost use Rattle.clock_json.specs.Reading.{rows, ReadsValue};
 
 use clock_device::NoMemory;
 use clock_json::{Scan, ScanStop};
@@ -33,8 +33,8 @@ fn short_of(number: usize) -> Result<u32, NoMemory>
 impl LimitRows {
     /// Creates limits for no products. Allocates nothing.
     fn new(alloc: Global) -> LimitRows
-        ensures none { kept_limits result ≡ [] }
-        ensures kept { AreKept result }
+        ensures none { packed_limits result ≡ [] }
+        ensures packed { ArePacked result }
     {
         LimitRows {
             count: 0,
@@ -46,8 +46,8 @@ impl LimitRows {
 
     /// Copies the limits into memory of exactly their size. May return `NoMemory`.
     fn lists(&self, alloc: Global) -> Result<LimitLists, NoMemory>
-        requires { AreKept self.now }
-        ensures { IfOk result (λ lists. lists ≡ kept_limits self.now) }
+        requires { ArePacked self.now }
+        ensures { IfOk result (λ lists. lists ≡ packed_limits self.now) }
     {
         let rows = LimitRows {
             count: self.count,
@@ -61,10 +61,10 @@ impl LimitRows {
     /// Adds `count` products without limits. Returns `NoMemory` if there are too many products to
     /// count.
     fn push_empty(&mut self, count: usize) -> Result<(), NoMemory>
-        requires { AreKept self.old }
+        requires { ArePacked self.old }
         ensures limits { OnOk result
-            (kept_limits self.new ≡ kept_limits self.old ++ replicate count []) }
-        ensures kept { OnOk result (AreKept self.new) }
+            (packed_limits self.new ≡ packed_limits self.old ++ replicate count []) }
+        ensures packed { OnOk result (ArePacked self.new) }
     {
         self.count = self.count.checked_add(count).ok_or(NoMemory)?;
         Ok(())
@@ -73,10 +73,10 @@ impl LimitRows {
     /// Adds the limits for the next product. May return `NoMemory`, also for more products or
     /// prices than four bytes can count.
     fn push(&mut self, limits: &[u64]) -> Result<(), NoMemory>
-        requires { AreKept self.old }
+        requires { ArePacked self.old }
         ensures limits { OnOk result
-            (kept_limits self.new ≡ kept_limits self.old ++ limits.now ∷ []) }
-        ensures kept { OnOk result (AreKept self.new) }
+            (packed_limits self.new ≡ packed_limits self.old ++ limits.now ∷ []) }
+        ensures packed { OnOk result (ArePacked self.new) }
     {
         if limits.is_empty() {
             return self.push_empty(1);
@@ -95,7 +95,7 @@ impl LimitRows {
     /// first.
     #[inline(always)]
     fn place_of(&self, product: usize, from: usize) -> usize
-        requires { AreKept self.now }
+        requires { ArePacked self.now }
         ensures place { IsPlaceOf self.now.products.items product result }
         ensures first { result < length self.now.products.items
             → product ≤ slice_index self.now.products.items result }
@@ -127,7 +127,7 @@ impl Model for LimitLists {
     ghost view = { λ a. limits_of a.rows.count a.rows.products.items
         (rows_from 0 a.rows.ends.items a.rows.prices.items) };
 
-    ghost invariant = { λ a. AreKept a.rows };
+    ghost invariant = { λ a. ArePacked a.rows };
 }
 
 impl LimitLists {
@@ -178,7 +178,7 @@ impl LimitLists {
 /// Reads the next lists of limits. Most are empty; all empty lists that follow another are read at
 /// once.
 pub(crate) fn limit_lists(alloc: Global, scan: &mut Scan<'_>) -> Result<LimitLists, ScanStop>
-    ensures value { IfOk result (λ limits. Reads 2 scan.old (rows limits) scan.new) }
+    ensures value { IfOk result (λ limits. ReadsValue 2 scan.old (rows limits) scan.new) }
     ensures shorter { OnOk result (length scan.new < length scan.old) }
 {
     scan.opens(b'[')?;

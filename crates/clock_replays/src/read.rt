@@ -179,7 +179,7 @@ impl<'v> ValueReader<'v> for ClosingReader {
 struct FoundReplay {
     closings: Option<Closings>,
     scripts: Option<Scripts>,
-    held: Option<NestedSetup>,
+    nested: Option<NestedSetup>,
 }
 
 impl<'v> ScannedMembers<'v> for FoundReplay {
@@ -203,14 +203,14 @@ impl<'v> ScannedMembers<'v> for FoundReplay {
             _ if is_key(key, "closings") => self.closings = Some(scanned_parts::<ClosingReader>(
                 alloc, scan, 0,
             )?),
-            _ if is_key(key, "setup") => self.held = Some(NestedSetup::part(alloc, scan)?),
+            _ if is_key(key, "setup") => self.nested = Some(NestedSetup::part(alloc, scan)?),
             _ => return Err(ScanStop::Unusual),
         }
         Ok(())
     }
 
     fn whole(self) -> Option<(NestedSetup, Scripts, Closings)> {
-        Some((self.held?, self.scripts?, self.closings?))
+        Some((self.nested?, self.scripts?, self.closings?))
     }
 }
 
@@ -247,7 +247,7 @@ fn are_limits(product: &Product, limits: &[u64]) -> bool
 fn script_fault(bidder: u64, products: &[Product], script: &Script) -> Option<ScriptFault>
     requires { rules.has_lists (length products.now) script.now ≡ true }
     ensures fault { result ≡ first_fault (rules.script_checks products.now bidder script.now) }
-    ensures held { result ≢ Some (ScriptFault.Setup SetupFault.NoMemory) }
+    ensures nested { result ≢ Some (ScriptFault.Setup SetupFault.NoMemory) }
 {
     let Script::Sincere(limits) = script else {
         return None;
@@ -268,7 +268,7 @@ fn replay_fault(setup: &Setup, scripts: &[Script], closings: &[Closing]) -> Opti
         (record { setup = setup.now; scripts = scripts.now; closings = closings.now })) }
     // for the caller, which makes no other call that states this
     ensures limits { IsSetup setup.now }
-    ensures held { result ≢ Some (ScriptFault.Setup SetupFault.NoMemory) }
+    ensures nested { result ≢ Some (ScriptFault.Setup SetupFault.NoMemory) }
 {
     let products = setup.products.as_slice();
     if !are_of_version(setup.version, closings) {
@@ -304,7 +304,7 @@ fn judged(setup: Setup, scripts: Scripts, closings: Closings) -> Result<Replay, 
     } in
         IfErr result
         (IsRefusal ScriptFault.NoMemory (unless (first_fault (rules.replay_checks all)) all)) }
-    ensures held { IfErr result (λ fault. fault ≢ ScriptFault.Setup SetupFault.NoMemory) }
+    ensures nested { IfErr result (λ fault. fault ≢ ScriptFault.Setup SetupFault.NoMemory) }
 {
     match replay_fault(&setup, scripts.as_slice(), closings.as_slice()) {
         Some(fault) => Err(fault),
@@ -321,15 +321,15 @@ fn judged(setup: Setup, scripts: Scripts, closings: Closings) -> Result<Replay, 
 fn replay_in(alloc: Global, value: &Value) -> Result<Replay, ScriptFault>
     ensures ok { IfOk result (λ replay. replay_of (view value.now) ≡ Ok replay) }
     ensures err { IfErr result (IsRefusal ScriptFault.NoMemory (replay_of (view value.now))) }
-    ensures held { IfErr result (λ fault. fault ≢ ScriptFault.Setup SetupFault.NoMemory) }
+    ensures nested { IfErr result (λ fault. fault ≢ ScriptFault.Setup SetupFault.NoMemory) }
 {
-    let held = value.get("setup").ok_or(ScriptFault::Shape)?;
+    let nested = value.get("setup").ok_or(ScriptFault::Shape)?;
     let scripts = each_at(alloc, value, "scripts", &ScriptReader)?.ok_or(ScriptFault::Shape)?;
     let closings = each_at(alloc, value, "closings", &ClosingReader)?.ok_or(ScriptFault::Shape)?;
     if !has_members(value, 3) {
         return Err(ScriptFault::Shape);
     }
-    match setup_of(alloc, held) {
+    match setup_of(alloc, nested) {
         Ok(setup) => judged(setup, scripts, closings),
         Err(SetupFault::NoMemory) => Err(ScriptFault::NoMemory),
         Err(fault) => Err(ScriptFault::Setup(fault)),
@@ -353,10 +353,10 @@ pub fn read_replay(alloc: Global, bytes: &[u8]) -> Result<Replay, ScriptFault>
     ensures ok { IfOk result (λ replay. document_replay bytes.now ≡ Ok replay) }
     ensures replay { IfOk result IsReplay }
     ensures err { IfErr result (IsRefusal ScriptFault.NoMemory (document_replay bytes.now)) }
-    ensures held { IfErr result (λ fault. fault ≢ ScriptFault.Setup SetupFault.NoMemory) }
+    ensures nested { IfErr result (λ fault. fault ≢ ScriptFault.Setup SetupFault.NoMemory) }
 {
-    if let Some((held, scripts, closings)) = scanned_text::<FoundReplay>(alloc, bytes)? {
-        return judged(held.setup, scripts, closings);
+    if let Some((nested, scripts, closings)) = scanned_text::<FoundReplay>(alloc, bytes)? {
+        return judged(nested.setup, scripts, closings);
     }
     let value = read_value(alloc, bytes)?.ok_or(ScriptFault::NotJson)?;
     replay_in(alloc, &value)

@@ -11,7 +11,7 @@ use Rattle.std.proofs.lemmas.List.FromFn.{length-map-range_with_len, get_or-map-
 use Rattle.clock_terms.specs.Limits.{SetupFields, IsRow}
 use Rattle.clock_posting.specs.declared.sheet.RoundSheet.{RoundSheet}
 use Rattle.clock_house.specs.Command.{Command}
-use Rattle.clock_house.specs.History.{history, standing, round_at}
+use Rattle.clock_house.specs.History.{history, public_state, round_at}
 use Rattle.clock_closing.specs.declared.closed_round.ClosedRound.{ClosedRound}
 use Rattle.clock_house.specs.House.{HouseFields, StandsFor}
 use Rattle.clock_house.specs.Laws.{AreNumbered, IsSound}
@@ -36,9 +36,9 @@ get_within (x ∷ xs) zero below none = cc
 get_within (x ∷ xs) (suc n) below none = get_within xs n (omega arith) none
 
 -- the results that a house returns for a round
-pub told_sheet : (closed : List ClosedRound) (n : ℕ) → option_map (λ (round : ClosedRound). round.sheet)
+pub reported_sheet : (closed : List ClosedRound) (n : ℕ) → option_map (λ (round : ClosedRound). round.sheet)
     (round_at (n + 1) closed) ≡ slice_get (map (λ (round : ClosedRound). round.sheet) (reverse closed)) n
-told_sheet closed n =
+reported_sheet closed n =
     ap (λ (k : ℕ). option_map (λ (round : ClosedRound). round.sheet) (round_at k closed)) (add-one n)
     ∙ sym (get_map (λ (round : ClosedRound). round.sheet) (reverse closed) n)
 
@@ -99,6 +99,6 @@ rows_of setup f n each k d within =
 
 -- if the auction has ended, at least one round is closed
 pub some_closed : (setup : SetupFields) (closed : List ClosedRound)
-    → (standing setup.products closed).ended ≡ true → 1 ≤ length closed
+    → (public_state setup.products closed).ended ≡ true → 1 ≤ length closed
 some_closed setup [] ended = absurd (cc)
 some_closed setup (last ∷ rounds) ended = omega arith

@@ -2,8 +2,8 @@
 -- is our own.
 --     payment lines demands      the price of a bidder's demands at the posted prices
 --     won_text lines won      the line of a bidder
---     last_lines, has_ended sheets      the lines of the last round, and whether the auction ended
---         with it
+--     last_lines, sheets_have_ended sheets      the lines of the last round, and whether the
+--         auction ended with it
 --     rounds_text report, wins_text report      the lines of all rounds, and of all bidders
 --     report_text report      the whole text
 --     audited_round products round      the lines of a round, and the digest after its closing
@@ -52,12 +52,12 @@ audited_round products round = sheet_text products round.0 ++ codes "closed "
     ++ decimal round.0.round ++ codes " " ++ round.1 ++ codes "\n"
 
 -- whether the auction ended with the last of these rounds
-abbrev pub has_ended : List RoundSheet → Bool
-has_ended sheets = (slice_index_or sheets (length sheets - 1)
+abbrev pub sheets_have_ended : List RoundSheet → Bool
+sheets_have_ended sheets = (slice_index_or sheets (length sheets - 1)
     (record { round = 0; ended = false; lines = [] })).ended
 
 -- The lines of the rounds, each with the digest after its closing; then, if the auction has ended,
 -- those of the bidders.
 abbrev pub audit_text : ReportFields → List (List ℕ) → List ℕ
-audit_text report digests = flat_map (audited_round report.setup.products)
-    (zip report.sheets digests) ++ (if has_ended report.sheets then wins_text report else [])
+audit_text report digests = flat_map (audited_round report.setup.products) (zip report.sheets
+    digests) ++ (if sheets_have_ended report.sheets then wins_text report else [])

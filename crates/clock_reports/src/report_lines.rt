@@ -5,7 +5,7 @@ ghost use Rattle.std.specs.Prelude.{true};
 ghost use Rattle.std.specs.List.{flat_map};
 ghost use Rattle.clock_terms.specs.Limits.{most_products};
 ghost use Rattle.clock_reports.specs.inside.WonLines.{none_held};
-ghost use Rattle.clock_house.specs.House.{standing_in};
+ghost use Rattle.clock_house.specs.House.{state_in};
 ghost use Rattle.clock_reports.specs.ReportText as words;
 ghost use Rattle.clock_reports.specs.FinalReport as rules;
 
@@ -149,7 +149,7 @@ const LINE_ROOM: usize = 48;
 /// Returns the text of the report of an auction that has ended, without copying its round results.
 /// Requires that the auction has ended. May return `NoMemory`.
 pub fn final_text<P>(alloc: Global, house: &House<P>) -> Result<Text, NoMemory>
-    requires { (standing_in house.now).ended ≡ true }
+    requires { (state_in house.now).ended ≡ true }
     ensures { IfOk result
         (λ text. text ≡ words.report_text (rules.report_of house.now.setup house.now.closed)) }
 {

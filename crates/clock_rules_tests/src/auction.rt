@@ -152,8 +152,8 @@ fn see<P: Processor>(
             see_held(rt, alloc, house, at, eligibilities, demands)
         }
         Step::Slip(bidder, round, activity, eligibility, demands) => {
-            let told = (round, activity, eligibility);
-            see_slip(rt, house, at, bidder, told, demands)
+            let reported = (round, activity, eligibility);
+            see_slip(rt, house, at, bidder, reported, demands)
         }
         Step::InForce(bidder, offers) => see_in_force(rt, alloc, house, at, bidder, offers),
         Step::Stands(round, ended) => see_round(rt, house, at, round, ended),
@@ -344,7 +344,7 @@ fn see_held<P: Processor>(
 }
 
 /// Whether a packed row has these numbers.
-fn is_kept(row: &PackedRow, numbers: &[u64]) -> bool {
+fn is_packed(row: &PackedRow, numbers: &[u64]) -> bool {
     if row.len() != numbers.len() {
         return false;
     }
@@ -362,14 +362,14 @@ fn see_slip<P: Processor>(
     house: &House<P>,
     at: At,
     bidder: u32,
-    told: (u64, u64, u64),
+    reported: (u64, u64, u64),
     demands: &[u64],
 ) -> Option<()> {
     assert!(rt; (bidder as usize) < house.setup().bidders.as_slice().len());
-    let slip = house.slip(bidder, told.0)?;
+    let slip = house.slip(bidder, reported.0)?;
     let shown = (slip.round, slip.activity, slip.eligibility);
-    let is_kept = is_kept(&slip.demands, demands);
-    assert_is_at(rt, at, (shown, is_kept), (told, true));
+    let is_packed = is_packed(&slip.demands, demands);
+    assert_is_at(rt, at, (shown, is_packed), (reported, true));
     Some(())
 }
 

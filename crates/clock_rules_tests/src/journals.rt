@@ -90,7 +90,7 @@ fn a_journal_is_read(rt: HostRuntime) {
 }
 
 #[test]
-fn a_file_of_another_kind_is_told(rt: HostRuntime) {
+fn a_file_of_another_kind_is_reported(rt: HostRuntime) {
     let other = b"clock_auction jourmal 1\n";
     assert_is(&rt, taken(other, &SETUP), Err(JournalFault::Unknown));
     assert_is(&rt, taken(b"", &SETUP), Ok((0, 0)));
@@ -122,7 +122,7 @@ fn each_front_is_read(rt: HostRuntime) {
 }
 
 /// The expected result if the byte at `place` is damaged.
-fn told_at(place: usize) -> Result<(u64, usize), JournalFault> {
+fn reported_at(place: usize) -> Result<(u64, usize), JournalFault> {
     match place {
         0..24 => Err(JournalFault::Unknown),
         24..56 => Err(JournalFault::Setup),
@@ -142,22 +142,22 @@ fn turn(bytes: &mut [u8], place: usize) {
 }
 
 /// Asserts the result for each damaged byte of the file.
-fn damage_is_told(rt: &impl Abort, bytes: &mut [u8]) {
+fn damage_is_reported(rt: &impl Abort, bytes: &mut [u8]) {
     for place in 0..188usize {
         turn(bytes, place);
-        assert_is_at(rt, place, taken(bytes, &SETUP), told_at(place));
+        assert_is_at(rt, place, taken(bytes, &SETUP), reported_at(place));
         turn(bytes, place);
     }
 }
 
 #[test]
-fn each_damaged_byte_is_told(rt: HostRuntime) {
+fn each_damaged_byte_is_reported(rt: HostRuntime) {
     let mut bytes = file(rt.alloc(), 1000);
-    damage_is_told(&rt, bytes.as_mut_slice());
+    damage_is_reported(&rt, bytes.as_mut_slice());
 }
 
 #[test]
-fn a_full_disk_is_told(rt: HostRuntime) {
+fn a_full_disk_is_reported(rt: HostRuntime) {
     for (room, length) in [(188, 188), (187, 0), (55, 0)] {
         assert_is(&rt, file(rt.alloc(), room).len(), length);
     }

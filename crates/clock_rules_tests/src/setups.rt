@@ -54,9 +54,9 @@ fn limits(product: &Product) -> Limits {
 }
 
 /// The result of reading a document: its numbers, and those of its first product.
-type Told = (Numbers, Option<Limits>);
+type Reported = (Numbers, Option<Limits>);
 
-fn told(setup: &Setup) -> Told {
+fn reported(setup: &Setup) -> Reported {
     let first = match setup.products.as_slice().first() {
         Some(product) => Some(limits(product)),
         None => None,
@@ -65,27 +65,27 @@ fn told(setup: &Setup) -> Told {
 }
 
 /// Reads a document. The result is that of a copy of the set-up.
-fn read(alloc: Global, text: &str) -> Result<Told, SetupFault> {
+fn read(alloc: Global, text: &str) -> Result<Reported, SetupFault> {
     let setup = read_setup(alloc, text.as_bytes())?;
     let copy = setup.copy(alloc);
     drop(setup);
     let copy = copy?;
-    let told = told(&copy);
+    let reported = reported(&copy);
     drop(copy);
-    Ok(told)
+    Ok(reported)
 }
 
 /// Reads the JSON value of a text.
-fn read_value(alloc: Global, text: &str) -> Result<Told, SetupFault> {
+fn read_value(alloc: Global, text: &str) -> Result<Reported, SetupFault> {
     let Ok(value) = Value::from_str(alloc, text) else {
         return Err(SetupFault::NotJson);
     };
     let setup = setup_of(alloc, &value);
     drop(value);
     let setup = setup?;
-    let told = told(&setup);
+    let reported = reported(&setup);
     drop(setup);
-    Ok(told)
+    Ok(reported)
 }
 
 /// Whether the last bidder has this name, token, and eligibility.
@@ -133,9 +133,9 @@ const SETUPS: &[(&str, Numbers, Limits)] = &[
 #[test]
 fn reads_both_versions(rt: HostRuntime) {
     for &(text, numbers, product) in SETUPS {
-        let told = Ok((numbers, Some(product)));
-        assert_is_at(&rt, text, read(rt.alloc(), text), told);
-        assert_is_at(&rt, text, read_value(rt.alloc(), text), told);
+        let reported = Ok((numbers, Some(product)));
+        assert_is_at(&rt, text, read(rt.alloc(), text), reported);
+        assert_is_at(&rt, text, read_value(rt.alloc(), text), reported);
     }
     assert_is(&rt, has_z_last(rt.alloc(), TWO_PRODUCTS), Ok(true));
 }
@@ -309,9 +309,9 @@ const OPENINGS: &[(&str, &str, &str, Opened)] = &[
 
 #[test]
 fn reads_an_opening_or_refuses_it(rt: HostRuntime) {
-    for &(demands, increment, setup, told) in OPENINGS {
+    for &(demands, increment, setup, reported) in OPENINGS {
         let found = opened_of(rt.alloc(), demands, increment, setup);
-        assert_is_at(&rt, (demands, increment), found, told);
+        assert_is_at(&rt, (demands, increment), found, reported);
     }
     let bare = opened(rt.alloc(), "{\"demands\":[],\"increment\":10}");
     assert_is(&rt, bare, Err(OpeningFault::Shape));

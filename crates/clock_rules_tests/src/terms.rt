@@ -83,7 +83,7 @@ const INCREMENTS: &[(&[u64], bool)] = &[(&[10, 20], true), (&[10], false), (&[10
 #[test]
 fn increments_are_one_for_each_product_within_limits(rt: HostRuntime) {
     for &(increments, are_within) in INCREMENTS {
-        let told = are_for_two(rt.alloc(), increments);
-        assert_is_at(&rt, increments, told, Ok(are_within));
+        let reported = are_for_two(rt.alloc(), increments);
+        assert_is_at(&rt, increments, reported, Ok(are_within));
     }
 }

@@ -8,7 +8,7 @@ use Rattle.clock_device.specs.declared.items.NoMemory.{NoMemory}
 use Rattle.clock_terms.specs.Limits.{SetupFields}
 use Rattle.clock_bids.specs.declared.sheet.Bid.{Bid}
 use Rattle.clock_closing.specs.declared.closed_round.ClosedRound.{ClosedRound}
-use Rattle.clock_house.specs.History.{bidder_at, holding, standing}
+use Rattle.clock_house.specs.History.{bidder_at, holding, public_state}
 use Rattle.clock_views.specs.inside.Values.{Adds}
 use Rattle.clock_replays.specs.declared.replay.Closing.{Closing}
 use Rattle.clock_replays.specs.declared.replay.Script.{Script}
@@ -16,7 +16,7 @@ use Rattle.clock_scripts.specs.declared.requests.Written.{Written}
 use Rattle.clock_scripts.specs.RequestTexts.{request_head, request_text, written_put, put_text, written_close}
 use Rattle.clock_scripts.specs.RequestTexts.{close_text}
 use Rattle.clock_scripts.specs.ScriptedRequests.{scripted_sheet, scripted_put, scripted_close}
-use Rattle.clock_scripts.specs.Pieces.{Writes, WritesIf, body_in, head_in}
+use Rattle.clock_scripts.specs.Pieces.{Writes, WritesIf, written_body, written_head}
 use Rattle.clock_scripts.specs.inside.Heads.{HasRequestHead}
 
 -- what is between two parts of a text
@@ -46,10 +46,10 @@ module _ (old pushed new line token body : List ℕ) (from : ℕ) (written : Wri
   all_long : length new ≡ length pushed + length head
   all_long = ap length headed.added.is ∙ length-append pushed head
 
-  is_body : body_in new written ≡ body
+  is_body : written_body new written ≡ body
   is_body = between old body head new written.body written.head all (headed.from ∙ start) (headed.behind ∙ long)
 
-  pub is_head : head_in new written ≡ head
+  pub is_head : written_head new written ≡ head
   is_head = between pushed head [] new written.head written.end (headed.added.is
       ∙ ap (λ (rest : List ℕ). pushed ++ rest) (sym (append-nil head))) headed.behind (headed.until ∙ all_long)
 
@@ -70,14 +70,14 @@ module _ (old pushed new line token body : List ℕ) (from : ℕ) (written : Wri
 -- the operator's request, by what it is written of
 pub closing_behind : (old pushed new : List ℕ) (setup : SetupFields) (closed : List ClosedRound) (closing : Closing)
     (token : List ℕ) (round from : ℕ) (result : Result Written NoMemory) → token ≡ setup.operator → round
-    ≡ (standing setup.products closed).round → Adds (written_close round closing.increments closing.ties) old pushed
+    ≡ (public_state setup.products closed).round → Adds (written_close round closing.increments closing.ties) old pushed
     → from ≡ length old → IfOk result (HasRequestHead (codes "POST /v1/close") token from pushed new)
     → IfOk result (Writes old new (scripted_close setup closed closing))
 unfolding scripted_close
 closing_behind old pushed new setup closed closing token round from (Err fault) operator at added start headed = tt
 closing_behind old pushed new setup closed closing token round from (Ok written) operator at added start headed =
     let text : close_text token round closing.increments closing.ties
-    ≡ close_text setup.operator (standing setup.products closed).round closing.increments closing.ties =
+    ≡ close_text setup.operator (public_state setup.products closed).round closing.increments closing.ties =
     ap₂ (λ (sender : List ℕ) (k : ℕ). close_text sender k closing.increments closing.ties) operator at in
     subst (λ (whole : List ℕ). Writes old new whole written) text (written_behind old pushed new (codes
     "POST /v1/close") token (written_close round closing.increments closing.ties) from written added start headed)
@@ -86,8 +86,8 @@ closing_behind old pushed new setup closed closing token round from (Ok written)
 pub record AddsSheet (setup : SetupFields) (closed : List ClosedRound) (bidder : ℕ) (script : Script)
     (old new : List ℕ) : Type 0 where
   pub bids : List Bid
-  pub given : scripted_sheet script (standing setup.products closed) (holding setup closed bidder) ≡ Some bids
-  pub added : Adds (written_put (standing setup.products closed).round bids) old new
+  pub given : scripted_sheet script (public_state setup.products closed) (holding setup closed bidder) ≡ Some bids
+  pub added : Adds (written_put (public_state setup.products closed).round bids) old new
 
 -- a bidder's request, by what it is written of
 pub put_behind : (old pushed new : List ℕ) (setup : SetupFields) (closed : List ClosedRound) (bidder : ℕ)
@@ -96,7 +96,7 @@ pub put_behind : (old pushed new : List ℕ) (setup : SetupFields) (closed : Lis
     token from pushed new written → WritesIf old new (scripted_put setup closed bidder script) (Some written)
 unfolding scripted_put
 put_behind old pushed new setup closed bidder script token from written own sheet start headed =
-    let round = (standing setup.products closed).round in
+    let round = (public_state setup.products closed).round in
     let behind = written_behind old pushed new (codes "PUT /v1/me/bids") token
     (written_put round sheet.bids) from written sheet.added start headed in (
       ap (λ (given : Option (List Bid)). option_map (put_text (bidder_at setup bidder).token round) given) sheet.given

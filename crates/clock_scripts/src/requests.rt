@@ -2,7 +2,7 @@
 //! comes before the head, since the head has the length of the body.
 
 ghost use Rattle.std.specs.Prelude.{◌≡◌, ◌<◌, ◌≤◌, ◌-◌, false, length, IfOk, IfSome};
-ghost use Rattle.clock_house.specs.House.{standing_in};
+ghost use Rattle.clock_house.specs.House.{state_in};
 ghost use Rattle.clock_replays.specs.Replays.{IsScript};
 ghost use Rattle.clock_scripts.specs.Pieces.{AwaitsBody, Writes, WritesIf, is_awaited};
 ghost use Rattle.clock_scripts.specs.inside.Heads.{HasRequestHead};
@@ -66,7 +66,7 @@ pub fn write_put<P>(
     script: &Script,
 ) -> Result<Option<Written>, NoMemory>
     requires known { bidder < length house.now.setup.bidders }
-    requires going { (standing_in house.now).ended ≡ false }
+    requires going { (state_in house.now).ended ≡ false }
     requires script { IsScript house.now.setup.products script.now }
     ensures writes { IfOk result (WritesIf text.old.items text.new.items
         (rules.scripted_put house.now.setup house.now.closed bidder script.now)) }

@@ -1,7 +1,7 @@
 //! Writes the sheets of sincere bidders.
 
 ghost use Rattle.std.specs.Prelude.{◌≡◌, ◌≤◌, ◌<◌, [], All, false, length, take, reverse, OnOk};
-ghost use Rattle.clock_house.specs.House.{standing_in, holding_in};
+ghost use Rattle.clock_house.specs.House.{state_in, holding_in};
 ghost use Rattle.clock_views.specs.inside.Values.{Adds};
 ghost use Rattle.clock_replays.specs.Replays.{IsLimits, NeverRises};
 ghost use Rattle.clock_scripts.specs.{RequestTexts.{written_put}, Sincere.{sincere_sheet}};
@@ -118,10 +118,10 @@ pub(crate) fn push_sincere<P>(
     limits: &LimitLists,
 ) -> Result<(), NoMemory>
     requires known { bidder < length house.now.setup.bidders }
-    requires going { (standing_in house.now).ended ≡ false }
+    requires going { (state_in house.now).ended ≡ false }
     requires limits { IsLimits house.now.setup.products limits.now }
-    ensures { OnOk result (Adds (written_put (standing_in house.now).round
-        (sincere_sheet (standing_in house.now).round (standing_in house.now).prices
+    ensures { OnOk result (Adds (written_put (state_in house.now).round
+        (sincere_sheet (state_in house.now).round (state_in house.now).prices
         (holding_in house.now bidder).demands limits.now)) text.old.items text.new.items) }
 {
     house.law_of_house();

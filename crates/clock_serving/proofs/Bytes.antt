@@ -31,8 +31,8 @@ taken_bytes one answer taken (inr some) from to = (
       (take some.bytes.0 answer.bytes) taken some.bytes.1 from to,
 )
 
-pub told_bytes : ReportedBytes
-told_bytes one text answer offered left taken replied from to before after =
+pub reported_bytes : ReportedBytes
+reported_bytes one text answer offered left taken replied from to before after =
     let arrived = replied.arrived in
     let written = taken_bytes one answer taken replied.written before after in (
       read_bytes one.reading.before.left one.reading.after.left text offered left (subst (λ (bytes : List ℕ). HasRead

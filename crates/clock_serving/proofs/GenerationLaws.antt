@@ -6,7 +6,7 @@ use Rattle.clock_terms.specs.Limits.{SetupFields}
 use Rattle.clock_house.specs.House.{HouseFields}
 use Rattle.clock_journal.specs.Crash.{LeavesJournal}
 use Rattle.clock_journal.specs.Disks.{CouldBeLeft, LeaveOnly, MayBeLeft, Moment}
-use Rattle.clock_journal.specs.Kept.{HasTexts, JournalState}
+use Rattle.clock_journal.specs.Logged.{HasTexts, JournalState}
 use Rattle.clock_journal.proofs.Starting.{now_left}
 use Rattle.clock_keeping.specs.Accepted.{AreAccepted, IsOwnFile}
 use Rattle.clock_keeping.specs.Starts.{HasResumed}
@@ -28,7 +28,7 @@ accepted_step : (setup : SetupFields) (before : LoggedTexts) (one : Exchange) (a
 accepted_step setup before one after (inl (text, answer, replied, inl (right, is), seen)) accepted =
     subst (λ (texts : List (List ℕ)). AreAccepted setup [] texts) (sym is)
     (accepted_after setup before.texts text accepted)
-accepted_step setup before one after (inl (text, answer, replied, inr (struck, is), seen)) accepted =
+accepted_step setup before one after (inl (text, answer, replied, inr (left_out, is), seen)) accepted =
     subst (λ (texts : List (List ℕ)). AreAccepted setup [] texts) (sym is) accepted
 accepted_step setup before one after (inr (alone, is)) accepted =
     subst (λ (logged : LoggedTexts). AreAccepted setup [] logged.texts) (sym is) accepted
@@ -54,26 +54,26 @@ module _ (digest : List ℕ) (texts : List (List ℕ)) (least : ℕ) (first last
       (accepted_take old.setup [] texts resumed.count accepted)
 
   -- all connections were served
-  pub serves_all : (exchanges : List Exchange) (told_old told_new : Option (List ℕ)) (new : HouseFields)
-      → AreServed exchanges told_old told_new first last old new
+  pub serves_all : (exchanges : List Exchange) (rounds_old rounds_new : Option (List ℕ)) (new : HouseFields)
+      → AreServed exchanges rounds_old rounds_new first last old new
       → ServesFrom old.setup digest texts least exchanges last
-  serves_all exchanges told_old told_new new are =
-      let kept = are.kept digest (take resumed.count texts) resumed.in_step in
-      let has = subst (λ (all : List (List ℕ)). HasTexts digest all last) (sym (append-nil kept.end))
-      kept.in_step.has in
+  serves_all exchanges rounds_old rounds_new new are =
+      let logged = are.logged digest (take resumed.count texts) resumed.in_step in
+      let has = subst (λ (all : List (List ℕ)). HasTexts digest all last) (sym (append-nil logged.end))
+      logged.in_step.has in
       record {
         count = resumed.count;
         enough = resumed.enough;
         most = resumed.most;
         resumed = first;
-        last = record { texts = kept.end; journal = last };
-        walks = kept.walks;
+        last = record { texts = logged.end; journal = last };
+        walks = logged.walks;
         more = [];
         few = omega arith;
         own = record {
-          accepted = subst (λ (all : List (List ℕ)). AreAccepted old.setup [] all) (sym (append-nil kept.end))
-              (accepted_end exchanges (record { texts = kept.end; journal = last }) kept.walks);
-          leaves = λ left may. inl (left_since digest kept.end [] last last left kept.in_step.has has may);
+          accepted = subst (λ (all : List (List ℕ)). AreAccepted old.setup [] all) (sym (append-nil logged.end))
+              (accepted_end exchanges (record { texts = logged.end; journal = last }) logged.walks);
+          leaves = λ left may. inl (left_since digest logged.end [] last last left logged.in_step.has has may);
         };
       }
 
@@ -81,21 +81,21 @@ module _ (digest : List ℕ) (texts : List (List ℕ)) (least : ℕ) (first last
   pub serves_but : (some : List Exchange) (text : List ℕ)
       → HasLoggedReplied digest (take resumed.count texts) some text first last old
       → ServesFrom old.setup digest texts least some last
-  serves_but some text told = record {
+  serves_but some text reported = record {
     count = resumed.count;
     enough = resumed.enough;
     most = resumed.most;
     resumed = first;
-    last = record { texts = told.end; journal = told.before };
-    walks = told.walks;
+    last = record { texts = reported.end; journal = reported.before };
+    walks = reported.walks;
     more = text ∷ [];
     few = omega arith;
     own = record {
-      accepted = accepted_push old.setup [] told.end text
-          (accepted_end some (record { texts = told.end; journal = told.before }) told.walks) told.accepted;
+      accepted = accepted_push old.setup [] reported.end text (accepted_end some
+          (record { texts = reported.end; journal = reported.before }) reported.walks) reported.accepted;
       leaves = λ left may.
-          inl (told.left_ones left
-          (subst (λ (bytes : Option (List ℕ)). MayBeLeft bytes last.written left) told.on_disk may));
+          inl (reported.left_ones left
+          (subst (λ (bytes : Option (List ℕ)). MayBeLeft bytes last.written left) reported.on_disk may));
     };
   }
 
@@ -117,20 +117,20 @@ module _ (setup : SetupFields) (found first last : JournalState) (bytes : List �
       (how texts least (subst (λ (one : SetupFields). AreAccepted one [] texts) (sym same) own.accepted)
       (resumed texts least written (own_left setup found.chain texts least found synced bytes is written own)))
 
-  pub served_all : (exchanges : List Exchange) (told_old told_new : Option (List ℕ)) (new : HouseFields)
-      → AreServed exchanges told_old told_new first last old new
+  pub served_all : (exchanges : List Exchange) (rounds_old rounds_new : Option (List ℕ)) (new : HouseFields)
+      → AreServed exchanges rounds_old rounds_new first last old new
       → found.written ≡ Some bytes → IsGeneration setup found.chain (served found exchanges last)
-  served_all exchanges told_old told_new new are =
+  served_all exchanges rounds_old rounds_new new are =
       lives exchanges (λ texts least accepted resumes.
-      serves_all found.chain texts least first last old accepted resumes exchanges told_old told_new new are)
+      serves_all found.chain texts least first last old accepted resumes exchanges rounds_old rounds_new new are)
 
-  pub ends_by_fault : (U : Type 0) (count : ℕ) (exchanges : List Exchange) (told_old told_new : Option (List ℕ))
+  pub ends_by_fault : (U : Type 0) (count : ℕ) (exchanges : List Exchange) (rounds_old rounds_new : Option (List ℕ))
       (new : HouseFields) (why : ServeFault)
-      → EndsServing {U = U} count exchanges told_old told_new first last old new (Err why)
+      → EndsServing {U = U} count exchanges rounds_old rounds_new first last old new (Err why)
       → EndsGeneration {U = U} setup count exchanges bytes found last (Err (Serve why))
-  ends_by_fault U count exchanges told_old told_new new fault.Accept ends =
-      (ends.0, served_all exchanges told_old told_new new ends.1)
-  ends_by_fault U count exchanges told_old told_new new fault.Journal ends = (
+  ends_by_fault U count exchanges rounds_old rounds_new new fault.Accept ends =
+      (ends.0, served_all exchanges rounds_old rounds_new new ends.1)
+  ends_by_fault U count exchanges rounds_old rounds_new new fault.Journal ends = (
     ends.0,
     ends.1,
     ends.2,
@@ -138,7 +138,7 @@ module _ (setup : SetupFields) (found first last : JournalState) (bytes : List �
     ends.4.silent,
     lives ends.0 (λ texts least accepted resumes.
         serves_but found.chain texts least first last old accepted resumes ends.0 ends.4.text
-        (ends.4.kept found.chain (take resumes.count texts) resumes.in_step)),
+        (ends.4.logged found.chain (take resumes.count texts) resumes.in_step)),
   )
 
 -- ---- generations

@@ -2,6 +2,6 @@ mod Walking
 pub mod Telling
 mod Served
 mod Ends
-mod Told
+mod Reports
 mod Bytes
 mod GenerationLaws

@@ -4,7 +4,7 @@ use Rattle.std.proofs.Common.{subst, arith, length-append, append-nil}
 use Rattle.std.specs.Prelude.{◌||◌, Result, Ok, Err, false, is_err}
 use Rattle.std.proofs.Math.Seq.{take-append_seam}
 use Rattle.clock_device.specs.Streams.{WritesText}
-use Rattle.clock_device.specs.Told.{IsUnused, Reading, SinkReport, Writing}
+use Rattle.clock_device.specs.Reports.{IsUnused, Reading, SinkReport, Writing}
 use Rattle.clock_device.specs.Writings.{WritesNothing}
 use Rattle.clock_device.proofs.Streams.{same_bytes}
 use Rattle.clock_terms.specs.Limits.{SetupFields, IsSetup}
@@ -20,7 +20,7 @@ use Rattle.clock_front.specs.declared.front.response.Response.{Response}
 use Rattle.clock_front.specs.Headline.{IsRight}
 use Rattle.clock_journal.specs.Crash.{LeavesTexts}
 use Rattle.clock_journal.specs.Disks.{MayBeLeft}
-use Rattle.clock_journal.specs.Kept.{HasTexts, JournalState, file_of}
+use Rattle.clock_journal.specs.Logged.{HasTexts, JournalState, file_of}
 use Rattle.clock_journal.specs.Reading.{onto}
 use Rattle.clock_journal.proofs.Moments.{every_front}
 use Rattle.clock_keeping.specs.Keeping.{GrowsBy, IsInStep, IsLogged, IsNextLogged, logged_after}
@@ -31,7 +31,7 @@ use Rattle.clock_serving.specs.Serving.{AreServed, IsLoggedReply, LogsText, Logg
 use Rattle.clock_serving.specs.Serving.{WritesReply}
 use Rattle.clock_serving.specs.inside.Served.{IsAnswered, IsServed, round_closed}
 use Rattle.clock_front.proofs.RunLaws.{right}
-use Rattle.clock_serving.proofs.Walking.{all_behind, kept_behind, walks_on}
+use Rattle.clock_serving.proofs.Walking.{all_behind, logged_behind, walks_on}
 use Rattle.clock_serving.proofs.Telling.{CountsOn, counts_text, tells_none, tells_on}
 
 -- a reply was written, or a prefix of it
@@ -44,17 +44,19 @@ reply_written writing answer (Err fault) bytes fresh failed =
     inr (record { bytes = bytes; failed = failed ∙ rw fresh refl })
 
 -- no write was made
-pub nothing_written : (told : SinkReport) → IsUnused told → WritesNothing (record { before = told; after = told })
-nothing_written told unused = record { unused = unused; bytes = same_bytes told.taken }
+pub nothing_written : (reported : SinkReport) → IsUnused reported
+    → WritesNothing (record { before = reported; after = reported })
+nothing_written reported unused = record { unused = unused; bytes = same_bytes reported.taken }
 
 -- what holds of a response holds of an equal one
-pub answered_as : (reading : Reading) (told response : Response) (journal_old journal_new journal_mid : JournalState)
-    (old new mid : HouseFields) → response ≡ told → journal_mid ≡ journal_new → mid ≡ new → IsAnswered reading told
-    journal_old journal_new old new → IsAnswered reading response journal_old journal_mid old mid
-answered_as reading told response journal_old journal_new journal_mid old new mid is kept same answered =
+pub answered_as : (reading : Reading) (reported response : Response)
+    (journal_old journal_new journal_mid : JournalState) (old new mid : HouseFields) → response ≡ reported
+    → journal_mid ≡ journal_new → mid ≡ new → IsAnswered reading reported journal_old journal_new old new
+    → IsAnswered reading response journal_old journal_mid old mid
+answered_as reading reported response journal_old journal_new journal_mid old new mid is logged same answered =
     subst (λ (one : Response). IsAnswered reading one journal_old journal_mid old mid) (sym is)
-    (subst (λ (journal : JournalState). IsAnswered reading told journal_old journal old mid) (sym kept)
-    (subst (λ (house : HouseFields). IsAnswered reading told journal_old journal_new old house) (sym same) answered))
+    (subst (λ (journal : JournalState). IsAnswered reading reported journal_old journal old mid) (sym logged) (subst
+    (λ (house : HouseFields). IsAnswered reading reported journal_old journal_new old house) (sym same) answered))
 
 -- of a journal to which texts were appended, a crash leaves the texts before, and a prefix of the others
 pub left_since : (digest : List ℕ) (past more : List (List ℕ)) (journal_old journal_new : JournalState) (left : List ℕ)
@@ -77,7 +79,7 @@ pub record HasNext (setup : SetupFields) (past : List (List ℕ)) (one : Exchang
   pub counts : CountsOn changed (closed_by setup past) (closed_by setup next)
 
 -- and of the logged texts
-pub record HasNextKept (digest : List ℕ) (setup : SetupFields) (past : List (List ℕ)) (one : Exchange)
+pub record HasNextLogged (digest : List ℕ) (setup : SetupFields) (past : List (List ℕ)) (one : Exchange)
     (journal_old journal_new : JournalState) (new : HouseFields) : Type 0 where
   pub next : List (List ℕ)
   pub keeps : LogsText digest setup (record { texts = past; journal = journal_old }) one
@@ -125,24 +127,24 @@ module _ (one : Exchange) (effect_is : Effect) (journal_old journal_new : Journa
         stands = after.stands;
         counts = counts_here past text response.effect is after.changed;
       }
-  replied_text past text response stands has written is (inr (struck, nothing, still)) = record {
+  replied_text past text response stands has written is (inr (left_out, nothing, still)) = record {
     next = past;
-    replies = inl (text, response.reply, record { arrived = has; written = written }, inr (struck, refl));
+    replies = inl (text, response.reply, record { arrived = has; written = written }, inr (left_out, refl));
     stands = stands_still past old new stands still;
     counts = counts_nothing past response.effect is nothing;
   }
 
   replied_one : (past : List (List ℕ)) → StandsForTexts past old
       → IsServed one effect_is journal_old journal_new old new → HasNext setup past one effect_is new
-  replied_one past stands (inl (response, inl told, written, is, seen)) =
-      replied_text past told.text response stands told.arrived written is told.responds
-  replied_one past stands (inl (response, inr (room, none, still, kept), written, is, seen)) = record {
+  replied_one past stands (inl (response, inl reported, written, is, seen)) =
+      replied_text past reported.text response stands reported.arrived written is reported.responds
+  replied_one past stands (inl (response, inr (room, none, still, logged), written, is, seen)) = record {
     next = past;
     replies = inr (inl (room, written_no_memory response.reply (ap (λ (r : Response). r.reply) none) written), refl);
     stands = subst (λ (house : HouseFields). StandsForTexts past house) (sym still) stands;
     counts = counts_nothing past response.effect is (ap (λ (r : Response). r.effect) none);
   }
-  replied_one past stands (inr ((unanswered, kept), silent, is)) = record {
+  replied_one past stands (inr ((unanswered, logged), silent, is)) = record {
     next = past;
     replies = inr (inr (unanswered.0, silent), refl);
     stands = subst (λ (house : HouseFields). StandsForTexts past house) (sym unanswered.1) stands;
@@ -151,15 +153,15 @@ module _ (one : Exchange) (effect_is : Effect) (journal_old journal_new : Journa
 
   in_step_still : (digest : List ℕ) (past : List (List ℕ)) → IsInStep digest past journal_old old → new ≡ old
       → journal_new ≡ journal_old → IsInStep digest past journal_new new
-  in_step_still digest past in_step still kept =
+  in_step_still digest past in_step still logged =
       subst (λ (house : HouseFields). IsInStep digest past journal_new house) (sym still)
-      (subst (λ (journal : JournalState). IsInStep digest past journal old) (sym kept) in_step)
+      (subst (λ (journal : JournalState). IsInStep digest past journal old) (sym logged) in_step)
 
   -- what is on the disk then, and what a crash until then leaves
   has_next : (digest : List ℕ) (past : List (List ℕ)) → IsInStep digest past journal_old old → (next : List (List ℕ))
       → IsInStep digest next journal_new new → RepliesOver setup (record { texts = past; journal = journal_old }) one
       (record { texts = next; journal = journal_new }) → (more : List (List ℕ)) → next ≡ past ++ more
-      → HasNextKept digest setup past one journal_old journal_new new
+      → HasNextLogged digest setup past one journal_old journal_new new
   has_next digest past before next after replies more is = record {
     next = next;
     keeps = record {
@@ -173,59 +175,60 @@ module _ (one : Exchange) (effect_is : Effect) (journal_old journal_new : Journa
     in_step = after;
   }
 
-  kept_reply : (past : List (List ℕ)) (text : List ℕ) (answer : Answer) (next : List (List ℕ))
+  logged_reply : (past : List (List ℕ)) (text : List ℕ) (answer : Answer) (next : List (List ℕ))
       → IsNextLogged old.setup past text answer next → IsLoggedReply setup past text answer next
-  kept_reply past text answer next (inl (is, kept)) = inl (
+  logged_reply past text answer next (inl (is, logged)) = inl (
     right_here (onto past []) text answer is,
-    kept ∙ ap (λ (of_setup : SetupFields). logged_after of_setup past text) same,
+    logged ∙ ap (λ (of_setup : SetupFields). logged_after of_setup past text) same,
   )
-  kept_reply past text answer next (inr struck) = inr struck
+  logged_reply past text answer next (inr left_out) = inr left_out
 
   -- the texts of the journal
-  kept_one : (digest : List ℕ) (past : List (List ℕ)) → IsInStep digest past journal_old old → IsServed one effect_is
-      journal_old journal_new old new → HasNextKept digest setup past one journal_old journal_new new
-  kept_one digest past in_step (inl (response, inl told, written, is, seen)) =
-      let kept : IsLogged digest past told.text response.reply journal_new old new = told.kept digest past in_step in
+  logged_one : (digest : List ℕ) (past : List (List ℕ)) → IsInStep digest past journal_old old → IsServed one effect_is
+      journal_old journal_new old new → HasNextLogged digest setup past one journal_old journal_new new
+  logged_one digest past in_step (inl (response, inl reported, written, is, seen)) =
+      let logged : IsLogged digest past reported.text response.reply journal_new old new =
+      reported.logged digest past in_step in
       let replies : RepliesOver setup (record { texts = past; journal = journal_old }) one
-      (record { texts = kept.texts; journal = journal_new }) =
+      (record { texts = logged.texts; journal = journal_new }) =
       inl (
-        told.text,
+        reported.text,
         response.reply,
-        record { arrived = told.arrived; written = written },
-        kept_reply past told.text response.reply kept.texts kept.next,
+        record { arrived = reported.arrived; written = written },
+        logged_reply past reported.text response.reply logged.texts logged.next,
         seen,
       ) in
-      let behind = kept_behind digest setup (record { texts = past; journal = journal_old }) one
-      (record { texts = kept.texts; journal = journal_new }) replies in
-      has_next digest past in_step kept.texts kept.in_step replies behind.0 behind.1
-  kept_one digest past in_step (inl (response, inr (room, none, still, kept), written, is, seen)) =
-      has_next digest past in_step past (in_step_still digest past in_step still kept)
+      let behind = logged_behind digest setup (record { texts = past; journal = journal_old }) one
+      (record { texts = logged.texts; journal = journal_new }) replies in
+      has_next digest past in_step logged.texts logged.in_step replies behind.0 behind.1
+  logged_one digest past in_step (inl (response, inr (room, none, still, logged), written, is, seen)) =
+      has_next digest past in_step past (in_step_still digest past in_step still logged)
       (inr (
         inl (room, written_no_memory response.reply (ap (λ (r : Response). r.reply) none) written),
-        ap (λ (journal : JournalState). record { texts = past; journal = journal }) kept,
+        ap (λ (journal : JournalState). record { texts = past; journal = journal }) logged,
       )) [] (sym (append-nil past))
-  kept_one digest past in_step (inr ((unanswered, kept), silent, is)) =
-      has_next digest past in_step past (in_step_still digest past in_step unanswered.1 kept)
+  logged_one digest past in_step (inr ((unanswered, logged), silent, is)) =
+      has_next digest past in_step past (in_step_still digest past in_step unanswered.1 logged)
       (inr (
         inr (unanswered.0, silent),
-        ap (λ (journal : JournalState). record { texts = past; journal = journal }) kept,
+        ap (λ (journal : JournalState). record { texts = past; journal = journal }) logged,
       )) [] (sym (append-nil past))
 
   -- the file was only appended to
   added_one : IsServed one effect_is journal_old journal_new old new → journal_new.uncut ≡ journal_old.uncut
-  added_one (inl (response, inl told, written, is, seen)) = told.added_to
-  added_one (inl (response, inr (room, none, still, kept), written, is, seen)) =
-      ap (λ (journal : JournalState). journal.uncut) kept
-  added_one (inr ((unanswered, kept), silent, is)) = ap (λ (journal : JournalState). journal.uncut) kept
+  added_one (inl (response, inl reported, written, is, seen)) = reported.added_to
+  added_one (inl (response, inr (room, none, still, logged), written, is, seen)) =
+      ap (λ (journal : JournalState). journal.uncut) logged
+  added_one (inr ((unanswered, logged), silent, is)) = ap (λ (journal : JournalState). journal.uncut) logged
 
 -- no connection was served yet
-pub served_none : (told : Option (List ℕ)) (journal : JournalState) (house : HouseFields)
-    → AreServed [] told told journal journal house house
-served_none told journal house = record {
+pub served_none : (reported : Option (List ℕ)) (journal : JournalState) (house : HouseFields)
+    → AreServed [] reported reported journal journal house house
+served_none reported journal house = record {
   added_to = refl;
   replied =
-      λ past stands. record { end = past; walks = refl; stands = stands; tells = tells_none house.setup past told };
-  kept = λ digest past in_step. record {
+      λ past stands. record { end = past; walks = refl; stands = stands; tells = tells_none house.setup past reported };
+  logged = λ digest past in_step. record {
     end = past;
     walks = refl;
     in_step = in_step;
@@ -237,13 +240,14 @@ served_none told journal house = record {
 }
 
 -- one more was served
-pub served_more : (exchanges : List Exchange) (one : Exchange) (changed : Effect) (told_old told_mid told_new : Option
-    (List ℕ)) (journal_old journal_mid journal_new : JournalState) (old mid new : HouseFields) → IsSetup old.setup
-    → mid.setup ≡ old.setup → AreServed exchanges told_old told_mid journal_old journal_mid old mid
-    → IsServed one changed journal_mid journal_new mid new → GrowsBy told_mid told_new (round_closed changed)
-    → AreServed (exchanges ++ one ∷ []) told_old told_new journal_old journal_new old new
-served_more exchanges one changed told_old told_mid told_new journal_old journal_mid journal_new old mid new limits same
-    before served tells = record {
+pub served_more : (exchanges : List Exchange) (one : Exchange) (changed : Effect)
+    (rounds_old rounds_mid rounds_new : Option (List ℕ)) (journal_old journal_mid journal_new : JournalState)
+    (old mid new : HouseFields) → IsSetup old.setup → mid.setup ≡ old.setup
+    → AreServed exchanges rounds_old rounds_mid journal_old journal_mid old mid
+    → IsServed one changed journal_mid journal_new mid new → GrowsBy rounds_mid rounds_new (round_closed changed)
+    → AreServed (exchanges ++ one ∷ []) rounds_old rounds_new journal_old journal_new old new
+served_more exchanges one changed rounds_old rounds_mid rounds_new journal_old journal_mid journal_new old mid new
+    limits same before served tells = record {
       added_to = added_one one changed journal_mid journal_new mid new old.setup limits same served ∙ before.added_to;
       replied = λ past stands.
           let so_far = before.replied past stands in
@@ -253,12 +257,12 @@ served_more exchanges one changed told_old told_mid told_new journal_old journal
             end = next.next;
             walks = walks_on (RepliesTo old.setup) past exchanges so_far.end one next.next so_far.walks next.replies;
             stands = next.stands;
-            tells = tells_on old.setup past so_far.end next.next changed told_old told_mid told_new
+            tells = tells_on old.setup past so_far.end next.next changed rounds_old rounds_mid rounds_new
                 so_far.tells next.counts tells;
           };
-      kept = λ digest past in_step.
-          let so_far = before.kept digest past in_step in
-          let next = kept_one one changed journal_mid journal_new mid new old.setup limits same digest so_far.end
+      logged = λ digest past in_step.
+          let so_far = before.logged digest past in_step in
+          let next = logged_one one changed journal_mid journal_new mid new old.setup limits same digest so_far.end
           so_far.in_step served in
           let first : LoggedTexts = record { texts = past; journal = journal_old } in
           let last : LoggedTexts = record { texts = next.next; journal = journal_new } in

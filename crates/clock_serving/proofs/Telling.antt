@@ -10,7 +10,7 @@ use Rattle.clock_closing.proofs.Closings.{IsClosing, closing_passed}
 use Rattle.clock_closing.specs.declared.closed_round.ClosedRound.{ClosedRound}
 use Rattle.clock_closing.specs.declared.fault.CloseFault.{CloseFault}
 use Rattle.clock_house.specs.Command.{Command, put, close, other}
-use Rattle.clock_house.specs.History.{after_closing, after_command, closing_of, history, standing}
+use Rattle.clock_house.specs.History.{after_closing, after_command, closing_of, history, public_state}
 use Rattle.clock_house.specs.House.{put_fault_in}
 use Rattle.clock_house.specs.declared.fault.PutFault.{PutFault}
 use Rattle.clock_house.specs.inside.OpenRounds.{open_round}
@@ -42,10 +42,10 @@ counts_closing setup commands round increments ties (Ok closed) is =
     let auction = history setup commands in
     let passed : IsClosing (public_setup setup) (open_round setup auction) round increments ties closed =
     closing_passed (public_setup setup) (open_round setup auction) round increments ties closed is in
-    let number : (standing setup.products auction.closed).round ≡ suc (length auction.closed) =
+    let number : (public_state setup.products auction.closed).round ≡ suc (length auction.closed) =
     round-closed setup auction.closed (numbered setup commands) passed.going in
-    let same : (round == (standing setup.products auction.closed).round) ≡ true = passed.current in
-    let current : round ≡ (standing setup.products auction.closed).round = grind (arith, same) in
+    let same : (round == (public_state setup.products auction.closed).round) ≡ true = passed.current in
+    let current : round ≡ (public_state setup.products auction.closed).round = grind (arith, same) in
     (omega (arith, current, number), omega arith)
 counts_closing setup commands round increments ties (Err fault) is = refl
 
@@ -97,28 +97,28 @@ rounds_on (Closing number) first before after more counts =
 -- ---- the reported rounds
 
 -- none was closed yet
-pub tells_none : (setup : SetupFields) (past : List (List ℕ)) (told : Option (List ℕ))
-    → ReportsClosings setup past past told told
-tells_none setup past told =
+pub tells_none : (setup : SetupFields) (past : List (List ℕ)) (reported : Option (List ℕ))
+    → ReportsClosings setup past past reported reported
+tells_none setup past reported =
     let none : 0 ≡ closed_by setup past - closed_by setup past = omega arith in
     record {
       more = omega arith;
-      told = subst
-          (λ (count : ℕ). GrowsBy told told (range_with_len (closed_by setup past + 1) count)) none (grown_none told);
+      reported = subst (λ (count : ℕ). GrowsBy reported reported (range_with_len (closed_by setup past + 1) count)) none
+          (grown_none reported);
     }
 
 -- one more connection
 pub tells_on : (setup : SetupFields) (past end next : List (List ℕ)) (one : Effect)
-    (told_old told_mid told_new : Option (List ℕ)) → ReportsClosings setup past end told_old told_mid
-    → CountsOn one (closed_by setup end) (closed_by setup next) → GrowsBy told_mid told_new (round_closed one)
-    → ReportsClosings setup past next told_old told_new
-tells_on setup past end next one told_old told_mid told_new before counts here =
+    (rounds_old rounds_mid rounds_new : Option (List ℕ)) → ReportsClosings setup past end rounds_old rounds_mid
+    → CountsOn one (closed_by setup end) (closed_by setup next) → GrowsBy rounds_mid rounds_new (round_closed one)
+    → ReportsClosings setup past next rounds_old rounds_new
+tells_on setup past end next one rounds_old rounds_mid rounds_new before counts here =
     let after : closed_by setup end ≤ closed_by setup next =
     counts_more one (closed_by setup end) (closed_by setup next) counts in
     record {
       more = omega (arith, before.more, after);
-      told = subst (λ (rounds : List ℕ). GrowsBy told_old told_new rounds)
+      reported = subst (λ (rounds : List ℕ). GrowsBy rounds_old rounds_new rounds)
           (rounds_on one (closed_by setup past) (closed_by setup end) (closed_by setup next) before.more counts)
-          (grown_more told_old told_mid told_new (rounds_between (closed_by setup past) (closed_by setup end))
-          (round_closed one) before.told here);
+          (grown_more rounds_old rounds_mid rounds_new (rounds_between (closed_by setup past) (closed_by setup end))
+          (round_closed one) before.reported here);
     }

@@ -2,7 +2,7 @@
 use Rattle.std.proofs.Common.{◌≡◌, inl, inr, ℕ, Bool, true, false, List, [], ◌∷◌, ◌++◌, map, Option, Some, None}
 use Rattle.std.proofs.Common.{refl, sym, ap, ◌∙◌, subst, append_assoc, append-nil}
 use Rattle.clock_terms.specs.Limits.{SetupFields}
-use Rattle.clock_device.specs.Told.{SinkReport, SourceReport}
+use Rattle.clock_device.specs.Reports.{SinkReport, SourceReport}
 use Rattle.std.proofs.lemmas.List.{map-append}
 use Rattle.clock_front.specs.Effects.{effect}
 use Rattle.clock_journal.specs.Reading.{onto}
@@ -52,7 +52,7 @@ pub came_one : (first mid last : Option (List (List ℕ))) (offer : Offer) (one 
     (offer.source.left ∷ []) → last ≡ mid → offer.source ≡ one.reading.before → Came first last (bytes_given (one ∷ []))
 came_one first mid last offer one came still from =
     subst (λ (left : Option (List (List ℕ))). Came first left (one.reading.before.left ∷ [])) (sym still)
-    (subst (λ (told : SourceReport). Came first mid (told.left ∷ [])) from came)
+    (subst (λ (report : SourceReport). Came first mid (report.left ∷ [])) from came)
 
 -- one more connection
 pub walks_on : {A : Type 0} (step : A → Exchange → A → Type 0) (past : A) (exchanges : List Exchange) (end : A)
@@ -64,28 +64,29 @@ walks_on step past (first ∷ others) end one next walks steps =
     (walks.0, walks.1, walks_on step walks.0 others end one next walks.2 steps)
 
 -- the logged texts are unchanged, and more come after them
-kept_if_behind : (changes : Bool) (past : List (List ℕ)) (text : List ℕ)
+logged_if_behind : (changes : Bool) (past : List (List ℕ)) (text : List ℕ)
     → (more : List (List ℕ)) × (logged_when changes past text ≡ past ++ more)
-kept_if_behind true past text = (text ∷ [], refl)
-kept_if_behind false past text = ([], sym (append-nil past))
+logged_if_behind true past text = (text ∷ [], refl)
+logged_if_behind false past text = ([], sym (append-nil past))
 
-pub kept_behind : (digest : List ℕ) (setup : SetupFields) (before : LoggedTexts) (one : Exchange) (after : LoggedTexts)
-    → RepliesOver setup before one after → (more : List (List ℕ)) × (after.texts ≡ before.texts ++ more)
-kept_behind digest setup before one after (inl (text, answer, replied, inl (right, is), seen)) =
-    let behind = kept_if_behind (is_change (effect setup (onto before.texts []) text)) before.texts text in
+pub logged_behind : (digest : List ℕ) (setup : SetupFields) (before : LoggedTexts) (one : Exchange)
+    (after : LoggedTexts) → RepliesOver setup before one after
+    → (more : List (List ℕ)) × (after.texts ≡ before.texts ++ more)
+logged_behind digest setup before one after (inl (text, answer, replied, inl (right, is), seen)) =
+    let behind = logged_if_behind (is_change (effect setup (onto before.texts []) text)) before.texts text in
     (behind.0, is ∙ behind.1)
-kept_behind digest setup before one after (inl (text, answer, replied, inr (struck, is), seen)) =
+logged_behind digest setup before one after (inl (text, answer, replied, inr (left_out, is), seen)) =
     ([], is ∙ sym (append-nil before.texts))
-kept_behind digest setup before one after (inr (alone, is)) =
-    ([], ap (λ (kept : LoggedTexts). kept.texts) is ∙ sym (append-nil before.texts))
+logged_behind digest setup before one after (inr (alone, is)) =
+    ([], ap (λ (logged : LoggedTexts). logged.texts) is ∙ sym (append-nil before.texts))
 
 pub all_behind : (digest : List ℕ) (setup : SetupFields) (past : LoggedTexts) (exchanges : List Exchange)
     (end : LoggedTexts) → Walks (LogsText digest setup) past exchanges end
     → (more : List (List ℕ)) × (end.texts ≡ past.texts ++ more)
 all_behind digest setup past [] end walks =
-    ([], ap (λ (kept : LoggedTexts). kept.texts) walks ∙ sym (append-nil past.texts))
+    ([], ap (λ (logged : LoggedTexts). logged.texts) walks ∙ sym (append-nil past.texts))
 all_behind digest setup past (one ∷ others) end walks =
-    let here = kept_behind digest setup past one walks.0 walks.1.replies in
+    let here = logged_behind digest setup past one walks.0 walks.1.replies in
     let later = all_behind digest setup walks.0 others end walks.2 in (
       here.0 ++ later.0,
       later.1 ∙ ap (λ (texts : List (List ℕ)). texts ++ later.0) here.1 ∙ append_assoc past.texts here.0 later.0,
@@ -94,12 +95,13 @@ all_behind digest setup past (one ∷ others) end walks =
 -- the open connection was closed
 pub closed_one : (first mid last : Option (List Exchange)) (offer : Offer) (one : Exchange) → mid ≡ first
     → offer.source ≡ one.reading.before → offer.sink ≡ one.writing.before → Closes mid last
-    (record one.reading { before = offer.source }) (record one.writing { before = offer.sink }) one.kept
-    → HasClosedConnections first last (record { reading = one.reading; writing = one.writing; kept = one.kept } ∷ [])
+    (record one.reading { before = offer.source }) (record one.writing { before = offer.sink }) one.logged
+    → HasClosedConnections first last
+    (record { reading = one.reading; writing = one.writing; logged = one.logged } ∷ [])
 closed_one first mid last offer one same from to closes =
     let reading = one.reading in
     let writing = one.writing in
-    subst (λ (closed : Option (List Exchange)). Closes closed last reading writing one.kept) same
-    (subst (λ (told : SourceReport). Closes mid last (record reading { before = told }) writing one.kept) from
-    (subst (λ (told : SinkReport). Closes mid last (record reading { before = offer.source })
-    (record writing { before = told }) one.kept) to closes))
+    subst (λ (closed : Option (List Exchange)). Closes closed last reading writing one.logged) same
+    (subst (λ (report : SourceReport). Closes mid last (record reading { before = report }) writing one.logged) from
+    (subst (λ (report : SinkReport). Closes mid last (record reading { before = offer.source })
+    (record writing { before = report }) one.logged) to closes))

@@ -6,11 +6,11 @@
 --     Came old new given      connections with these bytes were accepted, in order; the others are
 --         still to come
 --     bytes_given exchanges      what the source of each had before it was read
---     Closes old new reading writing kept      one connection was closed
---     IsSeen seen journal      this was the journal, if contracts see it
+--     Closes old new reading writing logged      one connection was closed
+--     IsShownJournal seen journal      this was the journal, if contracts see it
 use Rattle.std.specs.Prelude.{◌≡◌, ◌++◌, ℕ, List, [], ◌∷◌, map, Option, Some, None}
-use Rattle.clock_device.specs.Told.{Reading, SinkReport, SourceReport, Writing}
-use Rattle.clock_journal.specs.Kept.{JournalState}
+use Rattle.clock_device.specs.Reports.{Reading, SinkReport, SourceReport, Writing}
+use Rattle.clock_journal.specs.Logged.{JournalState}
 use Rattle.clock_keeping.specs.Keeping.{GrowsBy}
 
 -- what contracts see of its source and its sink
@@ -23,7 +23,7 @@ pub record Offer : Type 0 where
 pub record Exchange : Type 0 where
   pub reading : Reading
   pub writing : Writing
-  pub kept : Option JournalState
+  pub logged : Option JournalState
 
 -- exactly these connections were closed, in order
 abbrev pub HasClosedConnections : Option (List Exchange) → Option (List Exchange)
@@ -43,10 +43,10 @@ bytes_given exchanges = map (λ one. one.reading.before.left) exchanges
 -- one connection was closed
 abbrev pub Closes : Option (List Exchange) → Option (List Exchange) → Reading → Writing
     → Option JournalState → Type 0
-Closes old new reading writing kept =
-    HasClosedConnections old new (record { reading = reading; writing = writing; kept = kept } ∷ [])
+Closes old new reading writing logged = HasClosedConnections old new
+    (record { reading = reading; writing = writing; logged = logged } ∷ [])
 
 -- the journal that was shown, if one was, is this one
-abbrev pub IsSeen : Option JournalState → JournalState → Type 0
-IsSeen None journal = Unit {0}
-IsSeen (Some seen) journal = seen ≡ journal
+abbrev pub IsShownJournal : Option JournalState → JournalState → Type 0
+IsShownJournal None journal = Unit {0}
+IsShownJournal (Some seen) journal = seen ≡ journal

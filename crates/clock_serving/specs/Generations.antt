@@ -29,7 +29,7 @@ use Rattle.clock_terms.specs.Limits.{SetupFields}
 use Rattle.clock_device.specs.Writings.{WritesNothing}
 use Rattle.clock_journal.specs.Crash.{LeavesJournal}
 use Rattle.clock_journal.specs.Disks.{CouldBeLeft, LeaveOnly, MayBeLeft, Moment}
-use Rattle.clock_journal.specs.Kept.{JournalState}
+use Rattle.clock_journal.specs.Logged.{JournalState}
 use Rattle.clock_keeping.specs.Accepted.{IsNotRefused, IsOwnFile}
 use Rattle.clock_keeping.specs.Starts.{IsLeftBy}
 use Rattle.clock_keeping.specs.declared.taking.ResumeFault.{ResumeFault}

@@ -20,18 +20,18 @@ use Rattle.std.specs.Prelude.{Option, Some, Result, Ok, Err}
 use Rattle.clock_terms.specs.Limits.{SetupFields}
 use Rattle.clock_house.specs.House.{HouseFields}
 use Rattle.clock_http.specs.Replies.{Answer}
-use Rattle.clock_device.specs.Told.{Writing}
+use Rattle.clock_device.specs.Reports.{Writing}
 use Rattle.clock_device.specs.Writings.{WritesWhole, WritesFront, WritesNothing}
-use Rattle.clock_connections.specs.Arrivals.{HasArrived, HasNoRoom, IsNotRead}
+use Rattle.clock_connections.specs.Arrivals.{HasArrived, HasNoMemory, IsNotRead}
 use Rattle.clock_front.specs.FixedReplies.{no_memory}
 use Rattle.clock_front.specs.Fronts.{IsOutOfMemoryReply, StandsForTexts}
 use Rattle.clock_front.specs.Headline.{IsRight}
 use Rattle.clock_journal.specs.Crash.{LeavesTexts}
 use Rattle.clock_journal.specs.Disks.{MayBeLeft}
-use Rattle.clock_journal.specs.Kept.{HasTexts, JournalState, file_of}
+use Rattle.clock_journal.specs.Logged.{HasTexts, JournalState, file_of}
 use Rattle.clock_journal.specs.Reading.{onto}
 use Rattle.clock_keeping.specs.Keeping.{IsAccepted, IsInStep, logged_after}
-use Rattle.clock_serving.specs.Exchanges.{Exchange, IsSeen}
+use Rattle.clock_serving.specs.Exchanges.{Exchange, IsShownJournal}
 use Rattle.clock_serving.specs.Closings.{ReportsClosings}
 use Rattle.clock_serving.specs.declared.serving.ServeFault.{ServeFault}
 use Rattle.clock_serving.specs.declared.serving.ServeFault.TheVariants as fault
@@ -49,7 +49,7 @@ pub record IsReplied (one : Exchange) (text : List ℕ) (answer : Answer) : Type
 -- written
 abbrev pub EndsUnanswered : Exchange → Type 0
 EndsUnanswered one =
-    (HasNoRoom one.reading × WritesReply one.writing no_memory)
+    (HasNoMemory one.reading × WritesReply one.writing no_memory)
     ⊎ (IsNotRead one.reading × WritesNothing one.writing)
 
 -- the step leads from `past` to `end`, connection by connection, in order
@@ -83,10 +83,9 @@ pub record LoggedTexts : Type 0 where
 -- the request that was read got this reply, whose first byte was written when this was the journal;
 -- or none could be read, and nothing changed
 abbrev pub RepliesOver : SetupFields → LoggedTexts → Exchange → LoggedTexts → Type 0
-RepliesOver setup before one after =
-    ((text : List ℕ) × (answer : Answer) × IsReplied one text answer
-    × IsLoggedReply setup before.texts text answer after.texts × IsSeen one.kept after.journal)
-    ⊎ (EndsUnanswered one × (after ≡ before))
+RepliesOver setup before one after = ((text : List ℕ) × (answer : Answer)
+    × IsReplied one text answer × IsLoggedReply setup before.texts text answer after.texts
+    × IsShownJournal one.logged after.journal) ⊎ (EndsUnanswered one × (after ≡ before))
 
 -- the reply is right, and then all logged texts are on the disk. A crash since the connection
 -- before leaves the texts logged before, and at most the one logged now
@@ -100,11 +99,11 @@ pub record LogsText (digest : List ℕ) (setup : SetupFields) (before : LoggedTe
 -- what the connections made of the texts that the front stands for; each round that was closed was
 -- reported
 pub record HasReplied (past : List (List ℕ)) (exchanges : List Exchange)
-    (told_old told_new : Option (List ℕ)) (old new : HouseFields) : Type 0 where
+    (rounds_old rounds_new : Option (List ℕ)) (old new : HouseFields) : Type 0 where
   pub end : List (List ℕ)
   pub walks : Walks (RepliesTo old.setup) past exchanges end
   pub stands : StandsForTexts end new
-  pub tells : ReportsClosings old.setup past end told_old told_new
+  pub tells : ReportsClosings old.setup past end rounds_old rounds_new
 
 -- what each connection made of the logged texts was on the disk, and still is; a crash at any
 -- moment since leaves a prefix of `end`, with all of `past`
@@ -118,12 +117,12 @@ pub record HasLogged (digest : List ℕ) (past : List (List ℕ)) (exchanges : L
       → LeavesTexts digest left end (length past)
 
 -- these connections were served in order, and the file was only appended to
-pub record AreServed (exchanges : List Exchange) (told_old told_new : Option (List ℕ))
+pub record AreServed (exchanges : List Exchange) (rounds_old rounds_new : Option (List ℕ))
     (journal_old journal_new : JournalState) (old new : HouseFields) : Type 0 where
   pub added_to : journal_new.uncut ≡ journal_old.uncut
   pub replied : (past : List (List ℕ)) → StandsForTexts past old
-      → HasReplied past exchanges told_old told_new old new
-  pub kept : (digest : List ℕ) (past : List (List ℕ)) → IsInStep digest past journal_old old
+      → HasReplied past exchanges rounds_old rounds_new old new
+  pub logged : (digest : List ℕ) (past : List (List ℕ)) → IsInStep digest past journal_old old
       → HasLogged digest past exchanges journal_old journal_new old new
 
 -- all texts with a reply are on the disk. A crash leaves these, and at most the one that could not
@@ -141,16 +140,17 @@ pub record HasLoggedReplied (digest : List ℕ) (past : List (List ℕ)) (served
 
 -- after these, the disk failed to log the last text: it got no reply, and no round that it closed
 -- was reported
-pub record EndsUnlogged (served : List Exchange) (last : Exchange) (told_old told_new : Option
+pub record EndsUnlogged (served : List Exchange) (last : Exchange) (rounds_old rounds_new : Option
     (List ℕ)) (journal_old journal_new : JournalState) (old : HouseFields) : Type 0 where
   pub text : List ℕ
   pub arrived : HasArrived last.reading text
   pub failed : journal_new.has_failed ≡ true
   pub silent : WritesNothing last.writing
   pub added_to : journal_new.uncut ≡ journal_old.uncut
-  pub replied : (past : List (List ℕ)) → StandsForTexts past old → (end : List (List ℕ)) × Walks
-      (RepliesTo old.setup) past served end × ReportsClosings old.setup past end told_old told_new
-  pub kept : (digest : List ℕ) (past : List (List ℕ)) → IsInStep digest past journal_old old
+  pub replied : (past : List (List ℕ)) → StandsForTexts past old
+      → (end : List (List ℕ)) × Walks (RepliesTo old.setup) past served end
+      × ReportsClosings old.setup past end rounds_old rounds_new
+  pub logged : (digest : List ℕ) (past : List (List ℕ)) → IsInStep digest past journal_old old
       → HasLoggedReplied digest past served text journal_old journal_new old
 
 -- a connection could not be accepted
@@ -163,11 +163,13 @@ is_accept_fault (Err fault.Journal) = false
 -- could not be logged
 abbrev pub EndsServing : {U : Type 0} → ℕ → List Exchange → Option (List ℕ) → Option (List ℕ)
     → JournalState → JournalState → HouseFields → HouseFields → Result U ServeFault → Type 0
-EndsServing count exchanges told_old told_new journal_old journal_new old new (Ok done) = (length
-    exchanges ≡ count) × AreServed exchanges told_old told_new journal_old journal_new old new
-EndsServing count exchanges told_old told_new journal_old journal_new old new (Err fault.Accept) =
-    (length exchanges < count)
-    × AreServed exchanges told_old told_new journal_old journal_new old new
-EndsServing count exchanges told_old told_new journal_old journal_new old new (Err fault.Journal) =
-    (served : List Exchange) × (last : Exchange) × (exchanges ≡ served ++ last ∷ []) × (length
-    exchanges ≤ count) × EndsUnlogged served last told_old told_new journal_old journal_new old
+EndsServing count exchanges rounds_old rounds_new journal_old journal_new old new (Ok done) =
+    (length exchanges ≡ count)
+    × AreServed exchanges rounds_old rounds_new journal_old journal_new old new
+EndsServing count exchanges rounds_old rounds_new journal_old journal_new old new
+    (Err fault.Accept) = (length exchanges < count)
+    × AreServed exchanges rounds_old rounds_new journal_old journal_new old new
+EndsServing count exchanges rounds_old rounds_new journal_old journal_new old new
+    (Err fault.Journal) = (served : List Exchange) × (last : Exchange)
+    × (exchanges ≡ served ++ last ∷ []) × (length exchanges ≤ count)
+    × EndsUnlogged served last rounds_old rounds_new journal_old journal_new old

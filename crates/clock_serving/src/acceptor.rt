@@ -1,6 +1,6 @@
 ghost use Rattle.std.specs.Prelude.{◌≡◌, ◌||◌, ◌∷◌, [], ℕ, Bool, List, Option, IfOk, OnOk, OnErr};
 ghost use Rattle.std.specs.Prelude.{is_err, not, true, false, None};
-ghost use Rattle.clock_device.specs.Told.{IsUnread, IsUnused, unread, unused};
+ghost use Rattle.clock_device.specs.Reports.{IsUnread, IsUnused, unread, unused};
 ghost use Rattle.clock_serving.specs.Exchanges.{Came, Closes, Exchange, Offer};
 
 use crate::outlet::Outlet;
@@ -43,10 +43,10 @@ pub trait Acceptor {
         requires { is_open self.old ≡ false }
         ensures open { is_open self.new ≡ not (is_err result) }
         ensures source { IfOk result
-            (λ one. (offer self.new).source ≡ Self.Reader.told one.source) }
-        ensures sink { IfOk result (λ one. (offer self.new).sink ≡ Self.Writer.told one.sink) }
-        ensures unread { IfOk result (λ one. IsUnread (Self.Reader.told one.source)) }
-        ensures unused { IfOk result (λ one. IsUnused (Self.Writer.told one.sink)) }
+            (λ one. (offer self.new).source ≡ Self.Reader.report one.source) }
+        ensures sink { IfOk result (λ one. (offer self.new).sink ≡ Self.Writer.report one.sink) }
+        ensures unread { IfOk result (λ one. IsUnread (Self.Reader.report one.source)) }
+        ensures unused { IfOk result (λ one. IsUnused (Self.Writer.report one.sink)) }
         ensures came { OnOk result
             (Came (coming self.old) (coming self.new) ((offer self.new).source.left ∷ [])) }
         ensures still { OnErr result (coming self.new ≡ coming self.old) }
@@ -61,10 +61,10 @@ pub trait Acceptor {
         ensures failed { has_failed self.new ≡ has_failed self.old }
         ensures closed { Closes (closed self.old) (closed self.new) (record {
           before = (offer self.old).source;
-          after = Self.Reader.told connection.source;
+          after = Self.Reader.report connection.source;
         })
-            (record { before = (offer self.old).sink; after = Self.Writer.told connection.sink })
-            (Self.Writer.kept connection.sink) };
+            (record { before = (offer self.old).sink; after = Self.Writer.report connection.sink })
+            (Self.Writer.logged connection.sink) };
 }
 
 /// The connections of a TCP port. In contracts, it shows no bytes, since sockets show none.

@@ -1,7 +1,7 @@
 ghost use Rattle.std.specs.Prelude.{◌≡◌, ◌||◌, Option, is_err, None};
-ghost use Rattle.clock_device.specs.{Streams.{WritesText}, Told.{IsUnused, SinkReport}};
-ghost use Rattle.clock_journal.specs.Kept.{JournalState};
-ghost use Rattle.clock_serving.specs.Exchanges.{IsSeen};
+ghost use Rattle.clock_device.specs.{Streams.{WritesText}, Reports.{IsUnused, SinkReport}};
+ghost use Rattle.clock_journal.specs.Logged.{JournalState};
+ghost use Rattle.clock_serving.specs.Exchanges.{IsShownJournal};
 
 use clock_device::{Failed, Sink, write_all};
 use clock_keeping::RequestLog;
@@ -11,27 +11,28 @@ use clock_keeping::RequestLog;
 /// In contracts, an outlet shows what was written, and the journal when the first byte was written,
 /// if it shows that.
 pub trait Outlet {
-    ghost told: { Self → SinkReport };
+    ghost report: { Self → SinkReport };
 
-    ghost kept: { Self → Option JournalState };
+    ghost logged: { Self → Option JournalState };
 
     /// Writes all of a reply, or a prefix of it if a write fails. `log` has what is logged at
     /// that time.
     ///
     /// Requires that nothing was written yet.
     fn reply<K: RequestLog>(&mut self, log: &K, bytes: &[u8]) -> Result<(), Failed>
-        requires unused { IsUnused (told self.old) }
-        ensures bytes { WritesText (told self.old).taken (told self.new).taken bytes.now result }
-        ensures failed { (told self.new).has_failed
-            ≡ ((told self.old).has_failed || is_err result) }
-        ensures kept { IsSeen (kept self.new) (K.journal log.now) };
+        requires unused { IsUnused (report self.old) }
+        ensures bytes { WritesText (report self.old).taken
+            (report self.new).taken bytes.now result }
+        ensures failed { (report self.new).has_failed
+            ≡ ((report self.old).has_failed || is_err result) }
+        ensures logged { IsShownJournal (logged self.new) (K.journal log.now) };
 }
 
 /// Any sink is an outlet, and does not show the journal.
 impl<W: Sink> Outlet for W {
-    ghost told = { λ sink. W.told sink };
+    ghost report = { λ sink. W.report sink };
 
-    ghost kept = { λ sink. None };
+    ghost logged = { λ sink. None };
 
     fn reply<K: RequestLog>(&mut self, _keeper: &K, bytes: &[u8]) -> Result<(), Failed> {
         write_all(self, bytes)

@@ -1,5 +1,5 @@
 ghost use Rattle.std.specs.Prelude.{◌≡◌, List, OnOk, None, false};
-ghost use Rattle.clock_device.specs.Told.{IsUnread, IsUnused};
+ghost use Rattle.clock_device.specs.Reports.{IsUnread, IsUnused};
 ghost use Rattle.clock_keeping.specs.Keeping.{no_journal};
 ghost use Rattle.clock_serving.specs.Exchanges.{Came, Exchange, HasClosedConnections, bytes_given};
 ghost use Rattle.clock_serving.specs.{Laws.{ReportedBytes}, Serving.{EndsServing, is_accept_fault}};
@@ -38,16 +38,16 @@ fn serve_one<P: Processor, K: RequestLog, R: Source, W: Outlet>(
     source: &mut R,
     sink: &mut W,
 ) -> Result<Effect, Failed>
-    requires unread { IsUnread (R.told source.old) }
-    requires unused { IsUnused (W.told sink.old) }
+    requires unread { IsUnread (R.report source.old) }
+    requires unused { IsUnused (W.report sink.old) }
     requires unfailed { (K.journal log.old).has_failed ≡ false }
     ensures served { EndsTaken (record {
-      reading = record { before = R.told source.old; after = R.told source.new };
-      writing = record { before = W.told sink.old; after = W.told sink.new };
-      kept = W.kept sink.new;
+      reading = record { before = R.report source.old; after = R.report source.new };
+      writing = record { before = W.report sink.old; after = W.report sink.new };
+      logged = W.logged sink.new;
     }) (K.journal log.old) (K.journal log.new) front.old front.new result }
     ensures unfailed { OnOk result ((K.journal log.new).has_failed ≡ false) }
-    ensures told { K.told log.new ≡ K.told log.old }
+    ensures rounds { K.rounds log.new ≡ K.rounds log.old }
     ensures setup { front.new.setup ≡ front.old.setup }
 {
     let response = match read_request(alloc, source) {
@@ -74,7 +74,7 @@ fn serve_next<P: Processor, K: RequestLog, C: Acceptor>(
     requires closed { C.is_open connections.old ≡ false }
     requires taken { C.has_failed connections.old ≡ false }
     ensures ends { EndsOne (C.coming connections.old) (C.coming connections.new)
-        (C.closed connections.old) (C.closed connections.new) (K.told log.old) (K.told log.new)
+        (C.closed connections.old) (C.closed connections.new) (K.rounds log.old) (K.rounds log.new)
         (K.journal log.old) (K.journal log.new) front.old front.new result }
     ensures unfailed { OnOk result ((K.journal log.new).has_failed ≡ false) }
     ensures closed { C.is_open connections.new ≡ false }
@@ -94,8 +94,8 @@ fn tell_closing<K: RequestLog>(
     log: &mut K,
     served: Result<Effect, Failed>,
 ) -> Result<(), ServeFault>
-    ensures kept { K.journal log.new ≡ K.journal log.old }
-    ensures told { IsReportedAs (K.told log.old) (K.told log.new) served result }
+    ensures logged { K.journal log.new ≡ K.journal log.old }
+    ensures rounds { IsReportedAs (K.rounds log.old) (K.rounds log.new) served result }
 {
     match served {
         Ok(Effect::Closing(round)) => {
@@ -128,7 +128,7 @@ pub fn serve_all<P: Processor, K: RequestLog, C: Acceptor>(
     ensures served { (exchanges : List Exchange)
         × HasClosedConnections (C.closed connections.old) (C.closed connections.new) exchanges
         × Came (C.coming connections.old) (C.coming connections.new) (bytes_given exchanges)
-        × EndsServing count exchanges (K.told log.old) (K.told log.new) (K.journal log.old)
+        × EndsServing count exchanges (K.rounds log.old) (K.rounds log.new) (K.journal log.old)
         (K.journal log.new) front.old front.new result }
     ensures closed { C.is_open connections.new ≡ false }
     ensures taken { C.has_failed connections.new ≡ is_accept_fault result }

@@ -25,7 +25,7 @@ use Rattle.clock_terms.specs.Limits.{most_products, most_bidders, most_units, mo
 use Rattle.clock_terms.specs.Limits.{most_eligibility, least_requirement, most_requirement, least_limit, most_limit}
 use Rattle.clock_terms.proofs.WithinLaws.{both_true, within_of_test, test_of_within}
 use Rattle.clock_json.specs.Tree.{number_at}
-use Rattle.clock_setup.specs.SetupShape.{fields_of}
+use Rattle.clock_setup.specs.SetupShape.{fields_from}
 use Rattle.clock_terms.proofs.FaultLaws.{passed, failed, both_pass}
 use Rattle.clock_terms.specs.Faults.{first_fault, in_turn}
 use Rattle.clock_setup.specs.SetupDocument.{product_checks, bidder_checks, setup_checks, has_distinct_names}
@@ -275,7 +275,7 @@ checks_of_setup setup h =
 
 -- a document of the right shape whose set-up is within the limits means this set-up
 pub accepted : (value : Data) (setup : SetupFields) → number_at (codes "version") value ≡ Some setup.version
-    → fields_of value ≡ Some setup → IsSetup setup → setup_of value ≡ Ok setup
+    → fields_from value ≡ Some setup → IsSetup setup → setup_of value ≡ Ok setup
 unfolding setup_of
 accepted value setup version shape within =
     rw (version, test_of_within 1 latest_version setup.version within.version, shape, checks_of_setup setup within) refl

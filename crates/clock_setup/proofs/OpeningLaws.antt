@@ -22,7 +22,7 @@ use Rattle.clock_terms.specs.Faults.{first_fault, in_turn}
 use Rattle.clock_terms.specs.Limits.{SetupFields, IsProduct, is_within, cap_of, no_product, least_increment}
 use Rattle.clock_terms.specs.Limits.{most_increment}
 use Rattle.clock_setup.specs.SetupDocument.{setup_of}
-use Rattle.clock_setup.specs.OpeningShape.{OpeningParts, parts_of}
+use Rattle.clock_setup.specs.OpeningShape.{OpeningParts, opening_parts}
 use Rattle.clock_setup.specs.OpeningDocument.{has_counts, demand_checks, row_checks, opening_checks, opening_with}
 use Rattle.clock_setup.specs.OpeningDocument.{opening_of}
 use Rattle.clock_terms.proofs.FaultLaws.{passed, failed, turn_passed, turn_failed, turn_none}
@@ -46,9 +46,9 @@ pub row_line : {slice : List Bidder} (bidders : List Bidder) (rows : List (List 
     → ((bidder, row) ≡ get_or (zip bidders rows) number (bidder, row)) × (number < length (zip bidders rows))
 row_line bidders rows number bidder row same within count first second =
     let here : number < length bidders = omega (arith, within, ap length same) in
-    let held : number < length rows = omega (arith, here, count) in (
-      zip_at bidders rows number bidder row here held (first ∙ ap (λ list. get_or list number bidder) same)
-          (second ∙ get_or_default rows number [] row held),
+    let nested : number < length rows = omega (arith, here, count) in (
+      zip_at bidders rows number bidder row here nested (first ∙ ap (λ list. get_or list number bidder) same)
+          (second ∙ get_or_default rows number [] row nested),
       omega (arith, length-zip bidders rows, count, here),
     )
 
@@ -108,9 +108,9 @@ no_demands (product ∷ products) = refl
 pub activity-at : (products : List Product) (row : List ℕ) (place : ℕ) (one : Product) → place < length row
     → length row ≡ length products → activity (drop place products) (drop place row) ≡ (get_or products place one).units
     * get_or row place 0 + activity (drop (place + 1) products) (drop (place + 1) row)
-activity-at products row place one held each =
-    ap (λ list. activity list (drop place row)) (drop_more products place one (omega (arith, held, each)))
-    ∙ ap (λ list. activity (get_or products place one ∷ drop (place + 1) products) list) (drop_more row place 0 held)
+activity-at products row place one nested each =
+    ap (λ list. activity list (drop place row)) (drop_more products place one (omega (arith, nested, each)))
+    ∙ ap (λ list. activity (get_or products place one ∷ drop (place + 1) products) list) (drop_more row place 0 nested)
     ∙ sum_by-cons (λ (line : Product × ℕ). line.0.units * line.1) (get_or products place one, get_or row place 0)
     (zip (drop (place + 1) products) (drop (place + 1) row))
 
@@ -124,8 +124,8 @@ activity-end products row place past =
 pub units_small : (products : List Product) (row : List ℕ) (place : ℕ) (one : Product) → place < length row
     → length row ≡ length products → All IsProduct products → get_or row place 0 ≤ (get_or products place one).cap
     → (get_or products place one).units * get_or row place 0 ≤ 1000000000
-units_small products row place one held each limits within =
-    let good : IsProduct (get_or products place one) = limits place one (omega (arith, held, each)) in
+units_small products row place one nested each limits within =
+    let good : IsProduct (get_or products place one) = limits place one (omega (arith, nested, each)) in
     let demand : get_or row place 0 ≤ 1000 = omega (arith, within, good.cap.1, good.supply.1) in
     let units : (get_or products place one).units ≤ 1000000 = omega (arith, good.units.1) in
     mul-le _ _ 1000000 1000 units demand
@@ -178,13 +178,13 @@ grid_of_counts setup demands h =
     (same_of_test _ _ both.0, λ k d lt. same_of_test _ _ (each k d lt))
 
 -- a document with known parts and set-up is decided by the checks after the set-up
-pub opening_at : (value : Data) (parts : OpeningParts) (setup : SetupFields) → parts_of value ≡ Some parts
+pub opening_at : (value : Data) (parts : OpeningParts) (setup : SetupFields) → opening_parts value ≡ Some parts
     → setup_of parts.setup ≡ Ok setup → opening_of value ≡ opening_with setup parts.demands parts.increment
 unfolding opening_of
-opening_at value parts setup read held = rw (read, held) refl
+opening_at value parts setup read nested = rw (read, nested) refl
 
 -- a document of another shape has the fault `Shape`
-pub opening_shape : (value : Data) → parts_of value ≡ None → opening_of value ≡ Err Shape
+pub opening_shape : (value : Data) → opening_parts value ≡ None → opening_of value ≡ Err Shape
 unfolding opening_of
 opening_shape value none = rw none refl
 

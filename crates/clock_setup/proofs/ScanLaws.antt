@@ -9,7 +9,7 @@ use Rattle.std.proofs.lemmas.List.Elements.{All-nil, All-head, All-tail}
 use Rattle.std.specs.Str.{IsUtf8}
 use Rattle.serde_json.specs.Data.{Data, object}
 use Rattle.serde_json.specs.Read.{read}
-use Rattle.clock_json.specs.Reading.{items_of, members_of}
+use Rattle.clock_json.specs.Reading.{items_in, found_members}
 use Rattle.clock_terms.specs.declared.setup.Product.{Product}
 use Rattle.clock_terms.specs.declared.setup.Bidder.{Bidder}
 use Rattle.clock_terms.specs.Limits.{SetupFields, IsWithin, IsOfFirstVersion, latest_version, first_granule}
@@ -18,7 +18,7 @@ use Rattle.clock_setup.specs.declared.fault.SetupFault.TheVariants.{NoMemory}
 use Rattle.clock_terms.specs.Faults.{first_fault, unless, IsFirstFault, IsRefusal}
 use Rattle.clock_terms.proofs.WithinLaws.{test_of_within}
 use Rattle.clock_json.specs.Tree.{each, number_at, ◌>>=◌}
-use Rattle.clock_setup.specs.SetupShape.{product_of, bidder_of, fields_of}
+use Rattle.clock_setup.specs.SetupShape.{product_of, bidder_of, fields_from}
 use Rattle.clock_setup.specs.SetupDocument.{setup_checks, setup_of, document_setup}
 use Rattle.clock_json.proofs.JsonLaws.{json_value}
 use Rattle.clock_setup.specs.SetupData.{added, product_data, products_data, bidder_data, bidders_data, setup_fields}
@@ -41,10 +41,10 @@ of_first_version so_far next products empty granules (inr same) one = granules (
 
 -- a list of items, if each item's value means the item
 pub each_of : {A : Type 0} (meaning : Data → Option A) (data_of : A → Data) (P : A → Type 0) → ((x : A) → P x
-    → meaning (data_of x) ≡ Some x) → (xs : List A) → All P xs → each meaning (items_of (map data_of xs)) ≡ Some xs
+    → meaning (data_of x) ≡ Some x) → (xs : List A) → All P xs → each meaning (items_in (map data_of xs)) ≡ Some xs
 each_of meaning data_of P means [] h = refl
 each_of meaning data_of P means (x ∷ xs) h = ap (λ o. o >>= λ first.
-    (each meaning (items_of (map data_of xs)) >>= λ rest. Some (first ∷ rest))) (means x (All-head P x xs h))
+    (each meaning (items_in (map data_of xs)) >>= λ rest. Some (first ∷ rest))) (means x (All-head P x xs h))
     ∙ ap (λ o. o >>= λ rest. Some (x ∷ rest)) (each_of meaning data_of P means xs (All-tail P x xs h))
 
 first_product : (version : ℕ) (product : Product) → (version == 1) ≡ true → product.granule ≡ first_granule
@@ -61,42 +61,42 @@ bidder_is : (bidder : Bidder) → bidder_of (bidder_data bidder) ≡ Some bidder
 unfolding bidder_of
 bidder_is bidder = refl
 
-bidders_are : (bidders : List Bidder) → each bidder_of (items_of (map bidder_data bidders)) ≡ Some bidders
+bidders_are : (bidders : List Bidder) → each bidder_of (items_in (map bidder_data bidders)) ≡ Some bidders
 bidders_are bidders = each_of bidder_of bidder_data (λ _. ⊤) (λ bidder _. bidder_is bidder) bidders (λ k d lt. tt)
 
 abbrev object_of : SetupFields → Option ℕ → Data
-object_of setup limit = object (members_of (setup_fields (Some (bidders_data setup.bidders)) limit (Some setup.operator)
-    (Some (products_data setup.version setup.products)) (Some setup.requirement) (Some setup.version)))
+object_of setup limit = object (found_members (setup_fields (Some (bidders_data setup.bidders)) limit (Some
+    setup.operator) (Some (products_data setup.version setup.products)) (Some setup.requirement) (Some setup.version)))
 
 first_setup : (setup : SetupFields) → (setup.version == 1) ≡ true → IsOfFirstVersion setup
-    → fields_of (object_of setup None) ≡ Some setup
-unfolding fields_of
+    → fields_from (object_of setup None) ≡ Some setup
+unfolding fields_from
 first_setup setup is first =
-    let products : each (product_of setup.version) (items_of (map (product_data setup.version) setup.products))
+    let products : each (product_of setup.version) (items_in (map (product_data setup.version) setup.products))
     ≡ Some setup.products =
     each_of (product_of setup.version) (product_data setup.version) (λ product. product.granule ≡ first_granule)
     (λ product granule. first_product setup.version product is granule) setup.products first.granules in
     rw (is, products, bidders_are setup.bidders, first.limit) refl
 
 later_setup : (setup : SetupFields) → (setup.version == 1) ≡ false
-    → fields_of (object_of setup (Some setup.limit)) ≡ Some setup
-unfolding fields_of
+    → fields_from (object_of setup (Some setup.limit)) ≡ Some setup
+unfolding fields_from
 later_setup setup is =
-    let products : each (product_of setup.version) (items_of (map (product_data setup.version) setup.products))
+    let products : each (product_of setup.version) (items_in (map (product_data setup.version) setup.products))
     ≡ Some setup.products = each_of (product_of setup.version) (product_data setup.version) (λ _. ⊤)
     (λ product _. later_product setup.version product is) setup.products (λ k d lt. tt) in
     rw (is, products, bidders_are setup.bidders) refl
 
 setup_at : (setup : SetupFields) (first : Bool) → (setup.version == 1) ≡ first → (first ≡ true → IsOfFirstVersion setup)
-    → fields_of (setup_data setup) ≡ Some setup
+    → fields_from (setup_data setup) ≡ Some setup
 setup_at setup true is h =
-    ap (λ b. fields_of (object_of setup (if b then None else Some setup.limit))) is ∙ first_setup setup is (h refl)
+    ap (λ b. fields_from (object_of setup (if b then None else Some setup.limit))) is ∙ first_setup setup is (h refl)
 setup_at setup false is h =
-    ap (λ b. fields_of (object_of setup (if b then None else Some setup.limit))) is ∙ later_setup setup is
+    ap (λ b. fields_from (object_of setup (if b then None else Some setup.limit))) is ∙ later_setup setup is
 
 -- the value of a set-up has the shape of this set-up
 pub setup_is : (setup : SetupFields) → (setup.version ≡ 1 → IsOfFirstVersion setup)
-    → fields_of (setup_data setup) ≡ Some setup
+    → fields_from (setup_data setup) ≡ Some setup
 setup_is setup first = setup_at setup (setup.version == 1) refl (λ is. first (eqb-true setup.version 1 is))
 
 version_in : (setup : SetupFields) (limit : Option ℕ)

@@ -11,7 +11,7 @@ use Rattle.clock_terms.specs.Limits.{SetupFields, IsOfFirstVersion, IsWithin, is
 use Rattle.clock_terms.specs.Limits.{first_limit}
 use Rattle.clock_terms.proofs.WithinLaws.{within_of_test}
 use Rattle.clock_json.specs.Tree.{number_at, text_at, items_at, has_members, each, ◌>>=◌}
-use Rattle.clock_setup.specs.SetupShape.{added_number, key_count, product_of, bidder_of, fields_of}
+use Rattle.clock_setup.specs.SetupShape.{added_number, key_count, product_of, bidder_of, fields_from}
 
 if_some : {A : Type 0} (b : Bool) (x y : A) → (if b then Some x else None) ≡ Some y → x ≡ y
 if_some true x y h = cc
@@ -101,9 +101,9 @@ products_in value version = option_and_then (each (product_of version)) (items_a
 
 -- the version, limit, and products of a document of the right shape
 shape_at : (value : Data) (setup : SetupFields) (number : Option ℕ) → number_at (codes "version") value ≡ number
-    → fields_of value ≡ Some setup → (number ≡ Some setup.version) × (added_number setup.version first_limit
+    → fields_from value ≡ Some setup → (number ≡ Some setup.version) × (added_number setup.version first_limit
     (codes "limit") value ≡ Some setup.limit) × (products_in value setup.version ≡ Some setup.products)
-unfolding fields_of
+unfolding fields_from
 shape_at value setup None is h =
     absurd (let none : ◌≡◌ {A = Option SetupFields} None (Some setup) = sym (rw is refl) ∙ h in cc)
 shape_at value setup (Some version) is h =
@@ -117,7 +117,7 @@ shape_at value setup (Some version) is h =
     )
 
 -- its version is the number under "version"
-version_of : (value : Data) (setup : SetupFields) → fields_of value ≡ Some setup
+version_of : (value : Data) (setup : SetupFields) → fields_from value ≡ Some setup
     → number_at (codes "version") value ≡ Some setup.version
 version_of value setup h = (shape_at value setup (number_at (codes "version") value) refl h).0
 
@@ -127,7 +127,7 @@ listed version None products one h = absurd (cc)
 listed version (Some items) products one h = first_granules version items products one h
 
 -- in version 1 it has the values of version 1
-pub of_first_version : (value : Data) (setup : SetupFields) → fields_of value ≡ Some setup → setup.version ≡ 1
+pub of_first_version : (value : Data) (setup : SetupFields) → fields_from value ≡ Some setup → setup.version ≡ 1
     → IsOfFirstVersion setup
 of_first_version value setup h first =
     let shape = shape_at value setup (number_at (codes "version") value) refl h in
@@ -137,7 +137,7 @@ of_first_version value setup h first =
     }
 
 -- if that number is 1 or 2, so is its version
-pub known_version : (value : Data) (setup : SetupFields) (version : ℕ) → fields_of value ≡ Some setup
+pub known_version : (value : Data) (setup : SetupFields) (version : ℕ) → fields_from value ≡ Some setup
     → number_at (codes "version") value ≡ Some version → is_within 1 latest_version version ≡ true
     → IsWithin 1 latest_version setup.version
 known_version value setup version shape read within =

@@ -11,7 +11,7 @@ use Rattle.std.proofs.lemmas.List.Elements.{recursion_from_All}
 use Rattle.std.proofs.lemmas.List.Folds.{list_all-map}
 use Rattle.serde_json.specs.Data.{Data}
 use Rattle.serde_json.specs.Find.{get}
-use Rattle.clock_json.specs.Tree.{number_at, has_members, items_at, each, row_of}
+use Rattle.clock_json.specs.Tree.{number_at, has_members, items_at, each, numbers_from}
 use Rattle.clock_json.specs.Rows.{shortened}
 use Rattle.clock_terms.specs.declared.setup.Product.{Product}
 use Rattle.clock_terms.specs.declared.setup.Bidder.{Bidder}
@@ -20,7 +20,7 @@ use Rattle.clock_setup.specs.declared.opening.OpeningFault.TheVariants.{Demand}
 use Rattle.clock_terms.specs.Faults.{first_fault, in_turn, ◌>>=◌}
 use Rattle.clock_terms.specs.Limits.{SetupFields, IsProduct}
 use Rattle.clock_setup.specs.SetupDocument.{setup_of}
-use Rattle.clock_setup.specs.OpeningShape.{parts_of}
+use Rattle.clock_setup.specs.OpeningShape.{opening_parts}
 use Rattle.clock_setup.specs.OpeningDocument.{has_counts, demand_checks, row_checks, opening_with, in_opening}
 use Rattle.clock_setup.specs.OpeningDocument.{opening_of}
 use Rattle.clock_setup.specs.inside.OpeningData.{short_rows_in}
@@ -114,20 +114,20 @@ full_rows None short is = absurd cc
 full_rows (Some full) short is = (full, refl, cc)
 
 -- after a set-up within its limits, both forms of the rows give the same result
-held_shortened : (held : Result SetupFields OpeningFault) (full short : List (List ℕ)) (increment : ℕ)
-    → map (map shortened) full ≡ short → IfOk held (λ setup. All IsProduct setup.products)
-    → (held >>= λ setup. opening_with setup full increment) ≡ (held >>= λ setup. opening_with setup short increment)
-held_shortened (Err fault) full short increment is limits = refl
-held_shortened (Ok setup) full short increment is limits =
+nested_shortened : (nested : Result SetupFields OpeningFault) (full short : List (List ℕ)) (increment : ℕ)
+    → map (map shortened) full ≡ short → IfOk nested (λ setup. All IsProduct setup.products)
+    → (nested >>= λ setup. opening_with setup full increment) ≡ (nested >>= λ setup. opening_with setup short increment)
+nested_shortened (Err fault) full short increment is limits = refl
+nested_shortened (Ok setup) full short increment is limits =
     sym (opening_shortened setup full increment limits) ∙ ap (λ rows. opening_with setup rows increment) is
 
 -- what a document of the right shape means, given what its set-up means
 pub opening_means : (value setup : Data) (demands : List (List ℕ)) (increment : ℕ)
-    (held : Result SetupFields OpeningFault) → get (codes "setup") value ≡ Some setup → short_rows_in value
+    (nested : Result SetupFields OpeningFault) → get (codes "setup") value ≡ Some setup → short_rows_in value
     ≡ Some demands → number_at (codes "increment") value ≡ Some increment → has_members 3 value ≡ true
-    → in_opening (setup_of setup) ≡ held → IfOk held (λ setup. All IsProduct setup.products)
-    → opening_of value ≡ (held >>= λ setup. opening_with setup demands increment)
-unfolding opening_of parts_of
-opening_means value setup demands increment held there rows number whole is limits =
-    let full = full_rows (option_and_then (each row_of) (items_at (codes "demands") value)) demands rows in
-    rw (there, full.1, number, whole, is) (held_shortened held full.0 demands increment full.2 limits)
+    → in_opening (setup_of setup) ≡ nested → IfOk nested (λ setup. All IsProduct setup.products)
+    → opening_of value ≡ (nested >>= λ setup. opening_with setup demands increment)
+unfolding opening_of opening_parts
+opening_means value setup demands increment nested there rows number whole is limits =
+    let full = full_rows (option_and_then (each numbers_from) (items_at (codes "demands") value)) demands rows in
+    rw (there, full.1, number, whole, is) (nested_shortened nested full.0 demands increment full.2 limits)

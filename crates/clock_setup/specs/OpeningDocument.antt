@@ -24,7 +24,7 @@ use Rattle.clock_terms.specs.Eligibility.{activity}
 use Rattle.clock_terms.specs.Faults.{first_fault, in_turn, unless, or_fault, ◌>>=◌}
 use Rattle.clock_json.specs.Tree.{json}
 use Rattle.clock_setup.specs.SetupDocument.{setup_of}
-use Rattle.clock_setup.specs.OpeningShape.{parts_of}
+use Rattle.clock_setup.specs.OpeningShape.{opening_parts}
 
 -- a row for each bidder, and in each row a number for each product
 abbrev pub has_counts : SetupFields → List (List ℕ) → Bool
@@ -62,7 +62,7 @@ in_opening (Err fault) = Err (Setup fault)
 -- The checks in order: the shape, the set-up, and the checks after it.
 unfoldable pub opening_of : Data → Result Opening OpeningFault
 opening_of value = do
-  parts ← or_fault Shape (parts_of value)
+  parts ← or_fault Shape (opening_parts value)
   setup ← in_opening (setup_of parts.setup)
   opening_with setup parts.demands parts.increment
 

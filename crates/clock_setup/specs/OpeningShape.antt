@@ -1,11 +1,11 @@
 -- The shape of an opening document: an object with exactly these keys, each with a value of its
 -- kind. The format is our own.
 --     OpeningParts      the values of the document
---     parts_of value      these values, before the set-up is read and the rows are counted
+--     opening_parts value      these values, before the set-up is read and the rows are counted
 use Rattle.std.specs.Prelude.{ℕ, List, Option, Some, None, option_and_then, if◌then◌else◌, codes}
 use Rattle.serde_json.specs.Data.{Data}
 use Rattle.serde_json.specs.Find.{get}
-use Rattle.clock_json.specs.Tree.{number_at, items_at, has_members, row_of, each, ◌>>=◌}
+use Rattle.clock_json.specs.Tree.{number_at, items_at, has_members, numbers_from, each, ◌>>=◌}
 
 -- the values of the document: any value for the set-up, rows of demands, and an increment in
 -- percent
@@ -15,10 +15,10 @@ pub record OpeningParts : Type 0 where
   pub increment : ℕ
 
 -- {"demands":[ROW,..],"increment":N,"setup":VALUE}
-unfoldable pub parts_of : Data → Option OpeningParts
-parts_of value = do
+unfoldable pub opening_parts : Data → Option OpeningParts
+opening_parts value = do
   setup ← get (codes "setup") value
-  demands ← option_and_then (each row_of) (items_at (codes "demands") value)
+  demands ← option_and_then (each numbers_from) (items_at (codes "demands") value)
   increment ← number_at (codes "increment") value
   if has_members 3 value
       then Some (record { setup = setup; demands = demands; increment = increment }) else None

@@ -25,7 +25,7 @@ use Rattle.clock_terms.specs.Limits.{latest_version, least_requirement, most_req
 use Rattle.clock_terms.specs.Limits.{least_limit, most_limit, most_products, most_bidders}
 use Rattle.clock_terms.specs.Limits.{most_units, most_supply, most_granule, most_eligibility}
 use Rattle.clock_json.specs.Tree.{json, number_at}
-use Rattle.clock_setup.specs.SetupShape.{fields_of}
+use Rattle.clock_setup.specs.SetupShape.{fields_from}
 use Rattle.clock_terms.specs.Faults.{first_fault, in_turn, unless, or_fault, ◌>>=◌}
 
 -- a product's name, units, supply, cap (at most the supply), opening price, and granule
@@ -78,7 +78,7 @@ unfoldable pub setup_of : Data → Result SetupFields SetupFault
 setup_of value = do
   version ← or_fault Shape (number_at (codes "version") value)
   known ← if is_within 1 latest_version version then Ok version else Err Version
-  setup ← or_fault Shape (fields_of value)
+  setup ← or_fault Shape (fields_from value)
   unless (first_fault (setup_checks setup)) setup
 
 -- The checks in order: the bytes are JSON (RFC 8259), and their value means a set-up.

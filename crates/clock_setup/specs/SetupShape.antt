@@ -2,7 +2,7 @@
 -- The format is our own.
 --     added_number, key_count      the keys that version 2 added
 --     product_of version value, bidder_of value      an item of "products" and of "bidders"
---     fields_of value      the whole document, before any limit is checked
+--     fields_from value      the whole document, before any limit is checked
 use Rattle.std.specs.Prelude.{ℕ, ◌+◌, ◌==◌, List, Option, Some, None, option_and_then}
 use Rattle.std.specs.Prelude.{if◌then◌else◌, codes}
 use Rattle.serde_json.specs.Data.{Data}
@@ -52,8 +52,8 @@ bidder_of value = do
 
 -- {"version":N,"requirement":N,"operator":T,"products":[PRODUCT,..],"bidders":[BIDDER,..]}, from
 -- version 2 also "limit":N, which is 100 in version 1
-unfoldable pub fields_of : Data → Option SetupFields
-fields_of value = do
+unfoldable pub fields_from : Data → Option SetupFields
+fields_from value = do
   version ← number_at (codes "version") value
   limit ← added_number version first_limit (codes "limit") value
   requirement ← number_at (codes "requirement") value

@@ -4,7 +4,8 @@ ghost use Rattle.clock_terms.specs.Faults.{IsFirstFault, IsRefusal, first_fault}
 ghost use Rattle.clock_terms.specs.Limits.{SetupFields, IsOfFirstVersion, IsSetup, IsWithin};
 ghost use Rattle.clock_terms.specs.Limits.{latest_version};
 ghost use Rattle.clock_json.specs.Tree.{number_at};
-ghost use Rattle.clock_setup.specs.{SetupShape.{fields_of}, inside.SetupDocument.{distinct_checks}};
+ghost use Rattle.clock_setup.specs.SetupShape.{fields_from};
+ghost use Rattle.clock_setup.specs.inside.SetupDocument.{distinct_checks};
 ghost use Rattle.clock_setup.specs.SetupDocument as document;
 
 use crate::fault::{Place, SetupFault};
@@ -108,7 +109,7 @@ pub fn setup_of(alloc: Global, value: &Value) -> Result<Setup, SetupFault>
     // The checks refuse nothing that is within the limits: every set-up that the type allows is
     // accepted.
     ensures accepts { (setup : SetupFields) → number_at (codes "version") (view value.now)
-        ≡ Some setup.version → fields_of (view value.now) ≡ Some setup → IsSetup setup
+        ≡ Some setup.version → fields_from (view value.now) ≡ Some setup → IsSetup setup
         → document.setup_of (view value.now) ≡ Ok setup }
 {
     let version = number_at(value, "version").ok_or(SetupFault::Shape)?;

@@ -100,7 +100,7 @@ fn row_within(
         (λ _. first_fault (row_checks setup.now.products number (bidder.now, demands.now)) ≡ None) }
     ensures err { IfErr result (IsFirstFault OpeningFault.NoMemory
         (first_fault (row_checks setup.now.products number (bidder.now, demands.now)))) }
-    ensures held { IfErr result (λ fault. fault ≢ OpeningFault.Setup SetupFault.NoMemory) }
+    ensures nested { IfErr result (λ fault. fault ≢ OpeningFault.Setup SetupFault.NoMemory) }
 {
     let products = setup.products.as_slice();
     let mut units = 0u64;
@@ -131,7 +131,7 @@ fn opening_grid(
     ensures increment { IfOk result (λ _. IsWithin least_increment most_increment increment) }
     ensures err { IfErr result
         (IsRefusal OpeningFault.NoMemory (opening_with setup.now demands.now increment)) }
-    ensures held { IfErr result (λ fault. fault ≢ OpeningFault.Setup SetupFault.NoMemory) }
+    ensures nested { IfErr result (λ fault. fault ≢ OpeningFault.Setup SetupFault.NoMemory) }
 {
     let bidders = setup.bidders.as_slice();
     if !has_counts(setup, demands) {
@@ -165,7 +165,7 @@ fn judged(
         (λ opening. IsWithin least_increment most_increment opening.increment) }
     ensures err { IfErr result
         (IsRefusal OpeningFault.NoMemory (opening_with setup demands increment)) }
-    ensures held { IfErr result (λ fault. fault ≢ OpeningFault.Setup SetupFault.NoMemory) }
+    ensures nested { IfErr result (λ fault. fault ≢ OpeningFault.Setup SetupFault.NoMemory) }
 {
     let grid = opening_grid(alloc, &setup, &demands, increment);
     drop(demands);
@@ -185,7 +185,7 @@ fn judged(
 /// Returns the opening that a JSON value means, or its first fault. May return `NoMemory`, which
 /// then replaces any other result. Demands are read as 16-bit numbers: a higher one becomes 65,535,
 /// which is above every cap too.
-#[tactic(auto, using(crate::proofs::OpeningLaws::opening_shape), unfolding(crate::specs::OpeningShape::parts_of))]
+#[tactic(auto, using(crate::proofs::OpeningLaws::opening_shape), unfolding(crate::specs::OpeningShape::opening_parts))]
 fn opening_in(alloc: Global, value: &Value) -> Result<Opening, OpeningFault>
     ensures ok { IfOk result (λ opening. opening_of (view value.now) ≡ Ok opening) }
     ensures grid { IfOk result (λ opening. IsGrid (length opening.setup.bidders)
@@ -193,7 +193,7 @@ fn opening_in(alloc: Global, value: &Value) -> Result<Opening, OpeningFault>
     ensures increment { IfOk result
         (λ opening. IsWithin least_increment most_increment opening.increment) }
     ensures err { IfErr result (IsRefusal OpeningFault.NoMemory (opening_of (view value.now))) }
-    ensures held { IfErr result (λ fault. fault ≢ OpeningFault.Setup SetupFault.NoMemory) }
+    ensures nested { IfErr result (λ fault. fault ≢ OpeningFault.Setup SetupFault.NoMemory) }
 {
     let (Some(setup), Some(increment)) = (value.get("setup"), number_at(value, "increment")) else {
         return Err(OpeningFault::Shape);
@@ -226,10 +226,10 @@ pub fn read_opening(alloc: Global, bytes: &[u8]) -> Result<Opening, OpeningFault
     ensures increment { IfOk result
         (λ opening. IsWithin least_increment most_increment opening.increment) }
     ensures err { IfErr result (IsRefusal OpeningFault.NoMemory (document_opening bytes.now)) }
-    ensures held { IfErr result (λ fault. fault ≢ OpeningFault.Setup SetupFault.NoMemory) }
+    ensures nested { IfErr result (λ fault. fault ≢ OpeningFault.Setup SetupFault.NoMemory) }
 {
-    if let Some((held, demands, increment)) = scanned_text::<FoundOpening>(alloc, bytes)? {
-        return judged(alloc, held.setup, demands, increment);
+    if let Some((nested, demands, increment)) = scanned_text::<FoundOpening>(alloc, bytes)? {
+        return judged(alloc, nested.setup, demands, increment);
     }
     let value = read_value(alloc, bytes)?.ok_or(OpeningFault::NotJson)?;
     opening_in(alloc, &value)
@@ -240,7 +240,7 @@ pub fn read_opening(alloc: Global, bytes: &[u8]) -> Result<Opening, OpeningFault
 #[derive(Default, Drop)]
 struct FoundOpening {
     demands: Option<ShortRows>,
-    held: Option<NestedSetup>,
+    nested: Option<NestedSetup>,
     increment: Option<u64>,
 }
 
@@ -260,7 +260,7 @@ impl<'v> ScannedMembers<'v> for FoundOpening {
     fn read(&mut self, alloc: Global, key: &[u8], scan: &mut Scan<'v>) -> Result<(), ScanStop> {
         match key {
             _ if is_key(key, "demands") => self.demands = Some(scan.short_rows(alloc)?),
-            _ if is_key(key, "setup") => self.held = Some(NestedSetup::part(alloc, scan)?),
+            _ if is_key(key, "setup") => self.nested = Some(NestedSetup::part(alloc, scan)?),
             _ if is_key(key, "increment") => self.increment = Some(scan.number()?),
             _ => return Err(ScanStop::Unusual),
         }
@@ -268,6 +268,6 @@ impl<'v> ScannedMembers<'v> for FoundOpening {
     }
 
     fn whole(self) -> Option<(NestedSetup, ShortRows, u64)> {
-        Some((self.held?, self.demands?, self.increment?))
+        Some((self.nested?, self.demands?, self.increment?))
     }
 }

@@ -1,7 +1,7 @@
 //! Reads a set-up by bytes, without a tree of values, if no text has an escape and each number has
 //! only digits.
 ghost use Rattle.std.specs.Prelude.{◌≡◌, ◌<◌, length, Ok, IfOk, OnOk};
-ghost use Rattle.clock_json.specs.Reading.{Reads};
+ghost use Rattle.clock_json.specs.Reading.{ReadsValue};
 ghost use Rattle.clock_setup.specs.SetupData.{product_data, products_data, bidder_data, setup_data};
 ghost use Rattle.clock_setup.specs.SetupDocument.{setup_of};
 ghost use Rattle.clock_setup.specs.inside.FoundEntries.{found_product, found_bidder};
@@ -74,7 +74,7 @@ impl<'v> ScannedMembers<'v> for FoundProduct<'v> {
 /// Reads a list of products that all have the keys of one version.
 fn products<'v>(alloc: Global, scan: &mut Scan<'v>) -> Result<VersionedProducts<'v>, ScanStop>
     ensures value { IfOk result
-        (λ list. Reads 2 scan.old (products_data list.version list.entries) scan.new) }
+        (λ list. ReadsValue 2 scan.old (products_data list.version list.entries) scan.new) }
     ensures shorter { OnOk result (length scan.new < length scan.old) }
 {
     scan.opens(b'[')?;
@@ -208,7 +208,7 @@ impl<'v> PartReader<'v> for NestedSetup {
 
     ghost levels = { 3 };
 
-    ghost shown = { λ held. setup_data held.setup };
+    ghost shown = { λ nested. setup_data nested.setup };
 
     fn part(alloc: Global, scan: &mut Scan<'v>) -> Result<NestedSetup, ScanStop> {
         let scanned = FoundSetup::part(alloc, scan)?;

@@ -172,9 +172,9 @@ impl<'v> PlainReader<'v> for BidderReader {
 
 /// Returns the entries of a set-up document, or `None` if its shape is wrong. May return
 /// `NoMemory`.
-#[tactic(auto, unfolding(crate::specs::SetupShape::fields_of))]
+#[tactic(auto, unfolding(crate::specs::SetupShape::fields_from))]
 pub(crate) fn entries_of(alloc: Global, value: &Value) -> Result<Option<SetupEntries<'_>>, NoMemory>
-    ensures { IfOk result (λ entries. entries ≡ shape.fields_of (view value.now)) }
+    ensures { IfOk result (λ entries. entries ≡ shape.fields_from (view value.now)) }
 {
     let Some(version) = number_at(value, "version") else {
         return Ok(None);

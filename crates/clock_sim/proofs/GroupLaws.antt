@@ -12,7 +12,7 @@ use Rattle.clock_terms.specs.Limits.{SetupFields}
 use Rattle.clock_terms.specs.Faults.{◌>>=◌}
 use Rattle.clock_house.specs.House.{HouseFields}
 use Rattle.clock_http.specs.Framing.{needs_more}
-use Rattle.clock_connections.specs.Connections.{ConnectionFields, text_of, LeavesOthers, IsConnected}
+use Rattle.clock_connections.specs.Connections.{ConnectionFields, open_text, LeavesOthers, IsConnected}
 use Rattle.clock_front.specs.Hubs.{HubFields, IsFed}
 use Rattle.clock_connections.specs.declared.connections.Conn.{Conn}
 use Rattle.clock_front.specs.declared.hub.Fed.{Fed}
@@ -46,13 +46,13 @@ pub one_changed : (group : List GroupRequest) (i from next : ℕ) (one : GroupRe
     (text after : ℕ → GroupRequest → List ℕ) → AreApart group → i < length group → one ≡ get_or group i one
     → LeavesOthers old new one.conn → from ≤ next → HaveTextsFrom from old group text
     → ((k : ℕ) (other : GroupRequest) → next ≤ k → k ≢ i → after k other ≡ text k other)
-    → (next ≤ i → text_of new one.conn ≡ Some (after i one)) → HaveTextsFrom next new group after
+    → (next ≤ i → open_text new one.conn ≡ Some (after i one)) → HaveTextsFrom next new group after
 one_changed group i from next one old new text after apart here is others le stand same changed = λ k other at below.
     elim (cases_Bool (eqb k i)) [
       | inl equal ↦ (let at_i : k ≡ i = eqb-true k i equal in
           let this : get_or group k other ≡ one =
           ap (λ (n : ℕ). get_or group n other) at_i ∙ get_or_default group i other one here ∙ sym is in
-          let P : GroupRequest → Type 0 = λ w. text_of new w.conn ≡ Some (after k w) in
+          let P : GroupRequest → Type 0 = λ w. open_text new w.conn ≡ Some (after k w) in
           subst P (sym this) (changed (omega arith) ∙ ap (λ (n : ℕ). Some (after n one)) (sym at_i)))
       | inr unlike ↦ (let differs : k ≢ i = eqb-false k i unlike in
           let apart_from : (get_or group k other).conn ≢ one.conn =
@@ -76,13 +76,13 @@ fed_more old new conn text (Reply reply) is needs = absurd (true≢false (sym ne
 pub head_came : (group : List GroupRequest) (i : ℕ) (one : GroupRequest) (initial : ConnectionFields)
     (old new : HubFields) (fed : Fed) → IsGroup initial group → i < length group → one ≡ get_or group i one
     → HaveTextsFrom 0 old.connections group (heads_to i)
-    → ((text : List ℕ) → text_of old.connections one.conn ≡ Some text → IsFed old new one.conn (text ++ one.head) fed)
+    → ((text : List ℕ) → open_text old.connections one.conn ≡ Some text → IsFed old new one.conn (text ++ one.head) fed)
     → (new.house ≡ old.house) × HaveTextsFrom 0 new.connections group (heads_to (i + 1))
 head_came group i one initial old new fed is_group here is stand is_fed =
     let none : heads_to i i one ≡ [] =
     (let no : nat_lt i i ≡ false = grind (arith, nat_tests) in ap (λ (b : Bool). if b then one.head else []) no) in
-    let P : GroupRequest → Type 0 = λ w. text_of old.connections w.conn ≡ Some (heads_to i i w) in
-    let blank : text_of old.connections one.conn ≡ Some [] =
+    let P : GroupRequest → Type 0 = λ w. open_text old.connections w.conn ≡ Some (heads_to i i w) in
+    let blank : open_text old.connections one.conn ≡ Some [] =
     subst P (sym is) (stand i one (omega arith) here) ∙ ap Some none in
     let needs : needs_more one.head ≡ true =
     subst (λ (w : GroupRequest). needs_more w.head ≡ true) (sym is) (is_group.need i one here) in
@@ -101,9 +101,9 @@ head_came group i one initial old new fed is_group here is stand is_fed =
 -- the bytes of the connection at an index
 pub head_at : (connections : ConnectionFields) (group : List GroupRequest) (i : ℕ) (one : GroupRequest)
     → i < length group → one ≡ get_or group i one → HaveTextsFrom i connections group (λ k w. w.head)
-    → text_of connections one.conn ≡ Some one.head
+    → open_text connections one.conn ≡ Some one.head
 head_at connections group i one here is stand =
-    subst (λ (w : GroupRequest). text_of connections w.conn ≡ Some w.head) (sym is) (stand i one (omega arith) here)
+    subst (λ (w : GroupRequest). open_text connections w.conn ≡ Some w.head) (sym is) (stand i one (omega arith) here)
 
 -- the others still have their heads
 pub heads_kept : (old new : ConnectionFields) (group : List GroupRequest) (i : ℕ) (one : GroupRequest) → AreApart group
@@ -188,10 +188,11 @@ module _ (old new : ConnectionFields) (group : List GroupRequest) (one : GroupRe
   pub joined_group : needs_more one.head ≡ true → ClosesNoRound (text_in one) → IsGroup new (group ++ one ∷ [])
   joined_group needs closes = record {
     stand = λ k other at below. elim (here_or_last k other below) [
-      | inl early ↦ (let P : GroupRequest → Type 0 = λ w. text_of new w.conn ≡ Some [] in
+      | inl early ↦ (let P : GroupRequest → Type 0 = λ w. open_text new w.conn ≡ Some [] in
           subst P (sym early.1)
           (is.others (get_or group k other).conn (differs k other early.0) ∙ is_group.stand k other at early.0))
-      | inr last ↦ (let P : GroupRequest → Type 0 = λ w. text_of new w.conn ≡ Some [] in subst P (sym last.1) is.stands)
+      | inr last ↦
+          (let P : GroupRequest → Type 0 = λ w. open_text new w.conn ≡ Some [] in subst P (sym last.1) is.stands)
     ];
     apart = λ k j other before below. (
         let long = length_push group one in

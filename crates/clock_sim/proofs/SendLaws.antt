@@ -46,10 +46,10 @@ pub answered_early : IsDecidedOnce → HasOneHead → (head body : List ℕ) (an
     → needs_more head ≡ false → AnswersText head answer old new → AnswersText (head ++ body) answer old new
 answered_early once one_head head body answer old new less answered texts stands =
     elim (answered texts stands) [
-      | inl told ↦ inl (subst (λ (request : Request). (answer ≡ answer_of
+      | inl reported ↦ inl (subst (λ (request : Request). (answer ≡ answer_of
           (outcome (house_after old.setup (commands_of old.setup texts)) (caller old.setup request.token) request.ask))
           × StandsFor (command_of new.setup (caller new.setup request.token) request.ask
-          ∷ commands_of new.setup texts) new) (sym (same_request once one_head head body less)) told)
+          ∷ commands_of new.setup texts) new) (sym (same_request once one_head head body less)) reported)
       | inr none ↦ inr (
         record {
           is = none.0.is;

@@ -7,8 +7,8 @@ use Rattle.std.specs.Prelude.{MatchResult, OnOk, IfErr, if◌then◌else◌}
 use Rattle.std.proofs.lemmas.List.{drop_more, drop_all}
 use Rattle.clock_terms.specs.Limits.{SetupFields}
 use Rattle.clock_terms.specs.Faults.{◌>>=◌, IsRefusal}
-use Rattle.clock_house.specs.House.{HouseFields, standing_in}
-use Rattle.clock_house.specs.History.{standing}
+use Rattle.clock_house.specs.House.{HouseFields, state_in}
+use Rattle.clock_house.specs.History.{public_state}
 use Rattle.clock_closing.specs.declared.closed_round.ClosedRound.{ClosedRound}
 use Rattle.clock_http.specs.declared.code.Code.{Code}
 use Rattle.clock_http.specs.declared.code.Code.TheVariants.{Done, Memory}
@@ -49,11 +49,11 @@ pub request_done : (text : List ℕ) (answer : Answer) (old new : HouseFields) (
 unfolding after_request
 request_done text answer old new sender round answered is texts stands =
     elim (answered texts stands) [
-      | inl told ↦ (let same : (reply old.setup texts text).code
-          ≡ Done = sym (ap (λ (one : Answer). one.code) told.0) ∙ is in record {
+      | inl reported ↦ (let same : (reply old.setup texts text).code
+          ≡ Done = sym (ap (λ (one : Answer). one.code) reported.0) ∙ is in record {
             texts = text ∷ texts;
             is = ap (λ (code : Code). if_done code (text ∷ texts) (refused_by sender round code)) same;
-            stands = told.1;
+            stands = reported.1;
           })
       | inr none ↦ absurd (let same : Memory ≡ Done = sym (ap (λ (one : Answer). one.code) none.0.is) ∙ is in cc)
     ]
@@ -65,8 +65,8 @@ pub request_refused : (text : List ℕ) (answer : Answer) (old new : HouseFields
 unfolding after_request
 request_refused text answer old new sender round answered not_good not_memory texts stands =
     elim (answered texts stands) [
-      | inl told ↦
-          (let same : answer.code ≡ (reply old.setup texts text).code = ap (λ (one : Answer). one.code) told.0 in
+      | inl reported ↦
+          (let same : answer.code ≡ (reply old.setup texts text).code = ap (λ (one : Answer). one.code) reported.0 in
           ap (λ (code : Code). if_done code (text ∷ texts) (refused_by sender round code)) (sym same)
           ∙ not_done answer.code (text ∷ texts) (refused_by sender round answer.code) not_good)
       | inr none ↦ absurd (not_memory (ap (λ (one : Answer). one.code) none.0.is))
@@ -77,22 +77,22 @@ sent_by : {T : Type 0} (text : List ℕ) (answer : Answer) (old new : HouseField
     → IsResultByCode answer.code (refused_by sender round answer.code) result → (texts : Texts)
     → StandsForTexts texts old → MatchResult result (λ _. ComesTo (after_request old.setup texts sender round text) new)
     (IsRefusal NoMemory (after_request old.setup texts sender round text))
-sent_by text answer old new sender round (Ok done) answered told texts stands =
-    request_done text answer old new sender round answered told texts stands
-sent_by text answer old new sender round (Err fault) answered told texts stands =
-    λ other. let refused = told other in
+sent_by text answer old new sender round (Ok done) answered reported texts stands =
+    request_done text answer old new sender round answered reported texts stands
+sent_by text answer old new sender round (Err fault) answered reported texts stands =
+    λ other. let refused = reported other in
     request_refused text answer old new sender round answered refused.not_done refused.not_memory texts stands
-    ∙ ap Err (sym refused.told_is)
+    ∙ ap Err (sym refused.reported_is)
 
 -- a request is sent
 pub sent : {T : Type 0} (text : List ℕ) (answer : Answer) (code : Code) (old new : HouseFields) (sender : Option ℕ)
     (round : ℕ) (result : Result T SimFault) → AnswersText text answer old new → new.setup ≡ old.setup
     → code ≡ answer.code → IsResultByCode code (refused_by sender round code) result
     → MakesStep (λ texts. after_request old.setup texts sender round text) old new result
-sent text answer code old new sender round result answered same is told = record {
+sent text answer code old new sender round result answered same is reported = record {
   setup = same;
   comes = sent_by text answer old new sender round result answered
-      (subst (λ one. IsResultByCode one (refused_by sender round one) result) is told);
+      (subst (λ one. IsResultByCode one (refused_by sender round one) result) is reported);
 }
 
 -- out of memory, nothing is claimed
@@ -104,7 +104,7 @@ out_of_memory step old new same = record { setup = same; comes = λ texts stands
 
 -- the operator closes the round
 pub round_closed : {T : Type 0} (old new : HouseFields) (closing : Closing) (text : List ℕ) (round : ℕ)
-    (result : Result T SimFault) → text ≡ scripted_close old.setup old.closed closing → round ≡ (standing_in old).round
+    (result : Result T SimFault) → text ≡ scripted_close old.setup old.closed closing → round ≡ (state_in old).round
     → MakesStep (λ texts. after_request old.setup texts None round text) old new result
     → MakesStep (after_close old.setup closing) old new result
 round_closed old new closing text round result is at sent = record {
@@ -113,10 +113,9 @@ round_closed old new closing text round result is at sent = record {
       let P : Result Texts SimFault → Type 0 =
       λ answer. MatchResult result (λ _. ComesTo answer new) (IsRefusal NoMemory answer) in
       let same : after_request old.setup texts None round text ≡ after_close old.setup closing texts =
-      ap (λ (k : ℕ). after_request old.setup texts None k text) at
-      ∙ ap (λ (one : List ℕ). after_request old.setup texts None (standing_in old).round one) is
-      ∙ ap (λ (closed : List ClosedRound). after_request old.setup texts None (standing old.setup.products closed).round
-      (scripted_close old.setup closed closing)) stands.closed in
+      ap (λ (k : ℕ). after_request old.setup texts None k text) at ∙ ap (λ (one : List ℕ). after_request old.setup texts
+      None (state_in old).round one) is ∙ ap (λ (closed : List ClosedRound). after_request old.setup texts None
+      (public_state old.setup.products closed).round (scripted_close old.setup closed closing)) stands.closed in
       subst P same (sent.comes texts stands);
 }
 
@@ -197,18 +196,18 @@ stops whole step rest initial now next fault before made = record {
 
 -- whether the auction has ended is what the house says
 ended_as : (initial now : HouseFields) (texts : Texts) (ended : Bool) → now.setup ≡ initial.setup
-    → StandsForTexts texts now → (standing_in now).ended ≡ ended
-    → (standing initial.setup.products (rounds_after initial.setup texts)).ended ≡ ended
+    → StandsForTexts texts now → (state_in now).ended ≡ ended
+    → (public_state initial.setup.products (rounds_after initial.setup texts)).ended ≡ ended
 ended_as initial now texts ended same stands e =
-    ap (λ (setup : SetupFields). (standing setup.products (rounds_after setup texts)).ended) (sym same)
-    ∙ ap (λ (closed : List ClosedRound). (standing now.setup.products closed).ended) (sym stands.closed) ∙ e
+    ap (λ (setup : SetupFields). (public_state setup.products (rounds_after setup texts)).ended) (sym same)
+    ∙ ap (λ (closed : List ClosedRound). (public_state now.setup.products closed).ended) (sym stands.closed) ∙ e
 
 abbrev pub until_end : SetupFields → Step → Step
 until_end setup rest closed =
-    if (standing setup.products (rounds_after setup closed)).ended then Ok closed else rest closed
+    if (public_state setup.products (rounds_after setup closed)).ended then Ok closed else rest closed
 
 until_over : (whole rest : Step) (initial now : HouseFields) (over : Bool)
-    → IsOnWay whole (until_end initial.setup rest) initial now → (standing_in now).ended ≡ over
+    → IsOnWay whole (until_end initial.setup rest) initial now → (state_in now).ended ≡ over
     → IsOnWay whole (λ texts. if over then Ok texts else rest texts) initial now
 until_over whole rest initial now over before is = record {
   setup = before.setup;
@@ -223,12 +222,12 @@ until_over whole rest initial now over before is = record {
 }
 
 goes_past : (whole rest : Step) (initial now : HouseFields) → IsOnWay whole (until_end initial.setup rest) initial now
-    → (standing_in now).ended ≡ false → IsOnWay whole rest initial now
+    → (state_in now).ended ≡ false → IsOnWay whole rest initial now
 goes_past whole rest initial now before going = until_over whole rest initial now false before going
 
 -- if the auction has not ended after a step, it continues
 goes_on_after : {T : Type 0} (step : Step) (old new : HouseFields) (done : T) → IsGoing old
-    → MakesStep step old new (Ok done) → (standing_in new).ended ≡ false → IsGoing new
+    → MakesStep step old new (Ok done) → (state_in new).ended ≡ false → IsGoing new
 goes_on_after step old new done before made going =
     let end = made.comes before.texts before.stands in
     record { going = going; texts = end.texts; stands = end.stands }
@@ -244,7 +243,7 @@ ends whole rest initial now done before none = record {
 }
 
 ends_there : {T : Type 0} (whole rest : Step) (initial now : HouseFields) (done : T) → IsOnWay whole
-    (until_end initial.setup rest) initial now → (standing_in now).ended ≡ true → MakesStep whole initial now (Ok done)
+    (until_end initial.setup rest) initial now → (state_in now).ended ≡ true → MakesStep whole initial now (Ok done)
 ends_there whole rest initial now done before over = ends whole (λ (texts : Texts). Ok texts) initial now done
     (until_over whole rest initial now true before over) (λ texts. refl)
 
@@ -280,7 +279,7 @@ module _ (whole : Step) (scripts : List Script) (closings : List Closing) (i : �
 
   -- a round is played, and the auction continues
   pub round_passed : {U : Type 0} (done : U) → MakesStep (after_round now.setup scripts closing) now next (Ok done)
-      → (standing_in next).ended ≡ false → IsGoing now → IsOnWay whole others initial next × IsGoing next
+      → (state_in next).ended ≡ false → IsGoing now → IsOnWay whole others initial next × IsGoing next
   round_passed done made going was_going = (
     goes_past whole others initial next (played done made) going,
     goes_on_after (after_round now.setup scripts closing) now next done was_going made going,
@@ -288,7 +287,7 @@ module _ (whole : Step) (scripts : List Script) (closings : List Closing) (i : �
 
   -- the round is the last
   pub round_ends : {U T : Type 0} (done : U) (over : T) → MakesStep (after_round now.setup scripts closing) now next
-      (Ok done) → (standing_in next).ended ≡ true → MakesStep whole initial next (Ok over)
+      (Ok done) → (state_in next).ended ≡ true → MakesStep whole initial next (Ok over)
   round_ends done over made ended = ends_there whole others initial next over (played done made) ended
 
   -- the round has a fault

@@ -9,8 +9,8 @@ use Rattle.std.proofs.lemmas.List.Elements.{All-tail, All-push}
 use Rattle.std.specs.declared.alloc.Global.{Global}
 use Rattle.clock_terms.specs.Limits.{SetupFields}
 use Rattle.clock_terms.specs.Faults.{◌>>=◌, IsRefusal}
-use Rattle.clock_house.specs.House.{HouseFields, standing_in}
-use Rattle.clock_house.specs.History.{standing}
+use Rattle.clock_house.specs.House.{HouseFields, state_in}
+use Rattle.clock_house.specs.History.{public_state}
 use Rattle.clock_closing.specs.declared.closed_round.ClosedRound.{ClosedRound}
 use Rattle.clock_http.specs.declared.code.Code.{Code}
 use Rattle.clock_http.specs.declared.code.Code.TheVariants.{Done}
@@ -25,7 +25,7 @@ use Rattle.clock_sim.specs.Rehearsal.{if_done, after_request, after_request_if, 
 use Rattle.clock_http.specs.Framing.{needs_more}
 use Rattle.clock_connections.specs.Connections.{IsConnected}
 use Rattle.clock_scripts.specs.declared.requests.Written.{Written}
-use Rattle.clock_scripts.specs.Pieces.{IsWrittenIn, WritesIf, head_in, text_at}
+use Rattle.clock_scripts.specs.Pieces.{IsWrittenIn, WritesIf, written_head, written_request}
 use Rattle.clock_scripts.specs.ScriptedRequests.{scripted_put}
 use Rattle.clock_sim.specs.inside.Groups.{GroupRequest, ClosesNoRound, ComesUnderWay, IsGroup, IsNext, IsGroupUnderWay}
 use Rattle.clock_sim.specs.inside.Groups.{StillWait, text_in, after_group, request_in, requests_in}
@@ -136,8 +136,8 @@ still_going step old new done before made none =
     let closed : new.closed ≡ old.closed = end.stands.closed ∙ ap (λ (setup : SetupFields).
     rounds_after setup end.texts) made.setup ∙ none before.texts end.texts end.is ∙ sym before.stands.closed in
     record {
-      going = ap (λ (setup : SetupFields). (standing setup.products new.closed).ended) made.setup
-          ∙ ap (λ (rounds : List ClosedRound). (standing old.setup.products rounds).ended) closed ∙ before.going;
+      going = ap (λ (setup : SetupFields). (public_state setup.products new.closed).ended) made.setup
+          ∙ ap (λ (rounds : List ClosedRound). (public_state old.setup.products rounds).ended) closed ∙ before.going;
       texts = end.texts;
       stands = end.stands;
     }
@@ -231,7 +231,7 @@ refused_before group next bidder round text old new fault made = record {
 
 -- a request that needs its body waits, on a connection opened for it
 pub joined : {T : Type 0} (done : T) (old new : HubFields) (group : Group) (waiting : Vec Waiting Global)
-    (one : Waiting) → IsNext old group one.written → needs_more (head_in group.text.items one.written) ≡ true
+    (one : Waiting) → IsNext old group one.written → needs_more (written_head group.text.items one.written) ≡ true
     → IsConnected old.connections new.connections one.conn → new.house ≡ old.house → waiting.items ≡ group.waiting.items
     ++ one ∷ [] → ComesUnderWay (with_turn old.house.setup group one.bidder one.round one.written) old new
     (record group { waiting = waiting }) (Ok done)
@@ -251,7 +251,7 @@ joined done old new group waiting one next needs connected front more =
         going = subst IsGoing (sym front) before.going;
       };
       way = one_waits (requests_in group) (requests_in (record group { waiting = waiting })) (request_in text one)
-          (text_at text one.written) old.house new.house done front is refl;
+          (written_request text one.written) old.house new.house done front is refl;
     }
 
 -- if the group is full, it is sent
@@ -274,7 +274,8 @@ sent_full {T = T} done steps old mid new group next result one made none =
 module _ (old : HouseFields) (group : List GroupRequest) (bidder : ℕ) (script : Script)
     (close : All (λ one. ClosesNoRound (text_in one)) group) where
   abbrev given : List ClosedRound → Texts → Option (List ℕ) → Result Texts SimFault
-  given closed texts put = after_request_if old.setup texts (Some bidder) (standing old.setup.products closed).round put
+  given closed texts put =
+      after_request_if old.setup texts (Some bidder) (public_state old.setup.products closed).round put
 
   put_after : (texts : Texts) → StandsForTexts texts old → (answer : Result Texts SimFault)
       → after_group old.setup group texts ≡ answer → answer >>= (λ sent. given old.closed sent
@@ -301,7 +302,7 @@ module _ (old : HouseFields) (group : List GroupRequest) (bidder : ℕ) (script 
 
   -- this sheet is given
   put_waits : {T : Type 0} (new : HouseFields) (rest : Step) (text : List ℕ) (round : ℕ) (result : Result T SimFault)
-      → scripted_put old.setup old.closed bidder script ≡ Some text → round ≡ (standing_in old).round
+      → scripted_put old.setup old.closed bidder script ≡ Some text → round ≡ (state_in old).round
       → MakesWay (λ texts. after_group old.setup group texts
       >>= (λ sent. after_request old.setup sent (Some bidder) round text)) rest old new result
       → MakesWay (λ texts. after_group old.setup group texts >>= after_put old.setup bidder script) rest old new result
@@ -332,7 +333,7 @@ module _ (hub : HubFields) (group room : Group) (text : Vec ℕ Global) (house :
   still = still_twice group room grown has_room (still_wait room text
       (kept_if room.text.items text.items (scripted_put house.setup house.closed bidder script) written writes))
 
-  puts : scripted_put hub.house.setup hub.house.closed bidder script ≡ option_map (text_at text.items) written
+  puts : scripted_put hub.house.setup hub.house.closed bidder script ≡ option_map (written_request text.items) written
   puts =
       ap (λ (now : HouseFields). scripted_put now.setup now.closed bidder script) (sym same)
       ∙ reads_as room.text.items text.items (scripted_put house.setup house.closed bidder script) written writes
@@ -344,21 +345,21 @@ module _ (hub : HubFields) (group room : Group) (text : Vec ℕ Global) (house :
       (WritesIf room.text.items text.items (scripted_put house.setup house.closed bidder script)) is writes in record {
         under_way = still_under_way hub group grown before still;
         within = made.1.within;
-        closes = scripted_closes_none hub.house.setup hub.house.closed bidder script (text_at text.items one)
-            (puts ∙ ap (option_map (text_at text.items)) is);
+        closes = scripted_closes_none hub.house.setup hub.house.closed bidder script (written_request text.items one)
+            (puts ∙ ap (option_map (written_request text.items)) is);
       }
 
   pub turn_taken : {T : Type 0} (one : Written) (round : ℕ) (new : HubFields) (last : Group)
-      (result : Result T SimFault) → written ≡ Some one → round ≡ (standing_in hub.house).round
+      (result : Result T SimFault) → written ≡ Some one → round ≡ (state_in hub.house).round
       → ComesUnderWay (with_turn hub.house.setup grown bidder round one) hub new last result
       → ComesUnderWay (with_put hub.house.setup (requests_in group) bidder script) hub new last result
   turn_taken one round new last result is at made =
       let rest = after_group hub.house.setup (requests_in last) in record {
         under_way = made.under_way;
         way = put_waits hub.house (requests_in group) bidder script before.waits.requests.close new.house rest
-            (text_at text.items one) round result (puts ∙ ap (option_map (text_at text.items)) is) at
+            (written_request text.items one) round result (puts ∙ ap (option_map (written_request text.items)) is) at
             (subst (λ (requests : List GroupRequest). MakesWay (with_request hub.house.setup requests bidder round
-            (text_at text.items one)) rest hub.house new.house result) (still before.waits.written).0 made.way);
+            (written_request text.items one)) rest hub.house new.house result) (still before.waits.written).0 made.way);
       }
 
   -- nothing was written
@@ -369,7 +370,7 @@ module _ (hub : HubFields) (group room : Group) (text : Vec ℕ Global) (house :
     way = subst (λ (requests : List GroupRequest). MakesWay (with_put hub.house.setup (requests_in group) bidder script)
         (after_group hub.house.setup requests) hub.house hub.house (Ok done)) (sym (still before.waits.written).0)
         (none_put hub.house (requests_in group) bidder script before.waits.requests.close done
-        (puts ∙ ap (option_map (text_at text.items)) is));
+        (puts ∙ ap (option_map (written_request text.items)) is));
   }
 
 -- ---- bidder after bidder

@@ -8,10 +8,10 @@ use Rattle.std.proofs.lemmas.List.{length-map, get_or-map, map-append, length-ap
 use Rattle.std.proofs.lemmas.List.{take-append-le}
 use Rattle.std.proofs.lemmas.List.Elements.{All-tail}
 use Rattle.clock_house.specs.House.{HouseFields}
-use Rattle.clock_connections.specs.Connections.{ConnectionFields, text_of, LeavesOthers}
+use Rattle.clock_connections.specs.Connections.{ConnectionFields, open_text, LeavesOthers}
 use Rattle.clock_front.specs.Hubs.{HubFields}
 use Rattle.clock_scripts.specs.declared.requests.Written.{Written}
-use Rattle.clock_scripts.specs.Pieces.{Grows, IsWrittenIn, WritesIf, body_in, text_at}
+use Rattle.clock_scripts.specs.Pieces.{Grows, IsWrittenIn, WritesIf, written_body, written_request}
 use Rattle.clock_sim.specs.declared.rounds.Waiting.{Waiting}
 use Rattle.clock_sim.specs.declared.rounds.Group.{Group}
 use Rattle.clock_sim.specs.declared.simulation.SimFault.{SimFault}
@@ -78,7 +78,7 @@ kept_if old new text (Some one) is = is.1.grows
 
 -- what was written reads as the text
 pub reads_as : (old new : List ℕ) (text : Option (List ℕ)) (written : Option Written) → WritesIf old new text written
-    → text ≡ option_map (text_at new) written
+    → text ≡ option_map (written_request new) written
 reads_as old new text None is = is.0
 reads_as old new text (Some one) is = is.0
 
@@ -132,13 +132,13 @@ request_at group i below =
 
 -- what the contract of the call says, by the list of the loop and the bytes passed
 abbrev pub IsMade : {U : Type 0} → ℕ → HubFields → HubFields → Result U SimFault → List Waiting → List ℕ → Type 0
-IsMade i old new result waiting body = (head : List ℕ) → text_of old.connections (waiting_at waiting i).conn ≡ Some head
-    → MakesStep (λ texts. after_request old.house.setup texts (Some (waiting_at waiting i).bidder)
+IsMade i old new result waiting body = (head : List ℕ) → open_text old.connections (waiting_at waiting i).conn
+    ≡ Some head → MakesStep (λ texts. after_request old.house.setup texts (Some (waiting_at waiting i).bidder)
     (waiting_at waiting i).round (head ++ body)) old.house new.house result
 
 module _ (whole : Step) (group : Group) (i : ℕ) (waiting : List Waiting) (body : List ℕ) (initial : HouseFields)
     (old new : HubFields) (same : waiting ≡ group.waiting.items) (here : i < length waiting)
-    (is : body ≡ body_in group.text.items (waiting_at waiting i).written)
+    (is : body ≡ written_body group.text.items (waiting_at waiting i).written)
     (before : IsOnWay whole (after_group initial.setup (drop i (requests_in group))) initial old.house)
     (stand : HaveTextsFrom i old.connections (requests_in group) (λ k one. one.head)) where
   abbrev this : GroupRequest
@@ -147,25 +147,25 @@ module _ (whole : Step) (group : Group) (i : ℕ) (waiting : List Waiting) (body
   placed : (i < length (requests_in group)) × (this ≡ get_or (requests_in group) i this)
   placed = request_at group i (subst (λ (list : List Waiting). i < length list) same here)
 
-  headed : text_of old.connections this.conn ≡ Some this.head
+  headed : open_text old.connections this.conn ≡ Some this.head
   headed = head_at old.connections (requests_in group) i this placed.0 placed.1 stand
 
   made_at : {U : Type 0} (result : Result U SimFault) → IsMade i old new result waiting body
       → MakesStep (one_step old.house.setup this) old.house new.house result
   made_at result made =
       let same_body : body ≡ this.body =
-      is ∙ ap (λ (list : List Waiting). body_in group.text.items (waiting_at list i).written) same in
+      is ∙ ap (λ (list : List Waiting). written_body group.text.items (waiting_at list i).written) same in
       subst₂ (IsMade i old new result) same same_body made this.head headed
 
   -- the request is done, and those after it are left
   pub sent_in_turn : {U : Type 0} (done : U) → IsMade i old new (Ok done) waiting body → AreApart (requests_in group)
-      → ((head : List ℕ) → text_of old.connections (waiting_at waiting i).conn ≡ Some head
+      → ((head : List ℕ) → open_text old.connections (waiting_at waiting i).conn ≡ Some head
       → LeavesOthers old.connections new.connections (waiting_at waiting i).conn)
       → IsOnWay whole (after_group initial.setup (drop (i + 1) (requests_in group))) initial new.house
       × HaveTextsFrom (i + 1) new.connections (requests_in group) (λ k one. one.head)
   sent_in_turn done made apart keeps =
       let KeepsThem : List Waiting → Type 0 =
-      λ list. (head : List ℕ) → text_of old.connections (waiting_at list i).conn ≡ Some head
+      λ list. (head : List ℕ) → open_text old.connections (waiting_at list i).conn ≡ Some head
       → LeavesOthers old.connections new.connections (waiting_at list i).conn in (
         body_done whole (requests_in group) i this initial old.house new.house placed.0 placed.1 before done
             (made_at (Ok done) made),

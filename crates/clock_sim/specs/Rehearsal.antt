@@ -12,7 +12,7 @@ use Rattle.std.specs.Prelude.{◌≢◌, ⊤, ℕ, ◌+◌, List, [], ◌∷◌,
 use Rattle.std.specs.Prelude.{if◌then◌else◌}
 use Rattle.clock_terms.specs.Limits.{SetupFields}
 use Rattle.clock_terms.specs.Faults.{◌>>=◌}
-use Rattle.clock_house.specs.History.{history, standing}
+use Rattle.clock_house.specs.History.{history, public_state}
 use Rattle.clock_closing.specs.declared.closed_round.ClosedRound.{ClosedRound}
 use Rattle.clock_http.specs.declared.code.Code.{Code}
 use Rattle.clock_http.specs.declared.code.Code.TheVariants as codes
@@ -63,7 +63,7 @@ after_request_if setup texts sender round (Some text) = after_request setup text
 -- a bidder submits its sheet, if its script gives one
 abbrev pub after_put : SetupFields → ℕ → Script → List (List ℕ) → Result (List (List ℕ)) SimFault
 after_put setup bidder script texts =
-    after_request_if setup texts (Some bidder) (standing setup.products
+    after_request_if setup texts (Some bidder) (public_state setup.products
     (rounds_after setup texts)).round (scripted_put setup (rounds_after setup texts) bidder script)
 
 -- the bidders from this one on submit their sheets
@@ -76,7 +76,7 @@ after_puts setup bidder (script ∷ scripts) texts =
 -- the operator closes the round
 abbrev pub after_close : SetupFields → Closing → List (List ℕ) → Result (List (List ℕ)) SimFault
 after_close setup closing texts =
-    after_request setup texts None (standing setup.products (rounds_after setup texts)).round
+    after_request setup texts None (public_state setup.products (rounds_after setup texts)).round
     (scripted_close setup (rounds_after setup texts) closing)
 
 -- a round: all sheets, then the closing
@@ -91,7 +91,7 @@ abbrev pub rehearsed : SetupFields → List Script → List Closing → List (Li
 rehearsed setup scripts [] texts =
     after_puts setup 0 scripts texts >>= (λ put. Err faults.ClosingsSpent)
 rehearsed setup scripts (closing ∷ closings) texts = after_round setup scripts closing texts
-    >>= (λ closed. if (standing setup.products (rounds_after setup closed)).ended then Ok closed
+    >>= (λ closed. if (public_state setup.products (rounds_after setup closed)).ended then Ok closed
     else rehearsed setup scripts closings closed)
 
 -- the report of a rehearsal, or its first fault

@@ -5,8 +5,8 @@
 //! body.
 
 ghost use Rattle.std.specs.Prelude.{◌≡◌, ◌<◌, [], ◌++◌, Some, ℕ, List, length, true, IfErr, OnOk};
-ghost use Rattle.clock_connections.specs.Connections.{text_of, LeavesOthers};
-ghost use Rattle.clock_house.specs.House.{standing_in};
+ghost use Rattle.clock_connections.specs.Connections.{open_text, LeavesOthers};
+ghost use Rattle.clock_house.specs.House.{state_in};
 ghost use Rattle.clock_replays.specs.Replays.{IsScript};
 ghost use Rattle.clock_scripts.specs.Pieces.{AwaitsBody};
 ghost use Rattle.clock_sim.specs.Rehearsal as rules;
@@ -69,7 +69,7 @@ impl Group {
         requires within { AreWritten self.now }
         ensures step { MakesStep (after_group hub.old.house.setup (requests_in self.now))
             hub.old.house hub.new.house result }
-        ensures held { IfErr result rules.HasRefusalCode }
+        ensures refusal_code { IfErr result rules.HasRefusalCode }
     {
         for one in &self.waiting {
             let body = &self.text[one.written.body..one.written.head];
@@ -84,7 +84,7 @@ impl Group {
         requires { AreWaiting hub.old.connections self.old }
         ensures step { MakesStep (after_group hub.old.house.setup (requests_in self.old))
             hub.old.house hub.new.house result }
-        ensures held { IfErr result rules.HasRefusalCode }
+        ensures refusal_code { IfErr result rules.HasRefusalCode }
         ensures none { OnOk result (requests_in self.new ≡ []) }
         ensures text { OnOk result (self.new.text ≡ self.old.text) }
     {
@@ -97,9 +97,9 @@ impl Group {
 
 /// Returns the result of a request with this reply: `Ok` if it is done, `NoMemory` if it is out of
 /// memory, otherwise the refusal of the bidder `sender`, or without one of the operator.
-fn told(code: Code, sender: Option<u64>, round: u64) -> Result<(), SimFault>
+fn reported(code: Code, sender: Option<u64>, round: u64) -> Result<(), SimFault>
     ensures step { IsResultByCode code (rules.refused_by sender round code) result }
-    ensures held { IfErr result rules.HasRefusalCode }
+    ensures refusal_code { IfErr result rules.HasRefusalCode }
 {
     match (code, sender) {
         (Code::Done, _) => Ok(()),
@@ -118,18 +118,18 @@ fn send_body<P: Processor>(
     round: u64,
     body: &[u8],
 ) -> Result<(), SimFault>
-    ensures step { (head : List ℕ) → text_of hub.old.connections conn ≡ Some head
+    ensures step { (head : List ℕ) → open_text hub.old.connections conn ≡ Some head
         → MakesStep (λ texts. rules.after_request hub.old.house.setup texts sender round
         (head ++ body.now)) hub.old.house hub.new.house result }
-    ensures held { IfErr result rules.HasRefusalCode }
-    ensures others { (head : List ℕ) → text_of hub.old.connections conn ≡ Some head
+    ensures refusal_code { IfErr result rules.HasRefusalCode }
+    ensures others { (head : List ℕ) → open_text hub.old.connections conn ≡ Some head
         → OnOk result (LeavesOthers hub.old.connections hub.new.connections conn) }
 {
     let reply = match hub.feed(conn, body)? {
         Fed::Reply(reply) => reply,
         Fed::More => hub.finish(conn)?,
     };
-    told(reply.code(), sender, round)
+    reported(reply.code(), sender, round)
 }
 
 /// Sends a request on a connection of its own, and reads the reply. If the head is refused, the
@@ -143,14 +143,14 @@ fn send<P: Processor>(
 ) -> Result<(), SimFault>
     ensures step { MakesStep (λ texts. rules.after_request hub.old.house.setup texts sender round
         (head.now ++ body.now)) hub.old.house hub.new.house result }
-    ensures held { IfErr result rules.HasRefusalCode }
+    ensures refusal_code { IfErr result rules.HasRefusalCode }
 {
     law_decided_once();
     law_one_head();
     let conn = hub.connect()?;
     match hub.feed(conn, head)? {
         Fed::More => send_body(hub, conn, sender, round, body),
-        Fed::Reply(reply) => told(reply.code(), sender, round),
+        Fed::Reply(reply) => reported(reply.code(), sender, round),
     }
 }
 
@@ -168,7 +168,7 @@ fn submit<P: Processor>(
     requires awaits { AwaitsBody group.old.text.items written }
     ensures step { ComesUnderWay (with_turn hub.old.house.setup group.old bidder round written)
         hub.old hub.new group.new result }
-    ensures held { IfErr result rules.HasRefusalCode }
+    ensures refusal_code { IfErr result rules.HasRefusalCode }
 {
     if !written.needs_body() {
         group.send_all(hub)?;
@@ -203,7 +203,7 @@ fn put_scripted<P: Processor>(
     requires under_way { IsGroupUnderWay hub.old group.old }
     ensures step { ComesUnderWay (with_put hub.old.house.setup
         (requests_in group.old) bidder script.now) hub.old hub.new group.new result }
-    ensures held { IfErr result rules.HasRefusalCode }
+    ensures refusal_code { IfErr result rules.HasRefusalCode }
 {
     if group.waiting.is_empty() {
         group.text.clear();
@@ -227,7 +227,7 @@ fn put_all<P: Processor>(
     requires going { IsGoing hub.old.house }
     ensures step { MakesStep
         (rules.after_puts hub.old.house.setup 0 scripts.now) hub.old.house hub.new.house result }
-    ensures held { IfErr result rules.HasRefusalCode }
+    ensures refusal_code { IfErr result rules.HasRefusalCode }
 {
     // the law bounds the number of bidders, so that each fits in 32 bits
     hub.front().house().law_of_house();
@@ -246,7 +246,7 @@ fn close_scripted<P: Processor>(
 ) -> Result<(), SimFault>
     ensures step { MakesStep
         (rules.after_close hub.old.house.setup closing.now) hub.old.house hub.new.house result }
-    ensures held { IfErr result rules.HasRefusalCode }
+    ensures refusal_code { IfErr result rules.HasRefusalCode }
 {
     text.clear();
     let house = hub.front().house();
@@ -268,8 +268,8 @@ pub(crate) fn play<P: Processor>(
     requires going { IsGoing hub.old.house }
     ensures step { MakesStep (rules.rehearsed hub.old.house.setup scripts.now closings.now)
         hub.old.house hub.new.house result }
-    ensures held { IfErr result rules.HasRefusalCode }
-    ensures ended { OnOk result ((standing_in hub.new.house).ended ≡ true) }
+    ensures refusal_code { IfErr result rules.HasRefusalCode }
+    ensures ended { OnOk result ((state_in hub.new.house).ended ≡ true) }
 {
     let mut group = Group {
         text: Vec::new(alloc),

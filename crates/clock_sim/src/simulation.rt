@@ -1,6 +1,6 @@
 ghost use Rattle.std.specs.Prelude.{◌≡◌, [], Ok, true, IfOk, IfErr, OnOk};
 ghost use Rattle.clock_terms.specs.Faults.{IsRefusal};
-ghost use Rattle.clock_house.specs.House.{standing_in};
+ghost use Rattle.clock_house.specs.House.{state_in};
 ghost use Rattle.clock_front.specs.Fronts.{StandsForTexts};
 ghost use Rattle.clock_reports.specs.{FinalReport.{report_of}, Reports.{IsReport}};
 ghost use Rattle.clock_sim.specs.Rehearsal as rules;
@@ -67,10 +67,10 @@ fn play_out<P: Processor>(
     requires scripts { AreScriptsOf hub.old.house.setup scripts.now }
     ensures ok { OnOk result (rules.simulated (replay_of hub.old.house scripts.now closings.now)
         ≡ Ok (report_of hub.new.house.setup hub.new.house.closed)) }
-    ensures ended { OnOk result ((standing_in hub.new.house).ended ≡ true) }
+    ensures ended { OnOk result ((state_in hub.new.house).ended ≡ true) }
     ensures err { IfErr result (IsRefusal SimFault.NoMemory
         (rules.simulated (replay_of hub.old.house scripts.now closings.now))) }
-    ensures held { IfErr result rules.HasRefusalCode }
+    ensures refusal_code { IfErr result rules.HasRefusalCode }
 {
     play(alloc, hub, scripts, closings)
 }
@@ -87,7 +87,7 @@ fn played<P: Processor>(
     ensures ok { IfOk result (λ report. rules.simulated replay.now ≡ Ok report) }
     ensures report { IfOk result IsReport }
     ensures err { IfErr result (IsRefusal SimFault.NoMemory (rules.simulated replay.now)) }
-    ensures held { IfErr result rules.HasRefusalCode }
+    ensures refusal_code { IfErr result rules.HasRefusalCode }
 {
     let scripts = replay.scripts.as_slice();
     play_out(alloc, hub, scripts, replay.closings.as_slice())?;
@@ -109,7 +109,7 @@ fn text_played<P: Processor>(
         (λ text. rules.played_text (replay_of hub.old.house scripts closings) ≡ Ok text) }
     ensures err { IfErr result (IsRefusal SimFault.NoMemory
         (rules.played_text (replay_of hub.old.house scripts closings))) }
-    ensures held { IfErr result rules.HasRefusalCode }
+    ensures refusal_code { IfErr result rules.HasRefusalCode }
 {
     let played = play_out(alloc, hub, scripts.as_slice(), closings.as_slice());
     drop(scripts);
@@ -127,7 +127,7 @@ pub fn simulate_with<P: Processor + Drop>(
     ensures ok { IfOk result (λ report. rules.simulated replay.now ≡ Ok report) }
     ensures report { IfOk result IsReport }
     ensures err { IfErr result (IsRefusal SimFault.NoMemory (rules.simulated replay.now)) }
-    ensures held { IfErr result rules.HasRefusalCode }
+    ensures refusal_code { IfErr result rules.HasRefusalCode }
 {
     let setup = replay.setup.copy(alloc)?;
     let mut hub = Hub::new(alloc, Front::new(alloc, setup, processor)?);
@@ -152,7 +152,7 @@ pub fn simulate(alloc: Global, replay: &Replay) -> Result<Report, SimFault>
     ensures ok { IfOk result (λ report. rules.simulated replay.now ≡ Ok report) }
     ensures report { IfOk result IsReport }
     ensures err { IfErr result (IsRefusal SimFault.NoMemory (rules.simulated replay.now)) }
-    ensures held { IfErr result rules.HasRefusalCode }
+    ensures refusal_code { IfErr result rules.HasRefusalCode }
 {
     simulate_with(alloc, replay, Woken)
 }
@@ -163,7 +163,7 @@ pub fn simulate(alloc: Global, replay: &Replay) -> Result<Report, SimFault>
 pub fn replay_text(alloc: Global, replay: Replay) -> Result<Text, SimFault>
     ensures ok { IfOk result (λ text. rules.played_text replay ≡ Ok text) }
     ensures err { IfErr result (IsRefusal SimFault.NoMemory (rules.played_text replay)) }
-    ensures held { IfErr result rules.HasRefusalCode }
+    ensures refusal_code { IfErr result rules.HasRefusalCode }
 {
     let mut hub = Hub::new(alloc, Front::new(alloc, replay.setup, Woken)?);
     let text = text_played(alloc, &mut hub, replay.scripts, replay.closings);

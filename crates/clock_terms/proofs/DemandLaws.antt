@@ -10,7 +10,7 @@ use Rattle.clock_terms.specs.declared.setup.Product.{Product}
 use Rattle.clock_terms.specs.Limits.{IsProduct, IsRow, IsSetup, SetupFields, most_bidders, most_supply, no_product}
 use Rattle.clock_terms.specs.Eligibility.{activity}
 use Rattle.clock_terms.specs.Demands.{total_of, demand_at, row_of, with_demand}
-use Rattle.clock_terms.specs.inside.Demands.{IsKeptGrid}
+use Rattle.clock_terms.specs.inside.Demands.{IsGridWithTotals}
 
 -- a demand is at most the largest supply
 demand_small : (row : List ℕ) (p : ℕ) → All (λ demand. demand ≤ most_supply) row → get_or row p 0 ≤ most_supply
@@ -42,9 +42,9 @@ total-with_demand_other grid b p v q h differ =
     omega (arith, e, f)
 
 -- the invariant of `Grid` after one demand and its total changed
-pub kept_with_demand : (grid : List (List ℕ)) (totals : List ℕ) (b p v n : ℕ) → IsKeptGrid grid totals → b < length grid
-    → p < length totals → v ≤ most_supply → n + demand_at grid b p ≡ total_of grid p + v
-    → IsKeptGrid (with_demand grid b p v) (set totals p n)
+pub kept_with_demand : (grid : List (List ℕ)) (totals : List ℕ) (b p v n : ℕ) → IsGridWithTotals grid totals
+    → b < length grid → p < length totals → v ≤ most_supply → n + demand_at grid b p ≡ total_of grid p + v
+    → IsGridWithTotals (with_demand grid b p v) (set totals p n)
 kept_with_demand grid totals b p v n kept h k low is =
     let row_length : length (row_of grid b) ≡ length totals = kept.small.same_length b [] h in
     let same : total_of (with_demand grid b p v) p + demand_at grid b p ≡ total_of grid p + v =
@@ -67,7 +67,7 @@ kept_with_demand grid totals b p v n kept h k low is =
     }
 
 -- a product of each row has a total
-pub in_totals : (grid : List (List ℕ)) (totals : List ℕ) (p : ℕ) → IsKeptGrid grid totals
+pub in_totals : (grid : List (List ℕ)) (totals : List ℕ) (p : ℕ) → IsGridWithTotals grid totals
     → All (λ row. p < length row) grid → p < length totals
 in_totals grid totals p kept wide =
     let first : p < length (get_or grid 0 []) = wide 0 [] kept.has_bidder in
@@ -75,7 +75,7 @@ in_totals grid totals p kept wide =
     omega arith
 
 -- the total that `Grid::change` computes: the old total, less the old demand, plus the new one
-pub total_after : (grid : List (List ℕ)) (totals : List ℕ) (b p v : ℕ) → IsKeptGrid grid totals → b < length grid
+pub total_after : (grid : List (List ℕ)) (totals : List ℕ) (b p v : ℕ) → IsGridWithTotals grid totals → b < length grid
     → v ≤ most_supply → ((total_of grid p - demand_at grid b p) + v + demand_at grid b p ≡ total_of grid p + v)
     × ((total_of grid p - demand_at grid b p) + v ≤ (most_bidders + 1) * most_supply)
 total_after grid totals b p v kept h low =
@@ -114,7 +114,7 @@ module _ (products : List Product) (rows : List (List ℕ)) (are : All (IsRow pr
 
   pub kept_of_rows : (setup : SetupFields) (totals : List ℕ) → IsSetup setup → setup.products ≡ products
       → length rows ≡ length setup.bidders → length totals ≡ length products → ((product : ℕ)
-      → product < length products → get_or totals product 0 ≡ total_of rows product) → IsKeptGrid rows totals
+      → product < length products → get_or totals product 0 ≡ total_of rows product) → IsGridWithTotals rows totals
   kept_of_rows setup totals good same each long is =
       let count : length setup.products ≡ length products = ap length same in
       record {

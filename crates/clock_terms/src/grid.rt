@@ -3,7 +3,7 @@ ghost use Rattle.std.specs.Prelude.{slice_index};
 ghost use Rattle.clock_terms.specs.Limits.{IsRow, most_bidders, most_supply};
 ghost use Rattle.clock_terms.specs.Demands.{total_of, demand_at, changed_demand, row_of};
 ghost use Rattle.clock_terms.specs.Demands.{with_demand, no_demands};
-ghost use Rattle.clock_terms.specs.inside.Demands.{IsKeptGrid};
+ghost use Rattle.clock_terms.specs.inside.Demands.{IsGridWithTotals};
 
 use crate::change::Kind;
 use crate::row::Row;
@@ -31,7 +31,7 @@ impl Model for Grid {
 
     ghost view = { λ a. a.rows.items };
 
-    ghost invariant = { λ a. IsKeptGrid a.rows.items a.totals };
+    ghost invariant = { λ a. IsGridWithTotals a.rows.items a.totals };
 }
 
 /// Adds each demand of `row` to the total of its product. Requires a total for each product, and

@@ -22,5 +22,5 @@ pub use limits::{
     MOST_SUPPLY, MOST_UNITS, SHORTEST_TOKEN, is_within,
 };
 pub use prices::{OpeningPrices, PricePair, Prices};
-pub use row::{Held, PackedRow, PositiveDemands, Row};
+pub use row::{PackedRow, PositiveDemands, ProductDemand, Row};
 pub use setup::{Bidder, Bidders, Product, Products, Setup};

@@ -3,7 +3,7 @@ ghost use Rattle.std.specs.Prelude.{slice_index, slice_set, vec_capacity, drop, 
 ghost use Rattle.std.specs.Prelude.{option_map, All, IfSome};
 ghost use Rattle.std.specs.List.{AllWithin};
 ghost use Rattle.clock_terms.specs.{Demands.{changed_demand}, HeldDemands.{demands_of, next_of}};
-ghost use Rattle.clock_terms.specs.inside.Rows.{IsPackedRow, ArePositiveDemands, IsKeptWalk};
+ghost use Rattle.clock_terms.specs.inside.Rows.{IsPackedRow, ArePositiveDemands, IsPackedWalk};
 ghost use Rattle.clock_terms.specs.Limits.{IsRow, most_products, most_supply};
 ghost use Rattle.clock_terms.specs.Walks.{Walk};
 
@@ -81,11 +81,11 @@ impl Row {
     {
         let count = setup.products.len();
         let mut room = vec![in alloc; PositiveDemand::default(); count]?;
-        let kept = write_held(&mut room, demands);
+        let packed = write_held(&mut room, demands);
         // A second allocation with the capacity of all products: what is never written is never
         // touched.
         let mut held = Vec::with_capacity(alloc, count)?;
-        held.extend_from_slice(&room[..kept])?;
+        held.extend_from_slice(&room[..packed])?;
         let mut starts = vec![in alloc; 0; count / GROUP_SIZE + 1]?;
         find_starts(&mut starts, held.as_slice());
         Ok(Row {
@@ -190,8 +190,8 @@ impl Row {
     }
 
     /// Returns a packed copy of the demands, for a closed round. May return `NoMemory`.
-    pub fn kept(&self, alloc: Global) -> Result<PackedRow, NoMemory>
-        ensures { IfOk result (λ kept. kept ≡ self.now) }
+    pub fn packed(&self, alloc: Global) -> Result<PackedRow, NoMemory>
+        ensures { IfOk result (λ packed. packed ≡ self.now) }
     {
         Ok(PackedRow {
             count: self.count,
@@ -258,7 +258,7 @@ impl PackedRow {
 
 /// A product with positive demand.
 #[derive(Clone, Copy)]
-pub struct Held {
+pub struct ProductDemand {
     /// The product's number in the set-up, from 0.
     pub product: usize,
     /// The demand, from 1 to 1,000 blocks.
@@ -282,7 +282,7 @@ impl<'a> Model for PositiveDemands<'a> {
       from = next_of h.count (drop h.given h.held.now);
     } };
 
-    ghost invariant = { λ h. IsKeptWalk h.count h.held.now h.given };
+    ghost invariant = { λ h. IsPackedWalk h.count h.held.now h.given };
 }
 
 impl<'a> PositiveDemands<'a> {
@@ -290,7 +290,7 @@ impl<'a> PositiveDemands<'a> {
     /// by rising product.
     #[inline(always)]
     fn of(count: usize, held: &'a [PositiveDemand]) -> PositiveDemands<'a>
-        requires { IsKeptWalk count held.now 0 }
+        requires { IsPackedWalk count held.now 0 }
         ensures { result
             ≡ record { demands = demands_of count held.now; from = next_of count held.now } }
     {
@@ -311,7 +311,7 @@ impl<'a> PositiveDemands<'a> {
     /// Returns the next product with positive demand, by rising number, and that demand. `None` if
     /// there is no further one.
     #[inline(always)]
-    pub fn next(&mut self) -> Option<Held>
+    pub fn next(&mut self) -> Option<ProductDemand>
         ensures row { self.new.demands ≡ self.old.demands }
         ensures least { IfSome result (λ held. self.old.from ≤ held.product) }
         ensures within { IfSome result (λ held. held.product < length self.old.demands) }
@@ -327,7 +327,7 @@ impl<'a> PositiveDemands<'a> {
     {
         let one = self.held.get(self.given)?;
         self.given += 1;
-        Some(Held {
+        Some(ProductDemand {
             product: one.product as usize,
             demand: one.demand as u64,
         })

@@ -11,13 +11,13 @@ use Rattle.clock_http.specs.declared.code.Code.TheVariants.{PriceRange, OverCap,
 use Rattle.clock_http.specs.declared.code.Code.TheVariants.{MixedDirection, KeepPrice, OverActivity, Increment}
 use Rattle.clock_http.specs.declared.code.Code.TheVariants.{TieRange, TieRepeated, TooManyTies}
 use Rattle.clock_http.specs.declared.code.Code.TheVariants.{PriceLimit, LongHead, Coding, Memory}
-use Rattle.clock_http.specs.Codes.{text_of, status_of}
+use Rattle.clock_http.specs.Codes.{code_text, status_of}
 use Rattle.clock_views.specs.Refusals.{Shown}
 use Rattle.clock_views.specs.RefusalPage.{refusal_value, refusal_bytes}
 use Rattle.clock_views.specs.Values.{number_if}
 
 -- no code has a character that JSON escapes
-plain : (code : Code) → escape (text_of code) ≡ text_of code
+plain : (code : Code) → escape (code_text code) ≡ code_text code
 unfolding serde_json_on_literals
 plain Done = refl
 plain BadHead = refl
@@ -57,7 +57,7 @@ behind code place round = number_if (codes ",\"place\":") place
 
 escaped : (code : Code) (place round : Option ℕ)
     → compact_text (refusal_value (record { code = code; place = place; round = round }))
-    ≡ codes "{\"code\":\"" ++ ((escape (text_of code) ++ codes "\"") ++ behind code place round)
+    ≡ codes "{\"code\":\"" ++ ((escape (code_text code) ++ codes "\"") ++ behind code place round)
 unfolding refusal_value serde_json_on_literals
 escaped code None None = refl
 escaped code None (Some round) = refl
@@ -66,14 +66,14 @@ escaped code (Some place) (Some round) = refl
 
 in_pieces : (code : Code) (place round : Option ℕ)
     → compact_text (refusal_value (record { code = code; place = place; round = round }))
-    ≡ codes "{\"code\":\"" ++ (text_of code ++ (codes "\"" ++ behind code place round))
+    ≡ codes "{\"code\":\"" ++ (code_text code ++ (codes "\"" ++ behind code place round))
 in_pieces code place round =
     escaped code place round
     ∙ ap (λ text. codes "{\"code\":\"" ++ text) (ap (λ text. (text ++ codes "\"")
-    ++ behind code place round) (plain code) ∙ append_assoc (text_of code) _ _)
+    ++ behind code place round) (plain code) ∙ append_assoc (code_text code) _ _)
 
 pub refusal_in_pieces : (shown : Shown) → compact_text (refusal_value shown) ≡ codes "{\"code\":\""
-    ++ (text_of shown.code ++ (codes "\"" ++ (number_if (codes ",\"place\":") shown.place ++ (number_if
+    ++ (code_text shown.code ++ (codes "\"" ++ (number_if (codes ",\"place\":") shown.place ++ (number_if
     (codes ",\"round\":") shown.round ++ ((codes ",\"status\":" ++ decimal (status_of shown.code)) ++ codes "}")))))
 refusal_in_pieces shown = in_pieces shown.code shown.place shown.round
 

@@ -26,6 +26,6 @@ headed {page = page} given begun adds = given ∙ adds.is ∙ ap (λ s. s ++ pag
 
 -- the room for a page that was refused
 pub refused : (head : List ℕ) (value : Data) (result : Result (List ℕ) ℕ) (room : ℕ)
-    → IsErrAnd result (λ told. told ≡ room) → room ≡ most_text value → IsHeaded head value result
-refused head value (Ok text) room told is = absurd told
-refused head value (Err same) room told is = told ∙ is
+    → IsErrAnd result (λ reported. reported ≡ room) → room ≡ most_text value → IsHeaded head value result
+refused head value (Ok text) room reported is = absurd reported
+refused head value (Err same) room reported is = reported ∙ is

@@ -14,7 +14,7 @@ use Rattle.clock_posting.specs.declared.sheet.Line.{Line}
 use Rattle.clock_posting.specs.declared.sheet.RoundSheet.{RoundSheet}
 use Rattle.clock_bids.specs.Holding.{Holding}
 use Rattle.clock_closing.specs.declared.closed_round.Slip.{Slip}
-use Rattle.clock_house.specs.House.{HouseFields, standing_in}
+use Rattle.clock_house.specs.House.{HouseFields, state_in}
 use Rattle.clock_views.specs.Values.{whole, whole_or_null, list_of, object_of, member_if, number_if, true_or_false}
 use Rattle.clock_views.specs.PublicPages.{status_value, status_bytes, from_version_2, product_value, products_value}
 use Rattle.clock_views.specs.PublicPages.{line_value, sheet_value}
@@ -202,8 +202,8 @@ results_with bidders false round = refl
 
 pub results_in_pieces : (house : HouseFields) → compact_text (results_value house)
     ≡ codes "{\"bidders\":" ++ (compact_text (list_of (result_in house) (range_with_len 0 (length house.setup.bidders)))
-    ++ ((codes ",\"ended\":" ++ true_or_false (standing_in house).ended)
-    ++ ((codes ",\"round\":" ++ decimal (standing_in house).round) ++ codes "}")))
+    ++ ((codes ",\"ended\":" ++ true_or_false (state_in house).ended)
+    ++ ((codes ",\"round\":" ++ decimal (state_in house).round) ++ codes "}")))
 unfolding results_value
 results_in_pieces house = results_with (list_of (result_in house) (range_with_len 0 (length house.setup.bidders)))
-    (standing_in house).ended (standing_in house).round
+    (state_in house).ended (state_in house).round

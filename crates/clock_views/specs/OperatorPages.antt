@@ -8,7 +8,7 @@ use Rattle.std.specs.List.{range_with_len}
 use Rattle.serde_json.specs.Data.{Data, boolean, string}
 use Rattle.clock_bids.specs.Holding.{Holding}
 use Rattle.clock_house.specs.History.{bidder_at}
-use Rattle.clock_house.specs.House.{HouseFields, standing_in, holding_in}
+use Rattle.clock_house.specs.House.{HouseFields, state_in, holding_in}
 use Rattle.clock_views.specs.Values.{whole, list_of, object_of, true_or_false}
 
 -- the reply to a closing: its round, and whether the auction ends with it
@@ -29,8 +29,8 @@ result_in house bidder = result_value (bidder_at house.setup bidder).name (holdi
 unfoldable pub results_value : HouseFields → Data
 results_value house = object_of (
     ("bidders", list_of (result_in house) (range_with_len 0 (length house.setup.bidders))) ∷
-    ("ended", boolean (standing_in house).ended) ∷
-    ("round", whole (standing_in house).round) ∷ [])
+    ("ended", boolean (state_in house).ended) ∷
+    ("round", whole (state_in house).round) ∷ [])
 
 -- the reply to a closing, byte for byte
 abbrev pub closed_bytes : ℕ → Bool → List ℕ

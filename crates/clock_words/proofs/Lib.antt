@@ -1,3 +1,3 @@
 mod NumberText
 mod Grammar
-pub mod Told
+pub mod ServeOptions

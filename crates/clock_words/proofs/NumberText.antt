@@ -10,7 +10,7 @@ use Rattle.clap.specs.declared.builder.value_parser.ValueParser.TheVariants as p
 use Rattle.clap.proofs.ValueTestLemmas.{accepts-Accepts, Accepts-accepts}
 use Rattle.clap.proofs.WalkLemmas.{both}
 use Rattle.clock_terms.specs.Limits.{is_within}
-use Rattle.clock_words.specs.Words.{number_from}
+use Rattle.clock_words.specs.Words.{number_within}
 use Rattle.clock_words.specs.inside.Commands.{within_limits}
 
 same_choice : (a b : Bool) (n v : ℕ) → n ≡ v → (a ≡ true → b ≡ true) → (b ≡ true → a ≡ true)
@@ -26,7 +26,7 @@ none_taken false v never = refl
 
 module _ {E : Type 0} (gives : List ℕ → Result ℕ E → Type 0)
     (parses : (t : List ℕ) (r : Result ℕ E) → gives t r → ParsesUnsigned 64 10 t r) (least most : ℕ) where
-  read_at : (t : List ℕ) (r : Option ℕ) → ReadsOne gives t r → within_limits least most r ≡ number_from least most t
+  read_at : (t : List ℕ) (r : Option ℕ) → ReadsOne gives t r → within_limits least most r ≡ number_within least most t
   read_at t None given = none_taken (is_unsigned_in least most t) _
       (λ e. let accepted = accepts-Accepts false (parser.Unsigned least most) t e in
       parses t (Err given.0) given.1 (accepted.0, accepted.1))
@@ -46,25 +46,25 @@ module _ {E : Type 0} (gives : List ℕ → Result ℕ E → Type 0)
       rw (enough, few) refl)
 
   pub number_read : (text : Option (List ℕ)) (r : Option ℕ) → (text ≡ None → r ≡ None) → ((t : List ℕ) → text ≡ Some t
-      → ReadsOne gives t r) → within_limits least most r ≡ option_and_then (number_from least most) text
+      → ReadsOne gives t r) → within_limits least most r ≡ option_and_then (number_within least most) text
   number_read None r none some = rw (none refl) refl
   number_read (Some t) r none some = read_at t r (some t refl)
 
   -- a number within the limits is returned, and no other
   pub kept : (text : Option (List ℕ)) (r : Option ℕ) (n : ℕ) → r ≡ Some n → is_within least most n ≡ true
       → (text ≡ None → r ≡ None) → ((t : List ℕ) → text ≡ Some t → ReadsOne gives t r)
-      → Some n ≡ option_and_then (number_from least most) text
+      → Some n ≡ option_and_then (number_within least most) text
   kept text r n is test none some =
       subst (λ (o : Option ℕ). Some n ≡ within_limits least most o) (sym is)
       (subst (λ (b : Bool). Some n ≡ cond b (Some n) None) (sym test) refl) ∙ number_read text r none some
 
   pub left_out : (text : Option (List ℕ)) (r : Option ℕ) (n : ℕ) → r ≡ Some n → is_within least most n ≡ false
       → (text ≡ None → r ≡ None) → ((t : List ℕ) → text ≡ Some t → ReadsOne gives t r)
-      → None ≡ option_and_then (number_from least most) text
+      → None ≡ option_and_then (number_within least most) text
   left_out text r n is test none some = subst (λ (o : Option ℕ). None ≡ within_limits least most o) (sym is) (subst
       (λ (b : Bool). ◌≡◌ {A = Option ℕ} None (cond b (Some n) None)) (sym test) refl) ∙ number_read text r none some
 
   pub none_read : (text : Option (List ℕ)) (r : Option ℕ) → r ≡ None → (text ≡ None → r ≡ None)
-      → ((t : List ℕ) → text ≡ Some t → ReadsOne gives t r) → None ≡ option_and_then (number_from least most) text
+      → ((t : List ℕ) → text ≡ Some t → ReadsOne gives t r) → None ≡ option_and_then (number_within least most) text
   none_read text r is none some =
       subst (λ (o : Option ℕ). None ≡ within_limits least most o) (sym is) refl ∙ number_read text r none some

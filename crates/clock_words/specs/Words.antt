@@ -90,13 +90,13 @@ given [] = codes "prices" ∷ codes "--increment" ∷ codes "10" ∷ []
 given (word ∷ words) = word ∷ words
 
 -- the number that a text writes, if it is within the limits
-abbrev pub number_from : ℕ → ℕ → Text → Option ℕ
-number_from least most text = if is_unsigned_in least most text
+abbrev pub number_within : ℕ → ℕ → Text → Option ℕ
+number_within least most text = if is_unsigned_in least most text
     then Some (digits_value 10 (without_leading_plus text)) else None
 
 -- the number that an option has, if it is within the limits
 abbrev pub number_of : Text → ℕ → ℕ → List Row → Option ℕ
-number_of name least most options = option_and_then (number_from least most) (one_of name options)
+number_of name least most options = option_and_then (number_within least most) (one_of name options)
 
 -- the arguments of `serve`: set-up file, port, number of connections, journal file if any
 pub record ServingFields : Type 0 where

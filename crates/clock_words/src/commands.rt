@@ -86,12 +86,12 @@ fn serve_command<'a>(alloc: Global) -> Result<Command<'a>, AllocError>
     let about = "Serve an auction to live bidders at a port of 127.0.0.1";
     let port = "Port of 127.0.0.1 to listen at, 1 to 65535";
     let served = "Connections to serve before ending, 1 to 1000000";
-    let kept = "Log of accepted sheets and closings, created if it does not exist";
+    let purpose = "Log of accepted sheets and closings, created if it does not exist";
     named(alloc, "serve", about, SERVE_HELP)
         .arg(needed_option(alloc, "setup", SETUP_FILE))?
         .arg(number_option(alloc, "port", MOST_PORT, port))?
         .arg(number_option(alloc, "connections", MOST_SERVED, served))?
-        .arg(option(alloc, "journal", "FILE", kept))
+        .arg(option(alloc, "journal", "FILE", purpose))
 }
 
 /// Makes a command on a set-up file and a journal.
@@ -103,10 +103,10 @@ fn files_command<'a>(
 ) -> Result<Command<'a>, AllocError>
     ensures { IfOk result (IsCommand (files_grammar name.now)) }
 {
-    let kept = "Log of accepted sheets and closings that `serve` wrote";
+    let purpose = "Log of accepted sheets and closings that `serve` wrote";
     named(alloc, name, about, help)
         .arg(needed_option(alloc, "setup", SETUP_FILE))?
-        .arg(needed_option(alloc, "journal", kept))
+        .arg(needed_option(alloc, "journal", purpose))
 }
 
 /// Makes the program without its commands.
@@ -127,9 +127,9 @@ pub fn program<'a>(alloc: Global) -> Result<Command<'a>, AllocError>
 {
     let opening = "Print the results of round 1 for given demands";
     let replay = "Rehearse an auction with scripted bidders";
-    let kept = "Print the requests that a journal contains";
+    let purpose = "Print the requests that a journal contains";
     let won = "Recount an auction from its set-up and journal";
-    let journal = files_command(alloc, "journal", kept, JOURNAL_HELP);
+    let journal = files_command(alloc, "journal", purpose, JOURNAL_HELP);
     let audit = files_command(alloc, "audit", won, AUDIT_HELP);
     let program = with_command(program_only(alloc), prices_command(alloc));
     let program = with_command(program, Ok(named(alloc, "opening", opening, OPENING_HELP)));

@@ -60,8 +60,8 @@ ComesTo closing result =
 -- The result is the posting of these demands and prices, the first product whose next clock price
 -- would be too high, or out of memory.
 abbrev pub Posts : OpenRoundFields → Increments → RoundResult → Result Posting PostFault → Type 0
-Posts round increments result posting = MatchResult posting
-    (λ one. IsPosting round.before.standing.round round.setup.products round.before.standing.prices
+Posts round increments result posting = MatchResult posting (λ one.
+    IsPosting round.before.public_state.round round.setup.products round.before.public_state.prices
     result.grid result.posted increments one × IsConsistent one) (IsFirstFault post_faults.NoMemory
     (post_fault (price_limit_fault round.setup.products result.grid result.posted increments)))
 

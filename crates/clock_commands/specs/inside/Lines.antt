@@ -2,7 +2,7 @@
 --     spaced_number number, spaced_code code      a space and a number, or a code, if there is one
 --     text_of_words words      a word, and what follows it
 use Rattle.std.specs.Prelude.{ℕ, List, [], ◌++◌, Option, Some, None, codes, decimal}
-use Rattle.clock_http.specs.Codes.{text_of}
+use Rattle.clock_http.specs.Codes.{code_text}
 use Rattle.clock_http.specs.declared.code.Code.{Code}
 use Rattle.clock_commands.specs.declared.fault.Words.{Words}
 
@@ -12,7 +12,7 @@ spaced_number (Some number) = codes " " ++ decimal number
 
 abbrev pub spaced_code : Option Code → List ℕ
 spaced_code None = []
-spaced_code (Some code) = codes " " ++ text_of code
+spaced_code (Some code) = codes " " ++ code_text code
 
 -- a text and what follows it, if something does
 abbrev pub with_number : List ℕ → Option ℕ → List ℕ

@@ -3,9 +3,9 @@
 use Rattle.std.specs.Prelude.{◌≡◌, ℕ, true, List, Some}
 use Rattle.clock_http.specs.Framing.{needs_more}
 use Rattle.clock_connections.specs.declared.connections.Conn.{Conn}
-use Rattle.clock_connections.specs.Connections.{ConnectionFields, text_of}
+use Rattle.clock_connections.specs.Connections.{ConnectionFields, open_text}
 
 -- the text of each open connection needs more
 abbrev pub AllNeedMore : ConnectionFields → Type 0
 AllNeedMore connections =
-    (conn : Conn) (text : List ℕ) → text_of connections conn ≡ Some text → needs_more text ≡ true
+    (conn : Conn) (text : List ℕ) → open_text connections conn ≡ Some text → needs_more text ≡ true

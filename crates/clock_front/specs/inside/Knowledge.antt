@@ -9,8 +9,8 @@ use Rattle.clock_bids.specs.declared.sheet.Bid.{Bid}
 use Rattle.clock_bids.specs.Holding.{Holding}
 use Rattle.clock_posting.specs.declared.sheet.RoundSheet.{RoundSheet}
 use Rattle.clock_closing.specs.declared.closed_round.Slip.{Slip}
-use Rattle.clock_house.specs.Standing.{Standing, put_fault}
-use Rattle.clock_house.specs.View.{Seen, seen_standing, seen_holding, seen_in_force, seen_round}
+use Rattle.clock_house.specs.PublicState.{PublicState, put_fault}
+use Rattle.clock_house.specs.View.{Seen, seen_state, seen_holding, seen_in_force, seen_round}
 use Rattle.clock_http.specs.declared.code.Code.TheVariants as code
 use Rattle.clock_views.specs.Refusals.{bare}
 use Rattle.clock_views.specs.PublicPages.{status_value, products_value, sheet_value}
@@ -24,7 +24,7 @@ use Rattle.clock_front.specs.Outcomes.{page_or_no_round, put_outcome}
 -- What a bidder knows: the state of the auction, its eligibility and processed demands, its sheet
 -- in force, and of each closed round the round results and its bidder results.
 pub record Knowledge : Type 0 where
-  pub standing : Standing
+  pub public_state : PublicState
   pub holding : Holding
   pub in_force : Option (List Bid)
   pub rounds : ℕ → Option (RoundSheet × Slip)
@@ -32,7 +32,7 @@ pub record Knowledge : Type 0 where
 -- What a bidder knows from its view.
 abbrev pub known_from : PublicSetup → Bidder → List Seen → Knowledge
 known_from setup row view = record {
-  standing = seen_standing setup view;
+  public_state = seen_state setup view;
   holding = seen_holding setup row view;
   in_force = seen_in_force setup row view;
   rounds = λ n. seen_round n view;
@@ -48,16 +48,16 @@ unfoldable pub known_outcome : PublicSetup → Bidder → Knowledge → Ask → 
 known_outcome setup row known (asked.turned_away why) = refused (bare why)
 known_outcome setup row known (asked.no_method page) = not_allowed page
 known_outcome setup row known asked.status =
-    done (status_value setup known.standing.round known.standing.ended)
+    done (status_value setup known.public_state.round known.public_state.ended)
 known_outcome setup row known asked.products = done (products_value setup)
 known_outcome setup row known (asked.sheet segment) =
     page_or_no_round (option_map (λ seen. sheet_value setup seen.0) (known_round known segment))
-known_outcome setup row known asked.account = done
-    (account_value setup.products row.name known.standing.round known.holding known.standing.ended)
-known_outcome setup row known asked.bids = done (bids_value known.standing.round known.in_force)
+known_outcome setup row known asked.account = done (account_value setup.products row.name
+    known.public_state.round known.holding known.public_state.ended)
+known_outcome setup row known asked.bids = done (bids_value known.public_state.round known.in_force)
 known_outcome setup row known (asked.put (Err fault)) = refused (bare (body_code fault))
 known_outcome setup row known (asked.put (Ok body)) =
-    put_outcome body (put_fault setup known.standing known.holding body.round body.bids)
+    put_outcome body (put_fault setup known.public_state known.holding body.round body.bids)
 known_outcome setup row known (asked.slip segment) =
     page_or_no_round (option_map (λ seen. slip_value seen.1) (known_round known segment))
 known_outcome setup row known (asked.close body) = refused (bare code.Role)

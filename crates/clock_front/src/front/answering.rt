@@ -11,7 +11,7 @@ ghost use Rattle.clock_front.specs.Effects.{IsRightFor};
 ghost use Rattle.clock_front.specs.Outcomes.{answer_of, body_code, outcome, refused};
 ghost use Rattle.clock_front.specs.Rooms.{NeedsRoom};
 ghost use Rattle.clock_front.specs.Requests as asked;
-ghost use Rattle.clock_front.specs.inside.{Callers.{IsKnown}, KeptPage.{IsProductsPage}};
+ghost use Rattle.clock_front.specs.inside.{Callers.{IsKnown}, FixedPage.{IsProductsPage}};
 
 use crate::front::FixedParts;
 use crate::front::callers::Caller;
@@ -128,12 +128,12 @@ fn close_round<P: Processor>(
 pub(crate) fn answer_request<P: Processor>(
     alloc: Global,
     house: &mut House<P>,
-    kept: &FixedParts,
+    base: &FixedParts,
     caller: Caller,
     head: &Head<'_>,
     body: &[u8],
 ) -> Result<Response, AnswerError>
-    requires page { IsProductsPage house.old.setup kept.now.products }
+    requires page { IsProductsPage house.old.setup base.now.products }
     requires known { IsKnown (length house.old.setup.bidders) caller }
     ensures done { IfOk result (IsRightFor caller (asked.ask_by_route (page_of head.now.path.now)
         (shown_head head.now) body.now) house.old house.new) }
@@ -142,7 +142,7 @@ pub(crate) fn answer_request<P: Processor>(
         (asked.ask_by_route (page_of head.now.path.now) (shown_head head.now) body.now))) }
     ensures still { OnErr result (StandsForTheSame house.old house.new) }
 {
-    let Some(page) = kept.routes.page_of(head.path) else {
+    let Some(page) = base.routes.page_of(head.path) else {
         return Ok(unchanged(refusal(alloc, Refusal::bare(Code::NoPage), None)?));
     };
     if !page.has_method(head.method) {
@@ -150,7 +150,7 @@ pub(crate) fn answer_request<P: Processor>(
     }
     match (page, caller) {
         (Page::Status, _) => Ok(unchanged(status(alloc, house)?)),
-        (Page::Products, _) => Ok(unchanged(products(alloc, kept.products.as_slice())?)),
+        (Page::Products, _) => Ok(unchanged(products(alloc, base.products.as_slice())?)),
         (Page::Sheet, _) => Ok(unchanged(sheet(alloc, house, last_segment(head.path))?)),
         (Page::Account, Caller::Bidder(bidder)) => Ok(unchanged(account(alloc, house, bidder)?)),
         (Page::Bids, Caller::Bidder(bidder)) if head.is_put() => Ok(put_sheet(

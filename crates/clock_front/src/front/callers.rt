@@ -3,7 +3,7 @@ ghost use Rattle.std.specs.Prelude.{◌≡◌, ℕ, List, length, IfOk, OnOk, if
 ghost use Rattle.clock_terms.specs.Limits.{SetupFields};
 ghost use Rattle.clock_http.specs.{Shown.{shown_bytes}, Heads.{same_bytes}};
 ghost use Rattle.clock_front.specs.{Callers.{caller as caller_with}, inside.Callers.{IsKnown}};
-ghost use Rattle.clock_front.specs.inside.HeldTokens.{found, IsTableOf};
+ghost use Rattle.clock_front.specs.inside.TokenTable.{found, IsTableOf};
 
 use clock_device::NoMemory;
 use clock_terms::Setup;

@@ -9,7 +9,7 @@ ghost use Rattle.clock_front.specs.declared.front.replies.AnswerError.TheVariant
 ghost use Rattle.clock_front.specs.FixedReplies.{no_memory};
 ghost use Rattle.clock_front.specs.{Outcomes.{answer_of, done, with_page}, Rooms.{refusal_room}};
 ghost use Rattle.clock_front.specs.inside.FixedReplies.{is_fixed, refusal_of};
-ghost use Rattle.clock_front.specs.inside.KeptPage.{IsProductsPage};
+ghost use Rattle.clock_front.specs.inside.FixedPage.{IsProductsPage};
 ghost use Rattle.clock_front.specs.inside.Replies.{IsPageIn, IsReplyOrFailure};
 ghost use Rattle.clock_front.specs.Requests as asked;
 

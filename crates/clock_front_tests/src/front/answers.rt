@@ -1,5 +1,5 @@
 //! Replies to requests that are sent one after the other.
-use super::requests::{Told, compare, reply_of, request_of, setup_of, text_of};
+use super::requests::{Reported, compare, reply_of, request_of, setup_of, text_of};
 use super::texts::{ACCEPTED, PUT};
 use crate::comparing::{assert_is, assert_is_at};
 use crate::front::example::{on_front, on_one_product};
@@ -39,16 +39,16 @@ GET /v1/me/bids|X|>200 OK|{"bids":[],"round":1}
 GET /v1/me/bids|Y|>200 OK|{"bids":null,"round":1}"#;
 
 /// Sends the 147 bytes of X's sheet and compares the reply. Then sends the rows.
-fn put_and_told(rt: &impl Abort, alloc: Global, front: &mut Front<Plain>) -> Option<()> {
+fn put_and_reported(rt: &impl Abort, alloc: Global, front: &mut Front<Plain>) -> Option<()> {
     let reply = reply_of(alloc, front, PUT)?;
     assert_is(rt, reply.as_str(), ACCEPTED);
     send_rows(rt, alloc, front, SHEETS)
 }
 
 #[test]
-fn a_sheet_is_put_and_told(rt: HostRuntime) {
+fn a_sheet_is_put_and_reported(rt: HostRuntime) {
     assert_is(&rt, PUT.len(), 147);
-    let done = on_one_product(rt.alloc(), |front| put_and_told(&rt, rt.alloc(), front));
+    let done = on_one_product(rt.alloc(), |front| put_and_reported(&rt, rt.alloc(), front));
     assert_is(&rt, done, Some(()));
 }
 
@@ -197,8 +197,8 @@ fn has_too_many(
     page: &str,
 ) -> Option<()> {
     let text = long_text(alloc, asked, parts)?;
-    let told: Told<'_> = ("422 Unprocessable Entity", page);
-    compare(rt, alloc, front, asked.0, text.as_str(), told)
+    let reported: Reported<'_> = ("422 Unprocessable Entity", page);
+    compare(rt, alloc, front, asked.0, text.as_str(), reported)
 }
 
 #[test]

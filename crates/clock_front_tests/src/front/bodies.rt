@@ -76,8 +76,8 @@ const SHEETS: &[(&[u8], Result<Sheet<'static>, BodyFault>)] = &[
 fn is_sheet(rt: &impl Abort, alloc: Global, body: &[u8], expected: Result<Sheet<'_>, BodyFault>) {
     match read_put(alloc, body) {
         Ok(put) => {
-            let told = Ok((put.round, put.bids.as_slice()));
-            assert_is_at(rt, body, told, expected);
+            let reported = Ok((put.round, put.bids.as_slice()));
+            assert_is_at(rt, body, reported, expected);
         }
         Err(fault) => assert_is_at(rt, body, Err(fault), expected),
     }
@@ -120,7 +120,7 @@ const CLOSINGS: &[(&[u8], Result<Closing, BodyFault>)] = &[
 ];
 
 /// The numbers and the round of a closing.
-fn told(closing: &CloseBody) -> Closing {
+fn reported(closing: &CloseBody) -> Closing {
     let increments = match &closing.increments {
         Increments::Single(_) => 0,
         Increments::PerProduct(increments) => increments.as_slice().len(),
@@ -131,9 +131,9 @@ fn told(closing: &CloseBody) -> Closing {
 /// Reads the body of a closing.
 fn closing_of(alloc: Global, body: &[u8]) -> Result<Closing, BodyFault> {
     let closing = read_close(alloc, body)?;
-    let told = told(&closing);
+    let reported = reported(&closing);
     drop(closing);
-    Ok(told)
+    Ok(reported)
 }
 
 #[test]

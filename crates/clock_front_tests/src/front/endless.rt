@@ -20,7 +20,7 @@ struct Endless {
 }
 
 impl Source for Endless {
-    ghost told = { λ source. record {
+    ghost report = { λ source. record {
       left = None;
       calls = source.calls;
       interruptions = source.interruptions;

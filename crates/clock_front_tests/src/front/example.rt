@@ -46,6 +46,6 @@ fn has_status(front: &mut Front<Plain>) -> bool {
 
 #[test]
 fn a_front_is_opened_and_asked(rt: HostRuntime) {
-    let is_told = on_one_product(rt.alloc(), |front| Some(has_status(front)));
-    assert_is(&rt, is_told, Some(true));
+    let is_reported = on_one_product(rt.alloc(), |front| Some(has_status(front)));
+    assert_is(&rt, is_reported, Some(true));
 }

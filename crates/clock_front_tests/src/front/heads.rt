@@ -1,5 +1,5 @@
 //! Replies to heads at a limit or above it, and to texts that are no head.
-use super::requests::{Told, compare};
+use super::requests::{Reported, compare};
 use crate::comparing::assert_is_at;
 use crate::front::example::on_one_product;
 use crate::repeated::{Repeated, repeated};
@@ -7,32 +7,35 @@ use std::alloc::Global;
 use std::process::Abort;
 
 /// The reply to a head whose path has no page.
-const NO_PAGE: Told<'static> = ("404 Not Found", r#"{"code":"no_page","status":404}"#);
+const NO_PAGE: Reported<'static> = ("404 Not Found", r#"{"code":"no_page","status":404}"#);
 
 /// The reply to a head that is too long.
-const LONG_HEAD: Told<'static> = (
+const LONG_HEAD: Reported<'static> = (
     "431 Request Header Fields Too Large",
     r#"{"code":"long_head","status":431}"#,
 );
 
 /// The reply to a text whose head has no valid form.
-pub const BAD_HEAD: Told<'static> = ("400 Bad Request", r#"{"code":"bad_head","status":400}"#);
+pub const BAD_HEAD: Reported<'static> = ("400 Bad Request", r#"{"code":"bad_head","status":400}"#);
 
 /// The reply to a head from which no single body length follows.
-pub const BAD_LENGTH: Told<'static> = ("400 Bad Request", r#"{"code":"bad_length","status":400}"#);
+pub const BAD_LENGTH: Reported<'static> = (
+    "400 Bad Request",
+    r#"{"code":"bad_length","status":400}"#,
+);
 
-const CUT_SHORT: Told<'static> = ("400 Bad Request", r#"{"code":"cut_short","status":400}"#);
+const CUT_SHORT: Reported<'static> = ("400 Bad Request", r#"{"code":"cut_short","status":400}"#);
 
-const LONG_BODY: Told<'static> = (
+const LONG_BODY: Reported<'static> = (
     "413 Payload Too Large",
     r#"{"code":"long_body","status":413}"#,
 );
 
 /// The reply to a head whose body has another coding.
-pub const CODING: Told<'static> = ("501 Not Implemented", r#"{"code":"coding","status":501}"#);
+pub const CODING: Reported<'static> = ("501 Not Implemented", r#"{"code":"coding","status":501}"#);
 
 /// Requests and the replies to them. If a request has two faults, the reply names the first.
-const TEXTS: &[(&str, Told<'static>)] = &[
+const TEXTS: &[(&str, Reported<'static>)] = &[
     (
         "GET /v1/none HTTP/1.1\r\ncontent-length: +5\r\n\r\n",
         BAD_LENGTH,
@@ -67,16 +70,16 @@ const TEXTS: &[(&str, Told<'static>)] = &[
 ];
 
 /// Asserts the reply to a text as the only one of a front.
-fn answers(rt: &impl Abort, alloc: Global, text: &str, told: Told<'_>) -> Option<()> {
+fn answers(rt: &impl Abort, alloc: Global, text: &str, reported: Reported<'_>) -> Option<()> {
     on_one_product(alloc, |front| {
-        compare(rt, alloc, front, text, text, told)
+        compare(rt, alloc, front, text, text, reported)
     })
 }
 
 #[test]
 fn header_lines_are_answered_by_their_faults(rt: HostRuntime) {
-    for &(text, told) in TEXTS {
-        let done = answers(&rt, rt.alloc(), text, told);
+    for &(text, reported) in TEXTS {
+        let done = answers(&rt, rt.alloc(), text, reported);
         assert_is_at(&rt, text, done, Some(()));
     }
 }
@@ -101,11 +104,11 @@ fn long_head_answers(
     alloc: Global,
     parts: Repeated<'_>,
     length: usize,
-    told: Told<'_>,
+    reported: Reported<'_>,
 ) -> Option<()> {
     let text = repeated(alloc, parts)?;
     assert_is_at(rt, parts.2, text.len(), length);
-    answers(rt, alloc, text.as_str(), told)
+    answers(rt, alloc, text.as_str(), reported)
 }
 
 #[test]

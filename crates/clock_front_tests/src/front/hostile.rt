@@ -2,7 +2,7 @@
 //! equal.
 use super::heads::{BAD_HEAD, BAD_LENGTH, CODING};
 use super::hubs::{bytes_of, connected, fed, finished, on_hub};
-use super::requests::{Told, reply_with};
+use super::requests::{Reported, reply_with};
 use super::streams::serve;
 use super::texts::{ACCEPTED, BIDS_OF_X, CUT_SHORT, LONG_HEAD, NO_SHEET, PUT, SHEET};
 use crate::comparing::{assert_is, assert_is_at, assert_reads_at};
@@ -50,7 +50,7 @@ fn ends_with<R: Copy + Debug>(rt: &impl Abort, row: R, bids: Text, page: &str) {
 
 /// Asserts the reply to the text of a row, and the end of the page of X's bids then. The text and
 /// the request for the page come as whole bytes, over a stream, and over a connection.
-fn is_told<R: Copy + Debug>(
+fn is_reported<R: Copy + Debug>(
     rt: &impl Abort,
     alloc: Global,
     row: R,
@@ -83,10 +83,10 @@ fn is_refused<R: Copy + Debug>(
     alloc: Global,
     row: R,
     text: &[u8],
-    told: Told<'_>,
+    reported: Reported<'_>,
 ) -> Option<()> {
-    let reply = reply_with(alloc, told.0, told.1)?;
-    is_told(rt, alloc, row, text, reply.as_str(), NO_SHEET)
+    let reply = reply_with(alloc, reported.0, reported.1)?;
+    is_reported(rt, alloc, row, text, reply.as_str(), NO_SHEET)
 }
 
 /// The first lines of a request to submit X's sheet, before its other header lines.
@@ -108,17 +108,17 @@ const TWO_TOKENS: &str = "authorization: Bearer XXXXXXXXXXXXXXXX\r\ncontent-leng
 
 const CODED: &str = "transfer-encoding: chunked\r\ncontent-length: x";
 
-const TOKEN: Told<'static> = ("401 Unauthorized", r#"{"code":"token","status":401}"#);
+const TOKEN: Reported<'static> = ("401 Unauthorized", r#"{"code":"token","status":401}"#);
 
-const BAD_JSON: Told<'static> = ("400 Bad Request", r#"{"code":"bad_json","status":400}"#);
+const BAD_JSON: Reported<'static> = ("400 Bad Request", r#"{"code":"bad_json","status":400}"#);
 
-const SHAPE: Told<'static> = (
+const SHAPE: Reported<'static> = (
     "422 Unprocessable Entity",
     r#"{"code":"shape","status":422}"#,
 );
 
 /// The other header lines and the bodies of requests that begin with [`HEAD`], and the replies.
-const MALICIOUS: &[(&str, &[u8], Told<'static>)] = &[
+const MALICIOUS: &[(&str, &[u8], Reported<'static>)] = &[
     ("content-length: 21\r\na: b\0", EMPTY, BAD_HEAD),
     (CODED, EMPTY, CODING),
     (TWO_LENGTHS, EMPTY, BAD_LENGTH),
@@ -143,16 +143,16 @@ fn is_malicious(
     alloc: Global,
     lines: &str,
     body: &[u8],
-    told: Told<'_>,
+    reported: Reported<'_>,
 ) -> Option<()> {
     let text = text_of(alloc, lines, body)?;
-    is_refused(rt, alloc, lines, text.as_slice(), told)
+    is_refused(rt, alloc, lines, text.as_slice(), reported)
 }
 
 #[test]
 fn malicious_texts_are_refused(rt: HostRuntime) {
-    for &(lines, body, told) in MALICIOUS {
-        let done = is_malicious(&rt, rt.alloc(), lines, body, told);
+    for &(lines, body, reported) in MALICIOUS {
+        let done = is_malicious(&rt, rt.alloc(), lines, body, reported);
         assert_is_at(&rt, lines, done, Some(()));
     }
 }
@@ -161,7 +161,7 @@ fn malicious_texts_are_refused(rt: HostRuntime) {
 fn each_beginning_of_a_request_is_cut_short(rt: HostRuntime) {
     for count in 0..147 {
         let text = PUT.as_bytes().get(..count).unwrap_or(b"more");
-        let done = is_told(&rt, rt.alloc(), count, text, CUT_SHORT, NO_SHEET);
+        let done = is_reported(&rt, rt.alloc(), count, text, CUT_SHORT, NO_SHEET);
         assert_is_at(&rt, count, done, Some(()));
     }
 }
@@ -175,7 +175,7 @@ const LONG: &[(Repeated<'static>, &str, &str)] = &[
 ];
 
 /// Asserts the reply to a long text, and the end of the page of X's bids.
-fn long_text_is_told(
+fn long_text_is_reported(
     rt: &impl Abort,
     alloc: Global,
     parts: Repeated<'_>,
@@ -183,13 +183,13 @@ fn long_text_is_told(
     page: &str,
 ) -> Option<()> {
     let text = repeated(alloc, parts)?;
-    is_told(rt, alloc, parts.2, text.as_str().as_bytes(), reply, page)
+    is_reported(rt, alloc, parts.2, text.as_str().as_bytes(), reply, page)
 }
 
 #[test]
 fn long_texts_are_answered_by_their_beginning(rt: HostRuntime) {
     for &(parts, reply, page) in LONG {
-        let done = long_text_is_told(&rt, rt.alloc(), parts, reply, page);
+        let done = long_text_is_reported(&rt, rt.alloc(), parts, reply, page);
         assert_is_at(&rt, parts.2, done, Some(()));
     }
 }

@@ -82,15 +82,15 @@ fn reply_to(alloc: Global, front: &mut Front<Plain>, row: &str) -> Option<String
 }
 
 /// The replies to X's requests, from a front that answers all requests in turn.
-fn told_in_turn(alloc: Global, front: &mut Front<Plain>, requests: &[Sent]) -> Option<String> {
-    let mut told = String::new(alloc);
+fn reported_in_turn(alloc: Global, front: &mut Front<Plain>, requests: &[Sent]) -> Option<String> {
+    let mut reported = String::new(alloc);
     for &(row, is_own) in requests {
         let reply = reply_to(alloc, front, row)?;
         if is_own {
-            told.push_str(reply.as_str()).ok()?;
+            reported.push_str(reply.as_str()).ok()?;
         }
     }
-    Some(told)
+    Some(reported)
 }
 
 /// The set-up document with this public set-up and these bidders.
@@ -102,17 +102,17 @@ fn document_of(alloc: Global, public: &str, bidders: &str) -> Result<String, All
 type Run<'a> = (&'a str, &'a str);
 
 /// The replies to X's requests in a run with this public set-up.
-fn told_x(alloc: Global, public: &str, run: Run<'_>) -> Option<String> {
+fn reported_x(alloc: Global, public: &str, run: Run<'_>) -> Option<String> {
     let document = document_of(alloc, public, run.0).ok()?;
     let requests = requests_of(alloc, run.1)?;
     on_front(alloc, document.as_str(), |front| {
-        told_in_turn(alloc, front, requests.as_slice())
+        reported_in_turn(alloc, front, requests.as_slice())
     })
 }
 
 /// Whether each of [`PAGES`] is in X's replies.
-fn has_pages(told: &str) -> bool {
-    PAGES.split('\n').all(|page| told.contains(page))
+fn has_pages(reported: &str) -> bool {
+    PAGES.split('\n').all(|page| reported.contains(page))
 }
 
 /// Y asks for one block in both rounds.
@@ -243,7 +243,7 @@ const RUNS: &[(&str, &str, Run<'static>, Run<'static>)] = &[
 ];
 
 /// Asserts X's replies in a run, with its pages among them. A failure names what the runs hide.
-fn is_told(
+fn is_reported(
     rt: &impl Abort,
     alloc: Global,
     hidden: &str,
@@ -251,14 +251,14 @@ fn is_told(
     run: Run<'_>,
     expected: &str,
 ) -> Option<()> {
-    let told = told_x(alloc, public, run)?;
-    let is_whole = has_pages(told.as_str());
-    assert_is_at(rt, hidden, (told.as_str(), is_whole), (expected, true));
+    let reported = reported_x(alloc, public, run)?;
+    let is_whole = has_pages(reported.as_str());
+    assert_is_at(rt, hidden, (reported.as_str(), is_whole), (expected, true));
     Some(())
 }
 
 /// Asserts that X's replies in both runs are equal.
-fn is_told_alike(
+fn is_reported_alike(
     rt: &impl Abort,
     alloc: Global,
     hidden: &str,
@@ -266,14 +266,14 @@ fn is_told_alike(
     one: Run<'_>,
     two: Run<'_>,
 ) -> Option<()> {
-    let told = told_x(alloc, public, one)?;
-    is_told(rt, alloc, hidden, public, two, told.as_str())
+    let reported = reported_x(alloc, public, one)?;
+    is_reported(rt, alloc, hidden, public, two, reported.as_str())
 }
 
 #[test]
 fn what_a_bidder_may_not_see_shows_in_no_reply(rt: HostRuntime) {
     for &(hidden, public, one, two) in RUNS {
-        let done = is_told_alike(&rt, rt.alloc(), hidden, public, one, two);
+        let done = is_reported_alike(&rt, rt.alloc(), hidden, public, one, two);
         assert_is_at(&rt, hidden, done, Some(()));
     }
 }

@@ -72,7 +72,7 @@ fn compare<K: RequestLog>(
 }
 
 /// Compares like [`compare`], with a journal of which only the first `syncs` syncs succeed.
-fn compare_kept(
+fn compare_logged(
     rt: &impl Abort,
     alloc: Global,
     front: &mut Front<Plain>,
@@ -103,7 +103,7 @@ fn compare_either(
 ) -> Option<()> {
     match syncs {
         None => compare(rt, alloc, front, &mut NoLog, ended, written),
-        Some(syncs) => compare_kept(rt, alloc, front, syncs, ended, written),
+        Some(syncs) => compare_logged(rt, alloc, front, syncs, ended, written),
     }
 }
 
@@ -120,7 +120,7 @@ const LOOPS: &[(Option<u64>, Result<(), ServeFault>, &[&str])] = &[
 ];
 
 #[test]
-fn each_connection_gets_its_own_reply_once_it_is_kept(rt: HostRuntime) {
+fn each_connection_gets_its_own_reply_once_it_is_logged(rt: HostRuntime) {
     for &(syncs, ended, written) in LOOPS {
         let done = on_one_product(rt.alloc(), |front| {
             compare_either(&rt, rt.alloc(), front, syncs, ended, written)

@@ -58,7 +58,7 @@ fn replies_to(alloc: Global, events: &[Event]) -> Option<EventReplies> {
 }
 
 /// Asserts the replies and their order.
-fn are_told(rt: &impl Abort, replies: &[EventReply], expected: &[(u64, &str)]) {
+fn are_reported(rt: &impl Abort, replies: &[EventReply], expected: &[(u64, &str)]) {
     assert_is(rt, replies.len(), expected.len());
     for (one, (number, reply)) in replies.iter().zip(expected) {
         assert_is_at(rt, *number, one.number, *number);
@@ -67,19 +67,19 @@ fn are_told(rt: &impl Abort, replies: &[EventReply], expected: &[(u64, &str)]) {
 }
 
 /// Asserts that the three connections get their replies in the order of completion.
-fn are_told_in_order(rt: &impl Abort, alloc: Global) -> Option<()> {
+fn are_reported_in_order(rt: &impl Abort, alloc: Global) -> Option<()> {
     let events = in_single_bytes(alloc)?;
     let replies = replies_to(alloc, events.as_slice());
     drop(events);
     let replies = replies?;
-    are_told(rt, replies.as_slice(), IN_ORDER_OF_COMPLETION);
+    are_reported(rt, replies.as_slice(), IN_ORDER_OF_COMPLETION);
     drop(replies);
     Some(())
 }
 
 #[test]
 fn three_connections_in_single_bytes(rt: HostRuntime) {
-    assert_is(&rt, are_told_in_order(&rt, rt.alloc()), Some(()));
+    assert_is(&rt, are_reported_in_order(&rt, rt.alloc()), Some(()));
 }
 
 /// Opens `count` connections more.
@@ -129,7 +129,7 @@ fn words_of(alloc: Global, fault: HubFault) -> Option<Text> {
 }
 
 /// The result for a connection whose input ends.
-fn told_at_end(alloc: Global, hub: &mut Hub<Plain>, conn: Conn) -> Option<Text> {
+fn reported_at_end(alloc: Global, hub: &mut Hub<Plain>, conn: Conn) -> Option<Text> {
     match finished(alloc, hub, conn) {
         Ok(reply) => Some(reply),
         Err(fault) => words_of(alloc, fault),
@@ -137,7 +137,7 @@ fn told_at_end(alloc: Global, hub: &mut Hub<Plain>, conn: Conn) -> Option<Text> 
 }
 
 /// The result for a connection that gets a text.
-fn told_of(alloc: Global, hub: &mut Hub<Plain>, conn: Conn, text: &str) -> Option<Text> {
+fn reported_of(alloc: Global, hub: &mut Hub<Plain>, conn: Conn, text: &str) -> Option<Text> {
     match fed(alloc, hub, conn, text.as_bytes()) {
         Ok(Some(reply)) => Some(reply),
         Ok(None) => Some(Text::new(alloc)),
@@ -146,15 +146,15 @@ fn told_of(alloc: Global, hub: &mut Hub<Plain>, conn: Conn, text: &str) -> Optio
 }
 
 /// The result for a connection at a step.
-fn told(alloc: Global, hub: &mut Hub<Plain>, conn: Conn, text: &str) -> Option<Text> {
+fn reported(alloc: Global, hub: &mut Hub<Plain>, conn: Conn, text: &str) -> Option<Text> {
     match text {
-        "end" => told_at_end(alloc, hub, conn),
-        text => told_of(alloc, hub, conn, text),
+        "end" => reported_at_end(alloc, hub, conn),
+        text => reported_of(alloc, hub, conn, text),
     }
 }
 
 /// Asserts the result of a step.
-fn is_told(
+fn is_reported(
     rt: &impl Abort,
     alloc: Global,
     hub: &mut Hub<Plain>,
@@ -162,8 +162,8 @@ fn is_told(
     text: &str,
     expected: &str,
 ) -> Option<()> {
-    let told = told(alloc, hub, conn, text)?;
-    assert_reads_at(rt, text, told.as_slice(), expected);
+    let reported = reported(alloc, hub, conn, text)?;
+    assert_reads_at(rt, text, reported.as_slice(), expected);
     Some(())
 }
 
@@ -173,7 +173,7 @@ fn take_steps(rt: &impl Abort, alloc: Global, hub: &mut Hub<Plain>) -> Option<()
     for &(number, text, expected) in STEPS {
         match conns.as_slice().get(number) {
             None => conns.push(hubs::connected(hub).ok()?).ok()?,
-            Some(conn) => is_told(rt, alloc, hub, *conn, text, expected)?,
+            Some(conn) => is_reported(rt, alloc, hub, *conn, text, expected)?,
         }
     }
     Some(())

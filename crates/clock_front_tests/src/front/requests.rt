@@ -76,7 +76,7 @@ pub(super) fn reply_with(alloc: Global, status: &str, page: &str) -> Option<Stri
 }
 
 /// The status line of a reply without its version, and its page.
-pub(super) type Told<'a> = (&'a str, &'a str);
+pub(super) type Reported<'a> = (&'a str, &'a str);
 
 /// Compares the reply to the text of a row with the one expected.
 pub(super) fn compare(
@@ -85,10 +85,10 @@ pub(super) fn compare(
     front: &mut Front<Plain>,
     row: &str,
     text: &str,
-    told: Told<'_>,
+    reported: Reported<'_>,
 ) -> Option<()> {
     let reply = reply_of(alloc, front, text)?;
-    let expected = reply_with(alloc, told.0, told.1)?;
+    let expected = reply_with(alloc, reported.0, reported.1)?;
     assert_is_at(rt, row, reply.as_str(), expected.as_str());
     Some(())
 }

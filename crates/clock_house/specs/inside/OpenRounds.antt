@@ -6,7 +6,7 @@ use Rattle.std.specs.Prelude.{ℕ, List, []}
 use Rattle.clock_terms.specs.Limits.{SetupFields}
 use Rattle.clock_closing.specs.declared.closed_round.Slip.{Slip}
 use Rattle.clock_closing.specs.OpenRound.{OpenRound}
-use Rattle.clock_closing.specs.Results.{demands_of}
+use Rattle.clock_closing.specs.Results.{result_demands}
 use Rattle.clock_house.specs.History.{ClosedRound, Auction, for_each_bidder, sheet_in_force}
 use Rattle.clock_house.specs.History.{round_to_close}
 use Rattle.clock_house.specs.House.{HouseFields}
@@ -26,4 +26,4 @@ open_round_in house = round_to_close house.setup house.closed house.sheets
 
 -- The processed demands after a closed round, a row for each bidder.
 abbrev pub grid_after : ClosedRound → List (List ℕ)
-grid_after round = demands_of round.slips
+grid_after round = result_demands round.slips

@@ -2,7 +2,7 @@
 --     Waits text progress      the progress is what is known of the text, which needs more
 --     WaitsBelow limit text progress      so it is for each shorter text than this that begins with
 --         the text
---     IsFollowed room count progress quiet      the invariant of `Arriving`
+--     IsFollowed room count progress next_check      the invariant of `Arriving`
 use Rattle.std.specs.Prelude.{◌≡◌, ◌≤◌, ◌<◌, ◌+◌, ◌++◌, ℕ, true, List, take, length}
 use Rattle.clock_http.specs.declared.progress.Progress.{Progress}
 use Rattle.clock_http.specs.Framing.{needs_more}
@@ -19,10 +19,11 @@ WaitsBelow limit text progress =
     (more : List ℕ) → length (text ++ more) < limit → Waits (text ++ more) progress
 
 -- The first `count` bytes of the buffer are the text, and the progress is what is known of it. A
--- text of fewer than `quiet` bytes that begins with it fits in the buffer, and waits with this
+-- text of fewer than `next_check` bytes that begins with it fits in the buffer, and waits with this
 -- progress.
-pub record IsFollowed (room : List ℕ) (count : ℕ) (progress : Progress) (quiet : ℕ) : Type 0 where
+pub record IsFollowed (room : List ℕ) (count : ℕ) (progress : Progress)
+    (next_check : ℕ) : Type 0 where
   pub knows : Knows (take count room) progress
-  pub below : WaitsBelow quiet (take count room) progress
-  pub held : count ≤ length room
-  pub placed : quiet ≤ length room + 1
+  pub below : WaitsBelow next_check (take count room) progress
+  pub fits : count ≤ length room
+  pub placed : next_check ≤ length room + 1

@@ -6,7 +6,7 @@
 use Rattle.std.specs.Prelude.{◌≡◌, ◌≤◌, ◌+◌, ℕ, List, [], length}
 use Rattle.clock_journal.specs.Entries.{Entry, entries_onto}
 use Rattle.clock_journal.specs.Format.{last_link}
-use Rattle.clock_journal.specs.Reading.{Reads, Ends}
+use Rattle.clock_journal.specs.Reading.{ReadsTexts, Ends}
 use Rattle.clock_journal.specs.declared.recovery.Recovered.{Recovered}
 
 -- the bytes read as texts, and the machine stands for what it stood for, and then these texts
@@ -14,7 +14,7 @@ pub record IsReplayed (old new : List Entry → Type 0) (first bytes : List ℕ)
     (recovered : Recovered) : Type 0 where
   pub texts : List (List ℕ)
   pub rest : List ℕ
-  pub reads : Reads first bytes texts rest
+  pub reads : ReadsTexts first bytes texts rest
   pub ends : Ends (last_link first texts) rest
   pub chain_is : recovered.chain ≡ last_link first texts
   pub count_is : recovered.texts ≡ length texts
@@ -25,7 +25,7 @@ pub record IsReplayed (old new : List Entry → Type 0) (first bytes : List ℕ)
 pub record IsOnWay (old new : List Entry → Type 0) (first bytes chain : List ℕ) (count : ℕ)
     (rest : List ℕ) : Type 0 where
   pub texts : List (List ℕ)
-  pub reads : Reads first bytes texts rest
+  pub reads : ReadsTexts first bytes texts rest
   pub chain_is : chain ≡ last_link first texts
   pub count_is : count ≡ length texts
   pub within : length rest ≤ length bytes

@@ -1,6 +1,6 @@
 -- The invariant of a board.
---     IsKeptBoard products eligibilities grid unused      a board, with the unused eligibility that
---         it stores for each bidder, so that a test adds nothing up
+--     IsBoardWithUnused products eligibilities grid unused      a board, with the unused
+--         eligibility that it stores for each bidder, so that a test adds nothing up
 use Rattle.std.specs.Prelude.{◌≡◌, ℕ, ◌+◌, ◌^◌, ◌<◌, List, length, EachIndex, slice_index}
 use Rattle.clock_terms.specs.declared.setup.Product.{Product}
 use Rattle.clock_terms.specs.Demands.{row_of}
@@ -16,7 +16,7 @@ pub record KeepsUnused (products : List Product) (eligibilities : List ℕ) (gri
       + activity products (row_of grid bidder) ≡ slice_index eligibilities bidder)
 
 -- a board, and the unused eligibility that it stores
-pub record IsKeptBoard (products : List Product) (eligibilities : List ℕ) (grid : List (List ℕ))
-    (unused : List ℕ) : Type 0 where
+pub record IsBoardWithUnused (products : List Product) (eligibilities : List ℕ)
+    (grid : List (List ℕ)) (unused : List ℕ) : Type 0 where
   pub is_board : IsBoard products eligibilities grid
   pub keeps_unused : KeepsUnused products eligibilities grid unused

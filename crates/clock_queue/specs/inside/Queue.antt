@@ -168,7 +168,7 @@ module _ (changes : List Change) where
   -- The invariants hold again, products and eligibilities are unchanged, and bid processing by the
   -- rescanned list gets from the old state to the new one, within the bound.
   pub record GoesOn (old new : Queue) : Type 0 where
-    pub kept : HasSoundLines new
+    pub in_order : HasSoundLines new
     pub tracked : IsTracking new new.ready
     pub counts : StaysWithinTests new
     pub terms : SameTerms old new
@@ -176,7 +176,7 @@ module _ (changes : List Change) where
 
   -- the request with an index was applied by its whole room, and has no room left
   pub record IsAppliedWhole (place : ℕ) (old new : Queue) : Type 0 where
-    pub kept : HasSoundLines new
+    pub in_order : HasSoundLines new
     pub tracked : IsTracking new new.ready
     pub terms : SameTerms old new
     pub applied : progress new ≡ progress_with old place
@@ -196,7 +196,7 @@ module _ (changes : List Change) where
 
   -- the request with an index was tested, and applied by its whole room: it has no room left
   pub record IsTested (place : ℕ) (old new : Queue) : Type 0 where
-    pub kept : HasSoundLines new
+    pub in_order : HasSoundLines new
     pub tracked : IsTracking new new.ready
     pub terms : SameTerms old new
     pub step : HadNoRoom place old new ⊎ HadRoom place old new

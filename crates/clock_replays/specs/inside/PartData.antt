@@ -3,7 +3,7 @@
 --     sheet_data, script_data, closing_data      a whole part, as a value
 use Rattle.std.specs.Prelude.{ℕ, List, [], ◌∷◌, map, Option, Some, None, option_map, codes}
 use Rattle.serde_json.specs.Data.{Data, null, string, object, array}
-use Rattle.clock_json.specs.Reading.{rows, items_of, Fields, members_of}
+use Rattle.clock_json.specs.Reading.{rows, items_in, Fields, found_members}
 use Rattle.clock_bids.specs.declared.sheet.Bid.{Bid}
 use Rattle.clock_bodies.specs.QuickClosings.{close_value}
 use Rattle.clock_bodies.specs.inside.QuickBodies.{bids_data}
@@ -19,7 +19,7 @@ sheet_data (Some bids) = bids_data bids
 
 -- the sheets of a literal script as a value
 abbrev pub sheets_data : List (Option (List Bid)) → Data
-sheets_data sheets = array (items_of (map sheet_data sheets))
+sheets_data sheets = array (items_in (map sheet_data sheets))
 
 -- a script's keys, each with a value or none
 abbrev pub script_fields : Option (List ℕ) → Option (List (List ℕ))
@@ -38,9 +38,9 @@ found_script found =
 -- a script as a value
 abbrev pub script_data : Script → Data
 script_data (Literal sheets) =
-    object (members_of (script_fields (Some (codes "literal")) None (Some sheets)))
+    object (found_members (script_fields (Some (codes "literal")) None (Some sheets)))
 script_data (Sincere limits) =
-    object (members_of (script_fields (Some (codes "sincere")) (Some limits) None))
+    object (found_members (script_fields (Some (codes "sincere")) (Some limits) None))
 
 -- a closing as a value, without its round
 abbrev pub closing_data : Closing → Data

@@ -66,8 +66,8 @@ const OF_TIES: &[(Code, &str)] = &[
 fn have_status(rt: &impl Abort, row: &Status) {
     let &(status, reason, codes) = row;
     for &(code, text) in codes {
-        let told = (code.status(), code.reason(), code.text());
-        assert_is_at(rt, code, told, (status, reason, text));
+        let reported = (code.status(), code.reason(), code.text());
+        assert_is_at(rt, code, reported, (status, reason, text));
     }
 }
 

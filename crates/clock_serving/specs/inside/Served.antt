@@ -10,10 +10,10 @@
 --     IsReportedAs old new served result      the closed round, if any, was reported
 --     round_closed effect      the closed round, if any
 use Rattle.std.specs.Prelude.{◌≡◌, ◌⊎◌, ℕ, true, List, [], ◌∷◌, Option, Result, Ok, Err}
-use Rattle.clock_device.specs.Told.{Reading}
+use Rattle.clock_device.specs.Reports.{Reading}
 use Rattle.clock_device.specs.Writings.{WritesNothing}
 use Rattle.clock_house.specs.House.{HouseFields}
-use Rattle.clock_connections.specs.Arrivals.{HasArrived, HasNoRoom}
+use Rattle.clock_connections.specs.Arrivals.{HasArrived, HasNoMemory}
 use Rattle.clock_front.specs.FixedReplies.{no_memory}
 use Rattle.clock_front.specs.Effects.{RespondsTo}
 use Rattle.clock_front.specs.Fronts.{StandsForTexts}
@@ -21,10 +21,11 @@ use Rattle.clock_front.specs.Streamed.{IsLeftUnread}
 use Rattle.clock_front.specs.declared.front.response.Effect.{Effect}
 use Rattle.clock_front.specs.declared.front.response.Effect.TheVariants.{Nothing, Sheet, Closing}
 use Rattle.clock_front.specs.declared.front.response.Response.{Response}
-use Rattle.clock_journal.specs.Kept.{JournalState}
+use Rattle.clock_journal.specs.Logged.{JournalState}
 use Rattle.clock_keeping.specs.Keeping.{GrowsBy, IsAccepted, IsInStep, IsLogged, LeavesOneMore}
 use Rattle.clock_serving.specs.Serving.{WritesReply}
-use Rattle.clock_serving.specs.Exchanges.{Came, Exchange, HasClosedConnections, IsSeen, bytes_given}
+use Rattle.clock_serving.specs.Exchanges.{Came, Exchange, HasClosedConnections, IsShownJournal}
+use Rattle.clock_serving.specs.Exchanges.{bytes_given}
 use Rattle.clock_serving.specs.declared.serving.ServeFault.{ServeFault}
 use Rattle.clock_serving.specs.declared.serving.ServeFault.TheVariants as fault
 
@@ -39,26 +40,24 @@ pub record AnswersAndLogs (reading : Reading) (response : Response)
   pub text : List ℕ
   pub arrived : HasArrived reading text
   pub responds : RespondsTo text response old new
-  pub kept : (digest : List ℕ) (past : List (List ℕ)) → IsInStep digest past journal_old old
+  pub logged : (digest : List ℕ) (past : List (List ℕ)) → IsInStep digest past journal_old old
       → IsLogged digest past text response.reply journal_new old new
   pub added_to : journal_new.uncut ≡ journal_old.uncut
 
 -- this; or memory ran out for the text, the reply says so, and nothing changed
 abbrev pub IsAnswered : Reading → Response → JournalState → JournalState → HouseFields
     → HouseFields → Type 0
-IsAnswered reading response journal_old journal_new old new =
-    AnswersAndLogs reading response journal_old journal_new old new
-    ⊎ (HasNoRoom reading × (response ≡ record { reply = no_memory; effect = Nothing }) × (new ≡ old)
-    × (journal_new ≡ journal_old))
+IsAnswered reading response journal_old journal_new old new = AnswersAndLogs reading response
+    journal_old journal_new old new ⊎ (HasNoMemory reading × (response
+    ≡ record { reply = no_memory; effect = Nothing }) × (new ≡ old) × (journal_new ≡ journal_old))
 
 -- its reply was written over this journal; or no request could be read, and nothing was written
 abbrev pub IsServed : Exchange → Effect → JournalState → JournalState → HouseFields
     → HouseFields → Type 0
-IsServed one effect journal_old journal_new old new =
-    ((response : Response) × IsAnswered one.reading response journal_old journal_new old new
-    × WritesReply one.writing response.reply × (effect ≡ response.effect)
-    × IsSeen one.kept journal_new) ⊎ (HasNoRequest one.reading journal_old journal_new old new
-    × WritesNothing one.writing × (effect ≡ Nothing))
+IsServed one effect journal_old journal_new old new = ((response : Response) × IsAnswered
+    one.reading response journal_old journal_new old new × WritesReply one.writing response.reply
+    × (effect ≡ response.effect) × IsShownJournal one.logged journal_new) ⊎ (HasNoRequest
+    one.reading journal_old journal_new old new × WritesNothing one.writing × (effect ≡ Nothing))
 
 -- an accepted text could not be logged: the disk has what it had, and a crash leaves the texts
 -- before it, and at most this one more
@@ -87,18 +86,18 @@ EndsTaken one journal_old journal_new old new (Err failed) =
 
 -- the closed round, if any, was reported
 abbrev pub IsReported : Option (List ℕ) → Option (List ℕ) → Effect → Type 0
-IsReported told_old told_new Nothing = told_new ≡ told_old
-IsReported told_old told_new Sheet = told_new ≡ told_old
-IsReported told_old told_new (Closing round) = GrowsBy told_old told_new (round ∷ [])
+IsReported rounds_old rounds_new Nothing = rounds_new ≡ rounds_old
+IsReported rounds_old rounds_new Sheet = rounds_new ≡ rounds_old
+IsReported rounds_old rounds_new (Closing round) = GrowsBy rounds_old rounds_new (round ∷ [])
 
 -- this; or the text could not be logged, and the fault says so
 abbrev pub IsReportedAs : {U E : Type 0} → Option (List ℕ) → Option (List ℕ) → Result Effect E
     → Result U ServeFault → Type 0
-IsReportedAs told_old told_new (Ok effect) (Ok done) = IsReported told_old told_new effect
-IsReportedAs told_old told_new (Err failed) (Err fault.Journal) = told_new ≡ told_old
-IsReportedAs told_old told_new (Ok effect) (Err fault) = ⊥
-IsReportedAs told_old told_new (Err failed) (Ok done) = ⊥
-IsReportedAs told_old told_new (Err failed) (Err fault.Accept) = ⊥
+IsReportedAs rounds_old rounds_new (Ok effect) (Ok done) = IsReported rounds_old rounds_new effect
+IsReportedAs rounds_old rounds_new (Err failed) (Err fault.Journal) = rounds_new ≡ rounds_old
+IsReportedAs rounds_old rounds_new (Ok effect) (Err fault) = ⊥
+IsReportedAs rounds_old rounds_new (Err failed) (Ok done) = ⊥
+IsReportedAs rounds_old rounds_new (Err failed) (Err fault.Accept) = ⊥
 
 -- the closed round, if any
 abbrev pub round_closed : Effect → List ℕ
@@ -111,14 +110,14 @@ round_closed (Closing round) = round ∷ []
 abbrev pub EndsOne : {U : Type 0} → Option (List (List ℕ)) → Option (List (List ℕ))
     → Option (List Exchange) → Option (List Exchange) → Option (List ℕ) → Option (List ℕ)
     → JournalState → JournalState → HouseFields → HouseFields → Result U ServeFault → Type 0
-EndsOne coming_old coming_new closed_old closed_new told_old told_new journal_old journal_new old
-    new (Ok done) = (one : Exchange) × HasClosedConnections closed_old closed_new (one ∷ [])
+EndsOne coming_old coming_new closed_old closed_new rounds_old rounds_new journal_old journal_new
+    old new (Ok done) = (one : Exchange) × HasClosedConnections closed_old closed_new (one ∷ [])
     × Came coming_old coming_new (bytes_given (one ∷ [])) × ((effect : Effect) × IsServed one effect
-    journal_old journal_new old new × GrowsBy told_old told_new (round_closed effect))
-EndsOne coming_old coming_new closed_old closed_new told_old told_new journal_old journal_new old
-    new (Err fault.Accept) = (closed_new ≡ closed_old) × (coming_new ≡ coming_old)
-    × (journal_new ≡ journal_old) × (new ≡ old) × (told_new ≡ told_old)
-EndsOne coming_old coming_new closed_old closed_new told_old told_new journal_old journal_new old
-    new (Err fault.Journal) = (one : Exchange) × HasClosedConnections closed_old closed_new
+    journal_old journal_new old new × GrowsBy rounds_old rounds_new (round_closed effect))
+EndsOne coming_old coming_new closed_old closed_new rounds_old rounds_new journal_old journal_new
+    old new (Err fault.Accept) = (closed_new ≡ closed_old) × (coming_new ≡ coming_old)
+    × (journal_new ≡ journal_old) × (new ≡ old) × (rounds_new ≡ rounds_old)
+EndsOne coming_old coming_new closed_old closed_new rounds_old rounds_new journal_old journal_new
+    old new (Err fault.Journal) = (one : Exchange) × HasClosedConnections closed_old closed_new
     (one ∷ []) × Came coming_old coming_new (bytes_given (one ∷ []))
-    × IsUnlogged one journal_old journal_new old × (told_new ≡ told_old)
+    × IsUnlogged one journal_old journal_new old × (rounds_new ≡ rounds_old)

@@ -7,9 +7,9 @@
 use Rattle.std.specs.Prelude.{ℕ, List, [], ◌∷◌, Option, Some, option_and_then, option_map, map}
 use Rattle.std.specs.Prelude.{codes}
 use Rattle.serde_json.specs.Data.{Data, object}
-use Rattle.clock_json.specs.Tree.{items_at, row_of, each}
+use Rattle.clock_json.specs.Tree.{items_at, numbers_from, each}
 use Rattle.clock_json.specs.Rows.{shortened}
-use Rattle.clock_json.specs.Reading.{whole, rows, Fields, members_of}
+use Rattle.clock_json.specs.Reading.{whole_number, rows, Fields, found_members}
 use Rattle.clock_setup.specs.declared.setup_scan.NestedSetup.{NestedSetup}
 use Rattle.clock_setup.specs.declared.opening.FoundOpening.{FoundOpening}
 use Rattle.clock_setup.specs.SetupData.{setup_data}
@@ -18,24 +18,24 @@ use Rattle.clock_setup.specs.SetupData.{setup_data}
 abbrev pub opening_fields : Option Data → Option ℕ → Option Data → Fields
 opening_fields demands increment setup =
     (codes "demands", demands)
-    ∷ (codes "increment", option_map whole increment)
+    ∷ (codes "increment", option_map whole_number increment)
     ∷ (codes "setup", setup)
     ∷ []
 
 -- the JSON value of an opening
 abbrev pub opening_data : Data → List (List ℕ) → ℕ → Data
 opening_data setup demands increment =
-    object (members_of (opening_fields (Some (rows demands)) (Some increment) (Some setup)))
+    object (found_members (opening_fields (Some (rows demands)) (Some increment) (Some setup)))
 
 -- the rows of demands of a document, where each demand above 65,535 is replaced by that
 abbrev pub short_rows_in : Data → Option (List (List ℕ))
 short_rows_in value = option_map (map (map shortened))
-    (option_and_then (each row_of) (items_at (codes "demands") value))
+    (option_and_then (each numbers_from) (items_at (codes "demands") value))
 
 -- the keys of an opening, each with its value if it was found
 abbrev pub found_opening : FoundOpening → Fields
 found_opening found = opening_fields (option_map rows found.demands) found.increment
-    (option_map (λ held. setup_data held.setup) found.held)
+    (option_map (λ nested. setup_data nested.setup) found.nested)
 
 -- the JSON value of an opening that was read by bytes
 abbrev pub scanned_data : NestedSetup × List (List ℕ) × ℕ → Data

@@ -24,11 +24,11 @@ use Rattle.std.specs.Prelude.{slice_index_or, Some, Result, Ok, OnOk, All}
 use Rattle.clock_terms.specs.Limits.{SetupFields}
 use Rattle.clock_terms.specs.Faults.{◌>>=◌}
 use Rattle.clock_http.specs.Framing.{needs_more}
-use Rattle.clock_connections.specs.Connections.{ConnectionFields, text_of}
+use Rattle.clock_connections.specs.Connections.{ConnectionFields, open_text}
 use Rattle.clock_front.specs.Hubs.{HubFields}
 use Rattle.clock_connections.specs.declared.connections.Conn.{Conn}
 use Rattle.clock_scripts.specs.declared.requests.Written.{Written}
-use Rattle.clock_scripts.specs.Pieces.{IsWrittenIn, body_in, head_in, text_at}
+use Rattle.clock_scripts.specs.Pieces.{IsWrittenIn, written_body, written_head, written_request}
 use Rattle.clock_sim.specs.declared.rounds.Waiting.{Waiting}
 use Rattle.clock_sim.specs.declared.rounds.Group.{Group}
 use Rattle.clock_replays.specs.declared.replay.Script.{Script}
@@ -55,8 +55,8 @@ request_in text one = record {
   bidder = one.bidder;
   round = one.round;
   conn = one.conn;
-  head = head_in text one.written;
-  body = body_in text one.written;
+  head = written_head text one.written;
+  body = written_body text one.written;
 }
 
 -- the waiting requests
@@ -98,13 +98,13 @@ with_put setup group bidder script texts =
 abbrev pub with_turn : SetupFields → Group → ℕ → ℕ → Written → List (List ℕ)
     → Result (List (List ℕ)) SimFault
 with_turn setup group bidder round written =
-    with_request setup (requests_in group) bidder round (text_at group.text.items written)
+    with_request setup (requests_in group) bidder round (written_request group.text.items written)
 
 -- from an index on, the connection of each request is open with these bytes
 abbrev pub HaveTextsFrom : ℕ → ConnectionFields → List GroupRequest
     → (ℕ → GroupRequest → List ℕ) → Type 0
 HaveTextsFrom place connections group text = (k : ℕ) (other : GroupRequest) → place ≤ k
-    → k < length group → text_of connections (slice_index_or group k other).conn
+    → k < length group → open_text connections (slice_index_or group k other).conn
     ≡ Some (text k (slice_index_or group k other))
 
 -- the serial numbers of the connections rise
@@ -135,7 +135,7 @@ pub record IsGroupUnderWay (hub : HubFields) (group : Group) : Type 0 where
 pub record IsNext (hub : HubFields) (group : Group) (written : Written) : Type 0 where
   pub under_way : IsGroupUnderWay hub group
   pub within : IsWrittenIn group.text.items written
-  pub closes : ClosesNoRound (text_at group.text.items written)
+  pub closes : ClosesNoRound (written_request group.text.items written)
 
 -- the steps were made except for the waiting requests; or their fault is returned
 pub record ComesUnderWay {T : Type 0} (steps : List (List ℕ) → Result (List (List ℕ)) SimFault)

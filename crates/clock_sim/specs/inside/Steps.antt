@@ -12,7 +12,7 @@
 --     MakesWay whole rest old new result      some of the steps were made, and the rest is left
 use Rattle.std.specs.Prelude.{◌≡◌, ◌≢◌, ℕ, List, All, length, false, Result, Ok, Err, MatchResult}
 use Rattle.clock_terms.specs.Faults.{IsRefusal}
-use Rattle.clock_house.specs.House.{HouseFields, standing_in}
+use Rattle.clock_house.specs.House.{HouseFields, state_in}
 use Rattle.clock_http.specs.declared.code.Code.{Code}
 use Rattle.clock_http.specs.declared.code.Code.TheVariants.{Done, Memory}
 use Rattle.clock_front.specs.Fronts.{StandsForTexts}
@@ -35,19 +35,19 @@ pub record AreScriptsOf (setup : SetupFields) (scripts : List Script) : Type 0 w
 
 -- the auction has not ended, and the house stands for some texts
 pub record IsGoing (house : HouseFields) : Type 0 where
-  pub going : (standing_in house).ended ≡ false
+  pub going : (state_in house).ended ≡ false
   pub texts : List (List ℕ)
   pub stands : StandsForTexts texts house
 
 -- a fault is returned if a reply is neither done nor out of memory
-pub record IsRefusedWith (code : Code) (fault told : SimFault) : Type 0 where
-  pub told_is : told ≡ fault
+pub record IsRefusedWith (code : Code) (fault reported : SimFault) : Type 0 where
+  pub reported_is : reported ≡ fault
   pub not_done : code ≢ Done
   pub not_memory : code ≢ Memory
 
 abbrev pub IsResultByCode : {T : Type 0} → Code → SimFault → Result T SimFault → Type 0
 IsResultByCode code fault (Ok done) = code ≡ Done
-IsResultByCode code fault (Err told) = told ≢ NoMemory → IsRefusedWith code fault told
+IsResultByCode code fault (Err reported) = reported ≢ NoMemory → IsRefusedWith code fault reported
 
 -- the step has these texts, and the house stands for them
 pub record ComesTo (answer : Result (List (List ℕ)) SimFault) (house : HouseFields) : Type 0 where

@@ -12,7 +12,7 @@
 --     group_size      the number of products in a group
 --     AreStarts held starts      the index at which the entries of each group start
 --     IsPackedRow count held starts capacity      the invariant of `Row`
---     IsKeptWalk count held given      the invariant of `PositiveDemands`
+--     IsPackedWalk count held given      the invariant of `PositiveDemands`
 use Rattle.std.specs.Prelude.{◌≡◌, ◌==◌, if◌then◌else◌, ℕ, ◌+◌, ◌*◌, ◌≤◌, ◌<◌, List, [], ◌∷◌}
 use Rattle.std.specs.Prelude.{length, slice_index, slice_index_or}
 use Rattle.std.specs.List.{AllWithin}
@@ -73,5 +73,5 @@ pub record IsPackedRow (count : ℕ) (held : List PositiveDemand) (places : List
   pub starts : AreStarts held places
 
 -- an iterator over entries in order has visited the first `given` of them
-abbrev pub IsKeptWalk : ℕ → List PositiveDemand → ℕ → Type 0
-IsKeptWalk count held given = ArePositiveDemands 0 held count × (given ≤ length held)
+abbrev pub IsPackedWalk : ℕ → List PositiveDemand → ℕ → Type 0
+IsPackedWalk count held given = ArePositiveDemands 0 held count × (given ≤ length held)

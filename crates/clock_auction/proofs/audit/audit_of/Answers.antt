@@ -15,7 +15,7 @@ returns-in_err-recovered-clause-err c =
     rw p.1 (subst
     (λ (bytes : List ℕ). IsAuditFault c.args.front.setup c.args.first.now bytes p.0) c.as_slice.ensures.value (record {
       fault = refused.field-0.0;
-      told_is = p.2;
+      reported_is = p.2;
       is = refused.ensures.read;
       rightly = refused_first (λ (entries : List Entry). IsRecounted entries c.args.front c.new.result.items)
           (record { stands = c.requires; digests_are = c.new.ensures.items })
@@ -33,7 +33,7 @@ rounds_of-made-requires c =
 pub returns-in_err-text-clause-err : goal.returns-in_err-text-clause-err
 returns-in_err-text-clause-err c =
     let p = err_from_is_err_and c.from_residual-in_err-text.result c.from_residual-in_err-text.ensures.1 in
-    rw p.1 (record { fault = NoMemory; told_is = p.2; is = tt; rightly = tt })
+    rw p.1 (record { fault = NoMemory; reported_is = p.2; is = tt; rightly = tt })
 
 pub returns-clause-ok : goal.returns-clause-ok
 returns-clause-ok c =

@@ -21,7 +21,7 @@ loop-i-init c = record {
   judged = none_judged c.args.setup.now.products c.args.prices.now c.args.demands.now c.args.bids.now;
   below = λ k d within. absurd (omega (arith, within));
   order = omega arith;
-  kept = λ none. absurd (omega (arith, none));
+  placed = λ none. absurd (omega (arith, none));
 }
 
 pub returns-in-Some-bid_fault-clause-fault : goal.returns-in-Some-bid_fault-clause-fault
@@ -124,14 +124,14 @@ loop-i-preserved c =
             c.loop-i-test.true (omega arith) (omega (arith, w.if-bid-least.false)) c.loop-i.invariant.below)
       ];
       order = elim c.if-bid-least.branch [
-        | then-bid-least w ↦ omega (arith, w.kept-is, c.loop-i.invariant.order)
-        | else-bid-least+in-Some w ↦ omega (arith, w.kept-is, c.loop-i.invariant.order)
-        | else-bid-least+in_default+in_ok-places w ↦ omega (arith, w.kept-is)
+        | then-bid-least w ↦ omega (arith, w.placed-is, c.loop-i.invariant.order)
+        | else-bid-least+in-Some w ↦ omega (arith, w.placed-is, c.loop-i.invariant.order)
+        | else-bid-least+in_default+in_ok-places w ↦ omega (arith, w.placed-is)
       ];
-      kept = elim c.if-bid-least.branch [
-        | then-bid-least w ↦ rw (w.kept-is, w.places-is) c.loop-i.invariant.kept
-        | else-bid-least+in-Some w ↦ rw (w.kept-is, w.places-is) c.loop-i.invariant.kept
-        | else-bid-least+in_default+in_ok-places w ↦ rw (w.kept-is, w.places-is) (λ _. subst (λ (ps : List Product).
+      placed = elim c.if-bid-least.branch [
+        | then-bid-least w ↦ rw (w.placed-is, w.places-is) c.loop-i.invariant.placed
+        | else-bid-least+in-Some w ↦ rw (w.placed-is, w.places-is) c.loop-i.invariant.placed
+        | else-bid-least+in_default+in_ok-places w ↦ rw (w.placed-is, w.places-is) (λ _. subst (λ (ps : List Product).
             AreLastPlaces (length ps) bids i w.in_ok-places.places.items) same w.in_ok-places.ensures)
       ];
     }

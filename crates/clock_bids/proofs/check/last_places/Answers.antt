@@ -1,14 +1,14 @@
--- The loop starts with an empty table or with that of the first `kept` bids, and enters one bid after another.
+-- The loop starts with an empty table or with that of the first `placed` bids, and enters one bid after another.
 use Rattle.std.proofs.Common.{◌<◌, length, arith, rules}
 use Rattle.clock_bids.proofs.LastBids.{known_at, last_places-more, no_places}
 use Rattle.clock_bids.proofs.check.last_places.Goals as goal
-use Rattle.clock_bids.proofs.check.last_places.Goals.{then-kept-eq0+in_ok-places, else-kept-eq0}
+use Rattle.clock_bids.proofs.check.last_places.Goals.{then-placed-eq0+in_ok-places, else-placed-eq0}
 
 pub loop-i-init : goal.loop-i-init
-loop-i-init c = elim c.if-kept-eq0.branch [
-  | then-kept-eq0+in_ok-places w ↦
-      rw (w.places-is, w.if-kept-eq0.true) (no_places c.args.products c.args.bids.now _ (search rules))
-  | else-kept-eq0 w ↦ rw w.places-is (c.requires.kept (omega (arith, w.if-kept-eq0.false)))
+loop-i-init c = elim c.if-placed-eq0.branch [
+  | then-placed-eq0+in_ok-places w ↦
+      rw (w.places-is, w.if-placed-eq0.true) (no_places c.args.products c.args.bids.now _ (search rules))
+  | else-placed-eq0 w ↦ rw w.places-is (c.requires.placed (omega (arith, w.if-placed-eq0.false)))
 ]
 
 pub index_mut-requires : goal.index_mut-requires

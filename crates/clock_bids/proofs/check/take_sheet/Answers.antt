@@ -14,9 +14,9 @@ returns-in_err-taken-clause-fault c =
     let few : length c.args.bids ≤ most_bids =
     omega (arith, c.if-list-gt-MOST_BIDS.false, ap length c.as_slice-list.ensures) in
     let found = rw (c.as_slice.ensures, c.as_slice-list.ensures) at c.in_err-taken.ensures.fault in
-    let told = err_from_is_err_and c.from_residual.result c.from_residual.ensures.1 in
-    rw (told.1, told.2) (λ known. sheet_fault-of_bid (public_setup c.args.setup.now) c.args.own.round c.args.prices.now
-    (holding_of c.args.own) c.args.bids few c.in_err-taken.field-0.0 (found known))
+    let reported = err_from_is_err_and c.from_residual.result c.from_residual.ensures.1 in
+    rw (reported.1, reported.2) (λ known. sheet_fault-of_bid (public_setup c.args.setup.now) c.args.own.round
+    c.args.prices.now (holding_of c.args.own) c.args.bids few c.in_err-taken.field-0.0 (found known))
 
 pub returns-then-taken-limit-clause-fault : goal.returns-then-taken-limit-clause-fault
 returns-then-taken-limit-clause-fault c =

@@ -1,7 +1,7 @@
 -- Each turn of the loop reads a bid and the compact ones that follow it; the list so far grows by these.
 use Rattle.std.proofs.Common.{◌≡◌, ◌∷◌, ◌++◌, [], length, map, sym, ap, subst, ◌∙◌, arith}
 use Rattle.json.specs.Token.{Token}
-use Rattle.clock_json.specs.Reading.{Reads}
+use Rattle.clock_json.specs.Reading.{ReadsValue}
 use Rattle.clock_json.specs.inside.Reading.{HasItems}
 use Rattle.clock_json.proofs.Steps.{all_shorter, items_start, items_end, items_push_next, items_push_all}
 use Rattle.clock_bodies.specs.QuickBodies.{bid_data}
@@ -30,8 +30,8 @@ items-preserved c =
     let here = c.part.new.scan in
     let new = c.compact_bids-in-items.new.scan in
     let more = c.in_ok-compact_bids-2.ensures in
-    let reads : Reads 1 l.scan (bid_data next) here =
-    subst (λ ts. Reads 1 ts (bid_data next) here) same c.in_ok-next.ensures.value in
+    let reads : ReadsValue 1 l.scan (bid_data next) here =
+    subst (λ ts. ReadsValue 1 ts (bid_data next) here) same c.in_ok-next.ensures.value in
     let list = more.1 ∙ ap (λ known. known ++ more.0) c.in_ok-push.ensures.items in (
       start,
       l.invariant.1,
@@ -65,7 +65,7 @@ returns-clause-value c =
     let old = c.args.scan.now in
     let new = c.closes.new.self in
     let closed : l.scan ≡ Token.end_array ∷ new = grind arith in
-    subst (λ list. Reads 2 old (bids_data list) new) (sym c.from_vec.ensures)
+    subst (λ list. ReadsValue 2 old (bids_data list) new) (sym c.from_vec.ensures)
     (items_end 1 old l.invariant.0 l.scan new (map bid_data l.list.items) l.invariant.1 l.invariant.2 closed)
 
 pub returns-clause-shorter : goal.returns-clause-shorter

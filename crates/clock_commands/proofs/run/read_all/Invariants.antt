@@ -8,9 +8,9 @@ abbrev pub invariant-loop-call : goal.invariant-loop-call
 invariant-loop-call g l = record {
   room : 0 < vec_len l.piece;
   few : length l.document ≤ most_bytes;
-  read : HasRead (g.R.Source.told l.initial.reader).left (g.R.Source.told l.reader).left l.document;
-  counted : (g.R.Source.told l.reader).calls ≡ l._call;
-  used : l._call ≤ length l.document + (g.R.Source.told l.reader).interruptions;
-  interrupted : (g.R.Source.told l.reader).interruptions ≤ l._call;
-  unfailed : (g.R.Source.told l.reader).has_failed ≡ false;
+  read : HasRead (g.R.Source.report l.initial.reader).left (g.R.Source.report l.reader).left l.document;
+  counted : (g.R.Source.report l.reader).calls ≡ l._call;
+  used : l._call ≤ length l.document + (g.R.Source.report l.reader).interruptions;
+  interrupted : (g.R.Source.report l.reader).interruptions ≤ l._call;
+  unfailed : (g.R.Source.report l.reader).has_failed ≡ false;
 }

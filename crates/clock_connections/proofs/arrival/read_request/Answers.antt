@@ -10,12 +10,12 @@ use Rattle.clock_connections.proofs.arrival.read_request.Goals as goal
 pub returns-in_err-piece-clause-arrival : goal.returns-in_err-piece-clause-arrival
 returns-in_err-piece-clause-arrival g c =
     let p = err_from_is_err_and c.from_residual.result c.from_residual.ensures.1 in
-    rw (p.1, p.2) (no_room_at_first (g.R.Source.told c.args.source.now) c.requires)
+    rw (p.1, p.2) (no_room_at_first (g.R.Source.report c.args.source.now) c.requires)
 
 pub loop-read-init : goal.loop-read-init
 loop-read-init g c =
     let none : c.new-request.result ≡ [] = c.new-request.ensures in
-    let left = (g.R.Source.told c.args.source.now).left in
+    let left = (g.R.Source.report c.args.source.now).left in
     record {
       room = omega (arith, c.in_ok-piece.ensures);
       short = omega (arith, c.in_ok-piece.ensures);
@@ -30,10 +30,10 @@ loop-read-init g c =
 pub returns-in_err-short-clause-arrival : goal.returns-in_err-short-clause-arrival
 returns-in_err-short-clause-arrival g c =
     let p = err_from_is_err_and c.from_residual-in_err-short.result c.from_residual-in_err-short.ensures.1 in
-    let told = g.R.Source.told in
+    let report = g.R.Source.report in
     let loop = c.loop-read in
     let once = c.in-Ok.ensures in
-    rw (p.1, p.2) (no_room (record { before = told c.args.source.now; after = told c.read.new.self })
-    (told loop.source) loop.request loop.invariant.read loop.invariant.needed
+    rw (p.1, p.2) (no_room (record { before = report c.args.source.now; after = report c.read.new.self })
+    (report loop.source) loop.request loop.invariant.read loop.invariant.needed
     (omega (arith, loop.invariant.counted, loop.invariant.used)) loop.invariant.unfailed
     (omega (arith, once.counted, loop.invariant.counted)) (omega (arith, once.interrupted)) _ once.bytes.0 once.failed)

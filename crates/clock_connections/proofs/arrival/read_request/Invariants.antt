@@ -9,10 +9,10 @@ abbrev pub invariant-loop-read : goal.invariant-loop-read
 invariant-loop-read g l = record {
   room : 0 < vec_len l.piece;
   short : vec_len l.piece ≤ most_piece;
-  read : HasRead (g.R.Source.told l.initial.source).left (g.R.Source.told l.source).left l.request;
+  read : HasRead (g.R.Source.report l.initial.source).left (g.R.Source.report l.source).left l.request;
   needed : needs_more l.request ≡ true;
-  counted : (g.R.Source.told l.source).calls ≡ l._read;
-  used : l._read ≤ length l.request + (g.R.Source.told l.source).interruptions;
-  interrupted : (g.R.Source.told l.source).interruptions ≤ l._read;
-  unfailed : (g.R.Source.told l.source).has_failed ≡ false;
+  counted : (g.R.Source.report l.source).calls ≡ l._read;
+  used : l._read ≤ length l.request + (g.R.Source.report l.source).interruptions;
+  interrupted : (g.R.Source.report l.source).interruptions ≤ l._read;
+  unfailed : (g.R.Source.report l.source).has_failed ≡ false;
 }

@@ -7,9 +7,9 @@ use Rattle.clock_device.proofs.stream.write_all.Goals as goal
 
 pub loop-done-preserved : goal.loop-done-preserved
 loop-done-preserved g c =
-    let old = (g.W.Sink.told c.args.sink.now).taken in
-    let mid = (g.W.Sink.told c.loop-done.sink).taken in
-    let new = (g.W.Sink.told c.write.new.self).taken in
+    let old = (g.W.Sink.report c.args.sink.now).taken in
+    let mid = (g.W.Sink.report c.loop-done.sink).taken in
+    let new = (g.W.Sink.report c.write.new.self).taken in
     let bytes = c.args.bytes.now in
     let wrote = rw (take_rest bytes c.loop-done.done) at c.in_ok-done.ensures.bytes in
     record {

@@ -6,8 +6,8 @@ use Rattle.clock_device.proofs.stream.write_all.Given as goal
 abbrev pub invariant-loop-done : goal.invariant-loop-done
 invariant-loop-done g l = record {
   within : l.done ≤ length l.bytes;
-  written : HasWritten (g.W.Sink.told l.initial.sink).taken (g.W.Sink.told l.sink).taken (take l.done l.bytes);
-  unfailed : (g.W.Sink.told l.sink).has_failed ≡ (g.W.Sink.told l.initial.sink).has_failed;
+  written : HasWritten (g.W.Sink.report l.initial.sink).taken (g.W.Sink.report l.sink).taken (take l.done l.bytes);
+  unfailed : (g.W.Sink.report l.sink).has_failed ≡ (g.W.Sink.report l.initial.sink).has_failed;
 }
 
 abbrev pub decreases-loop-done : goal.decreases-loop-done

@@ -1,6 +1,8 @@
 //! One bidder's replies in two runs in which it sees the same, if each request comes over a
 //! connection of its own, in single bytes.
-use super::{BY_W, BY_Y, PUBLIC, Run, Sent, V_X_AND_W, X_AND_Y, document_of, requests_of, told_x};
+use super::{
+    BY_W, BY_Y, PUBLIC, Run, Sent, V_X_AND_W, X_AND_Y, document_of, reported_x, requests_of,
+};
 use crate::comparing::{assert_is, assert_is_at};
 use crate::front::events::{connected, piece};
 use crate::front::requests::{request_of, setup_of};
@@ -133,36 +135,36 @@ fn replies_in(alloc: Global, bidders: &str, requests: &[Sent], way: Way) -> Opti
 }
 
 /// Adds a reply to a text.
-fn push_reply(alloc: Global, told: &mut String, reply: &Reply) -> Option<()> {
+fn push_reply(alloc: Global, reported: &mut String, reply: &Reply) -> Option<()> {
     let reply = String::from_utf8_lossy(alloc, reply.bytes()).ok()?;
-    told.push_str(reply.as_str()).ok()
+    reported.push_str(reply.as_str()).ok()
 }
 
 /// The replies to X's own requests.
 fn own_replies(alloc: Global, requests: &[Sent], replies: &[EventReply]) -> Option<String> {
-    let mut told = String::new(alloc);
+    let mut reported = String::new(alloc);
     for one in replies {
         if let Some((_, true)) = requests.get(one.number as usize) {
-            push_reply(alloc, &mut told, &one.reply)?;
+            push_reply(alloc, &mut reported, &one.reply)?;
         }
     }
-    Some(told)
+    Some(reported)
 }
 
 /// X's replies if the bytes of requests come in this order.
-fn told_in(alloc: Global, bidders: &str, requests: &[Sent], way: Way) -> Option<String> {
+fn reported_in(alloc: Global, bidders: &str, requests: &[Sent], way: Way) -> Option<String> {
     let replies = replies_in(alloc, bidders, requests, way)?;
-    let told = own_replies(alloc, requests, replies.as_slice());
+    let reported = own_replies(alloc, requests, replies.as_slice());
     drop(replies);
-    told
+    reported
 }
 
 /// X's replies in a run whose bytes come in this order.
-fn told_x_in_pieces(alloc: Global, run: Run<'_>, way: Way) -> Option<String> {
+fn reported_x_in_pieces(alloc: Global, run: Run<'_>, way: Way) -> Option<String> {
     let requests = requests_of(alloc, run.1)?;
-    let told = told_in(alloc, run.0, requests.as_slice(), way);
+    let reported = reported_in(alloc, run.0, requests.as_slice(), way);
     drop(requests);
-    told
+    reported
 }
 
 /// Runs in which X sees the same, and the order of their bytes.
@@ -176,21 +178,21 @@ const RUNS: &[(Run<'static>, Way)] = &[
 ];
 
 /// Asserts that X's replies are those to whole requests, in whatever order the bytes come.
-fn is_told_as_whole(rt: &impl Abort, alloc: Global, whole: &str) -> Option<()> {
+fn is_reported_as_whole(rt: &impl Abort, alloc: Global, whole: &str) -> Option<()> {
     for &(run, way) in RUNS {
-        let told = told_x_in_pieces(alloc, run, way)?;
-        assert_is_at(rt, (run, way), told.as_str(), whole);
+        let reported = reported_x_in_pieces(alloc, run, way)?;
+        assert_is_at(rt, (run, way), reported.as_str(), whole);
     }
     Some(())
 }
 
-/// Asserts [`is_told_as_whole`] for X's replies to whole requests.
-fn are_told_alike(rt: &impl Abort, alloc: Global) -> Option<()> {
-    let whole = told_x(alloc, PUBLIC, (X_AND_Y, BY_Y))?;
-    is_told_as_whole(rt, alloc, whole.as_str())
+/// Asserts [`is_reported_as_whole`] for X's replies to whole requests.
+fn are_reported_alike(rt: &impl Abort, alloc: Global) -> Option<()> {
+    let whole = reported_x(alloc, PUBLIC, (X_AND_Y, BY_Y))?;
+    is_reported_as_whole(rt, alloc, whole.as_str())
 }
 
 #[test]
 fn rivals_show_in_no_reply_to_pieces(rt: HostRuntime) {
-    assert_is(&rt, are_told_alike(&rt, rt.alloc()), Some(()));
+    assert_is(&rt, are_reported_alike(&rt, rt.alloc()), Some(()));
 }

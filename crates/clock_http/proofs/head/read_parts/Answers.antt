@@ -46,10 +46,10 @@ returns-clause-shown c =
     (sym c.in_ok-body.was ∙ c.body_length.ensures _ c.fields_of-fields.ensures)
 
 -- an error that is passed on
-handed_on : (bytes : List ℕ) (result : Result EndedHead Code) (fault : Code) → IsErrAnd result (λ told. told ≡ fault)
-    → Err fault ≡ head_with_length bytes → shown_read bytes result ≡ head_with_length bytes
-handed_on bytes (Ok head) fault told is = absurd told
-handed_on bytes (Err same) fault told is = ap Err told ∙ is
+handed_on : (bytes : List ℕ) (result : Result EndedHead Code) (fault : Code) → IsErrAnd result (λ reported. reported
+    ≡ fault) → Err fault ≡ head_with_length bytes → shown_read bytes result ≡ head_with_length bytes
+handed_on bytes (Ok head) fault reported is = absurd reported
+handed_on bytes (Err same) fault reported is = ap Err reported ∙ is
 
 pub returns-in_err-body-clause-shown : goal.returns-in_err-body-clause-shown
 returns-in_err-body-clause-shown c =

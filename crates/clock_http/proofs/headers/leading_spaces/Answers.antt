@@ -28,8 +28,8 @@ behind (b ∷ rest) = by (behind rest) (b == 32) refl
     by behind_rest false e = rw e (omega arith, refl)
 
 -- the index that a search finds, or the number of bytes if it finds none
-told : (at n : ℕ) (result : Option ℕ) → at ≤ n → result ≡ cond (ltb at n) (Some at) None → unwrap_or result n ≡ at
-told at n result within is = by (ltb at n) refl
+reported : (at n : ℕ) (result : Option ℕ) → at ≤ n → result ≡ cond (ltb at n) (Some at) None → unwrap_or result n ≡ at
+reported at n result within is = by (ltb at n) refl
   where
     by : (t : Bool) → ltb at n ≡ t → unwrap_or result n ≡ at
     by true e = ap (λ (r : Option ℕ). unwrap_or r n) (is ∙ ap (λ (u : Bool). cond u (Some at) None) e)
@@ -39,7 +39,7 @@ told at n result within is = by (ltb at n) refl
 first : (c : goal.After-unwrap_or) → c.unwrap_or.result ≡ position_or_len is_other c.args.text.now
 first c =
     let text = c.args.text.now in
-    c.unwrap_or.ensures ∙ told (position_or_len is_other text) (length text) c.position.result (behind text).0
+    c.unwrap_or.ensures ∙ reported (position_or_len is_other text) (length text) c.position.result (behind text).0
     (position_from_yields_List is_other _ _ c.position.result c.position.ensures.ran (YieldsList-from_slice text cc)
     (λ x b q k. search (rules, tests)))
 

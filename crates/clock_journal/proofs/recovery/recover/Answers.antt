@@ -3,18 +3,18 @@ use Rattle.std.proofs.Common.{subst, arith, length-drop, length-append, get_or, 
 use Rattle.std.specs.Prelude.{not}
 use Rattle.std.proofs.lemmas.List.{get_or-drop, take_rest}
 use Rattle.clock_journal.specs.Entries.{Entry, entries_onto, entry_of, texts_in}
-use Rattle.clock_journal.specs.Format.{before_text, head, head_length, kind, link, last_link, records}
+use Rattle.clock_journal.specs.Format.{before_text, head, file_head_length, kind, link, last_link, records}
 use Rattle.clock_journal.specs.Headings.{heading, of_another, unknown}
-use Rattle.clock_journal.specs.Reading.{Reads, Ends, Next, next, damaged, whole}
+use Rattle.clock_journal.specs.Reading.{ReadsTexts, Ends, Next, next, damaged, whole}
 use Rattle.clock_journal.specs.inside.Replays.{IsOnWay, IsReplayed}
 use Rattle.clock_journal.specs.Recovering.{IsFoundAt, IsRefusedAt}
-use Rattle.clock_journal.specs.Kept.{file_of}
+use Rattle.clock_journal.specs.Logged.{file_of}
 use Rattle.clock_journal.specs.declared.recovery.Record.{Record}
 use Rattle.clock_journal.proofs.EntryLaws.{entries-push, many_bytes, texts_in-onto}
 use Rattle.clock_journal.proofs.Moments.{last_link-push, length-head}
 use Rattle.clock_journal.proofs.TakenOver.{another_is, has_taken, has_taken_none, headed_at, headed_is, is_undamaged}
-use Rattle.clock_journal.proofs.TakenOver.{kind_unknown, none_unknown, short_unknown, texts_left, told_of_left}
-use Rattle.clock_journal.proofs.Tails.{damaged_behind, has_taken_first, told_of_front}
+use Rattle.clock_journal.proofs.TakenOver.{kind_unknown, none_unknown, short_unknown, texts_left, reported_of_left}
+use Rattle.clock_journal.proofs.Tails.{damaged_behind, has_taken_first, reported_of_front}
 use Rattle.clock_journal.proofs.Tested.{same_where}
 use Rattle.clock_journal.proofs.Whole.{read_back}
 use Rattle.clock_journal.proofs.recovery.recover.Goals as goal
@@ -27,9 +27,9 @@ was_true : (test : Bool) → not test ≡ false → test ≡ true
 was_true true is = refl
 was_true false is = sym is
 
-reads-push : (chain bytes : List ℕ) (texts : List (List ℕ)) (mid text : List ℕ) → Reads chain bytes texts mid
+reads-push : (chain bytes : List ℕ) (texts : List (List ℕ)) (mid text : List ℕ) → ReadsTexts chain bytes texts mid
     → next (last_link chain texts) mid ≡ whole text
-    → Reads chain bytes (texts ++ text ∷ []) (drop (before_text + length text) mid)
+    → ReadsTexts chain bytes (texts ++ text ∷ []) (drop (before_text + length text) mid)
 reads-push chain bytes [] mid text reads is =
     (ap (next chain) (sym reads) ∙ is, ap (drop (before_text + length text)) reads)
 reads-push chain bytes (one ∷ texts) mid text reads is =
@@ -56,16 +56,16 @@ on_way_more old mid new first bytes chain count rest text digest record_is way i
 
 -- the place and the number of the next record
 next_place : (old new : List Entry → Type 0) (digest bytes chain : List ℕ) (count : ℕ) (rest : List ℕ)
-    → ((place : ℕ) → get_or bytes place 0 < 256) → length digest ≡ 32 → head_length ≤ length bytes
-    → (way : IsOnWay old new digest (drop head_length bytes) chain count rest)
+    → ((place : ℕ) → get_or bytes place 0 < 256) → length digest ≡ 32 → file_head_length ≤ length bytes
+    → (way : IsOnWay old new digest (drop file_head_length bytes) chain count rest)
     → (length bytes - length rest ≡ length (file_of digest way.texts)) × (count + length rest ≤ length bytes)
 next_place old new digest bytes chain count rest small size long way =
-    let back = read_back digest (drop head_length bytes) way.texts rest (λ place. subst (λ (n : ℕ). n < 256)
-    (sym (get_or-drop head_length bytes place 0)) (small (head_length + place))) way.reads in
+    let back = read_back digest (drop file_head_length bytes) way.texts rest (λ place. subst (λ (n : ℕ). n < 256)
+    (sym (get_or-drop file_head_length bytes place 0)) (small (file_head_length + place))) way.reads in
     let all = ap length back.0 ∙ length-append (records digest way.texts) rest in
     let file = length-append (head digest) (records digest way.texts) in
     let before = length-head digest size in
-    let behind = length-drop head_length bytes in
+    let behind = length-drop file_head_length bytes in
     let many = many_bytes digest way.texts in
     (omega (arith, all, file, before, behind, long), omega (arith, all, behind, many, way.count_is))
 
@@ -91,9 +91,9 @@ loop-chain-preserved g c =
     next_place old mid c.args.digest.now c.args.bytes.now c.loop-chain.chain c.loop-chain.texts c.loop-chain.rest.now
     (λ place. search rules) (search rules) (omega (arith, c.if-bytes-lt-HEAD_LENGTH.false)) way in (
       subst (λ rest. IsOnWay old (g.M.Machine.stands_for c.take.new.self) c.args.digest.now
-          (drop head_length c.args.bytes.now) c.in-Whole.digest (c.loop-chain.texts + 1) rest)
+          (drop file_head_length c.args.bytes.now) c.in-Whole.digest (c.loop-chain.texts + 1) rest)
           (sym (take_rest c.loop-chain.rest.now (before_text + length text))) (on_way_more old mid
-          (g.M.Machine.stands_for c.take.new.self) c.args.digest.now (drop head_length c.args.bytes.now)
+          (g.M.Machine.stands_for c.take.new.self) c.args.digest.now (drop file_head_length c.args.bytes.now)
           c.loop-chain.chain c.loop-chain.texts c.loop-chain.rest.now text c.in-Whole.digest _ way
           (sym c.in-Whole.ensures.next) c.in-Whole.ensures.record.linked (next_entry c.args.digest.now way.texts text
           c.loop-chain.chain c.loop-chain.texts (length c.args.bytes.now - length c.loop-chain.rest.now)
@@ -111,13 +111,15 @@ overflow_add-number g c =
     omega (arith, places.1, whole)
 
 -- what follows a head is shorter than the file
-rest_within : (old new : List Entry → Type 0) (first bytes chain : List ℕ) (count : ℕ) (rest : List ℕ) → head_length
-    ≤ length bytes → IsOnWay old new first (drop head_length bytes) chain count rest → length rest ≤ length bytes
-rest_within old new first bytes chain count rest long way = omega (arith, way.within, length-drop head_length bytes)
+rest_within : (old new : List Entry → Type 0) (first bytes chain : List ℕ) (count : ℕ) (rest : List ℕ)
+    → file_head_length ≤ length bytes → IsOnWay old new first (drop file_head_length bytes) chain count rest
+    → length rest ≤ length bytes
+rest_within old new first bytes chain count rest long way =
+    omega (arith, way.within, length-drop file_head_length bytes)
 
 found_at : (old new : List Entry → Type 0) (first bytes chain : List ℕ) (count : ℕ) (rest : List ℕ) (found : Next)
-    → head_length ≤ length bytes → IsOnWay old new first (drop head_length bytes) chain count rest → next chain rest
-    ≡ found → IsFoundAt first (drop head_length bytes) (length bytes) (length bytes - length rest) found
+    → file_head_length ≤ length bytes → IsOnWay old new first (drop file_head_length bytes) chain count rest → next
+    chain rest ≡ found → IsFoundAt first (drop file_head_length bytes) (length bytes) (length bytes - length rest) found
 found_at old new first bytes chain count rest found long way is = record {
   texts = way.texts;
   rest = rest;
@@ -127,8 +129,8 @@ found_at old new first bytes chain count rest found long way is = record {
 }
 
 replayed : (old new : List Entry → Type 0) (first bytes chain : List ℕ) (count : ℕ) (rest : List ℕ)
-    → head_length ≤ length bytes → IsOnWay old new first (drop head_length bytes) chain count rest → Ends chain rest
-    → IsReplayed old new first (drop head_length bytes) (length bytes)
+    → file_head_length ≤ length bytes → IsOnWay old new first (drop file_head_length bytes) chain count rest
+    → Ends chain rest → IsReplayed old new first (drop file_head_length bytes) (length bytes)
     (record { chain = chain; end = length bytes - length rest; texts = count })
 replayed old new first bytes chain count rest long way ends = record {
   texts = way.texts;
@@ -142,10 +144,10 @@ replayed old new first bytes chain count rest long way ends = record {
 }
 
 refused_at : (refuses now : List (List ℕ) → List ℕ → Type 0) (old new : List Entry → Type 0)
-    (first bytes chain : List ℕ) (count : ℕ) (rest text : List ℕ) → (long : head_length ≤ length bytes)
-    → (way : IsOnWay old new first (drop head_length bytes) chain count rest) → next chain rest ≡ whole text
+    (first bytes chain : List ℕ) (count : ℕ) (rest text : List ℕ) → (long : file_head_length ≤ length bytes)
+    → (way : IsOnWay old new first (drop file_head_length bytes) chain count rest) → next chain rest ≡ whole text
     → now ≡ refuses → ((entries : List Entry) → new entries → now (texts_in entries) text)
-    → IsRefusedAt refuses old first (drop head_length bytes) (length bytes) (length bytes - length rest)
+    → IsRefusedAt refuses old first (drop file_head_length bytes) (length bytes) (length bytes - length rest)
 unfolding found_at
 refused_at refuses now old new first bytes chain count rest text long way is same refused = record {
   text = text;
@@ -172,17 +174,17 @@ returns-then-ne-clause-crash g c texts least leaves =
     let none : heading c.args.digest.now c.args.bytes.now ≡ unknown = kind_unknown c.args.digest.now c.args.bytes.now
     (omega (arith, c.if-bytes-lt-HEAD_LENGTH.false)) (was_false _ (sym c.ne.ensures ∙ c.if-ne.true)) in
     let e =
-    told_of_left c.args.digest.now c.args.bytes.now texts least unknown (search rules) (texts_left c.args.digest.now
+    reported_of_left c.args.digest.now c.args.bytes.now texts least unknown (search rules) (texts_left c.args.digest.now
     c.args.bytes.now texts least leaves (omega (arith, c.if-bytes-lt-HEAD_LENGTH.false))) (sym none) in cc
 
 pub returns-then-ne-2-clause-crash : goal.returns-then-ne-2-clause-crash
 unfolding kind
 returns-then-ne-2-clause-crash g c texts least leaves =
-    let long : head_length ≤ length c.args.bytes.now = omega (arith, c.if-bytes-lt-HEAD_LENGTH.false) in
+    let long : file_head_length ≤ length c.args.bytes.now = omega (arith, c.if-bytes-lt-HEAD_LENGTH.false) in
     let other : heading c.args.digest.now c.args.bytes.now ≡ of_another = another_is c.args.digest.now c.args.bytes.now
-    long (was_true _ (sym c.ne.ensures ∙ c.if-ne.false)) (subst (λ (h : List ℕ). bytes_eq (take head_length
+    long (was_true _ (sym c.ne.ensures ∙ c.if-ne.false)) (subst (λ (h : List ℕ). bytes_eq (take file_head_length
     c.args.bytes.now) h ≡ false) c.head_of-head.ensures (was_false _ (sym c.ne-2.ensures ∙ c.if-ne-2.true))) in
-    let e = told_of_left c.args.digest.now c.args.bytes.now texts least of_another (search rules)
+    let e = reported_of_left c.args.digest.now c.args.bytes.now texts least of_another (search rules)
     (texts_left c.args.digest.now c.args.bytes.now texts least leaves long) (sym other) in cc
 
 pub returns-then-bytes-lt-HEAD_LENGTH-clause-crash : goal.returns-then-bytes-lt-HEAD_LENGTH-clause-crash
@@ -200,44 +202,45 @@ unfolding kind
 returns-then-ne-clause-any_tail g c texts begins =
     let none : heading c.args.digest.now c.args.bytes.now ≡ unknown = kind_unknown c.args.digest.now c.args.bytes.now
     (omega (arith, c.if-bytes-lt-HEAD_LENGTH.false)) (was_false _ (sym c.ne.ensures ∙ c.if-ne.true)) in
-    let e = told_of_front c.args.digest.now c.args.bytes.now texts unknown (search rules) begins (sym none) in cc
+    let e = reported_of_front c.args.digest.now c.args.bytes.now texts unknown (search rules) begins (sym none) in cc
 
 pub returns-then-ne-2-clause-any_tail : goal.returns-then-ne-2-clause-any_tail
 unfolding kind
 returns-then-ne-2-clause-any_tail g c texts begins =
     let other : heading c.args.digest.now c.args.bytes.now ≡ of_another = another_is c.args.digest.now c.args.bytes.now
     (omega (arith, c.if-bytes-lt-HEAD_LENGTH.false)) (was_true _ (sym c.ne.ensures ∙ c.if-ne.false))
-    (subst (λ (h : List ℕ). bytes_eq (take head_length c.args.bytes.now) h ≡ false) c.head_of-head.ensures
+    (subst (λ (h : List ℕ). bytes_eq (take file_head_length c.args.bytes.now) h ≡ false) c.head_of-head.ensures
     (was_false _ (sym c.ne-2.ensures ∙ c.if-ne-2.true))) in
-    let e = told_of_front c.args.digest.now c.args.bytes.now texts of_another (search rules) begins (sym other) in cc
+    let e =
+    reported_of_front c.args.digest.now c.args.bytes.now texts of_another (search rules) begins (sym other) in cc
 
 pub returns-then-ne-2-clause-read : goal.returns-then-ne-2-clause-read
 unfolding kind
 returns-then-ne-2-clause-read g c = another_is c.args.digest.now c.args.bytes.now
     (omega (arith, c.if-bytes-lt-HEAD_LENGTH.false)) (was_true _ (sym c.ne.ensures ∙ c.if-ne.false))
-    (subst (λ (h : List ℕ). bytes_eq (take head_length c.args.bytes.now) h ≡ false) c.head_of-head.ensures
+    (subst (λ (h : List ℕ). bytes_eq (take file_head_length c.args.bytes.now) h ≡ false) c.head_of-head.ensures
     (was_false _ (sym c.ne-2.ensures ∙ c.if-ne-2.true)))
 
 pub loop-chain-init : goal.loop-chain-init
 loop-chain-init g c = (
   record {
     texts = [];
-    reads = take_rest c.args.bytes.now head_length;
+    reads = take_rest c.args.bytes.now file_head_length;
     chain_is = refl;
     count_is = refl;
-    within = omega (arith, ap length (take_rest c.args.bytes.now head_length));
+    within = omega (arith, ap length (take_rest c.args.bytes.now file_head_length));
     stands = λ past was. was;
   },
   refl,
 )
 
 pub overflow_sub-end : goal.overflow_sub-end
-overflow_sub-end g c = omega (arith, c.loop-chain.invariant.0.within, length-drop head_length c.args.bytes.now)
+overflow_sub-end g c = omega (arith, c.loop-chain.invariant.0.within, length-drop file_head_length c.args.bytes.now)
 
 pub returns-in-Ended-clause-read : goal.returns-in-Ended-clause-read
 returns-in-Ended-clause-read g c =
-    let long : head_length ≤ length c.args.bytes.now = omega (arith, c.if-bytes-lt-HEAD_LENGTH.false) in
-    let same = subst (λ (h : List ℕ). take head_length c.args.bytes.now ≡ h) c.head_of-head.ensures
+    let long : file_head_length ≤ length c.args.bytes.now = omega (arith, c.if-bytes-lt-HEAD_LENGTH.false) in
+    let same = subst (λ (h : List ℕ). take file_head_length c.args.bytes.now ≡ h) c.head_of-head.ensures
     (same_where _ _ (was_true _ (sym c.ne-2.ensures ∙ c.if-ne-2.false))) in
     let done = replayed (g.M.Machine.stands_for c.args.machine.now)
     (g.M.Machine.stands_for c.loop-chain.machine) c.args.digest.now c.args.bytes.now c.loop-chain.chain
@@ -250,7 +253,7 @@ returns-in-Ended-clause-read g c =
 
 pub returns-in-Ended-clause-crash : goal.returns-in-Ended-clause-crash
 returns-in-Ended-clause-crash g c texts least leaves =
-    let long : head_length ≤ length c.args.bytes.now = omega (arith, c.if-bytes-lt-HEAD_LENGTH.false) in
+    let long : file_head_length ≤ length c.args.bytes.now = omega (arith, c.if-bytes-lt-HEAD_LENGTH.false) in
     has_taken _ _ c.args.digest.now c.args.bytes.now texts least _ (λ place. search rules) (search rules) long
     (texts_left c.args.digest.now c.args.bytes.now texts least leaves long) (replayed (g.M.Machine.stands_for
     c.args.machine.now) (g.M.Machine.stands_for c.loop-chain.machine) c.args.digest.now c.args.bytes.now
@@ -258,8 +261,8 @@ returns-in-Ended-clause-crash g c texts least leaves =
 
 pub returns-in-Damaged-clause-read : goal.returns-in-Damaged-clause-read
 returns-in-Damaged-clause-read g c =
-    let long : head_length ≤ length c.args.bytes.now = omega (arith, c.if-bytes-lt-HEAD_LENGTH.false) in (
-      headed_is c.args.digest.now c.args.bytes.now long (subst (λ (h : List ℕ). bytes_eq (take head_length
+    let long : file_head_length ≤ length c.args.bytes.now = omega (arith, c.if-bytes-lt-HEAD_LENGTH.false) in (
+      headed_is c.args.digest.now c.args.bytes.now long (subst (λ (h : List ℕ). bytes_eq (take file_head_length
           c.args.bytes.now) h ≡ true) c.head_of-head.ensures (was_true _ (sym c.ne-2.ensures ∙ c.if-ne-2.false))),
       found_at (g.M.Machine.stands_for c.args.machine.now) (g.M.Machine.stands_for c.loop-chain.machine)
           c.args.digest.now c.args.bytes.now c.loop-chain.chain c.loop-chain.texts c.loop-chain.rest.now damaged long
@@ -268,7 +271,7 @@ returns-in-Damaged-clause-read g c =
 
 pub returns-in-Damaged-clause-crash : goal.returns-in-Damaged-clause-crash
 returns-in-Damaged-clause-crash g c texts least leaves =
-    let long : head_length ≤ length c.args.bytes.now = omega (arith, c.if-bytes-lt-HEAD_LENGTH.false) in
+    let long : file_head_length ≤ length c.args.bytes.now = omega (arith, c.if-bytes-lt-HEAD_LENGTH.false) in
     is_undamaged c.args.digest.now c.args.bytes.now texts least (length c.args.bytes.now) _ (search rules) (texts_left
     c.args.digest.now c.args.bytes.now texts least leaves long) (found_at (g.M.Machine.stands_for c.args.machine.now)
     (g.M.Machine.stands_for c.loop-chain.machine) c.args.digest.now c.args.bytes.now c.loop-chain.chain
@@ -276,8 +279,8 @@ returns-in-Damaged-clause-crash g c texts least leaves =
 
 pub returns-in-Err-Refused-clause-read : goal.returns-in-Err-Refused-clause-read
 returns-in-Err-Refused-clause-read g c =
-    let long : head_length ≤ length c.args.bytes.now = omega (arith, c.if-bytes-lt-HEAD_LENGTH.false) in (
-      headed_is c.args.digest.now c.args.bytes.now long (subst (λ (h : List ℕ). bytes_eq (take head_length
+    let long : file_head_length ≤ length c.args.bytes.now = omega (arith, c.if-bytes-lt-HEAD_LENGTH.false) in (
+      headed_is c.args.digest.now c.args.bytes.now long (subst (λ (h : List ℕ). bytes_eq (take file_head_length
           c.args.bytes.now) h ≡ true) c.head_of-head.ensures (was_true _ (sym c.ne-2.ensures ∙ c.if-ne-2.false))),
       (
         c.in-Whole.text.now,

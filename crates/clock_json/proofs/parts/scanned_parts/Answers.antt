@@ -1,5 +1,5 @@
 use Rattle.std.proofs.Common.{◌≡◌, ◌∷◌, length, map, sym, ap, ◌∙◌, subst, arith}
-use Rattle.clock_json.specs.Reading.{Token, Reads}
+use Rattle.clock_json.specs.Reading.{Token, ReadsValue}
 use Rattle.clock_json.specs.inside.Reading.{HasItems}
 use Rattle.clock_json.proofs.Steps.{items_start, items_end, items_push_next}
 use Rattle.clock_json.proofs.parts.scanned_parts.Goals as goal
@@ -22,8 +22,8 @@ items-preserved g c =
     let after = c.part.new.scan in
     let next = c.in_ok-next.next in
     let same : c.closes.new.self ≡ l.scan = grind arith in
-    let reads : Reads levels l.scan (shown next) after =
-    subst (λ ts. Reads levels ts (shown next) after) same c.in_ok-next.ensures.value in (
+    let reads : ReadsValue levels l.scan (shown next) after =
+    subst (λ ts. ReadsValue levels ts (shown next) after) same c.in_ok-next.ensures.value in (
       subst (λ list. HasItems levels start (map shown list) after) (sym c.in_ok-push.ensures.ok)
           (items_push_next levels shown start l.scan after l.parts next l.invariant.0 reads),
       omega (arith, l.invariant.1, c.in_ok-next.ensures.shorter, ap length same),

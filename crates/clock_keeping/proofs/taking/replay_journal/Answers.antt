@@ -1,5 +1,5 @@
 use Rattle.std.proofs.Common.{[], drop, length}
-use Rattle.clock_journal.specs.Kept.{file_of}
+use Rattle.clock_journal.specs.Logged.{file_of}
 use Rattle.clock_keeping.specs.Keeping.{IsRefused}
 use Rattle.clock_keeping.proofs.TakenUp.{IsAt, has_taken_up, has_taken_up_first, is_taken_up, refused_in}
 use Rattle.clock_keeping.proofs.taking.replay_journal.Goals as goal

@@ -13,7 +13,7 @@ returns-clause-in_step g c written =
       texts = up.texts;
       placed = up.placed;
       in_step = record {
-        has = search (rules, c.resume.ensures.kept c.args.bytes.now up.texts written up.placed);
+        has = search (rules, c.resume.ensures.logged c.args.bytes.now up.texts written up.placed);
         stands = up.stands;
       };
     }
@@ -34,7 +34,7 @@ returns-clause-resumed g c texts least written leaves =
       in_step = record {
         has = search (
           rules,
-          c.resume.ensures.kept c.args.bytes.now (take up.count texts) written (subst (λ (digest : List ℕ).
+          c.resume.ensures.logged c.args.bytes.now (take up.count texts) written (subst (λ (digest : List ℕ).
               IsPlaced digest c.args.bytes.now (take up.count texts) c.in_ok-recovered.recovered) same up.placed),
         );
         stands = up.stands;

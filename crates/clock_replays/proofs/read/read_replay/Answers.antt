@@ -7,10 +7,10 @@ use Rattle.clock_replays.proofs.read.read_replay.Goals as goal
 
 pub returns-in-Some-clause-ok : goal.returns-in-Some-clause-ok
 returns-in-Some-clause-ok c = subst (λ answer. IfOk c.judged.result (λ replay. answer ≡ Ok replay))
-    (sym (replay_read c.args.bytes.now (c.in-Some.held, c.in-Some.scripts, c.in-Some.closings)
-    (rw c.in-Some.is at c.in_ok-held.ensures.text) (rw c.in-Some.is at c.in_ok-held.ensures.value))) c.judged.ensures.ok
+    (sym (replay_read c.args.bytes.now (c.in-Some.nested, c.in-Some.scripts, c.in-Some.closings) (rw c.in-Some.is
+    at c.in_ok-nested.ensures.text) (rw c.in-Some.is at c.in_ok-nested.ensures.value))) c.judged.ensures.ok
 
 pub returns-in-Some-clause-err : goal.returns-in-Some-clause-err
 returns-in-Some-clause-err c = subst (λ answer. IfErr c.judged.result (IsRefusal NoMemory answer))
-    (sym (replay_read c.args.bytes.now (c.in-Some.held, c.in-Some.scripts, c.in-Some.closings) (rw c.in-Some.is
-    at c.in_ok-held.ensures.text) (rw c.in-Some.is at c.in_ok-held.ensures.value))) c.judged.ensures.err
+    (sym (replay_read c.args.bytes.now (c.in-Some.nested, c.in-Some.scripts, c.in-Some.closings) (rw c.in-Some.is
+    at c.in_ok-nested.ensures.text) (rw c.in-Some.is at c.in_ok-nested.ensures.value))) c.judged.ensures.err

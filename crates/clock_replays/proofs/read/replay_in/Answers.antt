@@ -13,10 +13,10 @@ use Rattle.clock_replays.proofs.DocumentLaws.{parts_read, not_there}
 use Rattle.clock_replays.proofs.DocumentLaws.{in_setup, replay_setup, replay_at}
 use Rattle.clock_replays.proofs.read.replay_in.Goals as goal
 
-pub returns-in_err-held-clause-err : goal.returns-in_err-held-clause-err
-returns-in_err-held-clause-err c =
+pub returns-in_err-nested-clause-err : goal.returns-in_err-nested-clause-err
+returns-in_err-nested-clause-err c =
     let p = err_from_is_err_and c.from_residual.result c.from_residual.ensures.1 in
-    let gone = not_there _ _ _ c.in_err-held.ensures.value in
+    let gone = not_there _ _ _ c.in_err-nested.ensures.value in
     let none : get (codes "setup") (view c.args.value.now) ≡ None = sym (rw gone.0 at c.get.ensures) in
     rw (p.1, p.2) (λ known. no_setup (view c.args.value.now) none ∙ ap Err (sym gone.1))
 
@@ -24,59 +24,59 @@ pub returns-in_err-scripts-clause-err : goal.returns-in_err-scripts-clause-err
 returns-in_err-scripts-clause-err c =
     let value = view c.args.value.now in
     let p = err_from_is_err_and c.from_residual-in_err-scripts.result c.from_residual-in_err-scripts.ensures.1 in
-    let held : get (codes "setup") value ≡ Some (view c.in_ok-held.held.now) =
-    sym (rw c.in_ok-held.ensures.ok_part at c.get.ensures) in
+    let nested : get (codes "setup") value ≡ Some (view c.in_ok-nested.nested.now) =
+    sym (rw c.in_ok-nested.ensures.ok_part at c.get.ensures) in
     let gone = not_there _ _ _ c.in_err-scripts.ensures.value in
     let none : scripts_in value ≡ None = sym c.in_ok-each_at.ensures ∙ gone.0 in
-    rw (p.1, p.2) (λ known. no_scripts value _ held none ∙ ap Err (sym gone.1))
+    rw (p.1, p.2) (λ known. no_scripts value _ nested none ∙ ap Err (sym gone.1))
 
 pub returns-in_err-closings-clause-err : goal.returns-in_err-closings-clause-err
 returns-in_err-closings-clause-err c =
     let value = view c.args.value.now in
     let p = err_from_is_err_and c.from_residual-in_err-closings.result c.from_residual-in_err-closings.ensures.1 in
-    let held : get (codes "setup") value ≡ Some (view c.in_ok-held.held.now) =
-    sym (rw c.in_ok-held.ensures.ok_part at c.get.ensures) in
+    let nested : get (codes "setup") value ≡ Some (view c.in_ok-nested.nested.now) =
+    sym (rw c.in_ok-nested.ensures.ok_part at c.get.ensures) in
     let scripts : scripts_in value ≡ Some c.in_ok-scripts.scripts =
     sym c.in_ok-each_at.ensures ∙ c.in_ok-scripts.ensures.ok_part in
     let gone = not_there _ _ _ c.in_err-closings.ensures.value in
     let none : closings_in value ≡ None = sym c.in_ok-each_at-2.ensures ∙ gone.0 in
-    rw (p.1, p.2) (λ known. no_closings value _ _ held scripts none ∙ ap Err (sym gone.1))
+    rw (p.1, p.2) (λ known. no_closings value _ _ nested scripts none ∙ ap Err (sym gone.1))
 
 pub returns-then-not-has_members-clause-err : goal.returns-then-not-has_members-clause-err
 returns-then-not-has_members-clause-err c = λ known.
     let value = view c.args.value.now in
-    let held : get (codes "setup") value ≡ Some (view c.in_ok-held.held.now) =
-    sym (rw c.in_ok-held.ensures.ok_part at c.get.ensures) in
+    let nested : get (codes "setup") value ≡ Some (view c.in_ok-nested.nested.now) =
+    sym (rw c.in_ok-nested.ensures.ok_part at c.get.ensures) in
     let scripts : scripts_in value ≡ Some c.in_ok-scripts.scripts =
     sym c.in_ok-each_at.ensures ∙ c.in_ok-scripts.ensures.ok_part in
     let closings : closings_in value ≡ Some c.in_ok-closings.closings =
     sym c.in_ok-each_at-2.ensures ∙ c.in_ok-closings.ensures.ok_part in
     let other : has_members 3 value ≡ false = search rules in
-    other_members value _ _ _ held scripts closings other
+    other_members value _ _ _ nested scripts closings other
 
 pub returns-in-Ok : goal.returns-in-Ok
 returns-in-Ok c =
     let value = view c.args.value.now in
-    let held : get (codes "setup") value ≡ Some (view c.in_ok-held.held.now) =
-    sym (rw c.in_ok-held.ensures.ok_part at c.get.ensures) in
+    let nested : get (codes "setup") value ≡ Some (view c.in_ok-nested.nested.now) =
+    sym (rw c.in_ok-nested.ensures.ok_part at c.get.ensures) in
     let scripts : scripts_in value ≡ Some c.in_ok-scripts.scripts =
     sym c.in_ok-each_at.ensures ∙ c.in_ok-scripts.ensures.ok_part in
     let closings : closings_in value ≡ Some c.in_ok-closings.closings =
     sym c.in_ok-each_at-2.ensures ∙ c.in_ok-closings.ensures.ok_part in
     let whole : has_members 3 value ≡ true = search rules in
     let is =
-    sym (replay_at value _ c.in-Ok.setup (parts_read value _ _ _ held scripts closings whole) c.in-Ok.ensures.ok) in
+    sym (replay_at value _ c.in-Ok.setup (parts_read value _ _ _ nested scripts closings whole) c.in-Ok.ensures.ok) in
     record {
       ok = subst (λ answer. IfOk c.judged.result (λ replay. answer ≡ Ok replay)) is c.judged.ensures.ok;
       err = subst (λ answer. IfErr c.judged.result (IsRefusal NoMemory answer)) is c.judged.ensures.err;
-      held = c.judged.ensures.held;
+      nested = c.judged.ensures.nested;
     }
 
 pub returns : goal.returns
 returns c =
     let value = view c.args.value.now in
-    let held : get (codes "setup") value ≡ Some (view c.in_ok-held.held.now) =
-    sym (rw c.in_ok-held.ensures.ok_part at c.get.ensures) in
+    let nested : get (codes "setup") value ≡ Some (view c.in_ok-nested.nested.now) =
+    sym (rw c.in_ok-nested.ensures.ok_part at c.get.ensures) in
     let scripts : scripts_in value ≡ Some c.in_ok-scripts.scripts =
     sym c.in_ok-each_at.ensures ∙ c.in_ok-scripts.ensures.ok_part in
     let closings : closings_in value ≡ Some c.in_ok-closings.closings =
@@ -85,7 +85,7 @@ returns c =
     let other : c.in-Err.fault ≢ setup_faults.NoMemory = search rules in
     record {
       ok = tt;
-      err = λ known. replay_setup value _ _ (parts_read value _ _ _ held scripts closings whole)
+      err = λ known. replay_setup value _ _ (parts_read value _ _ _ nested scripts closings whole)
           (in_setup _ _ (c.in-Err.ensures.err other));
-      held = search rules;
+      nested = search rules;
     }

@@ -21,16 +21,16 @@ invariant_of-result g c =
     let held : grid ≡ map f (range_with_len 0 (length house.setup.bidders)) =
     c.in_ok-grid.ensures ∙ c.demands.ensures in
     let same : c.in_ok-copy.field-0 ≡ house.setup = c.in_ok-copy.ensures ∙ c.setup.ensures in
-    let told = c.in_ok-sheets.ensures.same in
+    let reported = c.in_ok-sheets.ensures.same in
     let many = length-map (reverse closed) (λ (round : ClosedRound). round.sheet) in
     let order = numbered_in house c.law_of_house.ensures.stands c.law_of_house.ensures.sound in
     record {
       setup = subst IsSetup (sym same) c.law_of_house.ensures.limits;
-      some = subst (λ (list : List RoundSheet). 1 ≤ length list) (sym told)
+      some = subst (λ (list : List RoundSheet). 1 ≤ length list) (sym reported)
           (omega (arith, many, length-reverse closed, c.requires));
       each = subst (λ (setup : SetupFields). All (λ (sheet : RoundSheet). length sheet.lines ≡ length setup.products)
           sheets) (sym same) (subst (All (λ (sheet : RoundSheet). length sheet.lines ≡ length house.setup.products))
-          (sym told) (lined house.setup closed order));
+          (sym reported) (lined house.setup closed order));
       priced = c.in_ok-sheets.ensures.priced;
       bidders = ap (λ (rows : List (List ℕ)). length rows) held ∙ length-map-range_with_len f 0
           (length house.setup.bidders) ∙ sym (ap (λ (setup : SetupFields). length setup.bidders) same);

@@ -19,8 +19,8 @@ behind text known added piece is = ap (λ (all : List ℕ). all ++ piece) is ∙
 audited : (text lines new : List ℕ) (products : List Product) (sheet : RoundSheet) (digest : List ℕ)
     → lines ≡ text ++ sheet_text products sheet → new ≡ lines ++ codes "closed " ++ decimal sheet.round ++ codes " "
     ++ digest ++ codes "\n" → new ≡ text ++ audited_round products (sheet, digest)
-audited text lines new products sheet digest told closed =
-    let one = behind text lines (sheet_text products sheet) (codes "closed ") told in
+audited text lines new products sheet digest reported closed =
+    let one = behind text lines (sheet_text products sheet) (codes "closed ") reported in
     let two = behind text _ _ (decimal sheet.round) one in
     let three = behind text _ _ (codes " ") two in
     closed ∙ behind text _ _ (codes "\n") (behind text _ _ digest three)
@@ -38,7 +38,8 @@ next_round products sheets digests i text new all sheet below within is added be
     let left : drop i sheets ≡ sheet ∷ drop (i + 1) sheets =
     drop_more sheets i sheet below ∙ ap (λ (first : RoundSheet). first ∷ drop (i + 1) sheets) (sym is) in
     let both : zip (drop i sheets) (drop i digests) ≡ (sheet, digest) ∷ rest =
-    ap₂ (λ (rounds : List RoundSheet) (told : List (List ℕ)). zip rounds told) left (drop_more digests i [] within) in
+    ap₂ (λ (rounds : List RoundSheet) (reported : List (List ℕ)). zip rounds reported) left
+    (drop_more digests i [] within) in
     ap (λ (known : List ℕ). known ++ flat_map f rest) added
     ∙ append_assoc text (f (sheet, digest)) (flat_map f rest)
     ∙ ap (λ (all_left : List (RoundSheet × List ℕ)). text ++ flat_map f all_left) (sym both)
@@ -63,10 +64,10 @@ loop-index-preserved c =
     ∙ ap (λ (report : ReportFields). c.loop-index.text ++ sheet_text report.setup.products sheet) view in
     let digest = get_or c.args.digests.now c.loop-index.index [] in
     let closed = c.in_ok-push-2.ensures.ok
-    ∙ ap (λ (told : List ℕ). told ++ codes "\n") (c.in_ok-extend_from_slice-2.ensures.ok
-    ∙ ap (λ (told : List ℕ). told ++ digest) (c.in_ok-push.ensures.ok
-    ∙ ap (λ (told : List ℕ). told ++ codes " ") (c.in_ok-push_number.ensures.ok
-    ∙ ap (λ (told : List ℕ). told ++ decimal sheet.round) c.in_ok-extend_from_slice.ensures.ok))) in
+    ∙ ap (λ (reported : List ℕ). reported ++ codes "\n") (c.in_ok-extend_from_slice-2.ensures.ok
+    ∙ ap (λ (reported : List ℕ). reported ++ digest) (c.in_ok-push.ensures.ok
+    ∙ ap (λ (reported : List ℕ). reported ++ codes " ") (c.in_ok-push_number.ensures.ok
+    ∙ ap (λ (reported : List ℕ). reported ++ decimal sheet.round) c.in_ok-extend_from_slice.ensures.ok))) in
     next_round products sheets.result.now c.args.digests.now c.loop-index.index _ _ _ sheet c.loop-index-test.true
     within c.index-sheets-index.is
     (audited _ _ _ products sheet digest lines closed) c.loop-index.invariant

@@ -5,7 +5,7 @@ use Rattle.std.proofs.lemmas.List.{get_or_default}
 use Rattle.clock_terms.specs.Limits.{IsBidder, IsToken, SetupFields}
 use Rattle.clock_terms.specs.declared.setup.Bidder.{Bidder}
 use Rattle.clock_house.specs.History.{bidder_at}
-use Rattle.clock_house.specs.House.{standing_in, holding_in}
+use Rattle.clock_house.specs.House.{state_in, holding_in}
 use Rattle.clock_views.specs.inside.Values.{Adds}
 use Rattle.clock_scripts.specs.RequestTexts.{written_put}
 use Rattle.clock_scripts.specs.Sincere.{sincere_sheet}
@@ -31,7 +31,7 @@ returns-clause-writes g c =
     let old = c.args.text.now in
     let house = c.args.house.now in
     let pushed = c.match-script.text in
-    let now = standing_in house in
+    let now = state_in house in
     let added : AddsSheet house.setup house.closed c.args.bidder c.args.script.now old.items pushed.items =
     elim c.match-script.branch [
       | in-Sincere+in_ok-push_sincere-in-Sincere w ↦

@@ -1,6 +1,6 @@
 use Rattle.std.proofs.Common.{◌≡◌, ◌==◌, true, false, List, ℕ, OnOk, ap, refl, subst, ◌∙◌, arith}
 use Rattle.std.proofs.lemmas.Bool.{ne_eqb}
-use Rattle.clock_house.specs.House.{standing_in, holding_in}
+use Rattle.clock_house.specs.House.{state_in, holding_in}
 use Rattle.clock_views.specs.inside.Values.{Adds}
 use Rattle.clock_views.proofs.Pushes.{together}
 use Rattle.clock_scripts.specs.RequestTexts.{written_put}
@@ -25,11 +25,11 @@ returns g c =
       | else-own-eq1+in_ok-push_later w ↦ together (ap bids_text (sheet_by own.round prices own.demands.now lists false
           (ne_eqb own.round 1 w.if-own-eq1.false))) (rw w.text-is w.in_ok-push_later.ensures)
     ] in
-    let round : own.round ≡ (standing_in house).round = c.own-own.ensures.round in
-    let priced : prices ≡ (standing_in house).prices = c.as_slice-prices.ensures ∙ c.prices.ensures c.requires.going in
+    let round : own.round ≡ (state_in house).round = c.own-own.ensures.round in
+    let priced : prices ≡ (state_in house).prices = c.as_slice-prices.ensures ∙ c.prices.ensures c.requires.going in
     let demands : own.demands.now ≡ (holding_in house c.args.bidder).demands = c.own-own.ensures.demands in
     let text : written_put own.round bids
-    ≡ written_put (standing_in house).round (sincere_sheet (standing_in house).round (standing_in house).prices
+    ≡ written_put (state_in house).round (sincere_sheet (state_in house).round (state_in house).prices
     (holding_in house c.args.bidder).demands lists) =
     rw (round, priced, demands) refl in
     subst (λ (body : List ℕ). OnOk c.end_sheet.result (Adds body c.args.text.now.items c.end_sheet.new.text.items)) text

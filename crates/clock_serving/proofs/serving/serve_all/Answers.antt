@@ -18,7 +18,8 @@ loop-connection-init g c = record {
     closed = grown_none (g.C.Acceptor.closed c.args.connections.now);
     came = came_none (g.C.Acceptor.coming c.args.connections.now);
     counted = refl;
-    served = served_none (g.K.RequestLog.told c.args.log.now) (g.K.RequestLog.journal c.args.log.now) c.args.front.now;
+    served =
+        served_none (g.K.RequestLog.rounds c.args.log.now) (g.K.RequestLog.journal c.args.log.now) c.args.front.now;
   };
   unfailed = c.requires.unfailed;
   closed = c.requires.closed;
@@ -31,12 +32,12 @@ returns-in_err-serve_next-clause-served g c =
     let coming = g.C.Acceptor.coming in
     let closed = g.C.Acceptor.closed in
     let journal = g.K.RequestLog.journal in
-    let told = g.K.RequestLog.told in
+    let rounds = g.K.RequestLog.rounds in
     let loop = c.loop-connection in
     let fault = err_from_is_err_and c.from_residual.result c.from_residual.ensures.1 in
     rw (fault.1, fault.2) (ends_by loop._connection (coming c.args.connections.now) (coming loop.connections)
     (coming c.serve_next.new.connections) (closed c.args.connections.now) (closed loop.connections)
-    (closed c.serve_next.new.connections) (told c.args.log.now) (told loop.log) (told c.serve_next.new.log)
+    (closed c.serve_next.new.connections) (rounds c.args.log.now) (rounds loop.log) (rounds c.serve_next.new.log)
     (journal c.args.log.now) (journal loop.log) (journal c.serve_next.new.log) c.args.front.now loop.front
     c.serve_next.new.front (limits_of c.house.result.now c.args.front.now c.house.ensures c.law_of_house.ensures.limits)
     loop.invariant.setup loop.invariant.served c.serve_next.result c.args.count c.in_err-serve_next.field-0.0
@@ -47,12 +48,12 @@ loop-connection-preserved g c =
     let coming = g.C.Acceptor.coming in
     let closed = g.C.Acceptor.closed in
     let journal = g.K.RequestLog.journal in
-    let told = g.K.RequestLog.told in
+    let rounds = g.K.RequestLog.rounds in
     let loop = c.loop-connection in
     record {
       served = one_more loop._connection (coming c.args.connections.now) (coming loop.connections)
           (coming c.serve_next.new.connections) (closed c.args.connections.now) (closed loop.connections)
-          (closed c.serve_next.new.connections) (told c.args.log.now) (told loop.log) (told c.serve_next.new.log)
+          (closed c.serve_next.new.connections) (rounds c.args.log.now) (rounds loop.log) (rounds c.serve_next.new.log)
           (journal c.args.log.now) (journal loop.log)
           (journal c.serve_next.new.log) c.args.front.now loop.front c.serve_next.new.front
           (limits_of c.house.result.now c.args.front.now c.house.ensures c.law_of_house.ensures.limits)

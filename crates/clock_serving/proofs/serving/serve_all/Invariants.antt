@@ -7,7 +7,7 @@ abbrev pub invariant-loop-connection : goal.invariant-loop-connection
 invariant-loop-connection g l = record {
   served : HasServed l._connection (g.C.Acceptor.coming l.initial.connections) (g.C.Acceptor.coming l.connections)
       (g.C.Acceptor.closed l.initial.connections) (g.C.Acceptor.closed l.connections)
-      (g.K.RequestLog.told l.initial.log) (g.K.RequestLog.told l.log) (g.K.RequestLog.journal l.initial.log)
+      (g.K.RequestLog.rounds l.initial.log) (g.K.RequestLog.rounds l.log) (g.K.RequestLog.journal l.initial.log)
       (g.K.RequestLog.journal l.log) l.initial.front l.front;
   unfailed : (g.K.RequestLog.journal l.log).has_failed ≡ false;
   closed : g.C.Acceptor.is_open l.connections ≡ false;

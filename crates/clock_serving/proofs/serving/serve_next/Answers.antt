@@ -1,7 +1,7 @@
 use Rattle.std.proofs.Common.{Option, List, ℕ, subst, ◌∙◌}
 use Rattle.clock_serving.specs.Exchanges.{Exchange}
 use Rattle.clock_serving.specs.inside.Served.{IsReportedAs}
-use Rattle.clock_serving.proofs.Told.{ends_one, not_accept, unfailed}
+use Rattle.clock_serving.proofs.Reports.{ends_one, not_accept, unfailed}
 use Rattle.clock_serving.proofs.Walking.{came_one, closed_one}
 use Rattle.clock_serving.proofs.serving.serve_next.Goals as goal
 
@@ -12,15 +12,17 @@ returns-clause-ends g c =
     let closed = g.C.Acceptor.closed in
     let coming = g.C.Acceptor.coming in
     let journal = g.K.RequestLog.journal in
-    let told = g.K.RequestLog.told in
+    let rounds = g.K.RequestLog.rounds in
     let one : Exchange = record {
-      reading = record { before = source.told c.in-Ok.one.source; after = source.told c.serve_one-served.new.source };
-      writing = record { before = sink.told c.in-Ok.one.sink; after = sink.told c.serve_one-served.new.sink };
-      kept = sink.kept c.serve_one-served.new.sink;
+      reading =
+          record { before = source.report c.in-Ok.one.source; after = source.report c.serve_one-served.new.source };
+      writing = record { before = sink.report c.in-Ok.one.sink; after = sink.report c.serve_one-served.new.sink };
+      logged = sink.logged c.serve_one-served.new.sink;
     } in
     ends_one (coming c.args.connections.now) (coming c.close.new.self) (closed c.args.connections.now)
     (closed c.close.new.self)
-    (told c.args.log.now) (told c.tell_closing.new.log) (journal c.args.log.now) (journal c.serve_one-served.new.log)
+    (rounds c.args.log.now) (rounds c.tell_closing.new.log) (journal c.args.log.now)
+    (journal c.serve_one-served.new.log)
     (journal c.tell_closing.new.log) c.args.front.now c.serve_one-served.new.front one c.serve_one-served.result
     c.tell_closing.result
     (closed_one (closed c.args.connections.now) (closed c.accept.new.self) (closed c.close.new.self)
@@ -28,21 +30,21 @@ returns-clause-ends g c =
     c.close.ensures.closed)
     (came_one (coming c.args.connections.now) (coming c.accept.new.self) (coming c.close.new.self)
     (g.C.Acceptor.offer c.accept.new.self) one c.in-Ok.ensures.came c.close.ensures.coming c.in-Ok.ensures.source)
-    c.serve_one-served.ensures.served c.tell_closing.ensures.kept
-    (subst (λ (before : Option (List ℕ)). IsReportedAs before (told c.tell_closing.new.log) c.serve_one-served.result
-    c.tell_closing.result) c.serve_one-served.ensures.told c.tell_closing.ensures.told)
+    c.serve_one-served.ensures.served c.tell_closing.ensures.logged
+    (subst (λ (before : Option (List ℕ)). IsReportedAs before (rounds c.tell_closing.new.log) c.serve_one-served.result
+    c.tell_closing.result) c.serve_one-served.ensures.rounds c.tell_closing.ensures.rounds)
 
 pub returns-clause-unfailed : goal.returns-clause-unfailed
 returns-clause-unfailed g c =
     let journal = g.K.RequestLog.journal in
-    let told = g.K.RequestLog.told in
-    unfailed (told c.serve_one-served.new.log) (told c.tell_closing.new.log) c.serve_one-served.result
+    let rounds = g.K.RequestLog.rounds in
+    unfailed (rounds c.serve_one-served.new.log) (rounds c.tell_closing.new.log) c.serve_one-served.result
     c.tell_closing.result (journal c.serve_one-served.new.log) (journal c.tell_closing.new.log)
-    c.tell_closing.ensures.told c.tell_closing.ensures.kept c.serve_one-served.ensures.unfailed
+    c.tell_closing.ensures.rounds c.tell_closing.ensures.logged c.serve_one-served.ensures.unfailed
 
 pub returns-clause-taken : goal.returns-clause-taken
 returns-clause-taken g c =
-    let told = g.K.RequestLog.told in
+    let rounds = g.K.RequestLog.rounds in
     c.close.ensures.failed ∙ c.in-Ok.ensures.failed ∙ rw c.requires.taken
-    (not_accept (told c.serve_one-served.new.log) (told c.tell_closing.new.log) c.serve_one-served.result
-    c.tell_closing.result c.tell_closing.ensures.told)
+    (not_accept (rounds c.serve_one-served.new.log) (rounds c.tell_closing.new.log) c.serve_one-served.result
+    c.tell_closing.result c.tell_closing.ensures.rounds)

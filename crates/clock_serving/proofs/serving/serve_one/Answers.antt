@@ -1,6 +1,6 @@
 use Rattle.std.proofs.Common.{◌≡◌, ◌<◌, ◌⊎◌, Bool, List, ℕ, length, true, ap, arith, inl, inr, refl, sym, subst}
 use Rattle.std.proofs.lemmas.Result.{err_from_is_err_and}
-use Rattle.clock_device.specs.Told.{Reading}
+use Rattle.clock_device.specs.Reports.{Reading}
 use Rattle.clock_connections.specs.Arrivals.{HasArrived}
 use Rattle.clock_connections.proofs.LengthLaws.{short_arrived}
 use Rattle.clock_front.specs.declared.front.response.Effect.TheVariants.{Nothing}
@@ -26,7 +26,7 @@ pub returns-in_err-response-in-Ok-clause-served : goal.returns-in_err-response-i
 returns-in_err-response-in-Ok-clause-served g c =
     let p = err_from_is_err_and c.from_residual.result c.from_residual.ensures.1 in
     let reading : Reading =
-    record { before = g.R.Source.told c.args.source.now; after = g.R.Source.told c.read_request.new.source } in
+    record { before = g.R.Source.report c.args.source.now; after = g.R.Source.report c.read_request.new.source } in
     let has = arrived reading c.in-Ok.request c.as_slice.result.now c.as_slice.ensures c.in-Ok.ensures.arrival in
     rw p.1 (
       record {
@@ -45,7 +45,7 @@ returns-clause-served g c =
     let journal = g.K.RequestLog.journal in
     let join = c.match-read_request in
     let reading : Reading =
-    record { before = g.R.Source.told c.args.source.now; after = g.R.Source.told c.read_request.new.source } in
+    record { before = g.R.Source.report c.args.source.now; after = g.R.Source.report c.read_request.new.source } in
     let answered : IsAnswered reading join.response (journal c.args.log.now)
     (journal join.log) c.args.front.now join.front = elim join.branch [
       | in-Ok+in_ok-response-in-Ok w ↦
@@ -54,7 +54,7 @@ returns-clause-served g c =
             text = w.as_slice.result.now;
             arrived = arrived _ w.in-Ok.request w.as_slice.result.now w.as_slice.ensures w.in-Ok.ensures.arrival;
             responds = w.in_ok-response-in-Ok.ensures.response;
-            kept = w.in_ok-response-in-Ok.ensures.kept;
+            logged = w.in_ok-response-in-Ok.ensures.logged;
             added_to = w.in_ok-response-in-Ok.ensures.moments.added_to;
           }))
       | in-Err-Memory w ↦ answered_as reading (record { reply = w.no_memory_reply.result; effect = Nothing })
@@ -72,5 +72,5 @@ returns-clause-served g c =
       reply_written _ join.response.reply c.reply-fault.result (rw c.bytes.ensures at c.reply-fault.ensures.bytes)
           c.requires.unused.unfailed c.reply-fault.ensures.failed,
       refl,
-      c.reply-fault.ensures.kept,
+      c.reply-fault.ensures.logged,
     )

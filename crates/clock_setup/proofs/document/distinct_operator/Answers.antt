@@ -23,22 +23,22 @@ module _ (setup : SetupFields) where
   all_distinct products bidders tokens = rw (products, bidders, tokens) refl
 
 -- a test of the texts of a slice is the test of the list
-told_of : {A : Type 0} {slice list : List A} {found is : Bool} (texts : List A → List (List ℕ)) → slice ≡ list
+reported_of : {A : Type 0} {slice list : List A} {found is : Bool} (texts : List A → List (List ℕ)) → slice ≡ list
     → found ≡ is_distinct (texts slice) → found ≡ is → is_distinct (texts list) ≡ is
-told_of texts same told found = ap (λ items. is_distinct (texts items)) (sym same) ∙ sym told ∙ found
+reported_of texts same reported found = ap (λ items. is_distinct (texts items)) (sym same) ∙ sym reported ∙ found
 
 pub returns-then-not-branch-3-clause-err : goal.returns-then-not-branch-3-clause-err
 returns-then-not-branch-3-clause-err c = λ known. subst (λ (setup : SetupFields). first_fault (distinct_checks setup)
-    ≡ Some DuplicateToken) c.entries.view_is (shared_token _ (told_of (map (λ (product : Product). product.name))
-    c.as_slice-products.ensures c.in_ok-has_distinct_names.ensures c.if-not-branch.false)
-    (told_of (map (λ (bidder : Bidder). bidder.name)) c.as_slice-bidders.ensures c.in_ok-has_distinct_names-2.ensures
-    c.if-not-branch-2.false) (told_of (λ (bidders : List Bidder). c.entries.inside.operator.now ∷ map (λ bidder.
+    ≡ Some DuplicateToken) c.entries.view_is (shared_token _ (reported_of (map (λ (product : Product). product.name))
+    c.as_slice-products.ensures c.in_ok-has_distinct_names.ensures c.if-not-branch.false) (reported_of
+    (map (λ (bidder : Bidder). bidder.name)) c.as_slice-bidders.ensures c.in_ok-has_distinct_names-2.ensures
+    c.if-not-branch-2.false) (reported_of (λ (bidders : List Bidder). c.entries.inside.operator.now ∷ map (λ bidder.
     bidder.token) bidders) c.as_slice-bidders.ensures c.in_ok-has_distinct_tokens.ensures c.if-not-branch-3.true))
 
 pub returns-clause-ok : goal.returns-clause-ok
 returns-clause-ok c = subst (λ (setup : SetupFields). first_fault (distinct_checks setup) ≡ None) c.entries.view_is
-    (all_distinct _ (told_of (map (λ (product : Product). product.name)) c.as_slice-products.ensures
-    c.in_ok-has_distinct_names.ensures c.if-not-branch.false) (told_of (map (λ (bidder : Bidder). bidder.name))
+    (all_distinct _ (reported_of (map (λ (product : Product). product.name)) c.as_slice-products.ensures
+    c.in_ok-has_distinct_names.ensures c.if-not-branch.false) (reported_of (map (λ (bidder : Bidder). bidder.name))
     c.as_slice-bidders.ensures c.in_ok-has_distinct_names-2.ensures c.if-not-branch-2.false)
-    (told_of (λ (bidders : List Bidder). c.entries.inside.operator.now ∷ map (λ bidder. bidder.token) bidders)
+    (reported_of (λ (bidders : List Bidder). c.entries.inside.operator.now ∷ map (λ bidder. bidder.token) bidders)
     c.as_slice-bidders.ensures c.in_ok-has_distinct_tokens.ensures c.if-not-branch-3.false))

@@ -53,28 +53,28 @@ head_of {inside} same first first_is second second_is third third_is =
 pub returns-in_err-check-clause-err : goal.returns-in_err-check-clause-err
 returns-in_err-check-clause-err c =
     let p = err_from_is_err_and c.from_residual.result c.from_residual.ensures.1 in
-    let told = c.in_err-check.ensures.err in
+    let reported = c.in_err-check.ensures.err in
     rw (p.1, p.2)
     (λ known. head_first c.args.entries.now _
     (subst (λ (setup : SetupFields). first_fault (head_checks setup) ≡ Some (Range Requirement)) c.entries.view_is
-    (requirement_first _ (sym c.is_within-requirement.ensures ∙ told.0)) ∙ ap Some (sym told.1)))
+    (requirement_first _ (sym c.is_within-requirement.ensures ∙ reported.0)) ∙ ap Some (sym reported.1)))
 
 pub returns-in_err-check-2-clause-err : goal.returns-in_err-check-2-clause-err
 returns-in_err-check-2-clause-err c =
     let p = err_from_is_err_and c.from_residual-in_err-check-2.result c.from_residual-in_err-check-2.ensures.1 in
-    let told = c.in_err-check-2.ensures.err in
+    let reported = c.in_err-check-2.ensures.err in
     rw (p.1, p.2) (λ known. head_first c.args.entries.now _ (subst (λ (setup : SetupFields). first_fault
     (head_checks setup) ≡ Some (Range Limit)) c.entries.view_is (limit_first _ (sym c.is_within-requirement.ensures
-    ∙ c.in_ok-check.ensures.ok) (sym c.is_within-limit.ensures ∙ told.0)) ∙ ap Some (sym told.1)))
+    ∙ c.in_ok-check.ensures.ok) (sym c.is_within-limit.ensures ∙ reported.0)) ∙ ap Some (sym reported.1)))
 
 pub returns-in_err-check-3-clause-err : goal.returns-in_err-check-3-clause-err
 returns-in_err-check-3-clause-err c =
     let p = err_from_is_err_and c.from_residual-in_err-check-3.result c.from_residual-in_err-check-3.ensures.1 in
-    let told = c.in_err-check-3.ensures.err in
+    let reported = c.in_err-check-3.ensures.err in
     rw (p.1, p.2) (λ known. head_first c.args.entries.now _
     (subst (λ (setup : SetupFields). first_fault (head_checks setup) ≡ Some (Range Operator)) c.entries.view_is
     (operator_first _ (sym c.is_within-requirement.ensures ∙ c.in_ok-check.ensures.ok) (sym c.is_within-limit.ensures
-    ∙ c.in_ok-check-2.ensures.ok) (sym c.is_token.ensures ∙ told.0)) ∙ ap Some (sym told.1)))
+    ∙ c.in_ok-check-2.ensures.ok) (sym c.is_token.ensures ∙ reported.0)) ∙ ap Some (sym reported.1)))
 
 pub returns-in_err-products-clause-err : goal.returns-in_err-products-clause-err
 unfolding products_checks bidders_checks

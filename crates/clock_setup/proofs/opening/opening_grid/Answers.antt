@@ -52,10 +52,10 @@ returns-in_err-row-clause-err c =
     let line = row_line setup.bidders c.args.demands.now number c.index-bidders-number.result
     c.deref-in-loop-number.result.now bidders c.loop-number-test.true grid c.index-bidders-number.is
     (c.deref-in-loop-number.ensures ∙ read) in
-    let told = err_from_is_err_and c.from_residual-in_err-row.result c.from_residual-in_err-row.ensures.1 in
-    rw (told.1, told.2) (λ known. rows_refused setup c.args.demands.now c.args.increment _ (sym c.has_counts.ensures
-    ∙ c.if-not-has_counts.false) (sym c.loop-number.invariant.rest ∙ turn_failed (row_checks setup.products)
-    (zip setup.bidders c.args.demands.now) number _ _ line.1 line.0 (c.in_err-row.ensures.err known)))
+    let reported = err_from_is_err_and c.from_residual-in_err-row.result c.from_residual-in_err-row.ensures.1 in
+    rw (reported.1, reported.2) (λ known. rows_refused setup c.args.demands.now c.args.increment _
+    (sym c.has_counts.ensures ∙ c.if-not-has_counts.false) (sym c.loop-number.invariant.rest ∙ turn_failed (row_checks
+    setup.products) (zip setup.bidders c.args.demands.now) number _ _ line.1 line.0 (c.in_err-row.ensures.err known)))
 
 pub loop-number-preserved : goal.loop-number-preserved
 loop-number-preserved c =

@@ -16,7 +16,7 @@ use Rattle.clock_setup.proofs.opening.opening_in.Goals as goal
 pub returns-in-Ok-clause-ok : goal.returns-in-Ok-clause-ok
 returns-in-Ok-clause-ok c =
     let value = view c.args.value.now in
-    let held : get (codes "setup") value ≡ Some (view c.in-Some-Some.setup.now) =
+    let nested : get (codes "setup") value ≡ Some (view c.in-Some-Some.setup.now) =
     sym (rw c.in-Some-Some.is-0 at c.get.ensures) in
     let increment : number_at (codes "increment") value ≡ Some c.in-Some-Some.increment =
     sym (rw c.in-Some-Some.is-1 at c.number_at.ensures) in
@@ -25,13 +25,13 @@ returns-in-Ok-clause-ok c =
     ∙ ap Some (sym (c.in_ok-demands.ensures ∙ ap (map (map shortened)) c.as_slice.ensures)) in
     let whole : has_members 3 value ≡ true = sym c.has_members.ensures ∙ c.if-not-has_members.false in
     subst (λ answer. IfOk c.judged.result (λ opening. answer ≡ Ok opening))
-    (sym (opening_means value _ _ _ (Ok c.in-Ok.setup) held rows increment whole
+    (sym (opening_means value _ _ _ (Ok c.in-Ok.setup) nested rows increment whole
     (ap in_opening c.in-Ok.ensures.ok) c.judged.ensures.limits)) c.judged.ensures.ok
 
 pub returns-in-Ok-clause-err : goal.returns-in-Ok-clause-err
 returns-in-Ok-clause-err c =
     let value = view c.args.value.now in
-    let held : get (codes "setup") value ≡ Some (view c.in-Some-Some.setup.now) =
+    let nested : get (codes "setup") value ≡ Some (view c.in-Some-Some.setup.now) =
     sym (rw c.in-Some-Some.is-0 at c.get.ensures) in
     let increment : number_at (codes "increment") value ≡ Some c.in-Some-Some.increment =
     sym (rw c.in-Some-Some.is-1 at c.number_at.ensures) in
@@ -40,13 +40,13 @@ returns-in-Ok-clause-err c =
     ∙ ap Some (sym (c.in_ok-demands.ensures ∙ ap (map (map shortened)) c.as_slice.ensures)) in
     let whole : has_members 3 value ≡ true = sym c.has_members.ensures ∙ c.if-not-has_members.false in
     subst (λ answer. IfErr c.judged.result (IsRefusal NoMemory answer))
-    (sym (opening_means value _ _ _ (Ok c.in-Ok.setup) held rows increment whole
+    (sym (opening_means value _ _ _ (Ok c.in-Ok.setup) nested rows increment whole
     (ap in_opening c.in-Ok.ensures.ok) c.judged.ensures.limits)) c.judged.ensures.err
 
 pub returns-clause-err : goal.returns-clause-err
 returns-clause-err c = λ known.
     let value = view c.args.value.now in
-    let held : get (codes "setup") value ≡ Some (view c.in-Some-Some.setup.now) =
+    let nested : get (codes "setup") value ≡ Some (view c.in-Some-Some.setup.now) =
     sym (rw c.in-Some-Some.is-0 at c.get.ensures) in
     let increment : number_at (codes "increment") value ≡ Some c.in-Some-Some.increment =
     sym (rw c.in-Some-Some.is-1 at c.number_at.ensures) in
@@ -55,5 +55,5 @@ returns-clause-err c = λ known.
     ∙ ap Some (sym (c.in_ok-demands.ensures ∙ ap (map (map shortened)) c.as_slice.ensures)) in
     let whole : has_members 3 value ≡ true = sym c.has_members.ensures ∙ c.if-not-has_members.false in
     let other : c.in-Err.fault ≢ setup_faults.NoMemory = search rules in
-    opening_means value _ _ _ (Err (Setup c.in-Err.fault)) held rows increment whole
+    opening_means value _ _ _ (Err (Setup c.in-Err.fault)) nested rows increment whole
     (ap in_opening (c.in-Err.ensures.err other)) tt

@@ -10,9 +10,9 @@ use Rattle.clock_setup.proofs.setup_checks.each_within.Goals as goal
 pub returns-in_err-check-clause-err : goal.returns-in_err-check-clause-err
 returns-in_err-check-clause-err g c =
     let p = err_from_is_err_and c.from_residual.result c.from_residual.ensures.1 in
-    let told = c.in_err-check.ensures.err in
-    rw (p.1, p.2, told.1) (λ known. uncounted
-    (Range c.args.place) c.args.most g.E.LimitedEntry.checks c.args.entries.now (sym c.is_within.ensures ∙ told.0))
+    let reported = c.in_err-check.ensures.err in
+    rw (p.1, p.2, reported.1) (λ known. uncounted
+    (Range c.args.place) c.args.most g.E.LimitedEntry.checks c.args.entries.now (sym c.is_within.ensures ∙ reported.0))
 
 pub returns-in_err-whole-clause-err : goal.returns-in_err-whole-clause-err
 returns-in_err-whole-clause-err g c =

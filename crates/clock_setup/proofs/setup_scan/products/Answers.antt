@@ -1,7 +1,7 @@
 -- Each product that is read adds an item of the common version to the list.
 use Rattle.std.proofs.Common.{◌≡◌, ◌∷◌, ◌⊎◌, inl, inr, length, map, All, sym, ap, subst, arith}
 use Rattle.std.proofs.lemmas.List.Elements.{All-nil, All-push}
-use Rattle.clock_json.specs.Reading.{Token, Reads}
+use Rattle.clock_json.specs.Reading.{Token, ReadsValue}
 use Rattle.clock_json.specs.inside.Reading.{HasItems}
 use Rattle.clock_json.proofs.Steps.{items_start, items_end, items_push_next}
 use Rattle.clock_terms.specs.declared.setup.Product.{Product}
@@ -38,8 +38,8 @@ items-preserved c =
     ] in
     let P = λ (product : Product). product.granule ≡ first_granule in
     let same : c.closes.new.self ≡ l.scan = grind arith in
-    let reads : Reads 1 l.scan (product_data version entry) after =
-    subst (λ ts. Reads 1 ts (product_data version entry) after) same c.in_ok-next.ensures.value
+    let reads : ReadsValue 1 l.scan (product_data version entry) after =
+    subst (λ ts. ReadsValue 1 ts (product_data version entry) after) same c.in_ok-next.ensures.value
     in
     let kept = of_common_version l.version version l.entries l.invariant.2 agrees in (
       subst (λ list. HasItems 1 start (map (product_data version) list) after) (sym c.in_ok-push.ensures.ok)

@@ -2,7 +2,7 @@
 use Rattle.std.proofs.Common.{◌≡◌, ℕ, true, ap, sym, subst, ◌∙◌, arith}
 use Rattle.std.proofs.lemmas.Result.{err_from_is_err_and}
 use Rattle.clock_terms.specs.Limits.{SetupFields}
-use Rattle.clock_house.specs.House.{HouseFields, standing_in}
+use Rattle.clock_house.specs.House.{HouseFields, state_in}
 use Rattle.clock_sim.specs.Rehearsal.{after_puts, after_close, rehearsed}
 use Rattle.clock_sim.specs.inside.Steps.{AreScriptsOf}
 use Rattle.clock_sim.proofs.StepLaws.{begins, no_further, puts_then_close, round_passed, round_ends, round_refused}
@@ -25,40 +25,40 @@ put_all-requires-2-clause-scripts g c = subst (λ (setup : SetupFields). AreScri
 
 pub returns-in_err-put_all-clause-step : goal.returns-in_err-put_all-clause-step
 returns-in_err-put_all-clause-step g c =
-    let told = err_from_is_err_and c.from_residual.result c.from_residual.ensures.1 in
+    let reported = err_from_is_err_and c.from_residual.result c.from_residual.ensures.1 in
     let now = c.loop-closing.hub.house in
     let next = c.put_all.new.hub.house in
-    rw (told.1, told.2) (round_refused (rehearsed c.args.hub.now.house.setup c.args.scripts.now c.args.closings.now)
-    c.args.scripts.now c.args.closings.now c.loop-closing.closing-index c.closing-item.result c.args.hub.now.house now
-    next c.loop-closing-test.true c.closing-item.is c.loop-closing.invariant.0 _
-    (no_further {T = ℕ} (after_puts now.setup 0 c.args.scripts.now)
+    rw (reported.1, reported.2) (round_refused
+    (rehearsed c.args.hub.now.house.setup c.args.scripts.now c.args.closings.now) c.args.scripts.now c.args.closings.now
+    c.loop-closing.closing-index c.closing-item.result c.args.hub.now.house now next c.loop-closing-test.true
+    c.closing-item.is c.loop-closing.invariant.0 _ (no_further {T = ℕ} (after_puts now.setup 0 c.args.scripts.now)
     (after_close now.setup c.closing-item.result) now next _ c.in_err-put_all.ensures.step))
 
 pub returns-in_err-close_scripted-clause-step : goal.returns-in_err-close_scripted-clause-step
 returns-in_err-close_scripted-clause-step g c =
-    let told =
+    let reported =
     err_from_is_err_and c.from_residual-in_err-close_scripted.result c.from_residual-in_err-close_scripted.ensures.1 in
     let now = c.loop-closing.hub.house in
     let next = c.close_scripted.new.hub.house in
-    rw (told.1, told.2) (round_refused (rehearsed c.args.hub.now.house.setup c.args.scripts.now c.args.closings.now)
-    c.args.scripts.now c.args.closings.now c.loop-closing.closing-index c.closing-item.result c.args.hub.now.house now
-    next c.loop-closing-test.true c.closing-item.is c.loop-closing.invariant.0 _
-    (puts_then_close c.args.scripts.now c.closing-item.result now c.put_all.new.hub.house next _ _
-    c.in_ok-put_all.ensures.step c.in_err-close_scripted.ensures.step))
+    rw (reported.1, reported.2) (round_refused
+    (rehearsed c.args.hub.now.house.setup c.args.scripts.now c.args.closings.now) c.args.scripts.now c.args.closings.now
+    c.loop-closing.closing-index c.closing-item.result c.args.hub.now.house now next c.loop-closing-test.true
+    c.closing-item.is c.loop-closing.invariant.0 _ (puts_then_close c.args.scripts.now c.closing-item.result now
+    c.put_all.new.hub.house next _ _ c.in_ok-put_all.ensures.step c.in_err-close_scripted.ensures.step))
 
 pub returns-then-ended : goal.returns-then-ended
 returns-then-ended g c =
     let now = c.loop-closing.hub.house in
     let next = c.close_scripted.new.hub.house in
-    let over : (standing_in next).ended ≡ true = sym (c.ended.ensures.is
-    ∙ ap (λ (house : HouseFields). (standing_in house).ended) (c.house.ensures ∙ c.front.ensures)) ∙ c.if-ended.true in
+    let over : (state_in next).ended ≡ true = sym (c.ended.ensures.is
+    ∙ ap (λ (house : HouseFields). (state_in house).ended) (c.house.ensures ∙ c.front.ensures)) ∙ c.if-ended.true in
     record {
       step = round_ends (rehearsed c.args.hub.now.house.setup c.args.scripts.now c.args.closings.now) c.args.scripts.now
           c.args.closings.now c.loop-closing.closing-index c.closing-item.result c.args.hub.now.house now next
           c.loop-closing-test.true c.closing-item.is c.loop-closing.invariant.0 _ _
           (puts_then_close c.args.scripts.now c.closing-item.result now c.put_all.new.hub.house next _ _
           c.in_ok-put_all.ensures.step c.in_ok-close_scripted.ensures.step) over;
-      held = tt;
+      refusal_code = tt;
       ended = over;
     }
 
@@ -66,8 +66,8 @@ pub loop-closing-preserved : goal.loop-closing-preserved
 loop-closing-preserved g c =
     let now = c.loop-closing.hub.house in
     let next = c.close_scripted.new.hub.house in
-    let over : (standing_in next).ended ≡ c.ended.result = sym (c.ended.ensures.is
-    ∙ ap (λ (house : HouseFields). (standing_in house).ended) (c.house.ensures ∙ c.front.ensures)) in
+    let over : (state_in next).ended ≡ c.ended.result = sym (c.ended.ensures.is
+    ∙ ap (λ (house : HouseFields). (state_in house).ended) (c.house.ensures ∙ c.front.ensures)) in
     round_passed (rehearsed c.args.hub.now.house.setup c.args.scripts.now c.args.closings.now) c.args.scripts.now
     c.args.closings.now c.loop-closing.closing-index c.closing-item.result c.args.hub.now.house now next
     c.loop-closing-test.true c.closing-item.is c.loop-closing.invariant.0 _ (puts_then_close c.args.scripts.now
@@ -76,9 +76,11 @@ loop-closing-preserved g c =
 
 pub returns-in_err-put_all-2-clause-step : goal.returns-in_err-put_all-2-clause-step
 returns-in_err-put_all-2-clause-step g c =
-    let told = err_from_is_err_and c.from_residual-in_err-put_all-2.result c.from_residual-in_err-put_all-2.ensures.1 in
-    rw (told.1, told.2) (last_refused (rehearsed c.args.hub.now.house.setup c.args.scripts.now c.args.closings.now)
-    c.args.scripts.now c.args.closings.now c.loop-closing.closing-index c.args.hub.now.house c.loop-closing.hub.house
+    let reported =
+    err_from_is_err_and c.from_residual-in_err-put_all-2.result c.from_residual-in_err-put_all-2.ensures.1 in
+    rw (reported.1, reported.2)
+    (last_refused (rehearsed c.args.hub.now.house.setup c.args.scripts.now c.args.closings.now) c.args.scripts.now
+    c.args.closings.now c.loop-closing.closing-index c.args.hub.now.house c.loop-closing.hub.house
     c.put_all-2.new.hub.house (omega arith) c.loop-closing.invariant.0 _ c.in_err-put_all-2.ensures.step)
 
 pub returns-clause-step : goal.returns-clause-step

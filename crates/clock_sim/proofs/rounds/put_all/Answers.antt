@@ -48,9 +48,9 @@ loop-bidder-preserved g c = (
 
 pub returns-in_err-put_scripted-clause-step : goal.returns-in_err-put_scripted-clause-step
 returns-in_err-put_scripted-clause-step g c =
-    let told = err_from_is_err_and c.from_residual.result c.from_residual.ensures.1 in
-    rw (told.1, told.2) (turn_refused (after_puts c.args.hub.now.house.setup 0 c.args.scripts.now) c.args.scripts.now
-    (requests_in c.loop-bidder.group)
+    let reported = err_from_is_err_and c.from_residual.result c.from_residual.ensures.1 in
+    rw (reported.1, reported.2) (turn_refused
+    (after_puts c.args.hub.now.house.setup 0 c.args.scripts.now) c.args.scripts.now (requests_in c.loop-bidder.group)
     (requests_in c.put_scripted.new.group) c.loop-bidder.bidder c.index-scripts-bidder.result c.args.hub.now.house
     c.loop-bidder.hub.house c.put_scripted.new.hub.house c.loop-bidder-test.true c.index-scripts-bidder.is
     c.loop-bidder.invariant.0 _ c.in_err-put_scripted.ensures.step.way)

@@ -3,7 +3,7 @@ use Rattle.std.proofs.Common.{◌≡◌, ◌==◌, Bool, Option, Vec, ℕ, true,
 use Rattle.std.proofs.Common.{◌∙◌, arith}
 use Rattle.std.specs.Prelude.{IfSome}
 use Rattle.std.specs.declared.alloc.Global.{Global}
-use Rattle.clock_house.specs.House.{HouseFields, standing_in}
+use Rattle.clock_house.specs.House.{HouseFields, state_in}
 use Rattle.clock_scripts.specs.declared.requests.Written.{Written}
 use Rattle.clock_scripts.specs.Pieces.{AwaitsBody}
 use Rattle.clock_sim.specs.declared.rounds.Waiting.{Waiting}
@@ -63,7 +63,7 @@ returns-clause-step g c =
       | else-is_empty w ↦ rw w.group-is (λ all. (refl, all))
     ] in
     let same = c.house-house.ensures ∙ c.front.ensures in
-    let at = c.round-round.ensures.is ∙ ap (λ (house : HouseFields). (standing_in house).round) same in
+    let at = c.round-round.ensures.is ∙ ap (λ (house : HouseFields). (state_in house).round) same in
     turn_taken hub group c.if-is_empty.group c.write_put.new.text c.house-house.result.now c.args.bidder
     c.args.script.now c.in_ok-written.field-0 c.requires.under_way room same c.in_ok-written.ensures.writes
     c.in-Some.written c.round-round.result c.submit.new.hub c.submit.new.group c.submit.result c.in-Some.is at

@@ -25,5 +25,5 @@ returns-clause-step g c = λ head is.
           more (w.in_ok-reply-in-More.ensures.answered text more.1.stands))
     ] in
     sent text c.match-branch-2.reply c.code.result old.house c.match-branch-2.hub.house c.args.sender
-    c.args.round c.told.result
-    answered.answered answered.setup c.code.ensures c.told.ensures.step
+    c.args.round c.reported.result
+    answered.answered answered.setup c.code.ensures c.reported.ensures.step

@@ -7,7 +7,7 @@ use Rattle.std.specs.declared.alloc.Global.{Global}
 use Rattle.std.proofs.lemmas.Result.{err_from_is_err_and}
 use Rattle.clock_connections.specs.Connections.{IsConnected}
 use Rattle.clock_front.specs.Hubs.{HubFields}
-use Rattle.clock_scripts.specs.Pieces.{AwaitsBody, body_in, head_in, is_awaited, text_at}
+use Rattle.clock_scripts.specs.Pieces.{AwaitsBody, written_body, written_head, is_awaited, written_request}
 use Rattle.clock_sim.specs.declared.rounds.Group.{Group}
 use Rattle.clock_sim.specs.declared.rounds.Waiting.{Waiting}
 use Rattle.clock_sim.specs.inside.Groups.{ClosesNoRound, ComesUnderWay, IsNext, requests_in, with_request, with_turn}
@@ -39,9 +39,9 @@ send_all-requires g c = c.requires.next.under_way.waits
 pub returns-in_err-send_all-clause-step : goal.returns-in_err-send_all-clause-step
 returns-in_err-send_all-clause-step g c =
     let group = c.args.group.now in
-    let told = err_from_is_err_and c.from_residual.result c.from_residual.ensures.1 in
-    rw (told.1, told.2) (refused_before group c.send_all.new.self c.args.bidder c.args.round
-    (text_at group.text.items c.args.written) c.args.hub.now c.send_all.new.hub _ c.in_err-send_all.ensures.step)
+    let reported = err_from_is_err_and c.from_residual.result c.from_residual.ensures.1 in
+    rw (reported.1, reported.2) (refused_before group c.send_all.new.self c.args.bidder c.args.round (written_request
+    group.text.items c.args.written) c.args.hub.now c.send_all.new.hub _ c.in_err-send_all.ensures.step)
 
 pub returns-then-not-needs_body-clause-step : goal.returns-then-not-needs_body-clause-step
 returns-then-not-needs_body-clause-step g c =
@@ -53,9 +53,9 @@ returns-then-not-needs_body-clause-step g c =
     let next = c.requires.next in
     let last = c.send_all.new.self in
     let kept = ap (λ (text : Vec ℕ Global). text.items) c.in_ok-send_all.ensures.text in
-    let whole = head_in c.deref.result.now one ++ body_in c.deref-then-not-needs_body.result.now one in
-    let text : whole ≡ text_at group.text.items one =
-    ap₂ (λ (first second : List ℕ). head_in first one ++ body_in second one) (c.deref.ensures.value ∙ kept)
+    let whole = written_head c.deref.result.now one ++ written_body c.deref-then-not-needs_body.result.now one in
+    let text : whole ≡ written_request group.text.items one =
+    ap₂ (λ (first second : List ℕ). written_head first one ++ written_body second one) (c.deref.ensures.value ∙ kept)
     (c.deref-then-not-needs_body.ensures.value ∙ kept) in
     subst (λ (sent : List ℕ). ComesUnderWay
     (with_request hub.house.setup (requests_in group) bidder round sent) hub c.send.new.hub last c.send.result) text

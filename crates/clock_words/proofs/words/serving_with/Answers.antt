@@ -1,7 +1,7 @@
 -- Option by option.
 use Rattle.std.specs.Prelude.{option_map}
 use Rattle.clap.specs.Words.{found_of, rows_of}
-use Rattle.clock_words.proofs.Told.{serving_is}
+use Rattle.clock_words.proofs.ServeOptions.{serving_is}
 use Rattle.clock_words.proofs.words.serving_with.Goals as goal
 
 pub returns : goal.returns

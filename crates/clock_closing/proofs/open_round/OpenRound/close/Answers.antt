@@ -29,20 +29,20 @@ settled_by now increments copy ties listed copied list good =
 
 pub returns-clause-answer : goal.returns-clause-answer
 returns-clause-answer g c = settled_by c.args.self.now c.args.increments.now c.in_ok-increments.increments
-    c.args.ties.now c.in_ok-ties.ties c.in_ok-increments.ensures c.in_ok-ties.ensures.listed
-    (closes-tested c.args.self.now (is_open c.self.view_is c.self.invariant.1) c.self.inside.setup.now
-    c.as_slice.result.now c.args.increments.now c.args.ties.now (ap (λ (round : OpenRoundFields).
-    round.before.standing.ended) (sym c.self.view_is)) (ap (λ (round : OpenRoundFields). round.setup) c.self.view_is)
+    c.args.ties.now c.in_ok-ties.ties c.in_ok-increments.ensures c.in_ok-ties.ensures.listed (closes-tested
+    c.args.self.now (is_open c.self.view_is c.self.invariant.1) c.self.inside.setup.now c.as_slice.result.now
+    c.args.increments.now c.args.ties.now (ap (λ (round : OpenRoundFields). round.before.public_state.ended)
+    (sym c.self.view_is)) (ap (λ (round : OpenRoundFields). round.setup) c.self.view_is)
     (c.as_slice.ensures ∙ ap (λ (one : SetupFields). one.products) c.setup.view_is)
     (sym c.if-not-are_within.ensures) c.in_ok-ties.ensures.good) ∙ c.in_ok-results.ensures.closes
 
 pub returns-in_err-results-clause-answer : goal.returns-in_err-results-clause-answer
 returns-in_err-results-clause-answer g c =
-    let told = err_from_is_err_and c.from_residual-in_err-results.result c.from_residual-in_err-results.ensures.1 in
-    rw (told.1, told.2) (λ other. settled_by c.args.self.now c.args.increments.now c.in_ok-increments.increments
-    c.args.ties.now c.in_ok-ties.ties c.in_ok-increments.ensures c.in_ok-ties.ensures.listed
-    (closes-tested c.args.self.now (is_open c.self.view_is c.self.invariant.1) c.self.inside.setup.now
-    c.as_slice.result.now c.args.increments.now c.args.ties.now (ap (λ (round : OpenRoundFields).
-    round.before.standing.ended) (sym c.self.view_is)) (ap (λ (round : OpenRoundFields). round.setup) c.self.view_is)
+    let reported = err_from_is_err_and c.from_residual-in_err-results.result c.from_residual-in_err-results.ensures.1 in
+    rw (reported.1, reported.2) (λ other. settled_by c.args.self.now c.args.increments.now c.in_ok-increments.increments
+    c.args.ties.now c.in_ok-ties.ties c.in_ok-increments.ensures c.in_ok-ties.ensures.listed (closes-tested
+    c.args.self.now (is_open c.self.view_is c.self.invariant.1) c.self.inside.setup.now c.as_slice.result.now
+    c.args.increments.now c.args.ties.now (ap (λ (round : OpenRoundFields). round.before.public_state.ended)
+    (sym c.self.view_is)) (ap (λ (round : OpenRoundFields). round.setup) c.self.view_is)
     (c.as_slice.ensures ∙ ap (λ (one : SetupFields). one.products) c.setup.view_is)
     (sym c.if-not-are_within.ensures) c.in_ok-ties.ensures.good) ∙ c.in_err-results.ensures other)

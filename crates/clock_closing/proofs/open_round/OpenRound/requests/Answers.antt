@@ -13,8 +13,8 @@ use Rattle.clock_closing.proofs.open_round.OpenRound.requests.Goals as goal
 
 pub loop-bidder-preserved : goal.loop-bidder-preserved
 loop-bidder-preserved c =
-    let prices : c.self.inside.prices.now ≡ c.args.self.now.before.standing.prices =
-    ap (λ (round : OpenRoundFields). round.before.standing.prices) c.self.view_is in
+    let prices : c.self.inside.prices.now ≡ c.args.self.now.before.public_state.prices =
+    ap (λ (round : OpenRoundFields). round.before.public_state.prices) c.self.view_is in
     let demands = ap (λ (held : Holding). held.demands) c.own.ensures.held in
     let added = rw (prices, demands, c.sheet.ensures) at c.in_ok-changes.ensures.exact in
     added

@@ -13,12 +13,12 @@ use Rattle.clock_closing.proofs.Steps.{is_open, within_grid}
 use Rattle.clock_closing.proofs.open_round.OpenRound.results.Goals as goal
 
 -- A round that is not round 1 is a later one.
-later_by : (inside : OpenRoundFields) → IsOpenRound inside → inside.before.standing.round ≢ 1
-    → 2 ≤ inside.before.standing.round
+later_by : (inside : OpenRoundFields) → IsOpenRound inside → inside.before.public_state.round ≢ 1
+    → 2 ≤ inside.before.public_state.round
 later_by inside is other = omega (arith, is.sound.priced.numbered, other)
 
-later_of : (inside now : OpenRoundFields) → inside ≡ now → IsOpenRound inside → inside.before.standing.round ≢ 1
-    → 2 ≤ now.before.standing.round
+later_of : (inside now : OpenRoundFields) → inside ≡ now → IsOpenRound inside → inside.before.public_state.round ≢ 1
+    → 2 ≤ now.before.public_state.round
 later_of inside now same is other = rw (← same) (later_by inside is other)
 
 pub post_first-posting-requires-clause-grid : goal.post_first-posting-requires-clause-grid
@@ -33,8 +33,8 @@ pub returns-then-self-eq1 : goal.returns-then-self-eq1
 returns-then-self-eq1 g c =
     let now = c.args.self.now in
     let increments = c.args.increments.now in
-    let number : c.self.inside.round ≡ now.before.standing.round =
-    ap (λ (round : OpenRoundFields). round.before.standing.round) c.self.view_is in
+    let number : c.self.inside.round ≡ now.before.public_state.round =
+    ap (λ (round : OpenRoundFields). round.before.public_state.round) c.self.view_is in
     let first = sym number ∙ c.if-self-eq1.true in
     let setup : c.self.inside.setup.now ≡ now.setup = ap (λ (round : OpenRoundFields). round.setup) c.self.view_is in
     let opening = (is_open c.self.view_is c.self.invariant.1).opening first in
@@ -66,10 +66,10 @@ returns g c =
     let ties = c.args.ties.now in
     let setup : c.self.inside.setup.now ≡ c.args.self.now.setup =
     ap (λ (round : OpenRoundFields). round.setup) c.self.view_is in
-    let number : c.self.inside.round ≡ c.args.self.now.before.standing.round =
-    ap (λ (round : OpenRoundFields). round.before.standing.round) c.self.view_is in
-    let prices : c.self.inside.prices.now ≡ c.args.self.now.before.standing.prices =
-    ap (λ (round : OpenRoundFields). round.before.standing.prices) c.self.view_is in
+    let number : c.self.inside.round ≡ c.args.self.now.before.public_state.round =
+    ap (λ (round : OpenRoundFields). round.before.public_state.round) c.self.view_is in
+    let prices : c.self.inside.prices.now ≡ c.args.self.now.before.public_state.prices =
+    ap (λ (round : OpenRoundFields). round.before.public_state.prices) c.self.view_is in
     let result = later_result now.setup.products now.before (requests now.before ties) in
     let posting = rw (
       c.in_ok-settled.ensures.left,

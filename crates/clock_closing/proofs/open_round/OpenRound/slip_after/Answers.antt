@@ -13,6 +13,6 @@ returns c =
       c.next_eligibility.ensures.exact,
       c.units_held-used.ensures.exact,
       c.as_slice.ensures,
-      c.in_ok-kept.ensures,
+      c.in_ok-packed.ensures,
     )
     refl

@@ -10,14 +10,14 @@ use Rattle.clock_closing.specs.declared.closed_round.Slip.{Slip}
 use Rattle.clock_closing.specs.Holdings.{Holding}
 use Rattle.clock_closing.specs.OpenRound.{holding_at}
 use Rattle.clock_closing.specs.Closing.{slip_after}
-use Rattle.clock_closing.specs.Results.{demands_of}
+use Rattle.clock_closing.specs.Results.{result_demands}
 use Rattle.clock_closing.proofs.SlipDemands.{slips_demands}
 use Rattle.clock_closing.proofs.open_round.OpenRound.slips.Goals as goal
 
 pub loop-bidder-preserved : goal.loop-bidder-preserved
 loop-bidder-preserved c =
-    let round = c.args.self.now.before.standing.round in
-    let f = λ (bidder : ℕ). slip_after (public_setup c.args.self.now.setup) c.args.self.now.before.standing.round
+    let round = c.args.self.now.before.public_state.round in
+    let f = λ (bidder : ℕ). slip_after (public_setup c.args.self.now.setup) c.args.self.now.before.public_state.round
     (holding_at c.args.self.now.before.holdings bidder).eligibility (row_of c.args.demands.now bidder) in
     let slip = rw c.row.ensures at c.in_ok-slip_after.ensures in
     let pushed : c.push.new.self.items ≡ c.loop-bidder.slips.items ++ c.in_ok-slip_after.field-0 ∷ [] =
@@ -31,7 +31,7 @@ pub returns-clause-slips : goal.returns-clause-slips
 returns-clause-slips c =
     let done : c.loop-bidder.bidder ≡ c.bidders-bidder-end.result = omega arith in
     c.from_vec.ensures ∙ c.loop-bidder.invariant ∙ ap (λ (n : ℕ).
-    map (λ (bidder : ℕ). slip_after (public_setup c.args.self.now.setup) c.args.self.now.before.standing.round
+    map (λ (bidder : ℕ). slip_after (public_setup c.args.self.now.setup) c.args.self.now.before.public_state.round
     (holding_at c.args.self.now.before.holdings bidder).eligibility (row_of c.args.demands.now bidder))
     (range_with_len 0 n)) (done ∙ c.bidders-bidder-end.ensures.held)
 
@@ -39,4 +39,4 @@ pub returns-clause-demands : goal.returns-clause-demands
 returns-clause-demands c =
     slips_demands (public_setup c.args.self.now.setup) c.args.self.now.before c.args.demands.now
     (c.requires.bidders ∙ length-map c.args.self.now.before.holdings (λ (held : Holding). held.eligibility))
-    ∙ ap demands_of (sym (returns-clause-slips c))
+    ∙ ap result_demands (sym (returns-clause-slips c))

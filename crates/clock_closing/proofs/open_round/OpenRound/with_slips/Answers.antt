@@ -5,14 +5,14 @@ use Rattle.clock_closing.proofs.open_round.OpenRound.with_slips.Goals as goal
 
 pub returns-in_err-sheet : goal.returns-in_err-sheet
 returns-in_err-sheet c =
-    let told = err_from_is_err_and c.from_residual.result c.from_residual.ensures.1 in
-    rw told.1 (round-refused c.args.self.now c.args.demands c.args.posting c.in_err-sheet.field-0.0 told.0
-    c.in_err-sheet.was told.2)
+    let reported = err_from_is_err_and c.from_residual.result c.from_residual.ensures.1 in
+    rw reported.1 (round-refused c.args.self.now c.args.demands c.args.posting c.in_err-sheet.field-0.0 reported.0
+    c.in_err-sheet.was reported.2)
 
 pub returns-in_err-slips : goal.returns-in_err-slips
 returns-in_err-slips c =
-    let told = err_from_is_err_and c.from_residual-in_err-slips.result c.from_residual-in_err-slips.ensures.1 in
-    rw told.1 (round-no_memory c.args.self.now c.args.demands c.args.posting told.0 told.2)
+    let reported = err_from_is_err_and c.from_residual-in_err-slips.result c.from_residual-in_err-slips.ensures.1 in
+    rw reported.1 (round-no_memory c.args.self.now c.args.demands c.args.posting reported.0 reported.2)
 
 pub returns : goal.returns
 returns c = round-made c.args.self.now c.args.demands c.args.posting c.in_ok-sheet.field-0 c.in_ok-slips.slips

@@ -19,7 +19,7 @@ use Rattle.clock_front.specs.declared.front.response.Response.{Response}
 use Rattle.clock_front.specs.Rooms.{FailsByAllocation, NeedsRoom, refusal_room}
 use Rattle.clock_front.proofs.PrivateLaws.{cut_short_want, private_reply, if_private, if_private_want, want_as}
 use Rattle.clock_front.proofs.ReplyLaws.{unchanged_right}
-use Rattle.clock_front.proofs.FrontLaws.{refused_fixed, away_told, away_command, of_text}
+use Rattle.clock_front.proofs.FrontLaws.{refused_fixed, away_reported, away_command, of_text}
 use Rattle.clock_front.proofs.front.Front.try_answer.Goals as goal
 
 pub fixed_reply-requires : goal.fixed_reply-requires
@@ -34,7 +34,7 @@ returns-in_ok-reply-in-NeedMore-clause-response g c = λ text is.
     unchanged_right who (request_of text).ask house c.unchanged.result
     (ap (λ (response : Response). response.reply) c.unchanged.ensures ∙ c.in_ok-reply-in-NeedMore.ensures
     ∙ ap (λ (shown : Shown). with_page shown.code None (refusal_value shown)) c.bare.ensures
-    ∙ away_told house who text incomplete CutShort framed refl)
+    ∙ away_reported house who text incomplete CutShort framed refl)
     (ap (λ (response : Response). response.effect) c.unchanged.ensures)
     (away_command house.setup who text incomplete CutShort framed refl)
 
@@ -64,7 +64,7 @@ returns-in-Refused-clause-response g c = λ text is.
     let framed = ap shown_framing (sym c.in-Refused.is) ∙ is in
     unchanged_right who (request_of text).ask house c.unchanged-in-Refused.result
     (ap (λ (response : Response). response.reply) c.unchanged-in-Refused.ensures ∙ c.fixed_reply.ensures
-    ∙ away_told house who text (refusal code) code framed refl)
+    ∙ away_reported house who text (refusal code) code framed refl)
     (ap (λ (response : Response). response.effect) c.unchanged-in-Refused.ensures)
     (away_command house.setup who text (refusal code) code framed refl)
 
@@ -82,10 +82,10 @@ returns-in-Whole-clause-still g c = rw (← c.self.view_is) c.answer_request.ens
 pub returns-in-Whole-clause-response : goal.returns-in-Whole-clause-response
 returns-in-Whole-clause-response g c = λ text is.
     let house = c.self.inside.house in
-    let told = c.answer_request.result in
+    let reported = c.answer_request.result in
     let new = c.answer_request.new.house in
-    subst (λ (h : HouseFields). IfOk told (IsRightResponse text h new)) c.self.view_is (of_text house.setup text
-    (λ who ask. IfOk told (IsRightFor who ask house new)) _ _ (shown_head c.in-Whole.head) c.in-Whole.body.now
+    subst (λ (h : HouseFields). IfOk reported (IsRightResponse text h new)) c.self.view_is (of_text house.setup text
+    (λ who ask. IfOk reported (IsRightFor who ask house new)) _ _ (shown_head c.in-Whole.head) c.in-Whole.body.now
     (c.caller_of-caller.ensures.shown house.setup c.self.invariant.0) refl
     (ap shown_framing (sym c.in-Whole.is) ∙ is) c.answer_request.ensures.done)
 
@@ -98,9 +98,9 @@ returns-in-Whole-clause-private g c = λ text is.
 pub returns-in-Whole-clause-wanted : goal.returns-in-Whole-clause-wanted
 returns-in-Whole-clause-wanted g c = λ text is.
     let house = c.self.inside.house in
-    let told = c.answer_request.result in
-    subst (λ (h : HouseFields). IfErr told (FailsByAllocation text h)) c.self.view_is
-    (of_text house.setup text (λ who ask. IfErr told (NeedsRoom who ask (outcome house who ask))) _ _
+    let reported = c.answer_request.result in
+    subst (λ (h : HouseFields). IfErr reported (FailsByAllocation text h)) c.self.view_is
+    (of_text house.setup text (λ who ask. IfErr reported (NeedsRoom who ask (outcome house who ask))) _ _
     (shown_head c.in-Whole.head) c.in-Whole.body.now (c.caller_of-caller.ensures.shown house.setup c.self.invariant.0)
     refl (ap shown_framing (sym c.in-Whole.is) ∙ is) c.answer_request.ensures.wanted)
 

@@ -3,7 +3,7 @@ use Rattle.std.proofs.Common.{Option, length, ap, subst, sym, ◌∙◌}
 use Rattle.std.specs.Prelude.{unwrap_or}
 use Rattle.clock_front.specs.Callers.{holder}
 use Rattle.clock_front.specs.inside.Callers.{IsKnown}
-use Rattle.clock_front.specs.inside.HeldTokens.{caller_by, found, tokens_of}
+use Rattle.clock_front.specs.inside.TokenTable.{caller_by, found, tokens_of}
 use Rattle.clock_http.specs.Shown.{shown_bytes}
 use Rattle.clock_front.specs.declared.front.callers.Caller.{Caller}
 use Rattle.clock_front.specs.declared.front.callers.Caller.TheVariants.{Nobody}

@@ -5,7 +5,7 @@ use Rattle.clock_front.specs.Outcomes.{with_page}
 use Rattle.clock_terms.specs.Limits.{SetupFields}
 use Rattle.clock_bids.specs.Holding.{Holding}
 use Rattle.clock_house.specs.History.{bidder_at}
-use Rattle.clock_house.specs.House.{standing_in, holding_in}
+use Rattle.clock_house.specs.House.{state_in, holding_in}
 use Rattle.clock_views.specs.BidderPages.{account_value}
 use Rattle.clock_front.proofs.PageLaws.{held_is, written_page}
 use Rattle.clock_front.proofs.front.replies.account.Goals as goal
@@ -22,6 +22,6 @@ returns g c =
     (account_value house.setup.products (bidder_at house.setup c.args.bidder).name round
     (record { eligibility = c.own-own.result.eligibility; demands = c.own-own.result.demands.now }) c.ended.result))
     c.own-own.ensures.round ∙ ap (λ (held : Holding). with_page Done None (account_value house.setup.products
-    (bidder_at house.setup c.args.bidder).name (standing_in house).round held c.ended.result)) held
+    (bidder_at house.setup c.args.bidder).name (state_in house).round held c.ended.result)) held
     ∙ ap (λ (ended : Bool). with_page Done None (account_value house.setup.products (bidder_at house.setup
-    c.args.bidder).name (standing_in house).round (holding_in house c.args.bidder) ended)) c.ended.ensures.is
+    c.args.bidder).name (state_in house).round (holding_in house c.args.bidder) ended)) c.ended.ensures.is

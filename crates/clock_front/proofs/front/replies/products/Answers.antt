@@ -2,7 +2,7 @@
 use Rattle.std.proofs.Common.{◌++◌, List, ℕ, ap, replicate, ◌∙◌}
 use Rattle.clock_terms.specs.Limits.{public_setup}
 use Rattle.clock_views.specs.PublicPages.{products_value}
-use Rattle.clock_front.specs.inside.KeptPage.{head_room}
+use Rattle.clock_front.specs.inside.FixedPage.{head_room}
 use Rattle.clock_front.proofs.PageLaws.{written_page}
 use Rattle.clock_front.proofs.front.replies.products.Goals as goal
 

@@ -1,6 +1,6 @@
 -- Proves what a piece led to that completes a request: it is answered as if the piece had been appended.
 use Rattle.std.proofs.Common.{◌++◌, IsSome, rules}
-use Rattle.clock_connections.specs.Connections.{text_of}
+use Rattle.clock_connections.specs.Connections.{open_text}
 use Rattle.clock_connections.proofs.WaitingLaws.{keeps_waiting, waits_no_more}
 use Rattle.clock_front.proofs.ConnectionLaws.{some_text}
 use Rattle.clock_front.proofs.hub.Hub.feed_piece.Goals as goal
@@ -8,8 +8,8 @@ use Rattle.clock_front.proofs.hub.Hub.feed_piece.Goals as goal
 pub answer_framed-reply-requires : goal.answer_framed-reply-requires
 answer_framed-reply-requires g c =
     let old = c.self.inside.connections in
-    let stood : IsSome (text_of old c.args.conn) = search rules in
-    let has = some_text (text_of old c.args.conn) stood in
+    let stood : IsSome (open_text old c.args.conn) = search rules in
+    let has = some_text (open_text old c.args.conn) stood in
     (has.0 ++ c.args.piece.now, c.in-Some.ensures.is has.0 has.1)
 
 pub invariant_of-self : goal.invariant_of-self

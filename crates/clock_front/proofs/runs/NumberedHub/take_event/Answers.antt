@@ -5,7 +5,7 @@ use Rattle.clock_connections.specs.declared.connections.Conn.{Conn}
 use Rattle.clock_connections.specs.declared.connections.Event.{Event}
 use Rattle.clock_connections.specs.declared.connections.Event.TheVariants.{Piece}
 use Rattle.clock_connections.specs.Connections.{IsConnectFault}
-use Rattle.clock_connections.specs.Pieces.{after, text_at}
+use Rattle.clock_connections.specs.Pieces.{after, text_so_far}
 use Rattle.clock_connections.specs.inside.Numbers.{opened, AreNumbered}
 use Rattle.clock_connections.proofs.NumberLaws.{connected_stands, refused_stands}
 use Rattle.clock_front.specs.Hubs.{HubFields, IsFedBy}
@@ -39,31 +39,31 @@ returns-in-Ok-More-clause-stands g c = λ numbered stands.
     let old = c.args.self.now.hub in
     let number = c.in-Piece.number in
     let piece = c.as_slice.result.now in
-    let told : IsFedBy old c.feed.new.self c.in-Some.conn piece More =
+    let reported : IsFedBy old c.feed.new.self c.in-Some.conn piece More =
     subst (IsFedBy old c.feed.new.self c.in-Some.conn piece) c.in-Ok-More.field-0-is c.in-Ok-More.ensures.fed in
     subst (λ (event : Event). AreNumbered (after numbered event) c.feed.new.self.connections c.args.self.now.conns)
     (sym c.in-Piece.is) (subst (λ (bytes : List ℕ). AreNumbered
     (after numbered (Piece number bytes)) c.feed.new.self.connections c.args.self.now.conns) c.as_slice.ensures
     (more_stands numbered old c.feed.new.self c.args.self.now.conns number c.in-Some.conn piece
-    (text_at numbered number) stands (sym c.in-Some.ensures) c.in-Ok-More.ensures.stood refl told))
+    (text_so_far numbered number) stands (sym c.in-Some.ensures) c.in-Ok-More.ensures.stood refl reported))
 
 pub returns-in-Ok-Reply-clause-stands : goal.returns-in-Ok-Reply-clause-stands
 returns-in-Ok-Reply-clause-stands g c = λ numbered stands.
     let old = c.args.self.now.hub in
     let number = c.in-Piece.number in
     let piece = c.as_slice.result.now in
-    let told : IsFedBy old c.feed.new.self c.in-Some.conn piece (Reply c.in-Ok-Reply.reply) =
+    let reported : IsFedBy old c.feed.new.self c.in-Some.conn piece (Reply c.in-Ok-Reply.reply) =
     subst (IsFedBy old c.feed.new.self c.in-Some.conn piece) c.in-Ok-Reply.field-0-is c.in-Ok-Reply.ensures.fed in
     subst (λ (event : Event). AreNumbered (after numbered event) c.feed.new.self.connections c.args.self.now.conns)
     (sym c.in-Piece.is) (subst (λ (bytes : List ℕ). AreNumbered
     (after numbered (Piece number bytes)) c.feed.new.self.connections c.args.self.now.conns) c.as_slice.ensures
     (answered_stands numbered old c.feed.new.self c.args.self.now.conns number c.in-Some.conn piece c.in-Ok-Reply.reply
-    (text_at numbered number) stands (sym c.in-Some.ensures) c.in-Ok-Reply.ensures.stood refl told))
+    (text_so_far numbered number) stands (sym c.in-Some.ensures) c.in-Ok-Reply.ensures.stood refl reported))
 
 pub returns-in-Ok-finish-clause-stands : goal.returns-in-Ok-finish-clause-stands
 returns-in-Ok-finish-clause-stands g c = λ numbered stands.
     let number = c.in-Finish.number in
     subst (λ (event : Event). AreNumbered (after numbered event) c.finish.new.self.connections c.args.self.now.conns)
     (sym c.in-Finish.is) (finished_stands numbered c.args.self.now.hub c.finish.new.self c.args.self.now.conns number
-    c.in-Some-conn.conn c.in-Ok-finish.reply (text_at numbered number) stands
+    c.in-Some-conn.conn c.in-Ok-finish.reply (text_so_far numbered number) stands
     (sym c.in-Some-conn.ensures) c.in-Ok-finish.ensures.stood refl c.in-Ok-finish.ensures.answered)

@@ -2,7 +2,7 @@
 use Rattle.std.proofs.Common.{◌<◌, length, ap, ◌∙◌, arith}
 use Rattle.std.proofs.lemmas.List.{get_or_read}
 use Rattle.std.specs.Prelude.{None}
-use Rattle.clock_house.proofs.Kept.{stands_sheets}
+use Rattle.clock_house.proofs.Stored.{stands_sheets}
 use Rattle.clock_house.proofs.Seen.{in_force_seen}
 use Rattle.clock_house.proofs.house.House.bids.Goals as goal
 

@@ -27,15 +27,15 @@ returns-clause-history g c =
 -- The error of a closing is that of preparing it.
 pub returns-in_err-prepared-clause-answer : goal.returns-in_err-prepared-clause-answer
 returns-in_err-prepared-clause-answer g c =
-    let told = err_from_is_err_and c.from_residual.result c.from_residual.ensures.1 in
-    rw (told.1, told.2) c.in_err-prepared.ensures.answer
+    let reported = err_from_is_err_and c.from_residual.result c.from_residual.ensures.1 in
+    rw (reported.1, reported.2) c.in_err-prepared.ensures.answer
 
 pub returns-in_err-prepared-clause-history : goal.returns-in_err-prepared-clause-history
 returns-in_err-prepared-clause-history g c =
-    let told = err_from_is_err_and c.from_residual.result c.from_residual.ensures.1 in
-    rw (told.1, told.2) c.in_err-prepared.ensures.history
+    let reported = err_from_is_err_and c.from_residual.result c.from_residual.ensures.1 in
+    rw (reported.1, reported.2) c.in_err-prepared.ensures.history
 
 pub returns-in_err-prepared-clause-followed : goal.returns-in_err-prepared-clause-followed
 returns-in_err-prepared-clause-followed g c =
-    let told = err_from_is_err_and c.from_residual.result c.from_residual.ensures.1 in
-    rw (told.1, told.2) (λ other. c.in_err-prepared.ensures.followed (λ same. other (ap Err same)))
+    let reported = err_from_is_err_and c.from_residual.result c.from_residual.ensures.1 in
+    rw (reported.1, reported.2) (λ other. c.in_err-prepared.ensures.followed (λ same. other (ap Err same)))

@@ -13,12 +13,12 @@ use Rattle.clock_house.specs.Command.{close}
 use Rattle.clock_closing.specs.declared.closed_round.Slip.{Slip}
 use Rattle.clock_closing.specs.Prepared.{PreparedClosing}
 use Rattle.clock_closing.specs.inside.OpenRound.{eligibilities_of}
-use Rattle.clock_house.specs.Standing.{Holding, standing_after}
-use Rattle.clock_house.specs.History.{ClosedRound, standing}
-use Rattle.clock_house.specs.House.{HouseFields, StandsFor, standing_in}
+use Rattle.clock_house.specs.PublicState.{Holding, state_after}
+use Rattle.clock_house.specs.History.{ClosedRound, public_state}
+use Rattle.clock_house.specs.House.{HouseFields, StandsFor, state_in}
 use Rattle.clock_house.specs.inside.OpenRounds.{open_round_in}
 use Rattle.clock_house.proofs.InHouse.{many_eligibilities}
-use Rattle.clock_house.proofs.Kept.{stands_sheets, stands_sound}
+use Rattle.clock_house.proofs.Stored.{stands_sheets, stands_sound}
 use Rattle.clock_house.proofs.Bounds.{round_bounded}
 use Rattle.clock_house.proofs.Closes.{close-accepted, fits_like, closed_number, closed_slips, taken_prices}
 use Rattle.clock_house.proofs.Rows.{next_held}
@@ -44,7 +44,7 @@ overflow_add-self g c =
       arith,
       ap (λ (one : ClosedRound). one.sheet.round) (ap (λ (one : PreparedClosing). one.closed) c.prepared.view_is),
       number.1,
-      round_bounded c.args.self.now.setup.products (standing_in c.args.self.now) limits.product_count.1
+      round_bounded c.args.self.now.setup.products (state_in c.args.self.now) limits.product_count.1
           ((stands_sound c.args.self.now limits c.self.invariant.commands stands).priced number.0),
       at_most (not c.prepared.inside.results.closed.sheet.ended) c.from.result c.from.ensures,
     )
@@ -103,17 +103,17 @@ invariant_of-self g c =
       stands = close-accepted _ asked.round asked.increments asked.ties c.self.invariant.commands
           c.self.invariant.stands asked.closed _ _ _ fits added none;
       ended_is = ap (λ (one : ClosedRound). one.sheet.ended) done
-          ∙ sym (ap (λ (closed : List ClosedRound). (standing c.self.inside.setup.products closed).ended) added);
+          ∙ sym (ap (λ (closed : List ClosedRound). (public_state c.self.inside.setup.products closed).ended) added);
       round_is = next_number results.closed.sheet.ended results.closed.sheet.round c.from.result c.from.ensures
-          ∙ ap (λ (one : ClosedRound). (standing_after one.sheet).round) done
-          ∙ sym (ap (λ (closed : List ClosedRound). (standing c.self.inside.setup.products closed).round) added);
+          ∙ ap (λ (one : ClosedRound). (state_after one.sheet).round) done
+          ∙ sym (ap (λ (closed : List ClosedRound). (public_state c.self.inside.setup.products closed).round) added);
       prices_are = λ going.
           c.unwrap_or.ensures
           ∙ ap (λ (old : List PricePair). unwrap_or results.next old) c.replace-prices.ensures.value
           ∙ taken_prices results.next c.self.inside.prices results.closed.sheet.lines results.closed.sheet.ended going
           c.prepared.invariant.end c.prepared.invariant.shown
-          ∙ ap (λ (one : ClosedRound). (standing_after one.sheet).prices) done
-          ∙ sym (ap (λ (closed : List ClosedRound). (standing c.self.inside.setup.products closed).prices) added);
+          ∙ ap (λ (one : ClosedRound). (state_after one.sheet).prices) done
+          ∙ sym (ap (λ (closed : List ClosedRound). (public_state c.self.inside.setup.products closed).prices) added);
       eligibilities_are = next_held c.self.inside.setup
           (λ (held : Holding). held.eligibility) 0 _ results.closed asked.closed _ _ (c.take_slips.ensures.eligibilities
           ∙ ap (map (λ (slip : Slip). slip.eligibility)) c.as_slice-slips.ensures) done slips added;

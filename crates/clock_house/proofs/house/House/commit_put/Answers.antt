@@ -1,7 +1,7 @@
 -- Proves that the house stands for one more command after a sheet is put in force.
 use Rattle.std.proofs.Common.{◌∷◌, refl, arith}
 use Rattle.clock_house.specs.Command.{put}
-use Rattle.clock_house.proofs.Kept.{stands_sheets}
+use Rattle.clock_house.proofs.Stored.{stands_sheets}
 use Rattle.clock_house.proofs.Puts.{put-accepted, fits_inside}
 use Rattle.clock_house.proofs.house.House.commit_put.Goals as goal
 

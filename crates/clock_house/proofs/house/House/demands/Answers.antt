@@ -3,7 +3,7 @@ use Rattle.std.proofs.Common.{length, ◌∙◌}
 use Rattle.std.specs.Prelude.{reverse}
 use Rattle.std.specs.List.{range_with_len}
 use Rattle.std.proofs.lemmas.Simd.{map-map}
-use Rattle.clock_house.specs.Standing.{Holding}
+use Rattle.clock_house.specs.PublicState.{Holding}
 use Rattle.clock_house.specs.History.{holding}
 use Rattle.clock_house.proofs.house.House.demands.Goals as goal
 

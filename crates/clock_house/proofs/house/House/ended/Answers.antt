@@ -1,9 +1,9 @@
 -- Proves that whether the auction has ended follows from every bidder's view.
 use Rattle.std.proofs.Common.{ap, ◌∙◌}
-use Rattle.clock_house.specs.Standing.{Standing}
+use Rattle.clock_house.specs.PublicState.{PublicState}
 use Rattle.clock_house.proofs.Seen.{standing_seen}
 use Rattle.clock_house.proofs.house.House.ended.Goals as goal
 
 pub returns-clause-seen : goal.returns-clause-seen
 returns-clause-seen g c = rw (← c.self.view_is) (λ bidder commands stands. c.self.invariant.ended_is
-    ∙ ap (λ (now : Standing). now.ended) (standing_seen _ bidder commands stands))
+    ∙ ap (λ (now : PublicState). now.ended) (standing_seen _ bidder commands stands))

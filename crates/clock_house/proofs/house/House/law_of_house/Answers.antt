@@ -1,7 +1,7 @@
 -- Proves the laws of a house, from its invariant and the laws of the history.
 use Rattle.std.proofs.Common.{refl}
 use Rattle.clock_house.proofs.Sound.{sound}
-use Rattle.clock_house.proofs.Kept.{stands_sound, stands_going, stands_sheets}
+use Rattle.clock_house.proofs.Stored.{stands_sound, stands_going, stands_sheets}
 use Rattle.clock_house.proofs.Isolation.{seen}
 use Rattle.clock_house.proofs.house.House.law_of_house.Goals as goal
 

@@ -4,7 +4,7 @@ use Rattle.std.specs.Prelude.{reverse}
 use Rattle.clock_closing.specs.OpenRound.{IsOpenRound}
 use Rattle.clock_house.specs.House.{HouseFields}
 use Rattle.clock_house.proofs.InHouse.{many_eligibilities, many_demands, open_is}
-use Rattle.clock_house.proofs.Kept.{stands_open_round}
+use Rattle.clock_house.proofs.Stored.{stands_open_round}
 use Rattle.clock_house.proofs.house.House.open_round.Goals as goal
 
 pub invariant_of-result : goal.invariant_of-result

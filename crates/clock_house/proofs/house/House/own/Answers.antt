@@ -1,11 +1,11 @@
 -- Proves that the bidder's stored entries are what the rules say, within its limits, and follow from its view.
 use Rattle.std.proofs.Common.{◌≡◌, ℕ, List, get_or, length, ap, sym, subst, ◌∙◌, arith}
 use Rattle.clock_closing.specs.inside.OpenRound.{eligibilities_of, grid_of}
-use Rattle.clock_house.specs.Standing.{Standing}
+use Rattle.clock_house.specs.PublicState.{PublicState}
 use Rattle.clock_house.specs.House.{HouseFields}
 use Rattle.clock_house.specs.inside.OpenRounds.{open_round_in}
 use Rattle.clock_house.proofs.InHouse.{many_eligibilities, many_demands, own_eligibility, own_demands}
-use Rattle.clock_house.proofs.Kept.{stands_sound}
+use Rattle.clock_house.proofs.Stored.{stands_sound}
 use Rattle.clock_house.proofs.Seen.{standing_seen, holding_seen}
 use Rattle.clock_house.proofs.house.House.own.Goals as goal
 
@@ -44,7 +44,7 @@ returns g c =
       limits = rw (eligibility, demands, ← c.self.view_is) within;
       seen_round = λ commands stands.
           (rw (← c.self.view_is) c.self.invariant.round_is)
-          ∙ ap (λ (now : Standing). now.round) (standing_seen c.args.self.now c.args.bidder commands stands);
+          ∙ ap (λ (now : PublicState). now.round) (standing_seen c.args.self.now c.args.bidder commands stands);
       seen = rw (eligibility, demands)
           (λ commands stands. sym (holding_seen c.args.self.now c.args.bidder commands stands));
     }

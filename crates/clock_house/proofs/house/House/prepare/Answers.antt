@@ -2,8 +2,8 @@
 -- closing.
 use Rattle.std.proofs.Common.{ap, sym, ◌∙◌, rules}
 use Rattle.clock_closing.specs.declared.fault.CloseFault.TheVariants as close_faults
-use Rattle.clock_house.specs.Standing.{Standing}
-use Rattle.clock_house.specs.House.{standing_in}
+use Rattle.clock_house.specs.PublicState.{PublicState}
+use Rattle.clock_house.specs.House.{state_in}
 use Rattle.clock_house.proofs.Closes.{close-followed, standing_unchanged, still_unchanged}
 use Rattle.clock_house.proofs.Closes.{fits-asked, answers-close, answers-now, answers-old, answers-history}
 use Rattle.clock_house.proofs.Closes.{refused-followed}
@@ -21,7 +21,7 @@ pub returns-in_err-old-clause-stands : goal.returns-in_err-old-clause-stands
 returns-in_err-old-clause-stands g c = still_unchanged c.args.self.now c.make_room.new.self c.make_room.ensures.same
 
 pub open_round-requires : goal.open_round-requires
-open_round-requires g c = ap (λ (now : Standing). now.ended) (standing_unchanged c.args.self.now c.make_room.new.self
+open_round-requires g c = ap (λ (now : PublicState). now.ended) (standing_unchanged c.args.self.now c.make_room.new.self
     c.make_room.ensures.same) ∙ rw (← c.self.view_is) (sym c.self.invariant.ended_is ∙ c.if-self.false)
 
 pub returns-clause-answer : goal.returns-clause-answer
@@ -31,7 +31,7 @@ returns-clause-answer g c = answers-close _ c.close-prepared.result
     c.open_round.result c.open_round.ensures c.close-prepared.ensures.answer)
 
 pub returns-clause-fits : goal.returns-clause-fits
-returns-clause-fits g c = fits-asked c.make_room.new.self (standing_in c.make_room.new.self).round c.args.increments.now
+returns-clause-fits g c = fits-asked c.make_room.new.self (state_in c.make_room.new.self).round c.args.increments.now
     c.args.ties.now c.close-prepared.result (answers-now c.args.self.now c.make_room.new.self c.make_room.ensures.same
     c.args.round c.args.increments.now c.args.ties.now (c.if-round-self.false
     ∙ rw (← c.self.view_is) c.self.invariant.round_is) c.close-prepared.result c.open_round.result c.open_round.ensures

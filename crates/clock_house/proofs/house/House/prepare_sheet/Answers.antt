@@ -4,7 +4,7 @@ use Rattle.std.proofs.Common.{◌≢◌, ℕ, ap, sym, subst, ◌∙◌, length,
 use Rattle.std.specs.Prelude.{Some, Ok, Err}
 use Rattle.clock_house.specs.declared.fault.PutFault.TheVariants as put_faults
 use Rattle.clock_house.specs.Prepared.{PreparedSheet}
-use Rattle.clock_house.proofs.Kept.{stands_sound}
+use Rattle.clock_house.proofs.Stored.{stands_sound}
 use Rattle.clock_house.proofs.Puts.{put-ended, put-other, fits-judged, judged-followed}
 use Rattle.clock_house.proofs.Seen.{answers-by_view}
 use Rattle.clock_house.proofs.house.House.prepare_sheet.Goals as goal

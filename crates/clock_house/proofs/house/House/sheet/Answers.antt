@@ -2,7 +2,7 @@
 use Rattle.std.proofs.Common.{ap, sym, ◌∙◌, rules}
 use Rattle.std.specs.Prelude.{option_map}
 use Rattle.clock_house.specs.History.{ClosedRound}
-use Rattle.clock_house.proofs.Kept.{numbered_whole, stands_numbered}
+use Rattle.clock_house.proofs.Stored.{numbered_whole, stands_numbered}
 use Rattle.clock_house.proofs.Seen.{sheet_seen}
 use Rattle.clock_house.proofs.house.House.sheet.Goals as goal
 

@@ -4,7 +4,7 @@ use Rattle.std.specs.Prelude.{Some, option_map}
 use Rattle.std.proofs.lemmas.List.{get_or_read}
 use Rattle.clock_closing.specs.declared.closed_round.Slip.{Slip}
 use Rattle.clock_house.specs.History.{ClosedRound, slip_of}
-use Rattle.clock_house.proofs.Kept.{stands_numbered, numbered_whole}
+use Rattle.clock_house.proofs.Stored.{stands_numbered, numbered_whole}
 use Rattle.clock_house.proofs.Seen.{slip_seen}
 use Rattle.clock_house.proofs.house.House.slip.Goals as goal
 

@@ -11,7 +11,7 @@ taken : (c : goal.After-needs_more)
     → take c.len-self-inside.result c.make_places-self-inside.new.room.items ≡ c.append.new.room.items
 taken c =
     let text = c.append.new.room.items in
-    let places = c.make_places-self-inside.ensures.kept in
+    let places = c.make_places-self-inside.ensures.appended in
     ap (λ n. take n c.make_places-self-inside.new.room.items) (c.len-self-inside.ensures ∙ c.append.new.room.ok.0)
     ∙ ap (take (length text)) places.1 ∙ take-append_seam text places.0
 
@@ -24,17 +24,17 @@ pub invariant_of-self-2 : goal.invariant_of-self-2
 invariant_of-self-2 c =
     let text = c.append.new.room.items in
     let progress = c.advance-self-inside.result in
-    let quiet = c.make_places-self-inside.result in
+    let next_check = c.make_places-self-inside.result in
     let places = c.make_places-self-inside.ensures in
-    let below : WaitsBelow quiet text progress = λ more less. c.awaited-2.ensures (text ++ more)
+    let below : WaitsBelow next_check text progress = λ more less. c.awaited-2.ensures (text ++ more)
     (knows_start text more progress (known c)) (let limit = places.below in omega arith) in
-    let size : length c.make_places-self-inside.new.room.items ≡ length text + length places.kept.0 =
-    ap length places.kept.1 ∙ length-append text places.kept.0 in
+    let size : length c.make_places-self-inside.new.room.items ≡ length text + length places.appended.0 =
+    ap length places.appended.1 ∙ length-append text places.appended.0 in
     let count : c.len-self-inside.result ≡ length text = c.len-self-inside.ensures ∙ c.append.new.room.ok.0 in
     record {
       knows = subst (λ (text : List ℕ). Knows text progress) (sym (taken c)) (known c);
-      below = subst (λ (text : List ℕ). WaitsBelow quiet text progress) (sym (taken c)) below;
-      held = omega (arith, size, count);
+      below = subst (λ (text : List ℕ). WaitsBelow next_check text progress) (sym (taken c)) below;
+      fits = omega (arith, size, count);
       placed = places.placed;
     }
 

@@ -11,7 +11,7 @@ unfolding reply_bytes
 returns c =
     let code = c.args.code in
     let text = c.args.text in
-    let told : List ℕ → Answer = λ bytes. record { code = code; bytes = bytes } in
+    let reported : List ℕ → Answer = λ bytes. record { code = code; bytes = bytes } in
     let counted : c.len-page.result - 256 ≡ length (drop 256 text) =
     ap (λ (count : ℕ). count - 256) c.len-page.ensures ∙ sym (length-drop 256 text) in
     let count = c.as_bytes.ensures.value ∙ c.format.ensures.text ∙ ap decimal counted in
@@ -35,4 +35,4 @@ returns c =
     let space = c.put_before-space.ensures.put ∙ ap (λ (rest : List ℕ). codes " " ++ rest) words in
     let status = c.put_before-status.ensures.put ∙ ap (λ (digits : List ℕ). digits ++ drop c.put_before-space.result
     c.put_before-space.new.text) number ∙ ap (λ (rest : List ℕ). decimal (status_of code) ++ rest) space in
-    ap told (c.put_before-start.ensures.put ∙ ap (λ (rest : List ℕ). codes "HTTP/1.1 " ++ rest) status)
+    ap reported (c.put_before-start.ensures.put ∙ ap (λ (rest : List ℕ). codes "HTTP/1.1 " ++ rest) status)

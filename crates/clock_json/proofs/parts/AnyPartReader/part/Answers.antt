@@ -2,7 +2,7 @@ use Rattle.std.proofs.Common.{◌≡◌, ◌∷◌, ℕ, List, Option, Result, O
 use Rattle.std.proofs.Common.{arith}
 use Rattle.std.specs.Result.{result_ok}
 use Rattle.serde_json.specs.Data.{Data, object}
-use Rattle.clock_json.specs.Reading.{Token, Reads, members_of}
+use Rattle.clock_json.specs.Reading.{Token, ReadsValue, found_members}
 use Rattle.clock_json.specs.inside.Reading.{HasMembers}
 use Rattle.clock_json.proofs.Steps.{members_start, adds_member, members_end}
 use Rattle.clock_json.proofs.parts.AnyPartReader.part.Goals as goal
@@ -21,8 +21,8 @@ members-preserved g c =
     let members = g.M.ScannedMembers in
     let start = c.opens.new.self in
     let same : c.closes.new.self ≡ l.scan = grind arith in
-    let has =
-    subst (λ ts. HasMembers members.levels start (members_of (members.fields l.found)) ts) (sym same) l.invariant.0 in (
+    let has = subst (λ ts. HasMembers members.levels start (found_members (members.fields l.found)) ts)
+    (sym same) l.invariant.0 in (
       adds_member members.levels start _ _ _ _ _ _ has c.in_ok-key.ensures c.in_ok-read.ensures.value,
       omega (arith, l.invariant.1, c.in_ok-read.ensures.shorter, ap length c.in_ok-key.ensures, ap length same),
     )
@@ -30,9 +30,9 @@ members-preserved g c =
 -- what is whole is read
 whole_read : {A E : Type 0} (levels : ℕ) (old new : List Token) (value : Data) (shown : A → Data) (found : Option A)
     (result : Result A E) → found ≡ result_ok result → IfSome found (λ whole. value ≡ shown whole)
-    → Reads levels old value new → IfOk result (λ whole. Reads levels old (shown whole) new)
+    → ReadsValue levels old value new → IfOk result (λ whole. ReadsValue levels old (shown whole) new)
 whole_read levels old new value shown found (Ok whole) same is reads =
-    subst (λ d. Reads levels old d new) (subst (λ f. IfSome f (λ w. value ≡ shown w)) same is) reads
+    subst (λ d. ReadsValue levels old d new) (subst (λ f. IfSome f (λ w. value ≡ shown w)) same is) reads
 whole_read levels old new value shown found (Err stop) same is reads = tt
 
 pub returns-clause-value : goal.returns-clause-value
@@ -41,7 +41,7 @@ returns-clause-value g c =
     let l = c.members in
     let old = c.args.scan.now in
     let new = c.closes.new.self in
-    let found = members_of (members.fields l.found) in
+    let found = found_members (members.fields l.found) in
     let closed : l.scan ≡ Token.end_object ∷ new = grind arith in
     whole_read (suc members.levels) old new
     (object found) members.shown c.whole.result c.ok_or.result c.ok_or.ensures.ok_part c.whole.ensures

@@ -2,7 +2,7 @@ use Rattle.std.proofs.Common.{◌∷◌, ◌++◌, [], drop, map, refl, sym, ap,
 use Rattle.std.proofs.lemmas.List.{append-nil, append_assoc}
 use Rattle.json.specs.Lex.{lex, between}
 use Rattle.clock_json.specs.Left.{left}
-use Rattle.clock_json.specs.Reading.{whole, ReadsAll}
+use Rattle.clock_json.specs.Reading.{whole_number, ReadsAll}
 use Rattle.clock_json.specs.declared.scan.Expected.TheVariants.{AfterComma}
 use Rattle.clock_json.proofs.CompactLaws.{separated_reads}
 use Rattle.clock_json.proofs.Steps.{all_push_next}
@@ -31,7 +31,7 @@ numbers-preserved c =
       row ++ n ∷ [],
       c.in_ok-push.ensures.items ∙ ap (λ known. known ++ n ∷ []) l.invariant.1
           ∙ append_assoc c.args.list.now.items row (n ∷ []),
-      all_push_next 0 whole c.args.self.now (left AfterComma (drop l.at bytes)) (left AfterComma
+      all_push_next 0 whole_number c.args.self.now (left AfterComma (drop l.at bytes)) (left AfterComma
           (drop c.in-Some.end bytes)) row n l.invariant.2 (separated_reads (lex between (drop l.at bytes))
           (lex between (drop c.in-Some.end bytes)) n c.in-Some.ensures.small c.in-Some.ensures.value),
     )
@@ -43,6 +43,6 @@ returns c =
     let behind = c.is_after_comma.ensures.comma c.if-not-is_after_comma.false in (
       l.invariant.0,
       l.invariant.1,
-      subst (λ expected. ReadsAll 0 c.args.self.now (map whole l.invariant.0) (left expected (drop l.at s.bytes.now)))
-          (sym behind) l.invariant.2,
+      subst (λ expected. ReadsAll 0 c.args.self.now (map whole_number l.invariant.0)
+          (left expected (drop l.at s.bytes.now))) (sym behind) l.invariant.2,
     )

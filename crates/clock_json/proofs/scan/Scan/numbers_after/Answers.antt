@@ -1,7 +1,7 @@
 use Rattle.std.proofs.Common.{◌≡◌, ◌∷◌, ◌++◌, [], length, map, sym, ap, subst, ◌∙◌, arith}
 use Rattle.std.proofs.lemmas.List.{append-nil, append_assoc}
 use Rattle.json.specs.Token.{Token}
-use Rattle.clock_json.specs.Reading.{whole, Reads}
+use Rattle.clock_json.specs.Reading.{whole_number, ReadsValue}
 use Rattle.clock_json.proofs.Steps.{all_shorter, items_start, items_end, items_push_next, items_push_all}
 use Rattle.clock_json.proofs.scan.Scan.numbers_after.Goals as goal
 
@@ -21,19 +21,19 @@ items-preserved c =
     let start = c.opens.new.self in
     let had = c.args.list.now.items in
     let same : c.closes.new.self ≡ l.self = grind arith in
-    let reads : Reads 0 l.self (whole next) here =
-    subst (λ ts. Reads 0 ts (whole next) here) same c.in_ok-next.ensures.value in (
+    let reads : ReadsValue 0 l.self (whole_number next) here =
+    subst (λ ts. ReadsValue 0 ts (whole_number next) here) same c.in_ok-next.ensures.value in (
       (row ++ next ∷ []) ++ more.0,
       more.1 ∙ ap (λ known. known ++ more.0) (c.in_ok-push.ensures.items ∙ ap (λ known. known ++ next
           ∷ []) l.invariant.1 ∙ append_assoc had row (next ∷ [])) ∙ append_assoc had (row ++ next ∷ []) more.0,
-      items_push_all 0 whole start here new (row ++ next ∷ []) more.0
-          (items_push_next 0 whole start l.self here row next l.invariant.2 reads) more.2,
+      items_push_all 0 whole_number start here new (row ++ next ∷ []) more.0
+          (items_push_next 0 whole_number start l.self here row next l.invariant.2 reads) more.2,
       omega (
         arith,
         l.invariant.3,
         c.in_ok-next.ensures.shorter,
         ap length same,
-        all_shorter 0 here (map whole more.0) new more.2,
+        all_shorter 0 here (map whole_number more.0) new more.2,
       ),
     )
 
@@ -46,7 +46,7 @@ items-smaller c =
       arith,
       c.in_ok-next.ensures.shorter,
       ap length same,
-      all_shorter 0 here (map whole more.0) c.further_numbers.new.self more.2,
+      all_shorter 0 here (map whole_number more.0) c.further_numbers.new.self more.2,
     )
 
 pub returns-clause-value : goal.returns-clause-value
@@ -55,6 +55,6 @@ returns-clause-value c =
     let closed : l.self ≡ Token.end_array ∷ c.closes.new.self = grind arith in (
       l.invariant.0,
       l.invariant.1,
-      items_end 0 c.args.self.now c.opens.new.self l.self c.closes.new.self (map whole l.invariant.0)
+      items_end 0 c.args.self.now c.opens.new.self l.self c.closes.new.self (map whole_number l.invariant.0)
           c.in_ok-opens.ensures l.invariant.2 closed,
     )

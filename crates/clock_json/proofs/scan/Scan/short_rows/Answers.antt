@@ -1,6 +1,6 @@
 use Rattle.std.proofs.Common.{◌≡◌, ◌∷◌, ◌++◌, [], List, ℕ, length, map, sym, ap, subst, ◌∙◌, arith, rules}
 use Rattle.json.specs.Token.{Token}
-use Rattle.clock_json.specs.Reading.{numbers, Reads}
+use Rattle.clock_json.specs.Reading.{numbers, ReadsValue}
 use Rattle.clock_json.specs.inside.Reading.{HasItems}
 use Rattle.clock_json.proofs.Steps.{items_start, items_end, items_push_next}
 use Rattle.clock_json.proofs.scan.Scan.short_rows.Goals as goal
@@ -18,8 +18,8 @@ items-preserved c =
     let same : c.closes.new.self ≡ l.self = grind arith in
     let read = c.in_ok-numbers_after.ensures.value in
     let row : List ℕ = read.0 in
-    let reads : Reads 1 l.self (numbers row) c.numbers_after.new.self =
-    subst (λ ts. Reads 1 ts (numbers row) c.numbers_after.new.self) same read.2 in
+    let reads : ReadsValue 1 l.self (numbers row) c.numbers_after.new.self =
+    subst (λ ts. ReadsValue 1 ts (numbers row) c.numbers_after.new.self) same read.2 in
     let held : c.numbers_after.new.list.items ≡ row = read.1 ∙ ap (λ known. known ++ row) c.clear.ensures.items in
     let kept : c.in_ok-row.row ≡ row =
     c.in_ok-row.ensures.row ∙ c.in_ok-row.ensures.same (search rules) ∙ c.as_slice.ensures.value ∙ held in

@@ -1,7 +1,7 @@
 use Rattle.std.proofs.Common.{arith, sym, ◌∙◌}
 use Rattle.std.proofs.lemmas.Result.{err_from_is_err_and}
 use Rattle.clock_keeping.proofs.EffectLaws.{accepted_where, answers, some_bytes}
-use Rattle.clock_keeping.proofs.KeptLaws.{kept, passed_over}
+use Rattle.clock_keeping.proofs.LoggedLaws.{logged, passed_over}
 use Rattle.clock_keeping.proofs.Untouched.{untouched}
 use Rattle.clock_keeping.proofs.keeping.JournalRequestLog.answer.Goals as goal
 
@@ -10,8 +10,8 @@ returns-then-not-is_change-clause-answered g c =
     answers c.args.text.now c.respond-response.result c.args.front.now c.respond-response.new.self
     (c.respond-response.ensures.response c.args.text.now c.framing.ensures)
 
-pub returns-then-not-is_change-clause-kept : goal.returns-then-not-is_change-clause-kept
-returns-then-not-is_change-clause-kept g c digest past in_step =
+pub returns-then-not-is_change-clause-logged : goal.returns-then-not-is_change-clause-logged
+returns-then-not-is_change-clause-logged g c digest past in_step =
     passed_over digest past c.args.text.now c.respond-response.result c.args.front.now c.respond-response.new.self _
     in_step (c.respond-response.ensures.response c.args.text.now c.framing.ensures)
     (sym c.is_change.ensures ∙ c.if-not-is_change.true)
@@ -51,10 +51,10 @@ returns-clause-answered g c =
     answers c.args.text.now c.respond-response.result c.args.front.now c.respond-response.new.self
     (c.respond-response.ensures.response c.args.text.now c.framing.ensures)
 
-pub returns-clause-kept : goal.returns-clause-kept
-returns-clause-kept g c digest past in_step =
-    kept digest past c.args.text.now c.respond-response.result c.args.front.now c.respond-response.new.self _
-    (c.in_ok-append.ensures.kept digest past in_step.has) in_step.stands
+pub returns-clause-logged : goal.returns-clause-logged
+returns-clause-logged g c digest past in_step =
+    logged digest past c.args.text.now c.respond-response.result c.args.front.now c.respond-response.new.self _
+    (c.in_ok-append.ensures.logged digest past in_step.has) in_step.stands
     (c.respond-response.ensures.response c.args.text.now c.framing.ensures)
     (sym c.is_change.ensures ∙ c.if-not-is_change.false)
 

@@ -1,6 +1,6 @@
 -- The map has the entries so far, and the others decide the first fault of the list.
 use Rattle.std.proofs.Common.{◌≡◌, take}
-use Rattle.clock_order.specs.Entries.{listed as listed_in}
+use Rattle.clock_order.specs.Entries.{ties_listed as listed_in}
 use Rattle.clock_order.proofs.TieSteps.{AreAhead}
 use Rattle.clock_order.proofs.ties.Ties.new.Given as goal
 

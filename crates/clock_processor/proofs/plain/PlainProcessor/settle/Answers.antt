@@ -28,5 +28,5 @@ returns c =
       settlement = is;
       proper = proper_end c.args.board c.args.changes.now c.end.result is
           (held_at_end c.args.board c.rescan.new.board c.end.result.grid c.rescan.ensures.terms
-          (ap (λ (end : SettledFields). end.grid) c.end.ensures.settled) c.end.ensures.kept);
+          (ap (λ (end : SettledFields). end.grid) c.end.ensures.settled) c.end.ensures.in_order);
     }

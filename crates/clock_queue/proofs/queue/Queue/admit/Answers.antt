@@ -31,21 +31,21 @@ add-requires c =
     let read = get_or_read c.args.changes.now c.args.self.now.admitted c.index-changes-place.result c.requires.more
     c.index-changes-place.is no_change in
     subst (λ (line : ℕ). line < length c.args.self.now.lines) (sym (c.line_of.ensures ∙ ap line_of read))
-    (own_in c.args.changes.now c.args.self.now c.requires.kept c.requires.more)
+    (own_in c.args.changes.now c.args.self.now c.requires.in_order c.requires.more)
 
-pub returns-then-as_slice-place-eq0-clause-kept : goal.returns-then-as_slice-place-eq0-clause-kept
-returns-then-as_slice-place-eq0-clause-kept c =
-    kept_used c.args.changes.now c.args.self.now c.requires.kept c.requires.more (ap (λ (list : List ℕ).
+pub returns-then-as_slice-place-eq0-clause-in_order : goal.returns-then-as_slice-place-eq0-clause-in_order
+returns-then-as_slice-place-eq0-clause-in_order c =
+    kept_used c.args.changes.now c.args.self.now c.requires.in_order c.requires.more (ap (λ (list : List ℕ).
     get_or list c.args.self.now.admitted 0) (sym c.as_slice.ensures) ∙ c.if-as_slice-place-eq0.true)
 
 pub returns-then-as_slice-place-eq0-clause-tracked : goal.returns-then-as_slice-place-eq0-clause-tracked
 returns-then-as_slice-place-eq0-clause-tracked c =
     tracked_next c.args.changes.now c.args.self.now c.args.self.now.lines c.requires.tracked c.requires.no_room
 
-pub returns-clause-kept : goal.returns-clause-kept
-returns-clause-kept c = waits c.args.changes.now c.args.self.now c.add.new.self c.line_of.result c.cost_of-cost.result
-    c.index-changes-place.result c.requires.kept c.requires.more c.index-changes-place.is c.line_of.ensures
-    c.cost_of-cost.ensures c.in_ok-add.ensures
+pub returns-clause-in_order : goal.returns-clause-in_order
+returns-clause-in_order c = waits c.args.changes.now c.args.self.now c.add.new.self c.line_of.result
+    c.cost_of-cost.result c.index-changes-place.result c.requires.in_order c.requires.more c.index-changes-place.is
+    c.line_of.ensures c.cost_of-cost.ensures c.in_ok-add.ensures
 
 pub returns-clause-tracked : goal.returns-clause-tracked
 returns-clause-tracked c =

@@ -82,12 +82,12 @@ apply-unused-requires c =
     (λ (one : Change). MayApply c.args.self.now.board one (room_in c.args.changes.now c.args.self.now c.args.place))
     (sym (get_or_read c.args.changes.now c.args.place c.index-changes-place.result c.requires.within
     c.index-changes-place.is no_change)) (may_apply_first c.args.changes.now c.args.self.now c.args.place
-    c.requires.kept c.requires.within c.requires.is_board some))
+    c.requires.in_order c.requires.within c.requires.is_board some))
 
 pub wake_product-requires-clause-places : goal.wake_product-requires-clause-places
 wake_product-requires-clause-places c = λ k d within. omega (
   arith,
-  places_within c.args.changes.now c.args.self.now c.requires.kept
+  places_within c.args.changes.now c.args.self.now c.requires.in_order
       (product_line c.index-changes-place.result.product) k d within,
   ap (λ (list : List ℕ). length list) c.set.ensures,
   length-set c.args.self.now.left c.args.place (get_or c.as_slice.result.now c.args.place 0 - c.args.room),
@@ -97,14 +97,14 @@ pub wake-requires-clause-places : goal.wake-requires-clause-places
 wake-requires-clause-places c = places_mid c.args.changes.now c.args.place c.args.room c.args.self.now
     c.wake_product.new.self c.wake_product.new.self c.index-changes-place.result c.apply-unused.new.self
     c.as_slice.result.now c.set.new.self c.apply-unused.result (get_or c.as_slice.result.now c.args.place 0
-    - c.args.room) c.bidder_line.result c.min.result c.requires.kept c.requires.within c.requires.is_board
+    - c.args.room) c.bidder_line.result c.min.result c.requires.in_order c.requires.within c.requires.is_board
     c.requires.room c.requires.positive c.index-changes-place.is c.apply-unused.ensures.applied c.as_slice.ensures
     c.set.ensures refl c.in_ok-wake_product.ensures c.bidder_line.result
 
 pub returns : goal.returns
 returns c = joined c.args.changes.now c.args.place c.args.room c.args.self.now c.wake_product.new.self c.wake.new.self
     c.index-changes-place.result c.apply-unused.new.self c.as_slice.result.now c.set.new.self c.apply-unused.result
-    (get_or c.as_slice.result.now c.args.place 0 - c.args.room) c.bidder_line.result c.min.result c.requires.kept
+    (get_or c.as_slice.result.now c.args.place 0 - c.args.room) c.bidder_line.result c.min.result c.requires.in_order
     c.requires.within c.requires.is_board c.requires.room c.requires.positive c.index-changes-place.is
     c.apply-unused.ensures.applied c.as_slice.ensures c.set.ensures refl c.in_ok-wake_product.ensures c.requires.tracked
     c.apply-unused.ensures.unused c.bidder_line.ensures c.min.ensures c.in_ok-wake.ensures

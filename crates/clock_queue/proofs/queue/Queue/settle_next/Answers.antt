@@ -22,16 +22,16 @@ admit-requires-clause-no_room c = next_has_none c.args.changes.now c.args.self.n
 
 pub loop-place-init : goal.loop-place-init
 loop-place-init c = record {
-  goes_on = goes_on_first c.args.changes.now c.args.self.now c.test.new.self c.admit.new.self.lines c.requires.kept
+  goes_on = goes_on_first c.args.changes.now c.args.self.now c.test.new.self c.admit.new.self.lines c.requires.in_order
       c.requires.tracked c.requires.counts c.requires.none c.requires.more c.in_ok-test.ensures c.admit.new.self
-      c.in_ok-admit.ensures.same c.in_ok-admit.ensures.kept c.in_ok-admit.ensures.tracked;
+      c.in_ok-admit.ensures.same c.in_ok-admit.ensures.in_order c.in_ok-admit.ensures.tracked;
   admitted = ap (λ (queue : Queue). queue.admitted) c.in_ok-admit.ensures.same ∙ ap (λ n. n + 1)
       (admitted_same c.args.changes.now c.args.self.now.admitted c.args.self.now c.test.new.self c.in_ok-test.ensures);
 }
 
-pub test-requires-in-Some-clause-kept : goal.test-requires-in-Some-clause-kept
-test-requires-in-Some-clause-kept c = kept_popped c.args.changes.now c.loop-place.self c.in-Some.place c.pop.new.self
-    c.loop-place.invariant.goes_on.kept c.in-Some.ensures.taken
+pub test-requires-in-Some-clause-in_order : goal.test-requires-in-Some-clause-in_order
+test-requires-in-Some-clause-in_order c = kept_popped c.args.changes.now c.loop-place.self c.in-Some.place
+    c.pop.new.self c.loop-place.invariant.goes_on.in_order c.in-Some.ensures.taken
 
 pub test-requires-in-Some-clause-tracked : goal.test-requires-in-Some-clause-tracked
 test-requires-in-Some-clause-tracked c = tracked_popped c.args.changes.now c.loop-place.self c.in-Some.place
@@ -39,17 +39,17 @@ test-requires-in-Some-clause-tracked c = tracked_popped c.args.changes.now c.loo
 
 pub test-requires-in-Some-clause-within : goal.test-requires-in-Some-clause-within
 test-requires-in-Some-clause-within c = popped_within c.args.changes.now c.loop-place.self c.in-Some.place
-    c.pop.new.self c.loop-place.invariant.goes_on.kept c.in-Some.ensures.taken
+    c.pop.new.self c.loop-place.invariant.goes_on.in_order c.in-Some.ensures.taken
 
 pub loop-place-smaller : goal.loop-place-smaller
 loop-place-smaller c = less_popped c.args.changes.now c.loop-place.self c.in-Some.place c.pop.new.self
-    c.loop-place.invariant.goes_on.kept c.in-Some.ensures.taken c.test-in-Some.new.self c.in_ok-test-2.ensures
+    c.loop-place.invariant.goes_on.in_order c.in-Some.ensures.taken c.test-in-Some.new.self c.in_ok-test-2.ensures
 
 pub loop-place-preserved : goal.loop-place-preserved
 loop-place-preserved c = record {
   goes_on = goes_further c.args.changes.now c.args.self.now c.loop-place.self c.test-in-Some.new.self
       c.loop-place.invariant.goes_on (goes_on_popped c.args.changes.now c.loop-place.self c.in-Some.place c.pop.new.self
-      c.loop-place.invariant.goes_on.kept c.in-Some.ensures.taken c.test-in-Some.new.self
+      c.loop-place.invariant.goes_on.in_order c.in-Some.ensures.taken c.test-in-Some.new.self
       c.loop-place.invariant.goes_on.tracked c.loop-place.invariant.goes_on.counts c.in-Some.ensures.least
       c.in_ok-test-2.ensures);
   admitted = admitted_same c.args.changes.now c.in-Some.place _ c.test-in-Some.new.self c.in_ok-test-2.ensures

@@ -5,9 +5,9 @@ use Rattle.clock_queue.specs.inside.Queue.{HasSoundLines, IsTested, IsTracking, 
 use Rattle.clock_queue.proofs.Admits.{kept_tested, tracked_tested, tracked_rest}
 use Rattle.clock_queue.proofs.queue.Queue.test.Goals as goal
 
-pub apply-requires-clause-kept : goal.apply-requires-clause-kept
-apply-requires-clause-kept c = subst (HasSoundLines c.args.changes.now) (sym c.room-room.ensures.counted)
-    (kept_tested c.args.changes.now c.args.self.now c.requires.kept)
+pub apply-requires-clause-in_order : goal.apply-requires-clause-in_order
+apply-requires-clause-in_order c = subst (HasSoundLines c.args.changes.now) (sym c.room-room.ensures.counted)
+    (kept_tested c.args.changes.now c.args.self.now c.requires.in_order)
 
 pub apply-requires-clause-tracked : goal.apply-requires-clause-tracked
 apply-requires-clause-tracked c = subst (λ (queue : Queue). IsTracking c.args.changes.now queue
@@ -20,7 +20,7 @@ returns-then-room-eq0 c =
     let old : Queue = c.args.self.now in
     let none : room_in changes old c.args.place ≡ 0 = sym c.room-room.ensures.room ∙ c.if-room-eq0.true in
     subst (IsTested changes c.args.place old) (sym c.room-room.ensures.counted) (record {
-      kept = kept_tested changes old c.requires.kept;
+      in_order = kept_tested changes old c.requires.in_order;
       tracked = tracked_tested changes old old.ready
           (tracked_rest changes old c.args.place old.ready none c.requires.tracked);
       terms = record { products = refl; eligibilities = refl };

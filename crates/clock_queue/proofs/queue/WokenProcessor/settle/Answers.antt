@@ -15,7 +15,7 @@ loop-place-init c =
     let can : CanSettle c.args.board changes =
     subst (λ (list : List Change). CanSettle c.args.board list) (sym c.as_slice-requests.ensures) c.requires in
     record {
-      kept = started c.args.board changes c.lines_for.result c.in_ok-amounts_of.field-0 c.in_ok-new.field-0
+      in_order = started c.args.board changes c.lines_for.result c.in_ok-amounts_of.field-0 c.in_ok-new.field-0
           c.in_ok-new-2.field-0 can c.lines_for.ensures c.in_ok-amounts_of.ensures c.in_ok-new.ensures
           c.in_ok-new-2.ensures;
       tracked = nothing_tracked changes _ refl;
@@ -37,7 +37,7 @@ loop-place-init c =
 
 pub loop-place-preserved : goal.loop-place-preserved
 loop-place-preserved c = record {
-  kept = c.in_ok-settle_next.ensures.goes_on.kept;
+  in_order = c.in_ok-settle_next.ensures.goes_on.in_order;
   tracked = c.in_ok-settle_next.ensures.goes_on.tracked;
   counts = c.in_ok-settle_next.ensures.goes_on.counts;
   none = c.in_ok-settle_next.ensures.none;
@@ -53,7 +53,7 @@ pub returns : goal.returns
 returns c =
     let changes : List Change = c.as_slice-requests.result.now in
     let done : IsDone c.args.board changes c.loop-place.queue = record {
-      kept = c.loop-place.invariant.kept;
+      in_order = c.loop-place.invariant.in_order;
       tracked = c.loop-place.invariant.tracked;
       counts = c.loop-place.invariant.counts;
       none = c.loop-place.invariant.none;
@@ -70,7 +70,7 @@ returns c =
           (is_settlement c.args.board changes c.loop-place.queue c.end.result done c.end.ensures.settled can);
       proper = subst (λ (list : List Change). IsProperEnd c.args.board list c.end.result) c.as_slice-requests.ensures
           (is_proper c.args.board changes c.loop-place.queue c.end.result done c.end.ensures.settled can
-          c.end.ensures.kept);
+          c.end.ensures.in_order);
       tests = subst (λ (list : List Change). IsWithinTests list c.end.result) c.as_slice-requests.ensures
           (is_within c.args.board changes c.loop-place.queue c.end.result done c.end.ensures.settled);
     }

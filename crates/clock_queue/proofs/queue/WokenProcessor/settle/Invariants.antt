@@ -8,7 +8,7 @@ use Rattle.clock_queue.proofs.queue.WokenProcessor.settle.Given as goal
 -- the requests so far are admitted, none is ready, and the steps so far reach this state
 abbrev pub invariant-loop-place : goal.invariant-loop-place
 invariant-loop-place l = record {
-  kept : HasSoundLines l.requests l.queue;
+  in_order : HasSoundLines l.requests l.queue;
   tracked : IsTracking l.requests l.queue l.queue.ready;
   counts : StaysWithinTests l.requests l.queue;
   none : l.queue.ready ≡ [];

@@ -2,7 +2,7 @@
 use Rattle.std.proofs.Common.{List, ℕ, length, sym, ap, ◌∙◌}
 use Rattle.std.proofs.lemmas.List.FromFn.{length-map-range_with_len}
 use Rattle.clock_replays.specs.EndedRows.{rows_from}
-use Rattle.clock_replays.specs.KeptLimits.{limits_for}
+use Rattle.clock_replays.specs.PackedLimits.{limits_for}
 use Rattle.clock_replays.proofs.limit_lists.LimitLists.count.Goals as goal
 
 pub returns : goal.returns

@@ -13,5 +13,5 @@ loop-list-preserved c =
           ∙ ap (λ (lists : List (List ℕ)). lists ++ row ∷ []) l.invariant.limits
           ∙ ap (λ (last : List ℕ). take l.list-index c.args.lists.now ++ last ∷ []) at
           ∙ sym (take_more c.args.lists.now l.list-index row c.loop-list-test.true);
-      kept = c.in_ok-push.ensures.kept;
+      packed = c.in_ok-push.ensures.packed;
     }

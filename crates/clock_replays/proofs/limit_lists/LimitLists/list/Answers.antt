@@ -4,12 +4,12 @@ use Rattle.std.proofs.Common.{rules}
 use Rattle.std.proofs.lemmas.List.FromFn.{length-map-range_with_len, get_or-map-range_with_len}
 use Rattle.clock_terms.specs.Demands.{row_of}
 use Rattle.clock_replays.specs.EndedRows.{rows_from}
-use Rattle.clock_replays.specs.KeptLimits.{limits_for}
+use Rattle.clock_replays.specs.PackedLimits.{limits_for}
 use Rattle.clock_replays.specs.inside.EndedRows.{AreEnds}
-use Rattle.clock_replays.specs.inside.KeptLimits.{kept_limits}
+use Rattle.clock_replays.specs.inside.PackedLimits.{packed_limits}
 use Rattle.clock_replays.specs.declared.limit_lists.LimitRows.{LimitRows}
 use Rattle.clock_replays.proofs.EndedRowLaws.{length-rows, row_at, end_within}
-use Rattle.clock_replays.proofs.KeptLimitLaws.{found, missing}
+use Rattle.clock_replays.proofs.PackedLimitLaws.{found, missing}
 use Rattle.clock_replays.proofs.limit_lists.LimitLists.list.Goals.{then-place-products-via-then-place-products}
 use Rattle.clock_replays.proofs.limit_lists.LimitLists.list.Goals.{
   then-place-products-via-else-place-products+then-products-place,
@@ -18,7 +18,7 @@ use Rattle.clock_replays.proofs.limit_lists.LimitLists.list.Goals.{then-place-eq
 use Rattle.clock_replays.proofs.limit_lists.LimitLists.list.Goals as goal
 
 -- the list of a product is its row
-listed : (rows : LimitRows) (lists : List (List ℕ)) (product : ℕ) → kept_limits rows ≡ lists → product < length lists
+listed : (rows : LimitRows) (lists : List (List ℕ)) (product : ℕ) → packed_limits rows ≡ lists → product < length lists
     → limits_for rows.products.items (rows_from 0 rows.ends.items rows.prices.items) product ≡ row_of lists product
 listed rows lists product same below =
     let limits = limits_for rows.products.items (rows_from 0 rows.ends.items rows.prices.items) in
@@ -35,10 +35,10 @@ bounds : {products_read products ends_read ends prices_read prices : List ℕ} (
 bounds {products_read} {products} {ends_read} {ends} {prices_read}
     {prices} place same_products same_ends same_prices most other count are =
     let within : place < length ends = omega (arith, ap length same_products, most, other, count) in
-    let told = end_within 0 ends (length prices) place are within in
+    let reported = end_within 0 ends (length prices) place are within in
     let first = ap (λ (list : List ℕ). get_or (0 ∷ list) place 0) same_ends in
     let last = ap (λ (list : List ℕ). get_or list place 0) same_ends in
-    (omega (arith, told.0, first, last), omega (arith, told.1, last, ap length same_prices))
+    (omega (arith, reported.0, first, last), omega (arith, reported.1, last, ap length same_prices))
 
 pub returns-then-place-products : goal.returns-then-place-products
 returns-then-place-products c =
@@ -70,10 +70,10 @@ slice_bounds-result-count c =
       | then-place-eq0 w ↦ search rules
       | else-place-eq0 w ↦ search rules
     ] in
-    let told = bounds place c.as_slice-products.ensures.value c.as_slice-ends.ensures.value c.as_slice.ensures.value
+    let reported = bounds place c.as_slice-products.ensures.value c.as_slice-ends.ensures.value c.as_slice.ensures.value
     c.place_of-place.ensures.place.0
     c.if-place-products.false c.self.invariant.1 c.self.invariant.0 in
-    omega (arith, told.0, begins)
+    omega (arith, reported.0, begins)
 
 pub slice_bounds-result-start : goal.slice_bounds-result-start
 slice_bounds-result-start c =
@@ -82,10 +82,10 @@ slice_bounds-result-start c =
       | then-place-eq0 w ↦ search rules
       | else-place-eq0 w ↦ search rules
     ] in
-    let told = bounds place c.as_slice-products.ensures.value c.as_slice-ends.ensures.value c.as_slice.ensures.value
+    let reported = bounds place c.as_slice-products.ensures.value c.as_slice-ends.ensures.value c.as_slice.ensures.value
     c.place_of-place.ensures.place.0
     c.if-place-products.false c.self.invariant.1 c.self.invariant.0 in
-    omega (arith, told.0, begins)
+    omega (arith, reported.0, begins)
 
 pub slice_bounds-result-end-2 : goal.slice_bounds-result-end-2
 slice_bounds-result-end-2 c =
@@ -94,10 +94,10 @@ slice_bounds-result-end-2 c =
       | then-place-eq0 w ↦ search rules
       | else-place-eq0 w ↦ search rules
     ] in
-    let told = bounds place c.as_slice-products.ensures.value c.as_slice-ends.ensures.value c.as_slice.ensures.value
+    let reported = bounds place c.as_slice-products.ensures.value c.as_slice-ends.ensures.value c.as_slice.ensures.value
     c.place_of-place.ensures.place.0
     c.if-place-products.false c.self.invariant.1 c.self.invariant.0 in
-    omega (arith, told.1)
+    omega (arith, reported.1)
 
 pub returns : goal.returns
 returns c =

@@ -1,8 +1,8 @@
 -- If the row before `from` is for a lower product, so are all before it.
 use Rattle.std.proofs.Common.{◌-◌, ◌<◌, ◌≤◌, ℕ, List, length, get_or, sym, subst, arith, rules}
 use Rattle.std.specs.List.{AllWithin}
-use Rattle.clock_replays.specs.inside.KeptLimits.{AreRising}
-use Rattle.clock_replays.proofs.KeptLimitLaws.{smaller_before}
+use Rattle.clock_replays.specs.inside.PackedLimits.{AreRising}
+use Rattle.clock_replays.proofs.PackedLimitLaws.{smaller_before}
 use Rattle.clock_replays.proofs.limit_lists.LimitRows.place_of.Goals.{then-place-products}
 use Rattle.clock_replays.proofs.limit_lists.LimitRows.place_of.Goals.{else-place-products+else-products-place}
 use Rattle.clock_replays.proofs.limit_lists.LimitRows.place_of.Goals.{then-place-gt0, else-place-gt0}

@@ -1,8 +1,8 @@
 -- Products without a row have no limits.
 use Rattle.std.proofs.Common.{◌≡◌, ◌+◌, ap, ◌∙◌, arith, rules}
 use Rattle.clock_replays.specs.EndedRows.{rows_from}
-use Rattle.clock_replays.specs.KeptLimits.{limits_of}
-use Rattle.clock_replays.proofs.KeptLimitLaws.{limits_empty, rising_more}
+use Rattle.clock_replays.specs.PackedLimits.{limits_of}
+use Rattle.clock_replays.proofs.PackedLimitLaws.{limits_empty, rising_more}
 use Rattle.clock_replays.proofs.limit_lists.LimitRows.push_empty.Goals as goal
 
 pub returns-clause-limits : goal.returns-clause-limits
@@ -13,8 +13,8 @@ returns-clause-limits c =
     ap (λ n. limits_of n old.products.items rows) after
     ∙ limits_empty c.args.count old.count old.products.items rows c.requires.2
 
-pub returns-clause-kept : goal.returns-clause-kept
-returns-clause-kept c =
+pub returns-clause-packed : goal.returns-clause-packed
+returns-clause-packed c =
     let old = c.args.self.now in
     let after : c.in_ok-self.field-0 ≡ old.count + c.args.count = search rules in (
       c.requires.0,

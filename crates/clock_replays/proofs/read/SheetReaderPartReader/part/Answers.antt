@@ -2,7 +2,7 @@
 use Rattle.std.proofs.Common.{◌≡◌, subst}
 use Rattle.std.specs.Bool.{MatchBool}
 use Rattle.serde_json.specs.Data.{null}
-use Rattle.clock_json.specs.Reading.{Reads}
+use Rattle.clock_json.specs.Reading.{ReadsValue}
 use Rattle.clock_json.proofs.Steps.{reads_shorter}
 use Rattle.clock_replays.proofs.read.SheetReaderPartReader.part.Goals as goal
 
@@ -11,4 +11,4 @@ returns-then-null-clause-shorter c =
     let old = c.args.scan.now in
     let new = c.null.new.self in
     reads_shorter 0 old null new
-    (subst (λ passed. MatchBool passed (Reads 0 old null new) (new ≡ old)) c.if-null.true c.null.ensures)
+    (subst (λ passed. MatchBool passed (ReadsValue 0 old null new) (new ≡ old)) c.if-null.true c.null.ensures)

@@ -6,22 +6,22 @@ use Rattle.std.proofs.lemmas.Bool.{cases_lt}
 use Rattle.std.proofs.lemmas.List.{get_or_default}
 use Rattle.std.specs.List.{AllWithin}
 use Rattle.clock_terms.specs.declared.held_list.PositiveDemand.{PositiveDemand}
-use Rattle.clock_terms.specs.declared.row.Held.{Held}
+use Rattle.clock_terms.specs.declared.row.ProductDemand.{ProductDemand}
 use Rattle.clock_terms.specs.Limits.{most_supply}
 use Rattle.clock_terms.specs.HeldDemands.{demand_for, demands_of, next_of}
-use Rattle.clock_terms.specs.inside.Rows.{IsKeptWalk}
+use Rattle.clock_terms.specs.inside.Rows.{IsPackedWalk}
 use Rattle.clock_terms.proofs.HeldLaws.{shown, length-demands, found, rising, held_at, small_at, next_at, next_none}
 use Rattle.clock_terms.proofs.HeldLaws.{gap}
 use Rattle.clock_terms.proofs.row.PositiveDemands.next.Goals as goal
 
 -- the next entry has the demand for its product
-is_demand : (count : ℕ) (held : List PositiveDemand) (given : ℕ) (d : PositiveDemand) → IsKeptWalk count held given
+is_demand : (count : ℕ) (held : List PositiveDemand) (given : ℕ) (d : PositiveDemand) → IsPackedWalk count held given
     → given < length held → (get_or held given d).demand ≡ demand_for held (get_or held given d).product
 is_demand count held given d kept more = sym (found held (get_or held given d).product given d
     (λ k e low high. rising 0 held count k given e d kept.0 high more) more refl)
 
 -- the entry after it is for a higher product
-above : (count : ℕ) (held : List PositiveDemand) (given : ℕ) (d : PositiveDemand) → IsKeptWalk count held given
+above : (count : ℕ) (held : List PositiveDemand) (given : ℕ) (d : PositiveDemand) → IsPackedWalk count held given
     → given < length held → (get_or held given d).product < next_of count (drop (given + 1) held)
 above count held given d kept more =
     ⊎_elim
@@ -36,7 +36,7 @@ above count held given d kept more =
     (cases_lt (given + 1) (length held))
 
 -- the next product is at most the number of products
-most : (count : ℕ) (held : List PositiveDemand) (given : ℕ) → IsKeptWalk count held given
+most : (count : ℕ) (held : List PositiveDemand) (given : ℕ) → IsPackedWalk count held given
     → next_of count (drop given held) ≤ count
 most count held given kept =
     let no_one : PositiveDemand = record { product = 0; demand = 0 } in
@@ -48,7 +48,7 @@ most count held given kept =
 
 -- the demands between two entries are 0
 between : (count : ℕ) (held : List PositiveDemand) (given : ℕ) (d : PositiveDemand) (product e : ℕ)
-    → IsKeptWalk count held given → given < length held → (get_or held given d).product < product
+    → IsPackedWalk count held given → given < length held → (get_or held given d).product < product
     → product < next_of count (drop (given + 1) held) → get_or (demands_of count held) product e ≡ 0
 between count held given d product e kept more low high =
     let smaller : AllWithin (λ one. one.product < product) held 0 (given + 1) =
@@ -73,8 +73,8 @@ returns-in_err-one-clause-passed c =
     let ended = next_none walk.count walk.held.now walk.given c.in_err-one.ensures.lookup.3 in
     let long = length-demands walk.count walk.held.now in
     λ k d low high.
-    let below : k < length c.args.self.now.demands = subst (λ given. k < unwrap_or
-    (option_map (λ (held : Held). held.product) given) (length c.args.self.now.demands)) c.from_residual.ensures high in
+    let below : k < length c.args.self.now.demands = subst (λ given. k < unwrap_or (option_map
+    (λ (held : ProductDemand). held.product) given) (length c.args.self.now.demands)) c.from_residual.ensures high in
     absurd (omega (
       arith,
       low,

@@ -6,7 +6,7 @@ use Rattle.clock_terms.specs.declared.prices.PricePair.{PricePair}
 use Rattle.clock_terms.specs.Limits.{IsSetup}
 use Rattle.clock_closing.specs.inside.OpenRound.{eligibilities_of, grid_of}
 use Rattle.clock_house.specs.Command.{Command}
-use Rattle.clock_house.specs.House.{HouseFields, StandsFor, standing_in}
+use Rattle.clock_house.specs.House.{HouseFields, StandsFor, state_in}
 use Rattle.clock_house.specs.inside.OpenRounds.{open_round_in}
 
 -- The house stands for some list of commands. What it stores for quick reading is what its closed
@@ -16,8 +16,8 @@ pub record AgreesWithRounds (house : HouseFields) (ended : Bool) (round : ℕ)
   pub limits : IsSetup house.setup
   pub commands : List Command
   pub stands : StandsFor commands house
-  pub ended_is : ended ≡ (standing_in house).ended
-  pub round_is : round ≡ (standing_in house).round
-  pub prices_are : ended ≡ false → prices ≡ (standing_in house).prices
+  pub ended_is : ended ≡ (state_in house).ended
+  pub round_is : round ≡ (state_in house).round
+  pub prices_are : ended ≡ false → prices ≡ (state_in house).prices
   pub eligibilities_are : eligibilities ≡ eligibilities_of (open_round_in house)
   pub demands_are : demands ≡ grid_of (open_round_in house)

@@ -4,7 +4,7 @@ use Rattle.clock_house.specs.House.{HouseFields}
 use Rattle.clock_front.specs.Effects.{RespondsTo}
 use Rattle.clock_front.specs.Fronts.{StandsForTexts}
 use Rattle.clock_front.specs.declared.front.response.Response.{Response}
-use Rattle.clock_journal.specs.Kept.{JournalState, HasTexts}
+use Rattle.clock_journal.specs.Logged.{JournalState, HasTexts}
 use Rattle.clock_journal.specs.Reading.{onto}
 use Rattle.clock_keeping.specs.Keeping.{IsInStep, IsLogged, StandsForLogged, is_change, logged_when}
 use Rattle.clock_keeping.proofs.EffectLaws.{nothing_where, right_after, right_where, stands_still}
@@ -32,18 +32,18 @@ passed_over digest past text response old new journal in_step (inl right) none =
         stands = stands_still (onto past []) old new in_step.stands (right.still (nothing_where response.effect none));
       };
     }
-passed_over digest past text response old new journal in_step (inr (struck, nothing, still)) none = record {
+passed_over digest past text response old new journal in_step (inr (left_out, nothing, still)) none = record {
   texts = past;
-  next = inr (struck, refl);
+  next = inr (left_out, refl);
   in_step = record { has = in_step.has; stands = stands_still (onto past []) old new in_step.stands still };
 }
 
 -- a text that changed the auction is logged
-pub kept : (digest : List ℕ) (past : List (List ℕ)) (text : List ℕ) (response : Response) (old new : HouseFields)
+pub logged : (digest : List ℕ) (past : List (List ℕ)) (text : List ℕ) (response : Response) (old new : HouseFields)
     (journal : JournalState) → HasTexts digest (past ++ text ∷ []) journal → StandsForLogged past old
     → RespondsTo text response old new → is_change response.effect ≡ true
     → IsLogged digest past text response.reply journal old new
-kept digest past text response old new journal has stands responds change =
+logged digest past text response old new journal has stands responds change =
     let after = right_after (onto past []) text response old new stands
     (right_where text response old new responds change) in
     record {

@@ -7,11 +7,11 @@ use Rattle.std.proofs.lemmas.Bool.{ne_eqb, eq-eqb}
 use Rattle.std.proofs.lemmas.List.FromFn.{length-map-range_with_len, get_or-map-range_with_len, map-range_with_len_more}
 use Rattle.std.proofs.lemmas.List.FromFn.{fill_by_all}
 use Rattle.std.specs.List.{range_with_len, AllWithin}
-use Rattle.clock_replays.specs.KeptLimits.{limits_for, limits_of}
+use Rattle.clock_replays.specs.PackedLimits.{limits_for, limits_of}
 use Rattle.std.proofs.lemmas.List.{length-append}
 use Rattle.clock_replays.specs.EndedRows.{rows_from}
 use Rattle.clock_replays.specs.inside.EndedRows.{AreEnds}
-use Rattle.clock_replays.specs.inside.KeptLimits.{AreRising}
+use Rattle.clock_replays.specs.inside.PackedLimits.{AreRising}
 use Rattle.clock_replays.proofs.EndedRowLaws.{length-rows, one_more}
 
 -- the first product with a row has the first one
@@ -175,15 +175,15 @@ pub row_pushed : (count end product : ℕ)
     → (limits_of (count + 1) products_after (rows_from 0 ends_after prices_after)
     ≡ limits_of count products (rows_from 0 ends prices) ++ row ∷ []) × (AreEnds 0 ends_after (length prices_after)
     × (length products_after ≡ length ends_after) × AreRising 0 products_after (count + 1))
-row_pushed count end product products ends prices row products_after ends_after prices_after known kept priced last
+row_pushed count end product products ends prices row products_after ends_after prices_after known packed priced last
     same ended added next =
     let one =
-    one_more ends prices row prices_after end kept.0 priced (last ∙ ap (λ (list : List ℕ). length list) same) in
+    one_more ends prices row prices_after end packed.0 priced (last ∙ ap (λ (list : List ℕ). length list) same) in
     let limited : products_after ≡ products ++ count ∷ [] = added ∙ ap (λ (n : ℕ). products ++ n ∷ []) next in
     let rows : rows_from 0 ends_after prices_after ≡ rows_from 0 ends prices ++ row ∷ [] =
     ap (λ (all : List ℕ). rows_from 0 all prices_after) ended ∙ one.0 in (
-      ap₂ (λ (all : List ℕ) (lists : List (List ℕ)). limits_of (count + 1) all lists) limited rows
-          ∙ limits_more count products (rows_from 0 ends prices) row kept.2 (kept.1 ∙ sym (length-rows 0 ends prices)),
+      ap₂ (λ (all : List ℕ) (lists : List (List ℕ)). limits_of (count + 1) all lists) limited rows ∙ limits_more count
+          products (rows_from 0 ends prices) row packed.2 (packed.1 ∙ sym (length-rows 0 ends prices)),
       (
         subst (λ (all : List ℕ). AreEnds 0 all (length prices_after)) (sym ended) one.1,
         omega (
@@ -192,9 +192,9 @@ row_pushed count end product products ends prices row products_after ends_after 
           ap (λ (all : List ℕ). length all) limited,
           length-append ends (end ∷ []),
           length-append products (count ∷ []),
-          kept.1,
+          packed.1,
         ),
-        subst (λ (all : List ℕ). AreRising 0 all (count + 1)) (sym limited) (rising_push 0 products count kept.2),
+        subst (λ (all : List ℕ). AreRising 0 all (count + 1)) (sym limited) (rising_push 0 products count packed.2),
       ),
     )
 

@@ -10,10 +10,10 @@ use Rattle.clock_bids.specs.declared.sheet.Bid.{Bid}
 use Rattle.clock_house.specs.Command.{Command}
 use Rattle.clock_terms.specs.Prices.{opening_prices}
 use Rattle.clock_closing.specs.OpenRound.{OpenRound, IsOpenRound}
-use Rattle.clock_house.specs.History.{ClosedRound, round_at, history, standing, holding, for_each_bidder}
+use Rattle.clock_house.specs.History.{ClosedRound, round_at, history, public_state, holding, for_each_bidder}
 use Rattle.clock_house.specs.inside.OpenRounds.{open_round, open_round_in}
-use Rattle.clock_house.specs.inside.Kept.{AgreesWithRounds}
-use Rattle.clock_house.specs.House.{HouseFields, StandsFor, standing_in, holding_in}
+use Rattle.clock_house.specs.inside.Stored.{AgreesWithRounds}
+use Rattle.clock_house.specs.House.{HouseFields, StandsFor, state_in, holding_in}
 use Rattle.clock_house.specs.Laws.{AreNumbered, IsSound, IsOpen}
 use Rattle.clock_house.proofs.Sound.{sound, open_sound}
 use Rattle.clock_house.proofs.Numbers.{numbered, round-closed, first_prices, reverse_cons}
@@ -32,7 +32,7 @@ module _ (house : HouseFields) (commands : List Command) (stands : StandsFor com
   pub stands_open : open_round_in house ≡ open_round house.setup (history house.setup commands)
   stands_open =
       let at = λ (closed : List ClosedRound) (sheets : List (Option (List Bid))). let round : OpenRound = record {
-        standing = standing house.setup.products closed;
+        public_state = public_state house.setup.products closed;
         holdings = for_each_bidder house.setup (holding house.setup closed);
         sheets = sheets;
       } in round in
@@ -84,20 +84,20 @@ module _ (house : HouseFields) (limits : IsSetup house.setup) (commands : List C
         count = all.count;
       })
 
-  pub stands_going : (standing_in house).ended ≡ false → IsOpen (public_setup house.setup) (open_round_in house)
+  pub stands_going : (state_in house).ended ≡ false → IsOpen (public_setup house.setup) (open_round_in house)
   stands_going going =
-      subst (IsOpen (public_setup house.setup)) (sym (stands_open house commands stands))
-      (open_sound house.setup limits (history house.setup commands) (sound house.setup limits commands)
-      (ap (λ (closed : List ClosedRound). (standing house.setup.products closed).ended) (sym stands.closed) ∙ going))
+      subst (IsOpen (public_setup house.setup)) (sym (stands_open house commands stands)) (open_sound house.setup limits
+      (history house.setup commands) (sound house.setup limits commands) (ap (λ (closed : List ClosedRound).
+      (public_state house.setup.products closed).ended) (sym stands.closed) ∙ going))
 
   -- The first round has the opening prices.
-  stands_opening : (standing_in house).ended ≡ false → (standing_in house).round ≡ 1
-      → (standing_in house).prices ≡ opening_prices house.setup.products
+  stands_opening : (state_in house).ended ≡ false → (state_in house).round ≡ 1
+      → (state_in house).prices ≡ opening_prices house.setup.products
   stands_opening going first = first_prices house.setup house.closed
       (round-closed house.setup house.closed (stands_numbered house commands stands) going) first
 
   -- If the auction has not ended, the house has an open round.
-  pub stands_open_round : (standing_in house).ended ≡ false
+  pub stands_open_round : (state_in house).ended ≡ false
       → IsOpenRound (record { setup = house.setup; before = open_round_in house })
   stands_open_round going = record {
     holdings = length-map-range_with_len (holding_in house) 0 (length house.setup.bidders);
@@ -107,17 +107,17 @@ module _ (house : HouseFields) (limits : IsSetup house.setup) (commands : List C
   }
 
 -- The invariant of a house does not depend on its memory for further rounds.
-pub kept_in_room : (house : HouseFields) (spare : ℕ) (ended : Bool) (round : ℕ) (prices : List PricePair)
+pub stored_in_room : (house : HouseFields) (spare : ℕ) (ended : Bool) (round : ℕ) (prices : List PricePair)
     (eligibilities : List ℕ) (demands : List (List ℕ)) → AgreesWithRounds house ended round prices eligibilities demands
     → AgreesWithRounds (record { setup = house.setup; closed = house.closed; sheets = house.sheets; spare = spare })
     ended round prices eligibilities demands
-kept_in_room house spare ended round prices eligibilities demands kept = record {
-  limits = kept.limits;
-  commands = kept.commands;
-  stands = record { closed = kept.stands.closed; sheets = kept.stands.sheets };
-  ended_is = kept.ended_is;
-  round_is = kept.round_is;
-  prices_are = kept.prices_are;
-  eligibilities_are = kept.eligibilities_are;
-  demands_are = kept.demands_are;
+stored_in_room house spare ended round prices eligibilities demands stored = record {
+  limits = stored.limits;
+  commands = stored.commands;
+  stands = record { closed = stored.stands.closed; sheets = stored.stands.sheets };
+  ended_is = stored.ended_is;
+  round_is = stored.round_is;
+  prices_are = stored.prices_are;
+  eligibilities_are = stored.eligibilities_are;
+  demands_are = stored.demands_are;
 }

@@ -27,15 +27,15 @@ abbrev pub unused : Option (List ℕ) → SinkReport
 unused taken = record { taken = taken; calls = 0; has_failed = false }
 
 -- no read was made yet: none is counted, was interrupted, or has failed
-pub record IsUnread (told : SourceReport) : Type 0 where
-  pub uncounted : told.calls ≡ 0
-  pub uninterrupted : told.interruptions ≡ 0
-  pub unfailed : told.has_failed ≡ false
+pub record IsUnread (report : SourceReport) : Type 0 where
+  pub uncounted : report.calls ≡ 0
+  pub uninterrupted : report.interruptions ≡ 0
+  pub unfailed : report.has_failed ≡ false
 
 -- no write was made yet: none is counted or has failed
-pub record IsUnused (told : SinkReport) : Type 0 where
-  pub uncounted : told.calls ≡ 0
-  pub unfailed : told.has_failed ≡ false
+pub record IsUnused (report : SinkReport) : Type 0 where
+  pub uncounted : report.calls ≡ 0
+  pub unfailed : report.has_failed ≡ false
 
 -- a sequence of reads
 pub record Reading : Type 0 where

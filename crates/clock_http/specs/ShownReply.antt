@@ -4,6 +4,6 @@ use Rattle.clock_http.specs.declared.reply.ReplyBytes.{ReplyBytes}
 use Rattle.clock_http.specs.declared.reply.ReplyBytes.TheVariants.{Constant, Written}
 
 -- constant bytes, or those of a text from an index on
-abbrev pub shown_held : ReplyBytes → List ℕ
-shown_held (Constant bytes) = bytes.now
-shown_held (Written written) = drop written.start written.text
+abbrev pub shown_bytes : ReplyBytes → List ℕ
+shown_bytes (Constant bytes) = bytes.now
+shown_bytes (Written written) = drop written.start written.text
