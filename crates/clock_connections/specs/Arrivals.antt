@@ -5,7 +5,9 @@
 --     IsNotRead reading      no request was read: a read failed, or the limit was reached
 --     HasNoMemory reading      memory for the bytes was refused
 --     EndsArrival reading result      how reading a request ends
-use Rattle.std.specs.Prelude.{◌≡◌, ◌≤◌, ◌⊎◌, ◌+◌, ◌++◌, ℕ, List, [], length, Option, true, false}
+--     StopsWhenDecided      no result is right if a read after the bytes were decided has failed
+use Rattle.std.specs.Prelude.{◌≡◌, ◌≤◌, ◌⊎◌, ◌+◌, ◌++◌, ℕ, List, [], length, Option, Some, true}
+use Rattle.std.specs.Prelude.{false}
 use Rattle.std.specs.Prelude.{Result, Ok, Err}
 use Rattle.clock_device.specs.Streams.{HasRead, IsReadOut}
 use Rattle.clock_device.specs.Readings.{HasFailedRead, RunsOutOfReads}
@@ -65,3 +67,11 @@ abbrev pub EndsArrival : Reading → Result (List ℕ) RequestReadError → Type
 EndsArrival reading (Ok text) = HasArrived reading text
 EndsArrival reading (Err unread.Read) = IsNotRead reading
 EndsArrival reading (Err unread.Memory) = HasNoMemory reading
+
+-- if bytes that are known were decided, and a read has failed since, no result is right; so reading
+-- stops when the bytes are decided, because each further read could fail
+abbrev pub StopsWhenDecided : Type 0
+StopsWhenDecided =
+    (reading : Reading) (bytes text : List ℕ) (result : Result (List ℕ) RequestReadError)
+    → reading.before.left ≡ Some bytes → HasRead reading.before.left reading.after.left text
+    → IsDecided text → reading.after.has_failed ≡ true → EndsArrival reading result → ⊥

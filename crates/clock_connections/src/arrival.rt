@@ -1,6 +1,7 @@
 ghost use Rattle.std.specs.Prelude.{◌≡◌, ◌≤◌};
 ghost use Rattle.clock_device.specs.Reports.{IsUnread};
 ghost use Rattle.clock_connections.specs.Arrivals.{most_request_reads, EndsArrival};
+ghost use Rattle.clock_connections.specs.Arrivals.{StopsWhenDecided};
 ghost use Rattle.clock_connections.specs.declared.arrival.RequestReadError.TheVariants as unread;
 
 use clock_device::{NoMemory, Source, Stop, room_for_read};
@@ -54,3 +55,9 @@ pub fn read_request<R: Source>(alloc: Global, source: &mut R) -> Result<Arriving
     }
     Err(RequestReadError::Read)
 }
+
+/// A law, which does nothing when it runs: if the bytes read were decided, and a read has failed
+/// since, no result of [`read_request`] is right. So it does not read on when they are decided.
+pub fn law_of_arrivals()
+    ensures { StopsWhenDecided }
+{}

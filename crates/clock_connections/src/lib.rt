@@ -7,5 +7,5 @@
 mod arrival;
 mod connections;
 
-pub use arrival::{RequestReadError, read_request};
+pub use arrival::{RequestReadError, law_of_arrivals, read_request};
 pub use connections::{Conn, Connections, Event, HubFault};

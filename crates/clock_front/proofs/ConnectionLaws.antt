@@ -28,7 +28,6 @@ fed_and_answered house old taken new conn text reply first second = record {
     next = second.gone.next ∙ first.next;
   };
   answered = second.answered;
-  private = second.private;
   setup = second.setup;
 }
 

@@ -1,5 +1,5 @@
--- Proves that a right reply to a bidder's own request is private, and so is the size of a failed allocation. Both are
--- computed from the right outcome, which follows from the bidder's view.
+-- Proves that a right reply in a house is right after every list of requests that the house stands for, and so private
+-- and public; and that the size of a failed allocation is private. Both follow from the right outcome.
 use Rattle.std.proofs.Common.{◌≡◌, ℕ, List, Result, Ok, Err, ◌∙◌, ap, subst}
 use Rattle.std.specs.Prelude.{IfOk, IfErr}
 use Rattle.clock_terms.specs.Limits.{IsSetup}
@@ -9,31 +9,39 @@ use Rattle.clock_front.specs.Callers.{caller}
 use Rattle.clock_front.specs.Effects.{IsRightResponse}
 use Rattle.clock_front.specs.Fronts.{commands_of}
 use Rattle.clock_front.specs.Outcomes.{outcome, answer_of}
-use Rattle.clock_front.specs.Private.{IsPrivateReply}
 use Rattle.clock_front.specs.Rooms.{FailsByPrivateAllocation, FailsByAllocation, NeedsRoom, asks_for_page, refusal_room}
 use Rattle.clock_front.specs.Rooms.{reply_room}
 use Rattle.clock_front.specs.declared.front.replies.AnswerError.{AnswerError}
 use Rattle.clock_front.specs.declared.front.replies.AnswerError.TheVariants.{Room}
-use Rattle.clock_http.specs.Replies.{Answer}
 use Rattle.clock_front.specs.declared.front.response.Response.{Response}
 use Rattle.clock_front.specs.Requests.{request_of}
+use Rattle.clock_front.specs.inside.Replies.{IsRightFor}
 use Rattle.clock_front.proofs.FrontLaws.{ask_by, outcome_after}
 use Rattle.clock_front.proofs.RunLaws.{right}
 use Rattle.clock_front.proofs.CallerLaws.{caller_own}
 use Rattle.clock_front.proofs.TextViews.{reported_from_view}
 
--- The right reply to a bidder's own request is private.
-pub private_reply : (house : HouseFields) (text : List ℕ) (answer : Answer) → IsSetup house.setup
-    → answer ≡ answer_of (outcome house (caller house.setup (request_of text).token) (request_of text).ask)
-    → IsPrivateReply text house answer
-private_reply house text answer limits is = λ texts bidder stands lt own.
-    (right house.setup limits texts text answer (is ∙ ap answer_of (outcome_after house (commands_of house.setup texts)
-    (caller house.setup (request_of text).token) (request_of text).ask stands))).private bidder lt own
+-- The right response to a sender and what it asks for is the right response to the request.
+pub right_response : (text : List ℕ) (old new : HouseFields) (response : Response) → IsSetup old.setup
+    → IsRightFor (caller old.setup (request_of text).token) (request_of text).ask old new response
+    → IsRightResponse text old new response
+right_response text old new response limits right_for = record {
+  answer = record {
+    is = right_for.reply;
+    followed = right_for.followed;
+    after = λ texts stands. right old.setup limits texts text response.reply (right_for.reply ∙ ap answer_of
+        (outcome_after old (commands_of old.setup texts) (caller old.setup (request_of text).token)
+        (request_of text).ask stands));
+  };
+  effect = right_for.effect;
+  still = right_for.still;
+}
 
-pub if_private : {N : Type 0} (reported : Result Response N) (old new : HouseFields) (text : List ℕ) → IsSetup old.setup
-    → IfOk reported (IsRightResponse text old new) → IfOk reported (λ response. IsPrivateReply text old response.reply)
-if_private (Ok response) old new text limits is = private_reply old text response.reply limits is.reply
-if_private (Err e) old new text limits is = tt
+pub if_right : {N : Type 0} (reported : Result Response N) (text : List ℕ) (old new : HouseFields) → IsSetup old.setup
+    → IfOk reported (IsRightFor (caller old.setup (request_of text).token) (request_of text).ask old new)
+    → IfOk reported (IsRightResponse text old new)
+if_right (Ok response) text old new limits right_for = right_response text old new response limits right_for
+if_right (Err e) text old new limits right_for = tt
 
 -- ---- what running out of memory reveals
 

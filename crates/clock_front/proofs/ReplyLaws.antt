@@ -16,7 +16,7 @@ use Rattle.clock_bodies.specs.declared.put_body.PutBody.{PutBody}
 use Rattle.clock_bodies.specs.declared.close_body.CloseBody.{CloseBody}
 use Rattle.clock_bodies.specs.declared.body.BodyFault.{BodyFault}
 use Rattle.clock_bodies.specs.declared.body.BodyFault.TheVariants.{NoMemory}
-use Rattle.clock_front.specs.Effects.{IsRightFor, close_effect, effect_in, put_effect}
+use Rattle.clock_front.specs.Effects.{close_effect, effect_in, put_effect}
 use Rattle.clock_front.specs.Requests.{Ask, put, close}
 use Rattle.clock_front.specs.Outcomes.{answer_of, body_code, close_command, close_outcome, close_to, command_of}
 use Rattle.clock_front.specs.Outcomes.{outcome, put_outcome, refused}
@@ -25,6 +25,7 @@ use Rattle.clock_front.specs.declared.front.callers.Caller.TheVariants.{Operator
 use Rattle.clock_front.specs.declared.front.response.Effect.{Effect}
 use Rattle.clock_front.specs.declared.front.response.Effect.TheVariants.{Nothing, Sheet, Closing}
 use Rattle.clock_front.specs.declared.front.response.Response.{Response}
+use Rattle.clock_front.specs.inside.Replies.{IsRightFor}
 use Rattle.clock_front.specs.inside.Roomless.{without_room}
 use Rattle.clock_front.proofs.ChangeLaws.{none_followed, other_followed}
 

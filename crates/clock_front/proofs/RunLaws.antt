@@ -4,8 +4,10 @@ use Rattle.std.proofs.Common.{◌≡◌, ℕ, List, [], ◌∷◌, ◌++◌, ref
 use Rattle.clock_terms.specs.Limits.{SetupFields, IsSetup}
 use Rattle.clock_http.specs.Replies.{Answer}
 use Rattle.clock_house.specs.House.{HouseFields}
-use Rattle.clock_front.specs.Fronts.{reply, StandsForTexts, AnswersText}
+use Rattle.clock_front.specs.Answered.{AnswersText}
+use Rattle.clock_front.specs.Fronts.{reply, StandsForTexts}
 use Rattle.clock_front.specs.Headline.{IsRight, Runs}
+use Rattle.clock_front.proofs.AnswerLaws.{after_texts}
 use Rattle.clock_front.proofs.PublicLaws.{reported_alike}
 use Rattle.clock_front.proofs.TextViews.{answered_from_view, isolated}
 
@@ -50,7 +52,7 @@ pub step : (setup : SetupFields) (limits : IsSetup setup) (texts : List (List �
     (front next : HouseFields) (text : List ℕ) (one : Answer) → IsUnderWay setup texts answers front → next.setup
     ≡ front.setup → AnswersText text one front next → IsUnderWay setup (texts ++ text ∷ []) (answers ++ one ∷ []) next
 step setup limits texts answers front next text one before same answered =
-    elim (answered before.end before.stands) [
+    elim (after_texts text one front next answered before.end before.stands) [
       | inl reported ↦ record {
         end = text ∷ before.end;
         kept = same ∙ before.kept;

@@ -1,21 +1,17 @@
 -- What a request changes in the auction, and what a front returns for it.
 --     effect_in house command      what a command changes in the current state of the house
 --     effect setup texts text      what a request changes after the requests `texts`
---     IsRightFor who ask old new response      the right reply and effect, and the house did it
+--     IsRightResponse text old new response      the right reply and effect
 --     RespondsTo text response old new      that, or the out-of-memory reply and no change
 use Rattle.std.specs.Prelude.{◌≡◌, ◌⊎◌, ℕ, List, Option, Some, None, Result, Ok, Err}
 use Rattle.clock_terms.specs.Limits.{SetupFields}
 use Rattle.clock_closing.specs.declared.closed_round.ClosedRound.{ClosedRound}
 use Rattle.clock_closing.specs.declared.fault.CloseFault.{CloseFault}
 use Rattle.clock_house.specs.Command.{Command, put, close, other}
-use Rattle.clock_house.specs.House.{HouseFields, IsFollowedBy, StandsForTheSame, put_fault_in}
-use Rattle.clock_house.specs.House.{closing_in}
+use Rattle.clock_house.specs.House.{HouseFields, StandsForTheSame, closing_in, put_fault_in}
 use Rattle.clock_house.specs.declared.fault.PutFault.{PutFault}
-use Rattle.clock_front.specs.Callers.{caller}
+use Rattle.clock_front.specs.Answered.{IsRightAnswer}
 use Rattle.clock_front.specs.Fronts.{IsOutOfMemoryReply, commands_of, house_after, text_command}
-use Rattle.clock_front.specs.Outcomes.{answer_of, command_of, outcome}
-use Rattle.clock_front.specs.Requests.{Ask, request_of}
-use Rattle.clock_front.specs.declared.front.callers.Caller.{Caller}
 use Rattle.clock_front.specs.declared.front.response.Effect.{Effect}
 use Rattle.clock_front.specs.declared.front.response.Effect.TheVariants.{Nothing, Sheet, Closing}
 use Rattle.clock_front.specs.declared.front.response.Response.{Response}
@@ -42,19 +38,13 @@ abbrev pub effect : SetupFields → List (List ℕ) → List ℕ → Effect
 effect setup texts text =
     effect_in (house_after setup (commands_of setup texts)) (text_command setup text)
 
--- The reply and the effect follow from the old house. The new house stands for one more command; if
--- the effect is `Nothing`, it also stands for the commands of the old one.
-pub record IsRightFor (who : Caller) (ask : Ask) (old new : HouseFields)
+-- The reply is right, and the effect follows from the old house. If the effect is `Nothing`, the
+-- new house also stands for the commands of the old one.
+pub record IsRightResponse (text : List ℕ) (old new : HouseFields)
     (response : Response) : Type 0 where
-  pub reply : response.reply ≡ answer_of (outcome old who ask)
-  pub effect : response.effect ≡ effect_in old (command_of old.setup who ask)
-  pub followed : IsFollowedBy (command_of old.setup who ask) old new
+  pub answer : IsRightAnswer text response.reply old new
+  pub effect : response.effect ≡ effect_in old (text_command old.setup text)
   pub still : response.effect ≡ Nothing → StandsForTheSame old new
-
--- The right response to the bytes of a request, by their token and what they ask for.
-abbrev pub IsRightResponse : List ℕ → HouseFields → HouseFields → Response → Type 0
-IsRightResponse text old new response =
-    IsRightFor (caller old.setup (request_of text).token) (request_of text).ask old new response
 
 -- The right response; or out of memory, and the house stands for the same commands as before.
 abbrev pub RespondsTo : List ℕ → Response → HouseFields → HouseFields → Type 0

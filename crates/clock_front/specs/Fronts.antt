@@ -6,13 +6,11 @@
 --     right_answer house text      the reply to a request, by the current state of the house
 --     IsCutShort reply      the reply to an incomplete request, or the out-of-memory reply
 --     IsOutOfMemoryReply text reply      the out-of-memory reply, to a request that needs memory
---     IsDoneBy text reply old new      right reply and command done, or out of memory and no change
---     AnswersText text reply old new      that, for every list the house stands for
-use Rattle.std.specs.Prelude.{◌≡◌, ◌⊎◌, ℕ, List, ◌∷◌, map}
+use Rattle.std.specs.Prelude.{◌≡◌, ◌⊎◌, ℕ, List, map}
 use Rattle.clock_terms.specs.Limits.{SetupFields}
 use Rattle.clock_house.specs.Command.{Command}
 use Rattle.clock_house.specs.History.{history, sheet_in_force, for_each_bidder}
-use Rattle.clock_house.specs.House.{HouseFields, StandsFor, IsFollowedBy, StandsForTheSame}
+use Rattle.clock_house.specs.House.{HouseFields, StandsFor}
 use Rattle.clock_http.specs.declared.code.Code.{Code}
 use Rattle.clock_http.specs.Framing.{framing, refusal}
 use Rattle.clock_http.specs.Replies.{Answer}
@@ -59,17 +57,3 @@ IsCutShort answer = (answer ≡ cut_short) ⊎ (answer ≡ no_memory)
 pub record IsOutOfMemoryReply (text : List ℕ) (answer : Answer) : Type 0 where
   pub is : answer ≡ no_memory
   pub needs : (code : Code) → framing text ≡ refusal code → ⊥
-
--- The reply is right, and the house then stands for the request's command after those before; or
--- the request was answered out of memory, and the house stands for the same commands as before.
-abbrev pub IsDoneBy : List ℕ → Answer → HouseFields → HouseFields → Type 0
-IsDoneBy text answer old new =
-    ((answer ≡ right_answer old text) × IsFollowedBy (text_command old.setup text) old new)
-    ⊎ (IsOutOfMemoryReply text answer × StandsForTheSame old new)
-
--- For every list of requests that the house stands for: the right reply after them, and it then
--- stands for this one too; or out of memory, and it stands for the list as before.
-abbrev pub AnswersText : List ℕ → Answer → HouseFields → HouseFields → Type 0
-AnswersText text answer old new = (texts : List (List ℕ)) → StandsForTexts texts old
-    → ((answer ≡ reply old.setup texts text) × StandsForTexts (text ∷ texts) new)
-    ⊎ (IsOutOfMemoryReply text answer × StandsForTexts texts new)

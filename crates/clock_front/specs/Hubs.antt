@@ -3,7 +3,7 @@
 --     IsFedBy old new conn piece fed      what a piece led to
 --     IsAnswered old new conn text reply      a connection's request was answered, and it is gone
 --     IsFeedFault known, IsFinishFault known      when each refusal comes
-use Rattle.std.specs.Prelude.{◌≡◌, ◌⊎◌, ◌++◌, ℕ, true, false, List, Option, None, Some, IsSome}
+use Rattle.std.specs.Prelude.{◌≡◌, ◌++◌, ℕ, true, false, List, Option, None, Some, IsSome}
 use Rattle.clock_house.specs.House.{HouseFields}
 use Rattle.clock_connections.specs.Connections.{ConnectionFields, IsTaken, IsGone, open_text}
 use Rattle.clock_connections.specs.declared.connections.Conn.{Conn}
@@ -12,8 +12,7 @@ use Rattle.clock_connections.specs.declared.connections.HubFault.TheVariants.{Fu
 use Rattle.clock_connections.specs.declared.connections.HubFault.TheVariants.{Unknown}
 use Rattle.clock_http.specs.Framing.{needs_more}
 use Rattle.clock_http.specs.Replies.{Answer}
-use Rattle.clock_front.specs.Fronts.{AnswersText, IsOutOfMemoryReply}
-use Rattle.clock_front.specs.Private.{IsPrivateReply}
+use Rattle.clock_front.specs.Answered.{AnswersText}
 use Rattle.clock_front.specs.declared.hub.Fed.{Fed}
 use Rattle.clock_front.specs.declared.hub.Fed.TheVariants.{More, Reply}
 
@@ -22,13 +21,11 @@ pub record HubFields : Type 0 where
   pub house : HouseFields
   pub connections : ConnectionFields
 
--- The request of a connection was answered, and the connection is gone. The reply is right, and
--- private to the bidder who sent the request; or it is the out-of-memory reply.
+-- The request of a connection was answered, and the connection is gone.
 pub record IsAnswered (old new : HubFields) (conn : Conn) (text : List ℕ)
     (reply : Answer) : Type 0 where
   pub gone : IsGone old.connections new.connections conn
   pub answered : AnswersText text reply old.house new.house
-  pub private : IsOutOfMemoryReply text reply ⊎ IsPrivateReply text old.house reply
   pub setup : new.house.setup ≡ old.house.setup
 
 -- A connection's bytes are now `text`. If they are less than a request, the connection waits for

@@ -8,6 +8,6 @@ pub mod Hubs
 pub mod Streamed
 pub mod Views
 pub mod Headline
-pub mod Private
+pub mod Answered
 pub mod Rooms
 pub mod inside

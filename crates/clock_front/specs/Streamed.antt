@@ -8,8 +8,8 @@ use Rattle.clock_house.specs.House.{HouseFields}
 use Rattle.clock_http.specs.declared.code.Code.{Code}
 use Rattle.clock_http.specs.Replies.{Answer}
 use Rattle.clock_front.specs.FixedReplies.{no_memory}
-use Rattle.clock_front.specs.Fronts.{AnswersText, IsOutOfMemoryReply, StandsForTexts}
-use Rattle.clock_front.specs.Private.{IsPrivateReply}
+use Rattle.clock_front.specs.Answered.{AnswersText}
+use Rattle.clock_front.specs.Fronts.{StandsForTexts}
 use Rattle.clock_device.specs.Reports.{Reading, Writing}
 use Rattle.clock_device.specs.Writings.{WritesWhole, WritesFront, WritesNothing}
 use Rattle.clock_connections.specs.Arrivals.{HasArrived, IsNotRead, HasNoMemory}
@@ -21,11 +21,11 @@ use Rattle.clock_front.specs.declared.stream.StreamFault.TheVariants as fault
 abbrev pub IsLeftUnread : Reading → HouseFields → HouseFields → Type 0
 IsLeftUnread reading old new = IsNotRead reading × (new ≡ old)
 
--- The reply to the bytes that were read, private to the bidder who sent them; or the out-of-memory
--- reply, because memory ran out while they were read, and then the front is unchanged.
+-- The reply to the bytes that were read; or the out-of-memory reply, because memory ran out while
+-- they were read, and then the front is unchanged.
 abbrev pub IsAnswerTo : Reading → Answer → HouseFields → HouseFields → Type 0
-IsAnswerTo reading answer old new = ((text : List ℕ) × HasArrived reading text × AnswersText text
-    answer old new × (IsOutOfMemoryReply text answer ⊎ IsPrivateReply text old answer))
+IsAnswerTo reading answer old new =
+    ((text : List ℕ) × HasArrived reading text × AnswersText text answer old new)
     ⊎ (HasNoMemory reading × (answer ≡ no_memory) × (new ≡ old))
 
 -- How a stream was served, by the result. `Ok`: the whole reply with this code was written. `Read`:

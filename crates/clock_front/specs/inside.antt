@@ -1,4 +1,5 @@
 -- Definitions that only proofs and private functions use. No clause of a public call cites them.
+pub mod Answered
 pub mod Callers
 pub mod EventRuns
 pub mod FixedReplies

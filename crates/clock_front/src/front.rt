@@ -1,13 +1,11 @@
-ghost use Rattle.std.specs.Prelude.{◌≡◌, ◌⊎◌, [], ℕ, List, IfOk, IfErr, IsOk, OnOk, OnErr};
+ghost use Rattle.std.specs.Prelude.{◌≡◌, [], ℕ, List, IfOk, IfErr, IsOk, OnOk, OnErr};
 ghost use Rattle.clock_http.specs.declared.code.Code.{Code as ReplyCode};
 ghost use Rattle.clock_http.specs.Framing.{framing as framing_of, incomplete};
 ghost use Rattle.clock_http.specs.Framing.{refusal as refusal_of};
 ghost use Rattle.clock_http.specs.Shown.{IsFramed, shown_framing};
 ghost use Rattle.clock_house.specs.House.{HouseFields, StandsForTheSame};
-ghost use Rattle.clock_front.specs.Fronts.{AnswersText, IsCutShort, IsDoneBy, IsOutOfMemoryReply};
-ghost use Rattle.clock_front.specs.Fronts.{StandsForTexts};
+ghost use Rattle.clock_front.specs.{Answered.{AnswersText}, Fronts.{IsCutShort, StandsForTexts}};
 ghost use Rattle.clock_front.specs.Effects.{IsRightResponse, RespondsTo};
-ghost use Rattle.clock_front.specs.Private.{IsPrivateReply};
 ghost use Rattle.clock_front.specs.Rooms.{FailsByPrivateAllocation, FailsByAllocation};
 ghost use Rattle.clock_front.specs.inside.{TokenTable.{IsTableOf}, FixedPage.{IsProductsPage}};
 
@@ -94,8 +92,6 @@ impl<P: Processor> Front<P> {
         ensures response { (text : List ℕ) → IsFramed text framing.entry
             → IfOk result (IsRightResponse text self.old self.new) }
         ensures still { OnErr result (StandsForTheSame self.old self.new) }
-        ensures private { (text : List ℕ) → IsFramed text framing.entry
-            → IfOk result (λ response. IsPrivateReply text self.old response.reply) }
         ensures wanted { (text : List ℕ) → IsFramed text framing.entry
             → IfErr result (FailsByAllocation text self.old) }
         ensures wanted_privately { (text : List ℕ) → IsFramed text framing.entry
@@ -123,8 +119,6 @@ impl<P: Processor> Front<P> {
         requires { (text : List ℕ) × IsFramed text framing }
         ensures response { (text : List ℕ) → IsFramed text framing.entry
             → RespondsTo text result self.old self.new }
-        ensures private { (text : List ℕ) → IsFramed text framing.entry
-            → IsOutOfMemoryReply text result.reply ⊎ IsPrivateReply text self.old result.reply }
         ensures setup { self.new.setup ≡ self.old.setup }
         ensures refused { (code : ReplyCode) → shown_framing framing.entry ≡ refusal_of code
             → result.reply.code ≡ code }
@@ -142,10 +136,6 @@ impl<P: Processor> Front<P> {
         requires { (text : List ℕ) × IsFramed text framing }
         ensures answered { (text : List ℕ) → IsFramed text framing.entry
             → AnswersText text result self.old self.new }
-        ensures done { (text : List ℕ) → IsFramed text framing.entry
-            → IsDoneBy text result self.old self.new }
-        ensures private { (text : List ℕ) → IsFramed text framing.entry
-            → IsOutOfMemoryReply text result ⊎ IsPrivateReply text self.old result }
         ensures setup { self.new.setup ≡ self.old.setup }
         ensures refused { (code : ReplyCode) → shown_framing framing.entry ≡ refusal_of code
             → result.code ≡ code }
@@ -161,9 +151,6 @@ impl<P: Processor> Front<P> {
     /// change is made, so that no accepted change is left without its reply.
     pub fn answer(&mut self, text: &[u8]) -> Reply
         ensures answered { AnswersText text.now result self.old self.new }
-        ensures done { IsDoneBy text.now result self.old self.new }
-        ensures private { IsOutOfMemoryReply text.now result
-            ⊎ IsPrivateReply text.now self.old result }
         ensures setup { self.new.setup ≡ self.old.setup }
         ensures refused { (code : ReplyCode) → framing_of text.now ≡ refusal_of code
             → result.code ≡ code }

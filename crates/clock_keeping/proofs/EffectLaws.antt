@@ -1,5 +1,5 @@
 -- What a text changes, after the texts that a house stands for.
-use Rattle.std.proofs.Common.{◌≡◌, ◌≤◌, inl, inr, ℕ, true, false, List, [], ◌∷◌, Option, refl, sym, ap, ◌∙◌, subst}
+use Rattle.std.proofs.Common.{◌≡◌, ◌≤◌, inl, inr, ℕ, true, false, List, [], ◌∷◌, Option, refl, sym, ap, ◌∙◌}
 use Rattle.std.proofs.Common.{length, arith}
 use Rattle.clock_terms.specs.Limits.{SetupFields, public_setup}
 use Rattle.clock_bids.specs.declared.sheet.Bid.{Bid}
@@ -7,19 +7,19 @@ use Rattle.clock_closing.specs.declared.closed_round.ClosedRound.{ClosedRound}
 use Rattle.clock_closing.specs.Closing.{closing}
 use Rattle.clock_house.specs.Command.{Command, put, close, other}
 use Rattle.clock_house.specs.History.{history, holding, round_to_close, public_state}
-use Rattle.clock_house.specs.House.{HouseFields, StandsFor, StandsForTheSame}
+use Rattle.clock_house.specs.House.{HouseFields, StandsFor}
 use Rattle.clock_house.specs.PublicState.{put_fault}
 use Rattle.clock_http.specs.declared.code.Code.TheVariants.{CutShort}
 use Rattle.clock_http.specs.Framing.{framing, incomplete, needs_more}
 use Rattle.clock_front.specs.Callers.{caller}
 use Rattle.clock_front.specs.Effects.{IsRightResponse, RespondsTo, close_effect, effect, effect_in, put_effect}
-use Rattle.clock_front.specs.Fronts.{AnswersText, StandsForTexts, commands_of, house_after, reply, text_command}
-use Rattle.clock_front.specs.Outcomes.{answer_of}
+use Rattle.clock_front.specs.Fronts.{StandsForTexts, commands_of, house_after, reply, text_command}
 use Rattle.clock_front.specs.Requests.{request_of}
 use Rattle.clock_front.specs.declared.front.response.Effect.{Effect}
 use Rattle.clock_front.specs.declared.front.response.Effect.TheVariants.{Nothing, Sheet, Closing}
 use Rattle.clock_front.specs.declared.front.response.Response.{Response}
-use Rattle.clock_front.proofs.FrontLaws.{away_command, needs_by_test, outcome_after}
+use Rattle.clock_front.proofs.AnswerLaws.{stands_after}
+use Rattle.clock_front.proofs.FrontLaws.{away_command, needs_by_test}
 use Rattle.clock_keeping.specs.Keeping.{IsAccepted, is_change}
 
 -- a command changes the same in a house and after the commands that the house stands for
@@ -45,26 +45,10 @@ pub record IsAfter (setup : SetupFields) (texts : List (List ℕ)) (text : List 
 pub right_after : (texts : List (List ℕ)) (text : List ℕ) (response : Response) (old new : HouseFields)
     → StandsForTexts texts old → IsRightResponse text old new response → IsAfter old.setup texts text response new
 right_after texts text response old new stands right = record {
-  replied = right.reply ∙ ap answer_of (outcome_after old (commands_of old.setup texts)
-      (caller old.setup (request_of text).token) (request_of text).ask stands);
+  replied = (right.answer.after texts stands).is;
   changed = right.effect ∙ effect_after old (commands_of old.setup texts) (text_command old.setup text) stands;
-  stands = subst (λ (setup : SetupFields). StandsFor (commands_of setup (text ∷ texts)) new) (sym right.followed.setup)
-      (right.followed.stands (commands_of old.setup texts) stands);
+  stands = stands_after texts text old new stands right.answer.followed;
 }
-
-pub stands_still : (texts : List (List ℕ)) (old new : HouseFields) → StandsForTexts texts old → StandsForTheSame old new
-    → StandsForTexts texts new
-stands_still texts old new stands still =
-    subst (λ (setup : SetupFields). StandsFor (commands_of setup texts) new) (sym still.setup)
-    (still.stands (commands_of old.setup texts) stands)
-
--- a response answers its text
-pub answers : (text : List ℕ) (response : Response) (old new : HouseFields) → RespondsTo text response old new
-    → AnswersText text response.reply old new
-answers text response old new (inl right) texts stands =
-    let after = right_after texts text response old new stands right in inl (after.replied, after.stands)
-answers text response old new (inr (left_out, nothing, still)) texts stands =
-    inr (left_out, stands_still texts old new stands still)
 
 -- ---- what changes the auction
 

@@ -7,7 +7,8 @@ use Rattle.clock_front.specs.declared.front.response.Response.{Response}
 use Rattle.clock_journal.specs.Logged.{JournalState, HasTexts}
 use Rattle.clock_journal.specs.Reading.{onto}
 use Rattle.clock_keeping.specs.Keeping.{IsInStep, IsLogged, StandsForLogged, is_change, logged_when}
-use Rattle.clock_keeping.proofs.EffectLaws.{nothing_where, right_after, right_where, stands_still}
+use Rattle.clock_front.proofs.AnswerLaws.{stands_still}
+use Rattle.clock_keeping.proofs.EffectLaws.{nothing_where, right_after, right_where}
 
 onto-push : (texts : List (List ℕ)) (text : List ℕ) (past : List (List ℕ))
     → onto (texts ++ text ∷ []) past ≡ text ∷ onto texts past

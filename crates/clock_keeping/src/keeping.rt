@@ -1,8 +1,7 @@
 ghost use Rattle.std.specs.Prelude.{◌≡◌, ◌<◌, ◌⊎◌, [], ◌∷◌, List, Option, ℕ, IfOk, None, OnOk};
 ghost use Rattle.std.specs.Prelude.{OnErr, length, true, false};
 ghost use Rattle.clock_http.specs.Shown.{Knows};
-ghost use Rattle.clock_front.specs.{Effects.{RespondsTo}, Private.{IsPrivateReply}};
-ghost use Rattle.clock_front.specs.Fronts.{AnswersText, IsOutOfMemoryReply, StandsForTexts};
+ghost use Rattle.clock_front.specs.{Effects.{RespondsTo}, Fronts.{StandsForTexts}};
 ghost use Rattle.clock_journal.specs.{Format.{most_text}, Logged.{JournalState}};
 ghost use Rattle.clock_keeping.specs.Keeping.{GrowsBy, IsAccepted, IsInStep, IsLogged};
 ghost use Rattle.clock_keeping.specs.Keeping.{LeavesOneMore};
@@ -41,10 +40,6 @@ pub trait RequestLog {
         requires unfailed { (journal self.old).has_failed ≡ false }
         ensures response { IfOk result
             (λ response. RespondsTo text.now response front.old front.new) }
-        ensures answered { IfOk result
-            (λ response. AnswersText text.now response.reply front.old front.new) }
-        ensures private { IfOk result (λ response. IsOutOfMemoryReply text.now response.reply
-            ⊎ IsPrivateReply text.now front.old response.reply) }
         ensures setup { front.new.setup ≡ front.old.setup }
         ensures logged { (digest : List ℕ) (past : List (List ℕ))
             → IsInStep digest past (journal self.old) front.old → IfOk result (λ response.

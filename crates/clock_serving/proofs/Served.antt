@@ -24,12 +24,13 @@ use Rattle.clock_journal.specs.Logged.{HasTexts, JournalState, file_of}
 use Rattle.clock_journal.specs.Reading.{onto}
 use Rattle.clock_journal.proofs.Moments.{every_front}
 use Rattle.clock_keeping.specs.Keeping.{GrowsBy, IsInStep, IsLogged, IsNextLogged, logged_after}
-use Rattle.clock_keeping.proofs.EffectLaws.{right_after, stands_still}
+use Rattle.clock_keeping.proofs.EffectLaws.{right_after}
 use Rattle.clock_serving.specs.Closings.{closed_by}
 use Rattle.clock_serving.specs.Exchanges.{Exchange}
 use Rattle.clock_serving.specs.Serving.{AreServed, IsLoggedReply, LogsText, LoggedTexts, RepliesOver, RepliesTo, Walks}
 use Rattle.clock_serving.specs.Serving.{WritesReply}
 use Rattle.clock_serving.specs.inside.Served.{IsAnswered, IsServed, round_closed}
+use Rattle.clock_front.proofs.AnswerLaws.{stands_still}
 use Rattle.clock_front.proofs.RunLaws.{right}
 use Rattle.clock_serving.proofs.Walking.{all_behind, logged_behind, walks_on}
 use Rattle.clock_serving.proofs.Telling.{CountsOn, counts_text, tells_none, tells_on}

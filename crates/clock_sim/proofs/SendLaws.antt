@@ -1,13 +1,14 @@
 -- A request that arrives in pieces has the same reply as its whole text: what is decided at its head stays decided.
-use Rattle.std.proofs.Common.{◌≡◌, ℕ, false, List, ◌∷◌, ◌++◌, Option, ◌⊎◌, inl, inr, sym, ◌∙◌, ap, subst}
+use Rattle.std.proofs.Common.{◌≡◌, ℕ, false, List, ◌∷◌, ◌++◌, Option, inl, inr, sym, ◌∙◌, ap, subst}
 use Rattle.std.specs.Prelude.{option_and_then}
 use Rattle.clock_house.specs.House.{HouseFields, StandsFor}
 use Rattle.clock_front.specs.Callers.{caller}
 use Rattle.clock_http.specs.Framing.{Framing, Head, framing, head_in, needs_more, IsDecided}
 use Rattle.clock_http.specs.FramingLaws.{IsDecidedOnce, HasOneHead}
-use Rattle.clock_front.specs.Fronts.{AnswersText, IsOutOfMemoryReply, house_after, commands_of}
+use Rattle.clock_front.specs.Answered.{AnswersText}
+use Rattle.clock_front.specs.Fronts.{house_after, commands_of}
 use Rattle.clock_front.specs.Outcomes.{answer_of, outcome, command_of}
-use Rattle.clock_front.specs.Private.{IsPrivateReply}
+use Rattle.clock_front.specs.inside.Answered.{AnswersAfter}
 use Rattle.clock_http.specs.Replies.{Answer}
 use Rattle.clock_front.specs.Requests.{Request, request_of, ask_of}
 use Rattle.clock_front.specs.Hubs.{HubFields, IsFed, IsAnswered}
@@ -25,8 +26,6 @@ ended_after old mid new conn text reply fed answered = record {
     next = answered.gone.next ∙ fed.1.next;
   };
   answered = subst (λ (house : HouseFields). AnswersText text reply house new.house) fed.2 answered.answered;
-  private = subst (λ (house : HouseFields). IsOutOfMemoryReply text reply
-      ⊎ IsPrivateReply text house reply) fed.2 answered.private;
   setup = answered.setup ∙ ap (λ (house : HouseFields). house.setup) fed.2;
 }
 
@@ -43,7 +42,7 @@ same_request once one_head head body decided =
 
 -- a request that is answered at its first piece has the reply of its whole text
 pub answered_early : IsDecidedOnce → HasOneHead → (head body : List ℕ) (answer : Answer) (old new : HouseFields)
-    → needs_more head ≡ false → AnswersText head answer old new → AnswersText (head ++ body) answer old new
+    → needs_more head ≡ false → AnswersAfter head answer old new → AnswersAfter (head ++ body) answer old new
 answered_early once one_head head body answer old new less answered texts stands =
     elim (answered texts stands) [
       | inl reported ↦ inl (subst (λ (request : Request). (answer ≡ answer_of

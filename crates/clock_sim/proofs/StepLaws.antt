@@ -13,7 +13,8 @@ use Rattle.clock_closing.specs.declared.closed_round.ClosedRound.{ClosedRound}
 use Rattle.clock_http.specs.declared.code.Code.{Code}
 use Rattle.clock_http.specs.declared.code.Code.TheVariants.{Done, Memory}
 use Rattle.clock_http.specs.Replies.{Answer}
-use Rattle.clock_front.specs.Fronts.{reply, StandsForTexts, AnswersText}
+use Rattle.clock_front.specs.Fronts.{reply, StandsForTexts}
+use Rattle.clock_front.specs.inside.Answered.{AnswersAfter}
 use Rattle.clock_sim.specs.declared.simulation.SimFault.{SimFault}
 use Rattle.clock_sim.specs.declared.simulation.SimFault.TheVariants.{NoMemory, ClosingsSpent}
 use Rattle.clock_sim.specs.Rehearsal.{if_done, refused_by, after_request, rounds_after, after_puts, after_close}
@@ -44,7 +45,7 @@ not_done code done fault other = refl
 
 -- a request whose reply is done
 pub request_done : (text : List ℕ) (answer : Answer) (old new : HouseFields) (sender : Option ℕ) (round : ℕ)
-    → AnswersText text answer old new → answer.code ≡ Done → (texts : Texts) → StandsForTexts texts old
+    → AnswersAfter text answer old new → answer.code ≡ Done → (texts : Texts) → StandsForTexts texts old
     → ComesTo (after_request old.setup texts sender round text) new
 unfolding after_request
 request_done text answer old new sender round answered is texts stands =
@@ -60,7 +61,7 @@ request_done text answer old new sender round answered is texts stands =
 
 -- a request with another reply, except out of memory
 pub request_refused : (text : List ℕ) (answer : Answer) (old new : HouseFields) (sender : Option ℕ) (round : ℕ)
-    → AnswersText text answer old new → answer.code ≢ Done → answer.code ≢ Memory → (texts : Texts) → StandsForTexts
+    → AnswersAfter text answer old new → answer.code ≢ Done → answer.code ≢ Memory → (texts : Texts) → StandsForTexts
     texts old → after_request old.setup texts sender round text ≡ Err (refused_by sender round answer.code)
 unfolding after_request
 request_refused text answer old new sender round answered not_good not_memory texts stands =
@@ -73,7 +74,7 @@ request_refused text answer old new sender round answered not_good not_memory te
     ]
 
 sent_by : {T : Type 0} (text : List ℕ) (answer : Answer) (old new : HouseFields) (sender : Option ℕ) (round : ℕ)
-    (result : Result T SimFault) → AnswersText text answer old new
+    (result : Result T SimFault) → AnswersAfter text answer old new
     → IsResultByCode answer.code (refused_by sender round answer.code) result → (texts : Texts)
     → StandsForTexts texts old → MatchResult result (λ _. ComesTo (after_request old.setup texts sender round text) new)
     (IsRefusal NoMemory (after_request old.setup texts sender round text))
@@ -86,7 +87,7 @@ sent_by text answer old new sender round (Err fault) answered reported texts sta
 
 -- a request is sent
 pub sent : {T : Type 0} (text : List ℕ) (answer : Answer) (code : Code) (old new : HouseFields) (sender : Option ℕ)
-    (round : ℕ) (result : Result T SimFault) → AnswersText text answer old new → new.setup ≡ old.setup
+    (round : ℕ) (result : Result T SimFault) → AnswersAfter text answer old new → new.setup ≡ old.setup
     → code ≡ answer.code → IsResultByCode code (refused_by sender round code) result
     → MakesStep (λ texts. after_request old.setup texts sender round text) old new result
 sent text answer code old new sender round result answered same is reported = record {

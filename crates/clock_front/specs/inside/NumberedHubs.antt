@@ -2,7 +2,7 @@
 --     HasCompleted request old new reply      the request that an event completes was answered
 use Rattle.std.specs.Prelude.{◌≡◌, ℕ, List, Option, Some, None}
 use Rattle.clock_house.specs.House.{HouseFields}
-use Rattle.clock_front.specs.Fronts.{AnswersText}
+use Rattle.clock_front.specs.Answered.{AnswersText}
 use Rattle.clock_front.specs.declared.runs.EventReply.{EventReply}
 
 -- If an event completes a request, it is answered, and the reply has the number of its connection.

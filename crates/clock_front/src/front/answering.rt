@@ -7,11 +7,12 @@ ghost use Rattle.clock_house.specs.House.{StandsForTheSame};
 ghost use Rattle.clock_views.specs.Refusals.{bare};
 ghost use Rattle.clock_bodies.specs.{Bodies.{put_body}, CloseBodies.{close_body, in_version}};
 ghost use Rattle.clock_front.specs.declared.front.callers.Caller.TheVariants as who;
-ghost use Rattle.clock_front.specs.Effects.{IsRightFor};
+ghost use Rattle.clock_front.specs.declared.front.replies.AnswerError.TheVariants as unanswered;
 ghost use Rattle.clock_front.specs.Outcomes.{answer_of, body_code, outcome, refused};
-ghost use Rattle.clock_front.specs.Rooms.{NeedsRoom};
+ghost use Rattle.clock_front.specs.Rooms.{NeedsRoom, refusal_room};
 ghost use Rattle.clock_front.specs.Requests as asked;
 ghost use Rattle.clock_front.specs.inside.{Callers.{IsKnown}, FixedPage.{IsProductsPage}};
+ghost use Rattle.clock_front.specs.inside.Replies.{IsRightFor};
 
 use crate::front::FixedParts;
 use crate::front::callers::Caller;
@@ -21,7 +22,6 @@ use crate::front::replies::{
 use crate::front::response::{Effect, Response, unchanged};
 use clock_bodies::{BodyFault, CloseBody, is_of_version, read_close, read_put};
 use clock_closing::CloseFault;
-use clock_device::NoMemory;
 use clock_house::{House, PutFault};
 use clock_http::{Code, HEADROOM, Head, Page, Reply, last_segment};
 use clock_processor::Processor;
@@ -29,18 +29,21 @@ use clock_terms::Setup;
 use clock_views::{Refusal, headed_accepted, headed_closed};
 use std::alloc::Global;
 
-/// Refuses a body for its fault. If the fault is `NoMemory`, this is an error.
-fn refused_body(alloc: Global, fault: BodyFault) -> Result<Response, NoMemory>
+/// Refuses a body for its fault. If the fault is `NoMemory`, this is an error. For any other fault,
+/// the refusal fails only if its page could not be allocated.
+fn refused_body(alloc: Global, fault: BodyFault) -> Result<Response, AnswerError>
     ensures response { IfOk result (λ response. response ≡ record {
       reply = answer_of (refused (bare (body_code fault)));
       effect = Effect.Nothing;
     }) }
     ensures known { OnOk result (fault ≢ BodyFault.NoMemory) }
+    ensures wanted { fault ≢ BodyFault.NoMemory
+        → IfErr result (λ why. why ≡ unanswered.Room refusal_room) }
 {
     match fault {
         BodyFault::NotJson => Ok(unchanged(refusal(alloc, Refusal::bare(Code::BadJson), None)?)),
         BodyFault::Shape => Ok(unchanged(refusal(alloc, Refusal::bare(Code::Shape), None)?)),
-        BodyFault::NoMemory => Err(NoMemory),
+        BodyFault::NoMemory => Err(AnswerError::Change),
     }
 }
 
@@ -50,7 +53,7 @@ fn put_sheet<P: Processor>(
     house: &mut House<P>,
     bidder: u32,
     body: &[u8],
-) -> Result<Response, NoMemory>
+) -> Result<Response, AnswerError>
     requires { bidder < length house.old.setup.bidders }
     ensures done { IfOk result
         (IsRightFor (who.Bidder bidder) (asked.put (put_body body.now)) house.old house.new) }
@@ -70,7 +73,7 @@ fn put_sheet<P: Processor>(
                 effect: Effect::Sheet,
             })
         }
-        Err(PutFault::NoMemory) => Err(NoMemory),
+        Err(PutFault::NoMemory) => Err(AnswerError::Change),
         Err(fault) => Ok(unchanged(refusal(alloc, Refusal::from(fault), None)?)),
     }
 }
@@ -96,7 +99,7 @@ fn close_round<P: Processor>(
     alloc: Global,
     house: &mut House<P>,
     body: &[u8],
-) -> Result<Response, NoMemory>
+) -> Result<Response, AnswerError>
     ensures done { IfOk result
         (IsRightFor who.Operator (asked.close (close_body body.now)) house.old house.new) }
     ensures still { OnErr result (StandsForTheSame house.old house.new) }
@@ -117,7 +120,7 @@ fn close_round<P: Processor>(
                 effect: Effect::Closing(round),
             })
         }
-        Err(CloseFault::NoMemory) => Err(NoMemory),
+        Err(CloseFault::NoMemory) => Err(AnswerError::Change),
         Err(why) => Ok(unchanged(refusal(alloc, Refusal::from(why), None)?)),
     }
 }

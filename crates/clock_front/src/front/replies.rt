@@ -13,7 +13,6 @@ ghost use Rattle.clock_front.specs.inside.FixedPage.{IsProductsPage};
 ghost use Rattle.clock_front.specs.inside.Replies.{IsPageIn, IsReplyOrFailure};
 ghost use Rattle.clock_front.specs.Requests as asked;
 
-use clock_device::NoMemory;
 use clock_house::House;
 use clock_http::{Code, HEADROOM, NoRoom, Page, Reply, plain_number, text_with_room};
 use clock_views::{
@@ -25,9 +24,9 @@ use std::alloc::Global;
 /// Why a request is answered out of memory.
 #[derive(Debug, Drop)]
 pub enum AnswerError {
-    /// The request asks for no change, and the page of its reply could not be allocated.
+    /// The page of its reply could not be allocated.
     Room(NoRoom),
-    /// The request asks for a change, and an allocation failed before that.
+    /// The request asks for a change, and another allocation failed before that.
     Change,
 }
 
@@ -36,14 +35,6 @@ impl From<NoRoom> for AnswerError {
 
     fn from(refused: NoRoom) -> AnswerError {
         AnswerError::Room(refused)
-    }
-}
-
-impl From<NoMemory> for AnswerError {
-    ghost from_gives = { λ _ why. why ≡ unanswered.Change };
-
-    fn from(_refused: NoMemory) -> AnswerError {
-        AnswerError::Change
     }
 }
 

@@ -27,7 +27,6 @@ returns-in-Ok-write_all-clause-served g c =
       | in-Ok w ↦ answer_read reading w.in-Ok.request w.answer_framed-reply.result join.reply c.args.front.now
           w.answer_framed-reply.new.self join.front w.reply-is w.front-is w.in-Ok.ensures.arrival
           (w.answer_framed-reply.ensures.answered w.in-Ok.request w.framing.ensures)
-          (w.answer_framed-reply.ensures.private w.in-Ok.request w.framing.ensures)
       | in-Err-Memory w ↦
           answer_unread reading w.no_memory_reply-reply.result join.reply c.args.front.now join.front w.reply-is
           w.front-is (rw w.in-Err-Memory.field-0-is at w.in-Err-Memory.ensures.arrival) w.no_memory_reply-reply.ensures
@@ -60,7 +59,6 @@ returns-clause-served g c =
       | in-Ok w ↦ answer_read reading w.in-Ok.request w.answer_framed-reply.result join.reply c.args.front.now
           w.answer_framed-reply.new.self join.front w.reply-is w.front-is w.in-Ok.ensures.arrival
           (w.answer_framed-reply.ensures.answered w.in-Ok.request w.framing.ensures)
-          (w.answer_framed-reply.ensures.private w.in-Ok.request w.framing.ensures)
       | in-Err-Memory w ↦
           answer_unread reading w.no_memory_reply-reply.result join.reply c.args.front.now join.front w.reply-is
           w.front-is (rw w.in-Err-Memory.field-0-is at w.in-Err-Memory.ensures.arrival) w.no_memory_reply-reply.ensures

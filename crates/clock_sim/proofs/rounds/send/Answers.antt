@@ -1,11 +1,12 @@
 -- A request that is answered at its head has the reply of its whole text.
 use Rattle.std.proofs.Common.{◌≡◌, ◌++◌, ℕ, List, [], Some, ap, subst, ◌∙◌}
 use Rattle.clock_house.specs.House.{HouseFields}
-use Rattle.clock_front.specs.Fronts.{AnswersText}
+use Rattle.clock_front.specs.inside.Answered.{AnswersAfter}
 use Rattle.clock_connections.specs.Connections.{open_text}
 use Rattle.clock_front.specs.Hubs.{IsFed}
 use Rattle.clock_front.specs.declared.hub.Fed.{Fed}
 use Rattle.clock_front.specs.declared.hub.Fed.TheVariants.{Reply}
+use Rattle.clock_front.proofs.AnswerLaws.{after_texts}
 use Rattle.clock_sim.proofs.SendLaws.{answered_early}
 use Rattle.clock_sim.proofs.StepLaws.{sent}
 use Rattle.clock_sim.proofs.rounds.send.Goals as goal
@@ -21,8 +22,8 @@ returns-in-Reply-clause-step g c =
     let replied : IsFedTo (Reply c.in-Reply.reply) = subst IsFedTo c.in-Reply.is c.in_ok-feed.ensures.fed in
     let fed = replied [] c.in_ok-conn.ensures.connected.stands in
     let whole = answered_early c.law_decided_once.ensures c.law_one_head.ensures head body c.in-Reply.reply mid.house
-    new.house fed.0 fed.1.answered in
+    new.house fed.0 (after_texts head c.in-Reply.reply mid.house new.house fed.1.answered) in
     sent (head ++ body) c.in-Reply.reply c.code.result c.args.hub.now.house new.house c.args.sender c.args.round
-    c.reported.result (subst (λ (house : HouseFields). AnswersText (head ++ body) c.in-Reply.reply house new.house)
+    c.reported.result (subst (λ (house : HouseFields). AnswersAfter (head ++ body) c.in-Reply.reply house new.house)
     c.in_ok-conn.ensures.front whole) (fed.1.setup
     ∙ ap (λ (house : HouseFields). house.setup) c.in_ok-conn.ensures.front) c.code.ensures c.reported.ensures.step

@@ -2,6 +2,7 @@
 use Rattle.std.proofs.Common.{◌++◌, subst}
 use Rattle.clock_front.specs.Hubs.{IsAnswered, IsFed}
 use Rattle.clock_front.specs.declared.hub.Fed.{Fed}
+use Rattle.clock_front.proofs.AnswerLaws.{after_texts}
 use Rattle.clock_sim.proofs.SendLaws.{ended_after}
 use Rattle.clock_sim.proofs.StepLaws.{sent}
 use Rattle.clock_sim.proofs.rounds.send_body.Goals.{in-Reply, in-More+in_ok-reply-in-More}
@@ -24,6 +25,6 @@ returns-clause-step g c = λ head is.
           rw (w.hub-is, w.reply-is) (ended_after old mid w.finish.new.self c.args.conn text w.in_ok-reply-in-More.reply
           more (w.in_ok-reply-in-More.ensures.answered text more.1.stands))
     ] in
-    sent text c.match-branch-2.reply c.code.result old.house c.match-branch-2.hub.house c.args.sender
-    c.args.round c.reported.result
-    answered.answered answered.setup c.code.ensures c.reported.ensures.step
+    sent text c.match-branch-2.reply c.code.result old.house c.match-branch-2.hub.house c.args.sender c.args.round
+    c.reported.result (after_texts text c.match-branch-2.reply old.house c.match-branch-2.hub.house answered.answered)
+    answered.setup c.code.ensures c.reported.ensures.step

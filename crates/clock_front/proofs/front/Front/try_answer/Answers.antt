@@ -1,5 +1,4 @@
--- Proves the response to a request, by its framing: incomplete, refused, or whole. A right response is private, by
--- PrivateLaws.
+-- Proves the response to a request, by its framing: incomplete, refused, or whole.
 use Rattle.std.proofs.Common.{◌≡◌, ap, refl, sym, subst, ◌∙◌, rules}
 use Rattle.std.specs.Prelude.{IfErr, IfOk, None}
 use Rattle.clock_terms.specs.Limits.{IsSetup}
@@ -11,13 +10,14 @@ use Rattle.clock_http.specs.Framing.{incomplete, refusal}
 use Rattle.clock_http.specs.Routes.{page_of}
 use Rattle.clock_http.specs.Shown.{shown_framing, shown_head}
 use Rattle.clock_front.specs.Callers.{caller}
-use Rattle.clock_front.specs.Effects.{IsRightFor, IsRightResponse}
+use Rattle.clock_front.specs.Effects.{IsRightResponse}
 use Rattle.clock_front.specs.Outcomes.{outcome, with_page}
 use Rattle.clock_front.specs.Requests.{ask_by_route, request_of}
 use Rattle.clock_front.specs.declared.front.replies.AnswerError.TheVariants.{Room}
 use Rattle.clock_front.specs.declared.front.response.Response.{Response}
 use Rattle.clock_front.specs.Rooms.{FailsByAllocation, NeedsRoom, refusal_room}
-use Rattle.clock_front.proofs.PrivateLaws.{cut_short_want, private_reply, if_private, if_private_want, want_as}
+use Rattle.clock_front.specs.inside.Replies.{IsRightFor}
+use Rattle.clock_front.proofs.PrivateLaws.{cut_short_want, if_right, if_private_want, right_response, want_as}
 use Rattle.clock_front.proofs.ReplyLaws.{unchanged_right}
 use Rattle.clock_front.proofs.FrontLaws.{refused_fixed, away_reported, away_command, of_text}
 use Rattle.clock_front.proofs.front.Front.try_answer.Goals as goal
@@ -30,18 +30,15 @@ pub returns-in_ok-reply-in-NeedMore-clause-response : goal.returns-in_ok-reply-i
 returns-in_ok-reply-in-NeedMore-clause-response g c = λ text is.
     let house = c.args.self.now in
     let who = caller house.setup (request_of text).token in
+    let limits = subst (λ (h : HouseFields). IsSetup h.setup) c.self.view_is c.law_of_house.ensures.limits in
     let framed = ap shown_framing (sym c.in-NeedMore.is) ∙ is in
-    unchanged_right who (request_of text).ask house c.unchanged.result
+    right_response text house house c.unchanged.result limits
+    (unchanged_right who (request_of text).ask house c.unchanged.result
     (ap (λ (response : Response). response.reply) c.unchanged.ensures ∙ c.in_ok-reply-in-NeedMore.ensures
     ∙ ap (λ (shown : Shown). with_page shown.code None (refusal_value shown)) c.bare.ensures
     ∙ away_reported house who text incomplete CutShort framed refl)
     (ap (λ (response : Response). response.effect) c.unchanged.ensures)
-    (away_command house.setup who text incomplete CutShort framed refl)
-
-pub returns-in_ok-reply-in-NeedMore-clause-private : goal.returns-in_ok-reply-in-NeedMore-clause-private
-returns-in_ok-reply-in-NeedMore-clause-private g c = λ text is.
-    let limits = subst (λ (h : HouseFields). IsSetup h.setup) c.self.view_is c.law_of_house.ensures.limits in
-    private_reply c.args.self.now text _ limits (returns-in_ok-reply-in-NeedMore-clause-response g c text is).reply
+    (away_command house.setup who text incomplete CutShort framed refl))
 
 pub returns-in_err-reply-in-NeedMore-clause-wanted : goal.returns-in_err-reply-in-NeedMore-clause-wanted
 returns-in_err-reply-in-NeedMore-clause-wanted g c = λ text is.
@@ -61,17 +58,14 @@ returns-in-Refused-clause-response g c = λ text is.
     let house = c.args.self.now in
     let who = caller house.setup (request_of text).token in
     let code = c.in-Refused.code in
+    let limits = subst (λ (h : HouseFields). IsSetup h.setup) c.self.view_is c.law_of_house.ensures.limits in
     let framed = ap shown_framing (sym c.in-Refused.is) ∙ is in
-    unchanged_right who (request_of text).ask house c.unchanged-in-Refused.result
+    right_response text house house c.unchanged-in-Refused.result limits
+    (unchanged_right who (request_of text).ask house c.unchanged-in-Refused.result
     (ap (λ (response : Response). response.reply) c.unchanged-in-Refused.ensures ∙ c.fixed_reply.ensures
     ∙ away_reported house who text (refusal code) code framed refl)
     (ap (λ (response : Response). response.effect) c.unchanged-in-Refused.ensures)
-    (away_command house.setup who text (refusal code) code framed refl)
-
-pub returns-in-Refused-clause-private : goal.returns-in-Refused-clause-private
-returns-in-Refused-clause-private g c = λ text is.
-    let limits = subst (λ (h : HouseFields). IsSetup h.setup) c.self.view_is c.law_of_house.ensures.limits in
-    private_reply c.args.self.now text _ limits (returns-in-Refused-clause-response g c text is).reply
+    (away_command house.setup who text (refusal code) code framed refl))
 
 pub answer_request-requires-clause-known : goal.answer_request-requires-clause-known
 answer_request-requires-clause-known g c = c.caller_of-caller.ensures.known c.self.inside.house.setup c.self.invariant.0
@@ -84,16 +78,11 @@ returns-in-Whole-clause-response g c = λ text is.
     let house = c.self.inside.house in
     let reported = c.answer_request.result in
     let new = c.answer_request.new.house in
-    subst (λ (h : HouseFields). IfOk reported (IsRightResponse text h new)) c.self.view_is (of_text house.setup text
+    subst (λ (h : HouseFields). IfOk reported (IsRightResponse text h new)) c.self.view_is
+    (if_right reported text house new c.law_of_house.ensures.limits (of_text house.setup text
     (λ who ask. IfOk reported (IsRightFor who ask house new)) _ _ (shown_head c.in-Whole.head) c.in-Whole.body.now
     (c.caller_of-caller.ensures.shown house.setup c.self.invariant.0) refl
-    (ap shown_framing (sym c.in-Whole.is) ∙ is) c.answer_request.ensures.done)
-
-pub returns-in-Whole-clause-private : goal.returns-in-Whole-clause-private
-returns-in-Whole-clause-private g c = λ text is.
-    let limits = subst (λ (h : HouseFields). IsSetup h.setup) c.self.view_is c.law_of_house.ensures.limits in
-    if_private c.answer_request.result c.args.self.now c.answer_request.new.house text limits
-    (returns-in-Whole-clause-response g c text is)
+    (ap shown_framing (sym c.in-Whole.is) ∙ is) c.answer_request.ensures.done))
 
 pub returns-in-Whole-clause-wanted : goal.returns-in-Whole-clause-wanted
 returns-in-Whole-clause-wanted g c = λ text is.

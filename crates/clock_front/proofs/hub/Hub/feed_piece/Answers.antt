@@ -26,7 +26,6 @@ returns-in-Some-clause-fed g c = rw (← c.self.view_is) (λ text is.
       record {
         gone = search rules;
         answered = c.answer_framed-reply.ensures.answered joined framed;
-        private = c.answer_framed-reply.ensures.private joined framed;
         setup = c.answer_framed-reply.ensures.setup;
       },
     ))

@@ -1,16 +1,17 @@
 -- Proves that an event leaves the connections by number in agreement with the hub, and answers the request that it
 -- completes. By the event, and what the hub returned for it.
-use Rattle.std.proofs.Common.{◌++◌, ℕ, List, [], ◌∷◌, Option, None, refl, sym, subst}
+use Rattle.std.proofs.Common.{◌++◌, ℕ, List, [], ◌∷◌, Option, Some, None, refl, sym, subst}
 use Rattle.clock_connections.specs.declared.connections.Conn.{Conn}
 use Rattle.clock_connections.specs.declared.connections.Event.{Event}
 use Rattle.clock_connections.specs.declared.connections.Event.TheVariants.{Piece}
 use Rattle.clock_connections.specs.Connections.{IsConnectFault}
-use Rattle.clock_connections.specs.Pieces.{after, text_so_far}
+use Rattle.clock_connections.specs.Pieces.{after, completed, text_so_far}
 use Rattle.clock_connections.specs.inside.Numbers.{opened, AreNumbered}
 use Rattle.clock_connections.proofs.NumberLaws.{connected_stands, refused_stands}
 use Rattle.clock_front.specs.Hubs.{HubFields, IsFedBy}
 use Rattle.clock_front.specs.declared.hub.Fed.TheVariants.{More, Reply}
-use Rattle.clock_front.proofs.NumberedLaws.{more_stands, answered_stands, finished_stands}
+use Rattle.clock_front.specs.inside.NumberedHubs.{HasCompleted}
+use Rattle.clock_front.proofs.NumberedLaws.{more_stands, answered_stands, finished_stands, finished_told}
 use Rattle.clock_front.proofs.runs.NumberedHub.take_event.Goals as goal
 use Rattle.clock_front.proofs.runs.NumberedHub.take_event.Goals.{in-Ok, in-Err-Full, in-Err-Unknown}
 
@@ -66,4 +67,14 @@ returns-in-Ok-finish-clause-stands g c = λ numbered stands.
     subst (λ (event : Event). AreNumbered (after numbered event) c.finish.new.self.connections c.args.self.now.conns)
     (sym c.in-Finish.is) (finished_stands numbered c.args.self.now.hub c.finish.new.self c.args.self.now.conns number
     c.in-Some-conn.conn c.in-Ok-finish.reply (text_so_far numbered number) stands
+    (sym c.in-Some-conn.ensures) c.in-Ok-finish.ensures.stood refl c.in-Ok-finish.ensures.answered)
+
+pub returns-in-Ok-finish-clause-reported : goal.returns-in-Ok-finish-clause-reported
+returns-in-Ok-finish-clause-reported g c = λ numbered stands.
+    let old = c.args.self.now.hub in
+    let new = c.finish.new.self in
+    let number = c.in-Finish.number in
+    subst (λ (event : Event). HasCompleted (completed numbered event) old.house new.house
+    (Some (record { number = number; reply = c.in-Ok-finish.reply }))) (sym c.in-Finish.is) (finished_told numbered old
+    new c.args.self.now.conns number c.in-Some-conn.conn c.in-Ok-finish.reply (text_so_far numbered number) stands
     (sym c.in-Some-conn.ensures) c.in-Ok-finish.ensures.stood refl c.in-Ok-finish.ensures.answered)

@@ -1,14 +1,9 @@
 use Rattle.std.proofs.Common.{arith, sym, ◌∙◌}
 use Rattle.std.proofs.lemmas.Result.{err_from_is_err_and}
-use Rattle.clock_keeping.proofs.EffectLaws.{accepted_where, answers, some_bytes}
+use Rattle.clock_keeping.proofs.EffectLaws.{accepted_where, some_bytes}
 use Rattle.clock_keeping.proofs.LoggedLaws.{logged, passed_over}
 use Rattle.clock_keeping.proofs.Untouched.{untouched}
 use Rattle.clock_keeping.proofs.keeping.JournalRequestLog.answer.Goals as goal
-
-pub returns-then-not-is_change-clause-answered : goal.returns-then-not-is_change-clause-answered
-returns-then-not-is_change-clause-answered g c =
-    answers c.args.text.now c.respond-response.result c.args.front.now c.respond-response.new.self
-    (c.respond-response.ensures.response c.args.text.now c.framing.ensures)
 
 pub returns-then-not-is_change-clause-logged : goal.returns-then-not-is_change-clause-logged
 returns-then-not-is_change-clause-logged g c digest past in_step =
@@ -45,11 +40,6 @@ returns-in_err-append-clause-accepted g c texts stands =
     rw p.1 (accepted_where texts c.args.text.now c.respond-response.result c.args.front.now c.respond-response.new.self
     stands (c.respond-response.ensures.response c.args.text.now c.framing.ensures)
     (sym c.is_change.ensures ∙ c.if-not-is_change.false))
-
-pub returns-clause-answered : goal.returns-clause-answered
-returns-clause-answered g c =
-    answers c.args.text.now c.respond-response.result c.args.front.now c.respond-response.new.self
-    (c.respond-response.ensures.response c.args.text.now c.framing.ensures)
 
 pub returns-clause-logged : goal.returns-clause-logged
 returns-clause-logged g c digest past in_step =
