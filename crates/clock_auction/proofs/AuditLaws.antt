@@ -14,7 +14,7 @@ use Rattle.clock_front.specs.declared.front.response.Effect.TheVariants.{Nothing
 use Rattle.clock_reports.specs.FinalReport.{report_of}
 use Rattle.clock_reports.specs.Reports.{ReportFields}
 use Rattle.clock_journal.specs.Entries.{Entry, entries_onto, texts_in}
-use Rattle.clock_journal.specs.Recovering.{IsPlaced}
+use Rattle.clock_journal.specs.Recovering.{AreTextsOf}
 use Rattle.clock_journal.specs.declared.recovery.Record.{Record}
 use Rattle.clock_journal.specs.declared.recovery.Recovered.{Recovered}
 use Rattle.clock_serving.proofs.Telling.{CountsOn, counts_text}
@@ -58,11 +58,11 @@ enough_for_report entries house digests given report recounted is same =
 
 -- what is printed for an auction that stands for all texts of a file
 pub audit_is : (setup setup_new : SetupFields) (first bytes given shown : List ℕ) (texts : List (List ℕ))
-    (recovered : Recovered) → given ≡ bytes → setup_new ≡ setup → IsPlaced first given texts recovered
+    (recovered : Recovered) → given ≡ bytes → setup_new ≡ setup → AreTextsOf first given texts recovered
     → shown ≡ audited setup_new (entries_onto first [] texts []) → IsAuditOf setup first bytes shown recovered
-audit_is setup setup_new first bytes given shown texts recovered same same_setup placed is = record {
+audit_is setup setup_new first bytes given shown texts recovered same same_setup are is = record {
   texts = texts;
-  placed = subst (λ (file : List ℕ). IsPlaced first file texts recovered) same placed;
+  are = subst (λ (file : List ℕ). AreTextsOf first file texts recovered) same are;
   shown_is = is ∙ ap (λ (of_setup : SetupFields). audited of_setup (entries_onto first [] texts [])) same_setup;
 }
 

@@ -8,7 +8,7 @@
 --     IsAuditFault setup first bytes fault      the reported fault is one of this file
 --     audited setup entries      what an audit prints of the rounds
 --     IsAuditOf setup first bytes shown recovered      this is printed of all texts of a file
-use Rattle.std.specs.Prelude.{◌≡◌, ◌++◌, ℕ, List, [], ◌∷◌, drop, length}
+use Rattle.std.specs.Prelude.{◌≡◌, ◌++◌, ℕ, List, [], ◌∷◌}
 use Rattle.hex.specs.Hex.{encode_lower}
 use Rattle.clock_terms.specs.Limits.{SetupFields}
 use Rattle.clock_closing.specs.declared.closed_round.ClosedRound.{ClosedRound}
@@ -21,8 +21,7 @@ use Rattle.clock_front.specs.declared.front.response.Effect.TheVariants.{Nothing
 use Rattle.clock_commands.specs.FaultLines.{of_journal}
 use Rattle.clock_commands.specs.declared.fault.Fault.{Fault}
 use Rattle.clock_journal.specs.Entries.{Entry, entries_onto, texts_in}
-use Rattle.clock_journal.specs.Format.{file_head_length}
-use Rattle.clock_journal.specs.Recovering.{IsPlaced, IsJournalRefusal, IsRefusedRightly}
+use Rattle.clock_journal.specs.Recovering.{AreTextsOf, IsJournalRefusal}
 use Rattle.clock_journal.specs.declared.recovery.JournalFault.{JournalFault}
 use Rattle.clock_journal.specs.declared.recovery.Recovered.{Recovered}
 use Rattle.clock_keeping.specs.Keeping.{IsRefused}
@@ -54,9 +53,7 @@ pub record IsAuditFault (setup : SetupFields) (first bytes : List ℕ)
     (reported : Fault) : Type 0 where
   pub fault : JournalFault
   pub reported_is : reported ≡ of_journal fault
-  pub is : IsJournalRefusal first bytes fault
-  pub rightly : IsRefusedRightly (IsRefused setup) (λ past. past ≡ []) first
-      (drop file_head_length bytes) (length bytes) fault
+  pub is : IsJournalRefusal (IsRefused setup) (λ past. past ≡ []) first bytes fault
 
 -- the lines of the closed rounds, each with its closing's digest, and what each bidder won if the
 -- auction has ended
@@ -69,10 +66,9 @@ abbrev pub audited : SetupFields → List Entry → List ℕ
 audited setup entries =
     text_of_rounds setup (closed_after setup (texts_in entries)) (closing_digests setup entries)
 
--- the file is the journal of these texts, except for a torn tail, and the rounds of all of them are
--- printed
+-- these are the texts of the file, and the rounds of all of them are printed
 pub record IsAuditOf (setup : SetupFields) (first bytes shown : List ℕ)
     (recovered : Recovered) : Type 0 where
   pub texts : List (List ℕ)
-  pub placed : IsPlaced first bytes texts recovered
+  pub are : AreTextsOf first bytes texts recovered
   pub shown_is : shown ≡ audited setup (entries_onto first [] texts [])

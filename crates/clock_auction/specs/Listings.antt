@@ -6,9 +6,8 @@
 use Rattle.std.specs.Prelude.{◌≡◌, ◌++◌, ℕ, List, [], ◌∷◌, codes, decimal, length}
 use Rattle.hex.specs.Hex.{encode_lower}
 use Rattle.clock_journal.specs.Entries.{Entry, entries_onto}
-use Rattle.clock_journal.specs.Recovering.{IsPlaced, IsJournalRefusal}
+use Rattle.clock_journal.specs.Recovering.{AreTextsOf, IsJournalRefusal}
 use Rattle.clock_journal.specs.declared.recovery.JournalFault.{JournalFault}
-use Rattle.clock_journal.specs.declared.recovery.JournalFault.TheVariants.{Refused}
 use Rattle.clock_journal.specs.declared.recovery.Record.{Record}
 use Rattle.clock_journal.specs.declared.recovery.Recovered.{Recovered}
 use Rattle.clock_commands.specs.FaultLines.{of_journal}
@@ -33,15 +32,14 @@ abbrev pub listing_text : List ℕ → List Entry → List ℕ
 listing_text first [] = codes "setup " ++ digest_line first
 listing_text first (entry ∷ past) = listing_text first past ++ text_listed entry.0 entry.1
 
--- the file is the journal of these texts, except for a torn tail, and all of them are listed
+-- these are the texts of the file, and all of them are listed
 pub record IsListingOf (first bytes shown : List ℕ) (recovered : Recovered) : Type 0 where
   pub texts : List (List ℕ)
-  pub placed : IsPlaced first bytes texts recovered
+  pub are : AreTextsOf first bytes texts recovered
   pub shown_is : shown ≡ listing_text first (entries_onto first [] texts [])
 
 -- the file has this fault or memory ran out; no text is refused
 pub record IsListFault (first bytes : List ℕ) (reported : Fault) : Type 0 where
   pub fault : JournalFault
   pub reported_is : reported ≡ of_journal fault
-  pub is : IsJournalRefusal first bytes fault
-  pub takes_all : (place : ℕ) → fault ≡ Refused place → ⊥
+  pub is : IsJournalRefusal (λ past text. ⊥) (λ past. past ≡ []) first bytes fault

@@ -69,10 +69,7 @@ fn remember(digests: &mut Vec<Digits>, effect: Effect, digest: &Link) -> Result<
     ensures { OnOk result (digests.new.items ≡ with_digest effect digests.old.items digest.now) }
 {
     match effect {
-        Effect::Closing(_) => {
-            digests.push(digits_of(digest)).or(Err(NoMemory))?;
-            Ok(())
-        }
+        Effect::Closing(_) => digests.push(digits_of(digest)).or(Err(NoMemory)),
         Effect::Nothing | Effect::Sheet => Ok(()),
     }
 }

@@ -1,5 +1,5 @@
 //! `serve`: an auction on a port of this machine.
-ghost use Rattle.std.specs.Prelude.{◌≡◌, [], IfErr, IfOk, IfSome, Ok, false, None};
+ghost use Rattle.std.specs.Prelude.{◌≡◌, [], IfErr, IfOk, Ok, false, None};
 ghost use Rattle.clock_terms.specs.Faults.{IsRefusal};
 ghost use Rattle.clock_front.specs.Fronts.{StandsForTexts};
 ghost use Rattle.clock_setup.specs.SetupDocument.{document_setup};
@@ -12,10 +12,10 @@ use clock_device::{Failed, Text};
 use clock_front::{Front, Response};
 use clock_http::Progress;
 use clock_journal::{Durable, FileDisk, Journal, Link, Recovered, digest_of};
-use clock_keeping::{ReplayedAuction, RequestLog, ResumeFault, resume_auction};
+use clock_keeping::{NoLog, ReplayedAuction, RequestLog, ResumeFault, resume_auction};
 use clock_processor::Processor;
 use clock_queue::Woken;
-use clock_serving::{PortAcceptor, serve_all, serve_on};
+use clock_serving::{PortAcceptor, serve_all};
 use clock_words::Serving;
 use std::alloc::Global;
 use std::fs::{File, OpenOptions};
@@ -34,18 +34,15 @@ where
         + Alloc<A = Global>,
 {
     let document = file_bytes(rt, serving.setup)?;
-    let Some(path) = serving.journal else {
-        let mut front = front_in(rt.alloc(), document)?;
-        let served = listen(rt, &mut front, None, serving);
-        drop(front);
-        return served;
-    };
     let digest = digest_of(document.as_slice());
     let front = front_in(rt.alloc(), document)?;
     let mut auction = ReplayedAuction { front };
-    let served = match resumed_journal(rt, &mut auction, digest, path) {
-        Ok(journal) => listen(rt, &mut auction.front, Some(journal), serving),
-        Err(fault) => Err(fault),
+    let served = match serving.journal {
+        None => listen(rt, &mut auction.front, &mut NoLog, serving),
+        Some(path) => match resumed_journal(rt, &mut auction, digest, path) {
+            Ok(mut journal) => listen(rt, &mut auction.front, &mut journal, serving),
+            Err(fault) => Err(fault),
+        },
     };
     // `drop` here keeps the proof small: at the end of the scope, each field is proved
     drop(auction);
@@ -65,16 +62,16 @@ pub fn front_in(alloc: Global, document: Text) -> Result<Front<Woken>, Fault>
 
 /// Locks the file of a journal, replays it, and continues it. Prints the line of the journal. Syncs
 /// the folder of the file, too.
-fn resumed_journal<R>(
-    rt: &R,
+fn resumed_journal<'a, R>(
+    rt: &'a R,
     auction: &mut ReplayedAuction<Woken>,
     digest: Link,
     path: &str,
-) -> Result<Journal<FileDisk<File>>, Fault>
+) -> Result<Telling<'a, R, FileDisk<File>>, Fault>
 where
     R: Files<File = File> + Print + Eprint + Alloc<A = Global>,
     requires { StandsForTexts [] auction.old.front }
-    ensures unfailed { IfOk result (λ journal. journal.has_failed ≡ false) }
+    ensures unfailed { IfOk result (λ telling. telling.journal.has_failed ≡ false) }
 {
     // a new file can be read only by its owner
     let mut how = OpenOptions::new();
@@ -88,7 +85,7 @@ where
         Ok(recovered) => {
             sync_folder(rt, path)?;
             tell_journal(rt, recovered)?;
-            Ok(journal)
+            Ok(Telling { rt, journal })
         }
         Err(fault) => Err(start_fault(fault)),
     }
@@ -125,26 +122,21 @@ fn sync_folder<R: Files<File = File>>(rt: &R, path: &str) -> Result<(), Fault> {
 }
 
 /// Listens on the port, prints that, and serves connections.
-fn listen<R>(
+fn listen<R, K: RequestLog>(
     rt: &R,
     front: &mut Front<Woken>,
-    journal: Option<Journal<FileDisk<File>>>,
+    log: &mut K,
     serving: &Serving,
 ) -> Result<(), Fault>
 where
     R: Print + Net<Listener = TcpListener, Stream = TcpStream> + Alloc<A = Global>,
-    requires { IfSome journal (λ journal. journal.has_failed ≡ false) }
+    requires { (K.journal log.old).has_failed ≡ false }
 {
     let port = serving.port;
     let listener = TcpListener::bind(rt, (Ipv4Addr::LOCALHOST, port)).or(Err(Fault::Bind))?;
     println!(rt; "ready {port}").or(Err(Fault::Output))?;
-    let count = serving.connections;
-    let Some(journal) = journal else {
-        return Ok(serve_on(rt.alloc(), front, &listener, count)?);
-    };
-    let mut telling = Telling { rt, journal };
     let mut taken = PortAcceptor::new(&listener);
-    Ok(serve_all(rt.alloc(), front, &mut telling, &mut taken, count)?)
+    Ok(serve_all(rt.alloc(), front, log, &mut taken, serving.connections)?)
 }
 
 /// A journal that prints each closing with its digest. Contracts do not see what is printed.

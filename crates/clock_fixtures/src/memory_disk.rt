@@ -48,8 +48,6 @@ impl Durable for MemoryDisk {
 
     ghost has_failed = { λ disk. disk.has_failed };
 
-    ghost uncut = { λ disk. 0 };
-
     ghost moments = { λ disk. None };
 
     fn append(&mut self, bytes: &[u8]) -> Result<(), Failed> {

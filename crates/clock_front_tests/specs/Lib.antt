@@ -1,1 +1,2 @@
 pub mod MemoryAcceptor
+pub mod inside

@@ -1,8 +1,10 @@
-ghost use Rattle.std.specs.Prelude.{◌≡◌, ◌≤◌, ◌+◌, [], drop, length, map, IfOk, MatchBool, None};
+ghost use Rattle.std.specs.Prelude.{◌≡◌, ◌≤◌, ◌+◌, [], ◌∷◌, drop, length, map, IfOk, MatchBool};
+ghost use Rattle.std.specs.Prelude.{None};
 ghost use Rattle.std.specs.Prelude.{Some, true, false};
 ghost use Rattle.clock_device.specs.{Reported.{unread, unused}, SourceState.{source_report}};
 ghost use Rattle.clock_device.specs.SinkState.{sink_report};
-ghost use Rattle.clock_serving.specs.Exchanges.{Closes, Exchange};
+ghost use Rattle.clock_keeping.specs.Keeping.{GrowsBy};
+ghost use Rattle.clock_serving.specs.Exchanges.{Exchange};
 ghost use Rattle.clock_front_tests.specs.MemoryAcceptor.{MemoryAcceptorState};
 
 use clock_device::{Bounded, Failed, Items, ListSink, ListSource, NoMemory, Stop};
@@ -152,12 +154,17 @@ impl<'a> Acceptor for MemoryAcceptor<'a> {
         ensures open { self.new.is_open ≡ false }
         ensures coming { Some self.new.coming ≡ Some self.old.coming }
         ensures failed { self.new.has_failed ≡ self.old.has_failed }
-        ensures closed { Closes (Some self.old.closed) (Some self.new.closed)
-            (record {
-              before = unread (Some self.old.offered);
-              after = source_report connection.entry.source;
-            })
-            (record { before = unused (Some []); after = sink_report connection.entry.sink }) None }
+        ensures closed { GrowsBy (Some self.old.closed) (Some self.new.closed) (record {
+          reading = record {
+            before = unread (Some self.old.offered);
+            after = source_report connection.entry.source;
+          };
+          writing = record {
+            before = unused (Some []);
+            after = sink_report connection.entry.sink;
+          };
+          logged = None;
+        } ∷ []) }
     {
         self.is_open = false;
         self.closed.push(Closed {

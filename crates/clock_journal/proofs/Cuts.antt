@@ -1,6 +1,6 @@
 -- What a crash leaves while a torn record is cut off: a prefix of the file that still has all whole records.
 use Rattle.std.proofs.Common.{◌≡◌, ◌≤◌, ◌+◌, ◌-◌, ◌<◌, ◌⊎◌, inl, inr, ℕ, Bool, true, false, List, ◌++◌, length, take}
-use Rattle.std.proofs.Common.{drop, nat_lt, nat_le, ◌&&◌, ◌==◌, bytes_eq, refl, sym, ap, ◌∙◌, subst, arith}
+use Rattle.std.proofs.Common.{drop, nat_lt, nat_le, ◌&&◌, ◌==◌, bytes_eq, refl, sym, ap, ◌∙◌, subst, arith, Some}
 use Rattle.std.specs.Prelude.{if◌then◌else◌}
 use Rattle.std.specs.Int.{w32, from_be_bytes}
 use Rattle.std.proofs.lemmas.List.{append_assoc, take_all, take-append-drop, take-take, drop-take, length-take-le}
@@ -12,8 +12,8 @@ use Rattle.clock_journal.specs.Logged.{file_of}
 use Rattle.clock_journal.specs.Reading.{Next, ended, torn, damaged, whole, marked_length, is_marked, next, ReadsTexts}
 use Rattle.clock_journal.specs.Reading.{Ends}
 use Rattle.clock_journal.specs.Crash.{ReadsSome, LeavesTexts}
-use Rattle.clock_journal.specs.Recovering.{BeginsWithHead}
-use Rattle.clock_journal.specs.Laws.{CutLeaves}
+use Rattle.clock_journal.specs.Disks.{MayBeLeft}
+use Rattle.clock_journal.specs.Recovering.{BeginsWithHead, IsPlaced}
 use Rattle.clock_journal.specs.declared.recovery.Recovered.{Recovered}
 use Rattle.clock_journal.proofs.Records.{next_none, next_short, next_cut}
 use Rattle.clock_journal.proofs.Fronts.{reads_once, reads_records, ends_stop}
@@ -169,7 +169,11 @@ leaves_front digest bytes texts read least recovered left count leaves headed en
           ++ take (count - recovered.end) (drop recovered.end bytes)) (length (head digest)) refl)) some_front;
     }
 
-pub cut_leaves : CutLeaves
+-- if what a crash left is synced and truncated after its last whole record, a crash during that leaves all of its texts
+pub cut_leaves : (digest bytes : List ℕ) (texts read : List (List ℕ)) (least : ℕ) (recovered : Recovered)
+    (left : List ℕ) → length digest ≡ 32 → LeavesTexts digest bytes texts least
+    → IsPlaced digest bytes read recovered → MayBeLeft (Some (take recovered.end bytes)) (Some bytes) left
+    → LeavesTexts digest left texts least
 cut_leaves digest bytes texts read least recovered left long leaves (inl headed) may =
     let enough = may.1 in
     let size = length-take-le recovered.end bytes headed.within in

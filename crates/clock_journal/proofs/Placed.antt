@@ -1,7 +1,7 @@
 -- Resuming with the file of a journal that was replayed.
 use Rattle.std.proofs.Common.{◌≡◌, ◌≢◌, inl, inr, ℕ, List, [], length, take, Option, Some, ap, ◌∙◌, subst, arith}
 use Rattle.std.proofs.Common.{length-append}
-use Rattle.clock_journal.specs.Disks.{IsCut}
+use Rattle.std.specs.Prelude.{option_map}
 use Rattle.clock_journal.specs.Format.{head, records}
 use Rattle.clock_journal.specs.Logged.{Keeps}
 use Rattle.clock_journal.specs.Recovering.{IsPlaced}
@@ -20,8 +20,8 @@ placed_empty digest bytes texts recovered long nowhere (inl headed) =
 placed_empty digest bytes texts recovered long nowhere (inr begun) = begun.none
 
 pub cut_is : (old mid new : Option (List ℕ)) (bytes : List ℕ) (place : ℕ) → mid ≡ old → old ≡ Some bytes
-    → IsCut mid new place → new ≡ Some (take place bytes)
-cut_is old mid new bytes place same is cut = subst (λ (known : Option (List ℕ)). IsCut known new place) (same ∙ is) cut
+    → new ≡ option_map (take place) mid → new ≡ Some (take place bytes)
+cut_is old mid new bytes place same is cut = cut ∙ ap (option_map (take place)) (same ∙ is)
 
 -- after it is truncated to its whole records and synced, the file has these texts
 pub logged_when_cut : (digest bytes : List ℕ) (texts : List (List ℕ)) (recovered : Recovered)

@@ -1,11 +1,12 @@
 -- What a crash leaves while a journal is begun, or resumed from a file: by cases on the moments of the calls.
 use Rattle.std.proofs.Common.{◌≡◌, ◌≤◌, ◌<◌, ◌+◌, inl, inr, ◌++◌, ℕ, List, [], Option, Some, None, length, take, drop}
 use Rattle.std.proofs.Common.{refl, sym, ap, ◌∙◌, subst, arith, length-append}
+use Rattle.std.specs.Prelude.{option_map}
 use Rattle.std.proofs.lemmas.List.{append_assoc, append-nil, take_all, take-take, length-take, length-take-le}
 use Rattle.std.proofs.lemmas.List.{take-append-drop, drop_at}
 use Rattle.std.proofs.lemmas.Bool.{cases_lt}
 use Rattle.clock_device.specs.Streams.{HasWrittenFront}
-use Rattle.clock_journal.specs.Disks.{LeaveOnly, MayBeLeft, Moment, Passes, up_to}
+use Rattle.clock_journal.specs.Disks.{LeaveOnly, MayBeLeft, Moment, Passes}
 use Rattle.clock_journal.specs.Format.{head, file_head_length, records, last_link}
 use Rattle.clock_journal.specs.Logged.{file_of}
 use Rattle.clock_journal.specs.Reading.{Ends, ReadsTexts}
@@ -69,19 +70,18 @@ head_reads digest bytes old synced written size empty is front =
 -- ---- the file is truncated
 
 cut_passes : (old new : Option (List Moment)) (synced written was : Option (List ℕ)) (bytes : List ℕ) (place : ℕ)
-    → synced ≡ was → written ≡ was → was ≡ Some bytes → Passes old new (up_to place synced) written
+    → synced ≡ was → written ≡ was → was ≡ Some bytes → Passes old new (option_map (take place) synced) written
     → Passes old new (Some (take place bytes)) (Some bytes)
 cut_passes old new synced written was bytes place same still is passes =
     subst (λ (w : Option (List ℕ)). Passes old new (Some (take place bytes)) w) (still ∙ is)
-    (subst (λ (s : Option (List ℕ)). Passes old new (up_to place s) written) (same ∙ is) passes)
+    (subst (λ (s : Option (List ℕ)). Passes old new (option_map (take place) s) written) (same ∙ is) passes)
 
 -- through a sync and a truncation after it
 pub through_cut : (first mid last : Option (List Moment)) (synced written synced_then written_then : Option (List ℕ))
-    (bytes : List ℕ) (place : ℕ) (Leaves : List ℕ → Type 0) → Passes first mid synced written
-    → ((left : List ℕ) → MayBeLeft synced written left → Leaves left)
-    → Passes mid last (up_to place synced_then) written_then → synced_then ≡ written → written_then ≡ written
-    → written ≡ Some bytes → ((left : List ℕ) → MayBeLeft (Some (take place bytes)) (Some bytes) left → Leaves left)
-    → LeaveOnly first last Leaves
+    (bytes : List ℕ) (place : ℕ) (Leaves : List ℕ → Type 0) → Passes first mid synced written → ((left : List ℕ)
+    → MayBeLeft synced written left → Leaves left) → Passes mid last (option_map (take place) synced_then) written_then
+    → synced_then ≡ written → written_then ≡ written → written ≡ Some bytes → ((left : List ℕ)
+    → MayBeLeft (Some (take place bytes)) (Some bytes) left → Leaves left) → LeaveOnly first last Leaves
 through_cut first mid last synced written synced_then written_then bytes place Leaves passes before cut same still is
     after = leave_then first mid last Leaves (leave_one first mid synced written Leaves passes before)
     (leave_one mid last (Some (take place bytes)) (Some bytes) Leaves

@@ -1,20 +1,21 @@
 -- A file that begins with the journal of some texts, whatever follows.
 use Rattle.std.proofs.Common.{◌≡◌, ◌≤◌, ◌<◌, ◌+◌, ◌++◌, ℕ, List, [], ◌∷◌, length, get_or, take, drop, refl, sym, ap}
+use Rattle.std.proofs.Common.{inl, inr}
 use Rattle.std.proofs.Common.{◌∙◌, subst, arith, length-append, length-drop}
 use Rattle.std.proofs.lemmas.List.{append_assoc, take-append-drop, take_at, drop_at, get_or-drop}
 use Rattle.clock_journal.specs.Format.{file_head_length, head, link, record_of, records, last_link}
 use Rattle.clock_journal.specs.Headings.{Heading, headed, heading}
-use Rattle.clock_journal.specs.Reading.{ReadsTexts, Stops, damaged}
-use Rattle.clock_journal.specs.Entries.{Entry, entries_onto}
+use Rattle.clock_journal.specs.Reading.{ReadsTexts, damaged}
+use Rattle.clock_journal.specs.Entries.{Entry}
 use Rattle.clock_journal.specs.Logged.{file_of}
 use Rattle.clock_journal.specs.Crash.{BeginsWith, BeginsWithTexts}
-use Rattle.clock_journal.specs.Recovering.{HasTakenFirst, IsFoundAt}
+use Rattle.clock_journal.specs.Recovering.{AreTextsOf, IsFoundAt}
 use Rattle.clock_journal.specs.declared.recovery.Recovered.{Recovered}
-use Rattle.clock_journal.specs.inside.Replays.{IsReplayed}
+use Rattle.clock_journal.specs.inside.Replays.{IsReplayed, Stops}
 use Rattle.clock_journal.proofs.Whole.{read_back}
 use Rattle.clock_journal.proofs.Fronts.{reads_first, ends_stop, damage_stops}
 use Rattle.clock_journal.proofs.Moments.{length-head}
-use Rattle.clock_journal.proofs.TakenOver.{headed_is}
+use Rattle.clock_journal.proofs.TakenOver.{headed_at, headed_is, left_first, left_none, texts_left}
 use Rattle.clock_journal.proofs.Tested.{bytes_eq_same}
 
 pub records-append : (chain : List ℕ) (texts further : List (List ℕ))
@@ -84,25 +85,38 @@ reported_of_front digest bytes texts reported size begins is =
     is ∙ headed_is digest bytes (long_front digest bytes texts size begins)
     (bytes_eq_same (take file_head_length bytes) (head digest) same)
 
--- the texts are taken first
-pub has_taken_first : (old new : List Entry → Type 0) (digest bytes : List ℕ) (texts : List (List ℕ))
-    (recovered : Recovered) → ((place : ℕ) → get_or bytes place 0 < 256) → length digest ≡ 32
-    → BeginsWithTexts digest bytes texts → IsReplayed old new digest (drop file_head_length bytes)
-    (length bytes) recovered → HasTakenFirst old new digest texts recovered
-has_taken_first old new digest bytes texts recovered small size begins done =
-    let first =
-    texts_first digest bytes texts done.texts done.rest small size begins done.reads (ends_stop _ _ done.ends) in
-    record {
-      further = first.0.0;
-      stands = λ past was. subst (λ (all : List (List ℕ)). new (entries_onto digest [] all past)) first.0.1
-          (done.stands past was);
-      behind = omega (arith, first.1, done.end_is);
-    }
+-- ---- the texts of a file
+
+pub headed_texts : (old new : List Entry → Type 0) (digest bytes : List ℕ) (recovered : Recovered)
+    → ((place : ℕ) → get_or bytes place 0 < 256) → length digest ≡ 32 → file_head_length ≤ length bytes
+    → take file_head_length bytes ≡ head digest
+    → (done : IsReplayed old new digest (drop file_head_length bytes) (length bytes) recovered)
+    → AreTextsOf digest bytes done.texts recovered
+headed_texts old new digest bytes recovered small size long same done = record {
+  placed = inl (headed_at old new digest bytes recovered small long same done);
+  crash = λ all least leaves.
+      left_first digest bytes all least done.texts done.rest size (texts_left digest bytes all least leaves long)
+      done.reads done.ends;
+  any_tail = λ first begins. (texts_first digest bytes first done.texts done.rest small size begins done.reads
+      (ends_stop _ _ done.ends)).0;
+}
+
+-- none, if it is less than a head
+pub begun_texts : (digest bytes : List ℕ) → length digest ≡ 32 → length bytes < file_head_length
+    → bytes ≡ take (length bytes) (head digest)
+    → AreTextsOf digest bytes [] (record { chain = digest; end = 0; texts = 0 })
+begun_texts digest bytes size short front = record {
+  placed = inr
+      (record { none = refl; short = short; front = front; chain_is = refl; end_is = refl; count_is = refl });
+  crash = λ all least leaves. left_none digest bytes all [] least size leaves short refl;
+  any_tail = λ first begins.
+      let long = long_front digest bytes first size begins in absurd (omega (arith, long, short));
+}
 
 -- nothing before their end is damaged
-pub damaged_behind : (digest bytes : List ℕ) (texts : List (List ℕ)) (place : ℕ) → ((at : ℕ) → get_or bytes at 0 < 256)
-    → length digest ≡ 32 → BeginsWithTexts digest bytes texts → IsFoundAt digest (drop file_head_length bytes)
-    (length bytes) place damaged → length (file_of digest texts) ≤ place
+pub damaged_behind : (digest bytes : List ℕ) (texts : List (List ℕ)) (place : ℕ)
+    → ((at : ℕ) → get_or bytes at 0 < 256) → length digest ≡ 32 → BeginsWithTexts digest bytes texts
+    → IsFoundAt digest bytes place damaged → length (file_of digest texts) ≤ place
 damaged_behind digest bytes texts place small size begins found =
     let first = texts_first digest bytes texts found.texts found.rest small size begins found.reads
     (damage_stops _ _ found.found_is) in

@@ -4,13 +4,13 @@ use Rattle.std.proofs.Common.{bytes_eq, refl, sym, ap, ◌∙◌, subst, arith, 
 use Rattle.std.proofs.lemmas.List.{length-take, append_assoc, take-append-drop, take_at, drop_at, get_or-drop}
 use Rattle.std.proofs.lemmas.List.{take-take}
 use Rattle.clock_journal.specs.Format.{file_head_length, head, kind, records, last_link}
-use Rattle.clock_journal.specs.Reading.{Ends, next, damaged}
-use Rattle.clock_journal.specs.Entries.{Entry, entries_onto}
+use Rattle.clock_journal.specs.Reading.{ReadsTexts, Ends, next, damaged}
+use Rattle.clock_journal.specs.Entries.{Entry}
 use Rattle.clock_journal.specs.Headings.{Heading, begun, headed, of_another, unknown, heading}
 use Rattle.clock_journal.specs.Logged.{file_of}
 use Rattle.clock_journal.specs.Crash.{IsPartOfHead, LeavesJournal, LeavesTexts, ReadsSome}
 use Rattle.clock_journal.specs.inside.Replays.{IsReplayed}
-use Rattle.clock_journal.specs.Recovering.{HasTaken, IsFoundAt, BeginsWithHead}
+use Rattle.clock_journal.specs.Recovering.{IsFoundAt, BeginsWithHead}
 use Rattle.clock_journal.specs.declared.recovery.Recovered.{Recovered}
 use Rattle.clock_journal.proofs.Whole.{read_back}
 use Rattle.clock_journal.proofs.Fronts.{reads_once, ends_stop, damage_stops, ends_undamaged}
@@ -92,44 +92,27 @@ headed_at old new digest bytes recovered small long same done =
           ∙ drop_at (file_of digest done.texts) done.rest recovered.end at)) done.ends;
     }
 
--- all that was on the disk is taken
-pub has_taken : (old new : List Entry → Type 0) (digest left : List ℕ) (texts : List (List ℕ)) (least : ℕ)
-    (recovered : Recovered) → ((place : ℕ) → get_or left place 0 < 256) → length digest ≡ 32
-    → file_head_length ≤ length left → LeavesTexts digest left texts least → IsReplayed old new digest
-    (drop file_head_length left) (length left) recovered → HasTaken old new digest left texts least recovered
-has_taken old new digest left texts least recovered small size long leaves done =
+-- what is read of what a crash left is a prefix of the texts, at least `least` of them
+pub left_first : (digest left : List ℕ) (texts : List (List ℕ)) (least : ℕ) (read : List (List ℕ)) (rest : List ℕ)
+    → length digest ≡ 32 → LeavesTexts digest left texts least
+    → ReadsTexts digest (drop file_head_length left) read rest → Ends (last_link digest read) rest
+    → (count : ℕ) × (least ≤ count) × (count ≤ length texts) × (read ≡ take count texts)
+left_first digest left texts least read rest size leaves reads ends =
     let some = subst (λ (n : ℕ). ReadsSome digest (drop n left) texts least) (length-head digest size) leaves.reads in
-    let same = reads_once digest (drop file_head_length left) (take some.count texts) done.texts some.rest done.rest
-    some.reads (ends_stop _ _ some.ends) done.reads (ends_stop _ _ done.ends) in
-    let front : take file_head_length left ≡ head digest =
-    ap (λ (n : ℕ). take n left) (sym (length-head digest size)) ∙ leaves.headed in
-    record {
-      count = some.count;
-      enough = some.enough;
-      most = some.most;
-      placed = inl (subst (λ (all : List (List ℕ)). BeginsWithHead digest left all recovered) same.0
-          (headed_at old new digest left recovered small long front done));
-      stands = λ past was. subst (λ (all : List (List ℕ)). new (entries_onto digest [] all past)) same.0
-          (done.stands past was);
-    }
+    let same = reads_once digest (drop file_head_length left) (take some.count texts) read some.rest rest
+    some.reads (ends_stop _ _ some.ends) reads (ends_stop _ _ ends) in
+    (some.count, some.enough, some.most, same.0)
 
--- the journal of a file with less than a head begins again
-pub has_taken_none : (same : List Entry → Type 0) (digest left : List ℕ) (texts : List (List ℕ)) (least : ℕ)
-    → length digest ≡ 32 → LeavesJournal digest left texts least → length left < file_head_length
-    → HasTaken same same digest left texts least (record { chain = digest; end = 0; texts = 0 })
-has_taken_none same digest left texts least size (inl leaves) short =
+-- of less than a head, nothing is read
+pub left_none : (digest left : List ℕ) (texts read : List (List ℕ)) (least : ℕ) → length digest ≡ 32
+    → LeavesJournal digest left texts least → length left < file_head_length → read ≡ []
+    → (count : ℕ) × (least ≤ count) × (count ≤ length texts) × (read ≡ take count texts)
+left_none digest left texts read least size (inl leaves) short none =
     let e = ap length leaves.headed in
     let before = length-head digest size in
     let part = length-take (length (head digest)) left in
     absurd (omega (arith, e, before, part, short))
-has_taken_none same digest left texts least size (inr part) short = record {
-  count = 0;
-  enough = omega (arith, part.0);
-  most = omega arith;
-  placed = inr
-      (record { none = refl; short = short; front = part.1.front; chain_is = refl; end_is = refl; count_is = refl });
-  stands = λ past was. was;
-}
+left_none digest left texts read least size (inr part) short none = (0, omega (arith, part.0), omega arith, none)
 
 -- its heading is `begun`
 begun_is : (digest left : List ℕ) → IsPartOfHead digest left → heading digest left ≡ begun
@@ -158,9 +141,9 @@ texts_left digest left texts least (inl leaves) long = leaves
 texts_left digest left texts least (inr part) long = let short = part.1.short in absurd (omega (arith, short, long))
 
 -- nothing is damaged
-pub is_undamaged : (digest left : List ℕ) (texts : List (List ℕ)) (least size place : ℕ) → length digest ≡ 32
-    → LeavesTexts digest left texts least → IsFoundAt digest (drop file_head_length left) size place damaged → ⊥
-is_undamaged digest left texts least size place long leaves found =
+pub is_undamaged : (digest left : List ℕ) (texts : List (List ℕ)) (least place : ℕ) → length digest ≡ 32
+    → LeavesTexts digest left texts least → IsFoundAt digest left place damaged → ⊥
+is_undamaged digest left texts least place long leaves found =
     let some = subst (λ (n : ℕ). ReadsSome digest (drop n left) texts least) (length-head digest long) leaves.reads in
     let same = reads_once digest (drop file_head_length left) (take some.count texts) found.texts some.rest found.rest
     some.reads (ends_stop _ _ some.ends) found.reads (damage_stops _ _ found.found_is) in

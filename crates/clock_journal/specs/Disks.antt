@@ -5,11 +5,9 @@
 --     CouldBeLeft moments left      a crash at one of the moments may leave this
 --     Passes old new synced written      one more moment has passed
 --     LeaveOnly old new Leaves      it holds of all that a crash since then could have left
---     up_to place bytes      the first `place` bytes
---     IsCut old new place      the file was truncated to `place` bytes
 --     CutsTo old new place result      how truncating ends
 use Rattle.std.specs.Prelude.{◌≡◌, ◌≤◌, ◌⊎◌, ◌++◌, ℕ, List, [], ◌∷◌, length, take, Option, Some}
-use Rattle.std.specs.Prelude.{None, Result, Ok, Err}
+use Rattle.std.specs.Prelude.{None, Result, Ok, Err, option_map}
 
 -- all synced bytes, and a prefix of the rest; this says nothing of a file whose bytes contracts do
 -- not see
@@ -33,9 +31,8 @@ CouldBeLeft (moment ∷ moments) left =
 -- a call passed one more moment, if contracts see the moments
 abbrev pub Passes : Option (List Moment) → Option (List Moment) → Option (List ℕ)
     → Option (List ℕ) → Type 0
-Passes (Some old) new synced written =
-    new ≡ Some (record { synced = synced; written = written } ∷ old)
-Passes None new synced written = Unit {0}
+Passes old new synced written = new ≡ option_map
+    (λ (passed : List Moment). record { synced = synced; written = written } ∷ passed) old
 
 -- it holds of whatever a crash since then could have left, if contracts see the moments
 abbrev pub LeaveOnly : Option (List Moment) → Option (List Moment) → (List ℕ → Type 0) → Type 0
@@ -43,17 +40,7 @@ LeaveOnly (Some old) new Leaves = (since : List Moment) × (new ≡ Some (since 
     × ((left : List ℕ) → CouldBeLeft since left → Leaves left)
 LeaveOnly None new Leaves = Unit {0}
 
--- the first `place` bytes, if contracts see them
-abbrev pub up_to : ℕ → Option (List ℕ) → Option (List ℕ)
-up_to place (Some bytes) = Some (take place bytes)
-up_to place None = None
-
--- the file was truncated to `place` bytes, if contracts see them
-abbrev pub IsCut : Option (List ℕ) → Option (List ℕ) → ℕ → Type 0
-IsCut (Some old) new place = new ≡ Some (take place old)
-IsCut None new place = Unit {0}
-
 -- how truncating ends: if it fails, the file was truncated or is unchanged
 abbrev pub CutsTo : {U E : Type 0} → Option (List ℕ) → Option (List ℕ) → ℕ → Result U E → Type 0
-CutsTo old new place (Ok done) = IsCut old new place
-CutsTo old new place (Err failed) = (new ≡ old) ⊎ IsCut old new place
+CutsTo old new place (Ok done) = new ≡ option_map (take place) old
+CutsTo old new place (Err failed) = (new ≡ old) ⊎ (new ≡ option_map (take place) old)

@@ -20,14 +20,12 @@ pub record Keeps (digest : List ℕ) (texts : List (List ℕ)) (written synced :
   pub chain_is : chain ≡ last_link digest texts
   pub fit : AllFit texts
 
--- in contracts, a journal: `uncut` changes only when the file is truncated; the moments are those
--- that its disk has passed, the last one first
+-- in contracts, a journal: the moments are those that its disk has passed, the last one first
 pub record JournalState : Type 0 where
   pub written : Option (List ℕ)
   pub synced : Option (List ℕ)
   pub has_failed : Bool
   pub chain : List ℕ
-  pub uncut : ℕ
   pub moments : Option (List Moment)
 
 -- the journal has these texts, all of them on its disk

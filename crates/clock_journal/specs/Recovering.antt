@@ -1,19 +1,18 @@
 -- How the journal in a file is replayed by a machine.
---     HasTaken old new digest bytes texts least recovered      the machine took a prefix of the
---         texts, at least `least` of them, and the file has these
---     HasTakenFirst old new digest texts recovered      it took these texts and perhaps further
---         ones, and the recovered part of the file has these
---     IsTakeFault fault      the file itself is right
---     IsDamagedAfter count fault      no damage is in the first `count` bytes
+--     BeginsWithHead digest bytes texts recovered      the file has its head, and then the texts
+--     IsBegun digest bytes texts recovered      the file is less than a head
 --     IsPlaced digest bytes texts recovered      the recovered part of the file is the journal of
 --         the texts
+--     AreTextsOf digest bytes texts recovered      these texts are read of the file
 --     IsRecovered old new digest bytes recovered      the machine took all texts of the file
---     IsFoundAt first bytes size place found      after the records before `place` comes this
---     IsJournalRefusal digest bytes fault      the file has this fault
---     IsRefusedAt refuses old first bytes size place      the machine refuses the text at `place`
---     IsRefusedRightly refuses old first bytes size fault      a text that is reported as refused
---         is refused
-use Rattle.std.specs.Prelude.{◌≡◌, ◌⊎◌, ◌<◌, ◌≤◌, ◌+◌, ◌++◌, ℕ, List, [], length, take, drop}
+--     IsFoundAt digest bytes place found      after the records before `place` comes this
+--     IsRefusedAt refuses old digest bytes place      the machine refuses the text at `place`
+--     IsFound refuses old digest bytes why      the file has this fault
+--     IsDamagedWhere may_be why      any damage is at such a place
+--     IsJournalRefusal refuses old digest bytes why      the file has this fault, and what a crash
+--         left has no damage
+use Rattle.std.specs.Prelude.{◌≡◌, ◌⊎◌, ◌<◌, ◌≤◌, ◌+◌, ℕ, List, [], length, take, drop}
+use Rattle.clock_journal.specs.Crash.{BeginsWith, BeginsWithTexts, LeavesJournal}
 use Rattle.clock_journal.specs.Entries.{Entry, entries_onto, texts_in}
 use Rattle.clock_journal.specs.Format.{head, file_head_length, last_link, AllFit}
 use Rattle.clock_journal.specs.Logged.{file_of}
@@ -22,31 +21,6 @@ use Rattle.clock_journal.specs.Reading.{ReadsTexts, Ends, Next, next, damaged, w
 use Rattle.clock_journal.specs.declared.recovery.Recovered.{Recovered}
 use Rattle.clock_journal.specs.declared.recovery.JournalFault.{JournalFault}
 use Rattle.clock_journal.specs.declared.recovery.JournalFault.TheVariants as fault
-
--- the machine stands for what it stood for, then these texts, and perhaps further ones; the records
--- of these texts are before the end
-pub record HasTakenFirst (old new : List Entry → Type 0) (digest : List ℕ) (texts : List (List ℕ))
-    (recovered : Recovered) : Type 0 where
-  pub further : List (List ℕ)
-  pub stands : (past : List Entry) → old past → new (entries_onto digest [] (texts ++ further) past)
-  pub behind : length (file_of digest texts) ≤ recovered.end
-
--- the file is right: a text in it is refused, or memory ran out
-abbrev pub IsTakeFault : JournalFault → Type 0
-IsTakeFault fault.Unknown = ⊥
-IsTakeFault fault.Setup = ⊥
-IsTakeFault (fault.Damaged place) = ⊥
-IsTakeFault (fault.Refused place) = Unit {0}
-IsTakeFault fault.NoMemory = Unit {0}
-
--- the file has its head, and any damage is after the first `count` bytes; a text may be refused
--- anywhere
-abbrev pub IsDamagedAfter : ℕ → JournalFault → Type 0
-IsDamagedAfter count fault.Unknown = ⊥
-IsDamagedAfter count fault.Setup = ⊥
-IsDamagedAfter count (fault.Damaged place) = count ≤ place
-IsDamagedAfter count (fault.Refused place) = Unit {0}
-IsDamagedAfter count fault.NoMemory = Unit {0}
 
 -- the file is the journal of the texts up to the end that was recovered; what follows is nothing or
 -- a torn record
@@ -73,56 +47,61 @@ abbrev pub IsPlaced : List ℕ → List ℕ → List (List ℕ) → Recovered �
 IsPlaced digest bytes texts recovered =
     BeginsWithHead digest bytes texts recovered ⊎ IsBegun digest bytes texts recovered
 
--- the machine stands for what it stood for, and then a prefix of the texts, at least `least` of
--- them; up to the end that was recovered, the file has these
-pub record HasTaken (old new : List Entry → Type 0) (digest bytes : List ℕ) (texts : List (List ℕ))
-    (least : ℕ) (recovered : Recovered) : Type 0 where
-  pub count : ℕ
-  pub enough : least ≤ count
-  pub most : count ≤ length texts
-  pub placed : IsPlaced digest bytes (take count texts) recovered
-  pub stands : (past : List Entry) → old past → new (entries_onto digest [] (take count texts) past)
+-- these texts are read of the file. If a crash left it of the journal of some texts, they are the
+-- first of those, at least `least`; if it begins with a journal, they begin with its texts
+pub record AreTextsOf (digest bytes : List ℕ) (texts : List (List ℕ))
+    (recovered : Recovered) : Type 0 where
+  pub placed : IsPlaced digest bytes texts recovered
+  pub crash : (all : List (List ℕ)) (least : ℕ) → LeavesJournal digest bytes all least
+      → (count : ℕ) × (least ≤ count) × (count ≤ length all) × (texts ≡ take count all)
+  pub any_tail : (first : List (List ℕ)) → BeginsWithTexts digest bytes first
+      → BeginsWith first texts
 
 -- the machine stands for what it stood for, and then the texts of the file
 pub record IsRecovered (old new : List Entry → Type 0) (digest bytes : List ℕ)
     (recovered : Recovered) : Type 0 where
   pub texts : List (List ℕ)
-  pub placed : IsPlaced digest bytes texts recovered
+  pub are : AreTextsOf digest bytes texts recovered
   pub stands : (past : List Entry) → old past → new (entries_onto digest [] texts past)
 
--- all before `place` reads as texts, and then comes this. `bytes` are the last ones of a file of
--- `size` bytes
-pub record IsFoundAt (first bytes : List ℕ) (size place : ℕ) (found : Next) : Type 0 where
+-- the file has its head, all before `place` reads as texts, and then comes this
+pub record IsFoundAt (digest bytes : List ℕ) (place : ℕ) (found : Next) : Type 0 where
+  pub is_headed : heading digest bytes ≡ headed (drop file_head_length bytes)
   pub texts : List (List ℕ)
   pub rest : List ℕ
-  pub reads : ReadsTexts first bytes texts rest
-  pub found_is : next (last_link first texts) rest ≡ found
-  pub place_is : place + length rest ≡ size
+  pub reads : ReadsTexts digest (drop file_head_length bytes) texts rest
+  pub found_is : next (last_link digest texts) rest ≡ found
+  pub place_is : place + length rest ≡ length bytes
 
-abbrev pub IsJournalRefusal : List ℕ → List ℕ → JournalFault → Type 0
-IsJournalRefusal digest bytes fault.Unknown = heading digest bytes ≡ unknown
-IsJournalRefusal digest bytes fault.Setup = heading digest bytes ≡ of_another
-IsJournalRefusal digest bytes (fault.Damaged place) =
-    (heading digest bytes ≡ headed (drop file_head_length bytes))
-    × IsFoundAt digest (drop file_head_length bytes) (length bytes) place damaged
-IsJournalRefusal digest bytes (fault.Refused place) =
-    (heading digest bytes ≡ headed (drop file_head_length bytes)) × ((text : List ℕ)
-    × IsFoundAt digest (drop file_head_length bytes) (length bytes) place (whole text))
-IsJournalRefusal digest bytes fault.NoMemory = Unit {0}
-
--- all before `place` reads as texts, and then comes one that the machine refuses after them,
--- whatever it stood for
+-- a text is found that the machine refuses after those before it, whatever it stood for
 pub record IsRefusedAt (refuses : List (List ℕ) → List ℕ → Type 0) (old : List Entry → Type 0)
-    (first bytes : List ℕ) (size place : ℕ) : Type 0 where
+    (digest bytes : List ℕ) (place : ℕ) : Type 0 where
   pub text : List ℕ
-  pub found : IsFoundAt first bytes size place (whole text)
+  pub found : IsFoundAt digest bytes place (whole text)
   pub refused : (past : List Entry) → old past → refuses (onto found.texts (texts_in past)) text
 
-abbrev pub IsRefusedRightly : (List (List ℕ) → List ℕ → Type 0) → (List Entry → Type 0) → List ℕ
-    → List ℕ → ℕ → JournalFault → Type 0
-IsRefusedRightly refuses old first bytes size fault.Unknown = Unit {0}
-IsRefusedRightly refuses old first bytes size fault.Setup = Unit {0}
-IsRefusedRightly refuses old first bytes size (fault.Damaged place) = Unit {0}
-IsRefusedRightly refuses old first bytes size (fault.Refused place) =
-    IsRefusedAt refuses old first bytes size place
-IsRefusedRightly refuses old first bytes size fault.NoMemory = Unit {0}
+abbrev pub IsFound : (List (List ℕ) → List ℕ → Type 0) → (List Entry → Type 0) → List ℕ → List ℕ
+    → JournalFault → Type 0
+IsFound refuses old digest bytes fault.Unknown = heading digest bytes ≡ unknown
+IsFound refuses old digest bytes fault.Setup = heading digest bytes ≡ of_another
+IsFound refuses old digest bytes (fault.Damaged place) = IsFoundAt digest bytes place damaged
+IsFound refuses old digest bytes (fault.Refused place) = IsRefusedAt refuses old digest bytes place
+IsFound refuses old digest bytes fault.NoMemory = Unit {0}
+
+-- the file has its head, and any damage is at such a place; a text may be refused anywhere
+abbrev pub IsDamagedWhere : (ℕ → Type 0) → JournalFault → Type 0
+IsDamagedWhere may_be fault.Unknown = ⊥
+IsDamagedWhere may_be fault.Setup = ⊥
+IsDamagedWhere may_be (fault.Damaged place) = may_be place
+IsDamagedWhere may_be (fault.Refused place) = Unit {0}
+IsDamagedWhere may_be fault.NoMemory = Unit {0}
+
+-- the file has this fault. What a crash left of a journal has its head and no damage; in a file
+-- that begins with a journal, any damage comes after that
+pub record IsJournalRefusal (refuses : List (List ℕ) → List ℕ → Type 0) (old : List Entry → Type 0)
+    (digest bytes : List ℕ) (why : JournalFault) : Type 0 where
+  pub found : IsFound refuses old digest bytes why
+  pub crash : (all : List (List ℕ)) (least : ℕ) → LeavesJournal digest bytes all least
+      → IsDamagedWhere (λ place. ⊥) why
+  pub any_tail : (first : List (List ℕ)) → BeginsWithTexts digest bytes first
+      → IsDamagedWhere (λ place. length (file_of digest first) ≤ place) why

@@ -1,7 +1,7 @@
 ghost use Rattle.std.specs.Prelude.{◌≡◌, ◌||◌, Bool, List, Option, ℕ, OnOk, OnErr, is_err};
-ghost use Rattle.std.specs.Prelude.{None, false};
+ghost use Rattle.std.specs.Prelude.{None, false, option_map, take};
 ghost use Rattle.clock_device.specs.Streams.{WritesText};
-ghost use Rattle.clock_journal.specs.Disks.{CutsTo, Moment, Passes, up_to};
+ghost use Rattle.clock_journal.specs.Disks.{CutsTo, Moment, Passes};
 
 use clock_device::Failed;
 use std::fs::OpenFile;
@@ -9,19 +9,15 @@ use std::io::Write;
 
 /// A file that can be appended to, truncated, and synced.
 ///
-/// In contracts, a disk is its bytes, those that are synced, whether a call has failed, and a
-/// number that changes only if it is truncated. A crash leaves all that is synced, and a prefix of
-/// what was appended since. If the disk reveals its `moments`, these are all states that a crash
-/// could find, the last one first.
+/// In contracts, a disk is its bytes, those that are synced, and whether a call has failed. A crash
+/// leaves all that is synced, and a prefix of what was appended since. If the disk reveals its
+/// `moments`, these are all states that a crash could find, the last one first.
 pub trait Durable {
     ghost written: { Self → Option (List ℕ) };
 
     ghost synced: { Self → Option (List ℕ) };
 
     ghost has_failed: { Self → Bool };
-
-    /// No clause says what `uncut` becomes if the file is truncated.
-    ghost uncut: { Self → ℕ };
 
     ghost moments: { Self → Option (List Moment) };
 
@@ -31,7 +27,6 @@ pub trait Durable {
         ensures synced { synced self.new ≡ synced self.old }
         ensures moments { Passes (moments self.old) (moments self.new) (synced self.old)
             (written self.new) }
-        ensures uncut { uncut self.new ≡ uncut self.old }
         ensures failed { has_failed self.new ≡ (has_failed self.old || is_err result) };
 
     /// Puts all bytes of the file on the disk.
@@ -41,7 +36,6 @@ pub trait Durable {
         ensures err { OnErr result (synced self.new ≡ synced self.old) }
         ensures moments { Passes (moments self.old) (moments self.new) (synced self.old)
             (written self.old) }
-        ensures uncut { uncut self.new ≡ uncut self.old }
         ensures failed { has_failed self.new ≡ (has_failed self.old || is_err result) };
 
     /// Truncates the file to `place` bytes, and syncs it.
@@ -52,7 +46,7 @@ pub trait Durable {
         ensures written { CutsTo (written self.old) (written self.new) place result }
         ensures synced { OnOk result (synced self.new ≡ written self.new) }
         ensures moments { Passes (moments self.old) (moments self.new)
-            (up_to place (synced self.old)) (written self.old) }
+            (option_map (take place) (synced self.old)) (written self.old) }
         ensures failed { has_failed self.new ≡ (has_failed self.old || is_err result) };
 }
 
@@ -81,8 +75,6 @@ impl<F: Write + OpenFile> Durable for FileDisk<F> {
     ghost synced = { λ disk. None };
 
     ghost has_failed = { λ disk. disk.has_failed };
-
-    ghost uncut = { λ disk. 0 };
 
     ghost moments = { λ disk. None };
 

@@ -2,9 +2,9 @@ ghost use Rattle.std.specs.Prelude.{◌≡◌, ◌++◌, [], ◌∷◌, List, �
 ghost use Rattle.std.specs.Prelude.{length};
 ghost use Rattle.clock_journal.specs.{Disks.{LeaveOnly, MayBeLeft}, Format.{Fits, link}};
 ghost use Rattle.clock_journal.specs.{Logged.{HasTexts, JournalState}, Recovering.{IsPlaced}};
-ghost use Rattle.clock_journal.specs.Crash.{BeginsWithTexts, LeavesJournal, LeavesTexts, StaysSo};
-ghost use Rattle.clock_journal.specs.Chain.{ChainBinds, JournalsBind};
-ghost use Rattle.clock_journal.specs.Laws.{CutLeaves, EveryFront, ReadsBack, WhateverFollows};
+ghost use Rattle.clock_journal.specs.Crash.{BeginsWithTexts, EveryFront, LeavesJournal};
+ghost use Rattle.clock_journal.specs.Crash.{LeavesTexts, StaysSo};
+ghost use Rattle.clock_journal.specs.Chain.{JournalsBind};
 
 use crate::durable::Durable;
 use crate::format::{Link, front_of, head_of, link_of};
@@ -28,7 +28,6 @@ impl<D: Durable> Model for Journal<D> {
       written = D.written j.disk;
       synced = D.synced j.disk;
       has_failed = D.has_failed j.disk;
-      uncut = D.uncut j.disk;
       moments = D.moments j.disk;
       chain = j.chain;
     } };
@@ -40,7 +39,6 @@ impl<D: Durable> Journal<D> {
         ensures written { result.written ≡ D.written disk }
         ensures synced { result.synced ≡ D.synced disk }
         ensures moments { result.moments ≡ D.moments disk }
-        ensures uncut { result.uncut ≡ D.uncut disk }
         ensures failed { result.has_failed ≡ D.has_failed disk }
         ensures chain { result.chain ≡ digest }
     {
@@ -58,7 +56,6 @@ impl<D: Durable> Journal<D> {
             → OnOk result (HasTexts self.old.chain [] self.new) }
         ensures moments { self.old.written ≡ Some [] → LeaveOnly self.old.moments self.new.moments
             (λ left. LeavesJournal self.old.chain left [] 0) }
-        ensures uncut { self.new.uncut ≡ self.old.uncut }
         ensures failed { self.new.has_failed ≡ is_err result }
     {
         let head = head_of(&self.chain);
@@ -118,7 +115,6 @@ impl<D: Durable> Journal<D> {
             → LeaveOnly self.old.moments self.new.moments
             (λ left. LeavesTexts digest left (texts ++ text.now ∷ []) (length texts)) }
         ensures on_disk { OnErr result (self.new.synced ≡ self.old.synced) }
-        ensures uncut { self.new.uncut ≡ self.old.uncut }
         ensures link { OnOk result (self.new.chain ≡ link self.old.chain text.now) }
         ensures failed { self.new.has_failed ≡ is_err result }
     {
@@ -141,7 +137,6 @@ impl<D: Durable> Journal<D> {
         ensures written { D.written result.now ≡ self.now.written }
         ensures synced { D.synced result.now ≡ self.now.synced }
         ensures failed { D.has_failed result.now ≡ self.now.has_failed }
-        ensures uncut { D.uncut result.now ≡ self.now.uncut }
     {
         &self.disk
     }
@@ -149,14 +144,11 @@ impl<D: Durable> Journal<D> {
 
 /// Laws of all journals. The call does nothing.
 ///
-/// `as_many`, `any`: two journals with the same last digest are the same, or two different messages
-/// that were hashed for them have the same digest. For journals of different lengths, `any` has a
-/// third case: a set-up document begins with 32 bytes that are a digest of the other journal.
+/// `any`: two journals with the same last digest are the same, or two different messages that were
+/// hashed for them have the same digest. For journals of different lengths there is a third case:
+/// the set-up document of the shorter one begins with 32 bytes that are a digest of the other
+/// journal. `every_front`: a prefix of a journal reads as the first of its texts.
 pub fn law_of_journals()
-    ensures as_many { ChainBinds }
     ensures any { JournalsBind }
     ensures every_front { EveryFront }
-    ensures whatever_follows { WhateverFollows }
-    ensures read_back { ReadsBack }
-    ensures cut_leaves { CutLeaves }
 {}

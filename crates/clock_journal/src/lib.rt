@@ -7,6 +7,6 @@ mod journal;
 mod recovery;
 
 pub use durable::{Durable, FileDisk};
-pub use format::{BEFORE_TEXT, HEAD_LENGTH, Link, MOST_TEXT, digest_of, link_of};
+pub use format::{Link, MOST_TEXT, digest_of};
 pub use journal::{Journal, law_of_journals};
 pub use recovery::{JournalFault, Machine, Record, Recovered, TakeError, recover};

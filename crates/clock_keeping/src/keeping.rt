@@ -41,9 +41,9 @@ pub trait RequestLog {
         ensures response { IfOk result
             (λ response. RespondsTo text.now response front.old front.new) }
         ensures setup { front.new.setup ≡ front.old.setup }
-        ensures logged { (digest : List ℕ) (past : List (List ℕ))
-            → IsInStep digest past (journal self.old) front.old → IfOk result (λ response.
-            IsLogged digest past text.now response.reply (journal self.new) front.old front.new) }
+        ensures logged { (digest : List ℕ) (past : List (List ℕ)) → IsInStep digest past
+            (journal self.old) front.old → IfOk result (λ response. IsLogged digest past text.now
+            response.reply (journal self.old) (journal self.new) front.old front.new) }
         ensures accepted { (texts : List (List ℕ)) → StandsForTexts texts front.old
             → OnErr result (IsAccepted front.old.setup texts text.now) }
         ensures moments { LeavesOneMore text.now (journal self.old) (journal self.new) }

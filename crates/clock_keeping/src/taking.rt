@@ -1,20 +1,15 @@
-ghost use Rattle.std.specs.Prelude.{◌≡◌, [], ◌∷◌, List, ℕ, MatchResult, drop, length, Err};
-ghost use Rattle.std.specs.Prelude.{IfErr, IfOk, OnOk, Some, false};
-ghost use Rattle.clock_journal.specs.{Entries.{texts_in}, Logged.{file_of}};
+ghost use Rattle.std.specs.Prelude.{◌≡◌, [], ◌∷◌, List, ℕ, Err, IfErr, IfOk, OnOk, Some, false};
 ghost use Rattle.clock_journal.specs.Crash.{BeginsWithTexts, LeavesJournal, StaysSo};
-ghost use Rattle.clock_journal.specs.Recovering.{IsDamagedAfter, IsJournalRefusal};
-ghost use Rattle.clock_journal.specs.Recovering.{IsRefusedRightly, IsTakeFault};
+ghost use Rattle.clock_journal.specs.Entries.{texts_in};
 ghost use Rattle.clock_terms.specs.Limits.{SetupFields};
 ghost use Rattle.clock_front.specs.{Effects.{effect as effect_of}, Fronts.{StandsForTexts}};
-ghost use Rattle.clock_keeping.specs.Keeping.{HasReplayedAtLeast, IsRefused, HasReplayedFile};
-ghost use Rattle.clock_keeping.specs.Starts.{HasResumed, HasReplayedFirst, IsResumed, IsNotResumed};
-ghost use Rattle.clock_keeping.specs.Starts.{IsLeftBy, IsOwn};
-ghost use Rattle.clock_keeping.specs.inside.Taken.{taken_as};
+ghost use Rattle.clock_keeping.specs.{Keeping.{IsRefused}, Starts.{IsLeftBy, IsNotResumed}};
+ghost use Rattle.clock_keeping.specs.{Starts.{IsResumed}, inside.Taken.{taken_as}};
 
 use clock_front::{Effect, Front};
 use clock_http::{Code, frame};
 use clock_journal::{
-    Durable, Journal, JournalFault, Link, Machine, Record, Recovered, TakeError, recover,
+    Durable, Journal, JournalFault, Machine, Record, Recovered, TakeError, recover,
 };
 use clock_processor::Processor;
 
@@ -65,37 +60,6 @@ fn taken(effect: Effect, code: Code) -> Result<Effect, TakeError>
     }
 }
 
-/// Replays the texts of a journal's file. `digest` is that of the set-up document.
-///
-/// `crash`: of a file that a crash left, the auction takes every text that was on the disk, and at
-/// most the one that was being appended. `any_tail`: if the file begins with the journal of some
-/// texts, the auction takes these first, and `Damaged` names no place before their end.
-///
-/// Requires an auction without texts. Errors, in this order: as [`recover`]. Do not use the auction
-/// after an `Err`.
-pub fn replay_journal<P: Processor>(
-    auction: &mut ReplayedAuction<P>,
-    digest: &Link,
-    bytes: &[u8],
-) -> Result<Recovered, JournalFault>
-    requires { StandsForTexts [] auction.old.front }
-    ensures read { MatchResult result
-        (λ recovered. HasReplayedFile digest.now bytes.now recovered auction.new.front)
-        (IsJournalRefusal digest.now bytes.now) }
-    ensures crash { (texts : List (List ℕ)) (least : ℕ)
-        → LeavesJournal digest.now bytes.now texts least → MatchResult result
-        (HasReplayedAtLeast digest.now bytes.now texts least auction.new.front) IsTakeFault }
-    ensures any_tail { (texts : List (List ℕ)) → BeginsWithTexts digest.now bytes.now texts
-        → MatchResult result (HasReplayedFirst digest.now texts auction.new.front)
-        (IsDamagedAfter (length (file_of digest.now texts))) }
-    ensures refused { MatchResult result (λ _. Unit {0})
-        (IsRefusedRightly (IsRefused auction.old.front.setup) (λ past. past ≡ []) digest.now
-        (drop 56 bytes.now) (length bytes.now)) }
-    ensures setup { auction.new.front.setup ≡ auction.old.front.setup }
-{
-    recover(auction, digest, bytes)
-}
-
 /// Why a journal cannot be continued.
 ///
 /// - `Refused`: its file is faulty, the auction refuses a text, or it is out of memory.
@@ -109,14 +73,17 @@ pub enum ResumeFault {
 /// Replays all bytes of a journal's disk, and continues the journal there. The journal was made for
 /// the digest of a set-up document. Calls `tell` before the disk is changed.
 ///
-/// `resumed`: what a crash left of this auction's journal is resumed, with every text that was on
-/// the disk. It is never reported as unknown, as of another set-up, or as damaged. `refused`: a
-/// refused file is not changed, and `Failed` means that a call of the disk failed. `crash`,
-/// `any_tail`: if a crash before this call leaves these texts, so does a crash at any moment of the
-/// call, also at `Err`.
+/// `in_step`: of a file that a crash left, the auction takes every text that was on the disk, and
+/// at most the one that was being appended. If the file begins with a journal, it takes the texts
+/// of that first. `err`: what a crash left of this auction's journal is never reported as unknown,
+/// as of another set-up, or as damaged.
+///
+/// `refused`: a refused file is not changed, and `Failed` means that a call of the disk failed.
+/// `crash`, `any_tail`: if a crash before this call leaves these texts, so does a crash at any
+/// moment of the call, also at `Err`.
 ///
 /// Requires an auction without texts, and a journal that has not failed. Errors, in this order:
-/// `Refused`, `Failed`. Do not use auction and journal after an `Err`.
+/// `Refused`, as [`recover`]; `Failed`. Do not use auction and journal after an `Err`.
 pub fn resume_auction<P: Processor, D: Durable, F: FnOnce(Recovered)>(
     auction: &mut ReplayedAuction<P>,
     journal: &mut Journal<D>,
@@ -130,9 +97,6 @@ pub fn resume_auction<P: Processor, D: Durable, F: FnOnce(Recovered)>(
         → IfOk result (IsResumed journal.old.chain bytes.now journal.new auction.new.front) }
     ensures err { IfErr result (IsNotResumed auction.old.front.setup journal.old.chain bytes.now
         auction.new.front) }
-    ensures resumed { (texts : List (List ℕ)) (least : ℕ) → journal.old.written ≡ Some bytes.now
-        → LeavesJournal journal.old.chain bytes.now texts least → MatchResult result
-        (λ _. HasResumed journal.old.chain texts least journal.new auction.new.front) IsOwn }
     ensures refused { IfErr result (IsLeftBy journal.old journal.new) }
     ensures crash { (synced : List ℕ) (texts : List (List ℕ)) (least : ℕ)
         → journal.old.written ≡ Some bytes.now → journal.old.synced ≡ Some synced
@@ -145,7 +109,7 @@ pub fn resume_auction<P: Processor, D: Durable, F: FnOnce(Recovered)>(
     ensures setup { auction.new.front.setup ≡ auction.old.front.setup }
 {
     let digest = *journal.chain();
-    let recovered = replay_journal(auction, &digest, bytes).map_err(ResumeFault::Refused)?;
+    let recovered = recover(auction, &digest, bytes).map_err(ResumeFault::Refused)?;
     tell(recovered);
     journal.resume(recovered).or(Err(ResumeFault::Failed))?;
     Ok(recovered)

@@ -9,7 +9,10 @@ use Rattle.clock_journal.specs.Disks.{CouldBeLeft, LeaveOnly, MayBeLeft, Moment}
 use Rattle.clock_journal.specs.Logged.{HasTexts, JournalState}
 use Rattle.clock_journal.proofs.Starting.{now_left}
 use Rattle.clock_keeping.specs.Accepted.{AreAccepted, IsOwnFile}
-use Rattle.clock_keeping.specs.Starts.{HasResumed}
+use Rattle.clock_journal.specs.Reading.{onto}
+use Rattle.clock_keeping.specs.Keeping.{IsAccepted, IsInStep}
+use Rattle.clock_keeping.specs.Starts.{IsResumed}
+use Rattle.clock_journal.specs.declared.recovery.Recovered.{Recovered}
 use Rattle.clock_keeping.proofs.AcceptedLaws.{accepted_after, accepted_push, accepted_take}
 use Rattle.clock_serving.specs.Exchanges.{Exchange}
 use Rattle.clock_serving.specs.Generations.{AreRestarts, ContinueFrom, EndsGeneration, Generation, GenerationsContinue}
@@ -17,8 +20,7 @@ use Rattle.clock_serving.specs.Generations.{IsGeneration, LeftSince, MayLeave, S
 use Rattle.clock_serving.specs.declared.generation.GenerationFault.TheVariants.{Serve}
 use Rattle.clock_serving.specs.declared.serving.ServeFault.{ServeFault}
 use Rattle.clock_serving.specs.declared.serving.ServeFault.TheVariants as fault
-use Rattle.clock_serving.specs.Serving.{AreServed, EndsServing, HasLoggedReplied, LogsText, LoggedTexts, RepliesOver}
-use Rattle.clock_serving.specs.Serving.{Walks}
+use Rattle.clock_serving.specs.Serving.{AreServed, EndsServing, IsUnlogged, LogsText, LoggedTexts, RepliesOver, Walks}
 use Rattle.clock_serving.proofs.Served.{left_since}
 
 -- ---- logged texts were accepted
@@ -44,6 +46,26 @@ accepted_walk digest setup first (one ∷ others) last walks accepted =
 
 -- ---- one generation
 
+-- the journal has a prefix of these texts, at least `least`, all on its disk, and the auction stands for them
+pub record HasResumed (digest : List ℕ) (texts : List (List ℕ)) (least : ℕ) (journal : JournalState)
+    (house : HouseFields) : Type 0 where
+  pub count : ℕ
+  pub enough : least ≤ count
+  pub most : count ≤ length texts
+  pub in_step : IsInStep digest (take count texts) journal house
+
+pub has_resumed : (digest bytes : List ℕ) (journal : JournalState) (house : HouseFields) (recovered : Recovered)
+    (texts : List (List ℕ)) (least : ℕ) → IsResumed digest bytes journal house recovered
+    → LeavesJournal digest bytes texts least → HasResumed digest texts least journal house
+has_resumed digest bytes journal house recovered texts least resumed leaves =
+    let first = resumed.are.crash texts least leaves in
+    record {
+      count = first.0;
+      enough = first.1;
+      most = first.2;
+      in_step = subst (λ (all : List (List ℕ)). IsInStep digest all journal house) first.3 resumed.in_step;
+    }
+
 module _ (digest : List ℕ) (texts : List (List ℕ)) (least : ℕ) (first last : JournalState) (old : HouseFields)
     (accepted : AreAccepted old.setup [] texts) (resumed : HasResumed digest texts least first old) where
   accepted_end : (exchanges : List Exchange) (end : LoggedTexts)
@@ -59,45 +81,49 @@ module _ (digest : List ℕ) (texts : List (List ℕ)) (least : ℕ) (first last
       → ServesFrom old.setup digest texts least exchanges last
   serves_all exchanges rounds_old rounds_new new are =
       let logged = are.logged digest (take resumed.count texts) resumed.in_step in
-      let has = subst (λ (all : List (List ℕ)). HasTexts digest all last) (sym (append-nil logged.end))
-      logged.in_step.has in
+      let has = subst (λ (all : List (List ℕ)). HasTexts digest all last) (sym (append-nil logged.0)) logged.2.has in
       record {
         count = resumed.count;
         enough = resumed.enough;
         most = resumed.most;
         resumed = first;
-        last = record { texts = logged.end; journal = last };
-        walks = logged.walks;
+        last = record { texts = logged.0; journal = last };
+        walks = logged.1;
         more = [];
         few = omega arith;
         own = record {
-          accepted = subst (λ (all : List (List ℕ)). AreAccepted old.setup [] all) (sym (append-nil logged.end))
-              (accepted_end exchanges (record { texts = logged.end; journal = last }) logged.walks);
-          leaves = λ left may. inl (left_since digest logged.end [] last last left logged.in_step.has has may);
+          accepted = subst (λ (all : List (List ℕ)). AreAccepted old.setup [] all) (sym (append-nil logged.0))
+              (accepted_end exchanges (record { texts = logged.0; journal = last }) logged.1);
+          leaves = λ left may. inl (left_since digest logged.0 [] last last left logged.2.has has may);
         };
       }
 
   -- the text of the last could not be logged
-  pub serves_but : (some : List Exchange) (text : List ℕ)
-      → HasLoggedReplied digest (take resumed.count texts) some text first last old
+  pub serves_but : (some : List Exchange) (last_one : Exchange) (rounds_old rounds_new : Option (List ℕ))
+      (before : JournalState) (house : HouseFields) → AreServed some rounds_old rounds_new first before old house
+      → house.setup ≡ old.setup → IsUnlogged last_one before last house
       → ServesFrom old.setup digest texts least some last
-  serves_but some text reported = record {
-    count = resumed.count;
-    enough = resumed.enough;
-    most = resumed.most;
-    resumed = first;
-    last = record { texts = reported.end; journal = reported.before };
-    walks = reported.walks;
-    more = text ∷ [];
-    few = omega arith;
-    own = record {
-      accepted = accepted_push old.setup [] reported.end text (accepted_end some
-          (record { texts = reported.end; journal = reported.before }) reported.walks) reported.accepted;
-      leaves = λ left may.
-          inl (reported.left_ones left
-          (subst (λ (bytes : Option (List ℕ)). MayBeLeft bytes last.written left) reported.on_disk may));
-    };
-  }
+  serves_but some last_one rounds_old rounds_new before house are same unlogged =
+      let logged = are.logged digest (take resumed.count texts) resumed.in_step in
+      record {
+        count = resumed.count;
+        enough = resumed.enough;
+        most = resumed.most;
+        resumed = first;
+        last = record { texts = logged.0; journal = before };
+        walks = logged.1;
+        more = unlogged.text ∷ [];
+        few = omega arith;
+        own = record {
+          accepted = accepted_push old.setup [] logged.0 unlogged.text
+              (accepted_end some (record { texts = logged.0; journal = before }) logged.1)
+              (subst (λ (setup : SetupFields). IsAccepted setup (onto logged.0 []) unlogged.text) same
+              (unlogged.accepted (onto logged.0 []) logged.2.stands));
+          leaves = λ left may.
+              inl (unlogged.moments.at_end digest logged.0 logged.2.has left
+              (subst (λ (bytes : Option (List ℕ)). MayBeLeft bytes last.written left) unlogged.on_disk may));
+        };
+      }
 
 -- what is in the file is what a crash may leave of it
 pub own_left : (setup : SetupFields) (digest : List ℕ) (texts : List (List ℕ)) (least : ℕ) (journal : JournalState)
@@ -135,10 +161,9 @@ module _ (setup : SetupFields) (found first last : JournalState) (bytes : List �
     ends.1,
     ends.2,
     ends.3,
-    ends.4.silent,
-    lives ends.0 (λ texts least accepted resumes.
-        serves_but found.chain texts least first last old accepted resumes ends.0 ends.4.text
-        (ends.4.logged found.chain (take resumes.count texts) resumes.in_step)),
+    ends.8.silent,
+    lives ends.0 (λ texts least accepted resumes. serves_but found.chain texts least first last old accepted resumes
+        ends.0 ends.1 rounds_old rounds_new ends.4 ends.5 ends.6 ends.7 ends.8),
   )
 
 -- ---- generations

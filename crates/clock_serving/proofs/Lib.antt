@@ -3,5 +3,4 @@ pub mod Telling
 mod Served
 mod Ends
 mod Reports
-mod Bytes
 mod GenerationLaws

@@ -8,9 +8,9 @@ use Rattle.clock_journal.specs.Logged.{JournalState}
 use Rattle.clock_keeping.specs.Keeping.{GrowsBy}
 use Rattle.clock_serving.specs.declared.serving.ServeFault.{ServeFault}
 use Rattle.clock_serving.specs.declared.serving.ServeFault.TheVariants.{Accept, Journal}
-use Rattle.clock_serving.specs.Exchanges.{Came, Exchange, HasClosedConnections, bytes_given}
-use Rattle.clock_serving.specs.Serving.{is_accept_fault}
-use Rattle.clock_serving.specs.inside.Served.{EndsOne, EndsTaken, IsServed, IsReported, IsReportedAs, IsUnlogged}
+use Rattle.clock_serving.specs.Exchanges.{Came, Exchange, bytes_given}
+use Rattle.clock_serving.specs.Serving.{IsUnlogged, is_accept_fault}
+use Rattle.clock_serving.specs.inside.Served.{EndsOne, EndsTaken, IsServed, IsReported, IsReportedAs}
 use Rattle.clock_serving.specs.inside.Served.{round_closed}
 use Rattle.clock_serving.proofs.Walking.{grown_none}
 
@@ -26,7 +26,7 @@ module _ (coming_old coming_new : Option (List (List ℕ))) (closed_old closed_n
     (rounds_old rounds_new : Option (List ℕ)) (journal_old journal_mid journal_new : JournalState)
     (old new : HouseFields) (one : Exchange) where
   pub ends_one : {U E : Type 0} (served : Result Effect E) (result : Result U ServeFault)
-      → HasClosedConnections closed_old closed_new (one ∷ []) → Came coming_old coming_new (bytes_given (one ∷ []))
+      → GrowsBy closed_old closed_new (one ∷ []) → Came coming_old coming_new (bytes_given (one ∷ []))
       → EndsTaken one journal_old journal_mid old new served → journal_new ≡ journal_mid
       → IsReportedAs rounds_old rounds_new served result
       → EndsOne coming_old coming_new closed_old closed_new rounds_old rounds_new journal_old journal_new old new result

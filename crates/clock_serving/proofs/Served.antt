@@ -19,20 +19,21 @@ use Rattle.clock_front.specs.declared.front.response.Effect.TheVariants.{Nothing
 use Rattle.clock_front.specs.declared.front.response.Response.{Response}
 use Rattle.clock_front.specs.Headline.{IsRight}
 use Rattle.clock_journal.specs.Crash.{LeavesTexts}
-use Rattle.clock_journal.specs.Disks.{MayBeLeft}
+use Rattle.clock_journal.specs.Disks.{LeaveOnly, MayBeLeft}
 use Rattle.clock_journal.specs.Logged.{HasTexts, JournalState, file_of}
 use Rattle.clock_journal.specs.Reading.{onto}
 use Rattle.clock_journal.proofs.Moments.{every_front}
-use Rattle.clock_keeping.specs.Keeping.{GrowsBy, IsInStep, IsLogged, IsNextLogged, logged_after}
+use Rattle.clock_journal.proofs.Passing.{leave_none}
+use Rattle.clock_keeping.specs.Keeping.{GrowsBy, IsInStep, IsLogged, RightOrNoMemory, logged_after}
 use Rattle.clock_keeping.proofs.EffectLaws.{right_after}
 use Rattle.clock_serving.specs.Closings.{closed_by}
 use Rattle.clock_serving.specs.Exchanges.{Exchange}
-use Rattle.clock_serving.specs.Serving.{AreServed, IsLoggedReply, LogsText, LoggedTexts, RepliesOver, RepliesTo, Walks}
+use Rattle.clock_serving.specs.Serving.{AreServed, LogsText, LoggedTexts, RepliesOver, RepliesTo, Walks}
 use Rattle.clock_serving.specs.Serving.{WritesReply}
 use Rattle.clock_serving.specs.inside.Served.{IsAnswered, IsServed, round_closed}
 use Rattle.clock_front.proofs.AnswerLaws.{stands_still}
 use Rattle.clock_front.proofs.RunLaws.{right}
-use Rattle.clock_serving.proofs.Walking.{all_behind, logged_behind, walks_on}
+use Rattle.clock_serving.proofs.Walking.{logged_behind, walks_on}
 use Rattle.clock_serving.proofs.Telling.{CountsOn, counts_text, tells_none, tells_on}
 
 -- a reply was written, or a prefix of it
@@ -162,13 +163,15 @@ module _ (one : Exchange) (effect_is : Effect) (journal_old journal_new : Journa
   has_next : (digest : List ℕ) (past : List (List ℕ)) → IsInStep digest past journal_old old → (next : List (List ℕ))
       → IsInStep digest next journal_new new → RepliesOver setup (record { texts = past; journal = journal_old }) one
       (record { texts = next; journal = journal_new }) → (more : List (List ℕ)) → next ≡ past ++ more
+      → LeaveOnly journal_old.moments journal_new.moments (λ left. LeavesTexts digest left next (length past))
       → HasNextLogged digest setup past one journal_old journal_new new
-  has_next digest past before next after replies more is = record {
+  has_next digest past before next after replies more is moments = record {
     next = next;
     keeps = record {
       replies = replies;
       has = after.has;
-      moments = λ left may.
+      moments = moments;
+      at_end = λ left may.
           subst (λ (texts : List (List ℕ)). LeavesTexts digest left texts (length past)) (sym is)
           (left_since digest past more journal_old journal_new left before.has
           (subst (λ (texts : List (List ℕ)). HasTexts digest texts journal_new) is after.has) may);
@@ -177,18 +180,27 @@ module _ (one : Exchange) (effect_is : Effect) (journal_old journal_new : Journa
   }
 
   logged_reply : (past : List (List ℕ)) (text : List ℕ) (answer : Answer) (next : List (List ℕ))
-      → IsNextLogged old.setup past text answer next → IsLoggedReply setup past text answer next
+      → RightOrNoMemory (answer ≡ reply old.setup (onto past []) text) text answer past
+      (logged_after old.setup past text) next
+      → RightOrNoMemory (IsRight setup (onto past []) text answer) text answer past (logged_after setup past text) next
   logged_reply past text answer next (inl (is, logged)) = inl (
     right_here (onto past []) text answer is,
     logged ∙ ap (λ (of_setup : SetupFields). logged_after of_setup past text) same,
   )
   logged_reply past text answer next (inr left_out) = inr left_out
 
+  -- no moment has passed
+  no_moment : (digest : List ℕ) (past : List (List ℕ)) → journal_new ≡ journal_old
+      → LeaveOnly journal_old.moments journal_new.moments (λ left. LeavesTexts digest left past (length past))
+  no_moment digest past logged = subst (λ (journal : JournalState). LeaveOnly journal_old.moments journal.moments
+      (λ left. LeavesTexts digest left past (length past))) (sym logged)
+      (leave_none journal_old.moments (λ left. LeavesTexts digest left past (length past)))
+
   -- the texts of the journal
   logged_one : (digest : List ℕ) (past : List (List ℕ)) → IsInStep digest past journal_old old → IsServed one effect_is
       journal_old journal_new old new → HasNextLogged digest setup past one journal_old journal_new new
   logged_one digest past in_step (inl (response, inl reported, written, is, seen)) =
-      let logged : IsLogged digest past reported.text response.reply journal_new old new =
+      let logged : IsLogged digest past reported.text response.reply journal_old journal_new old new =
       reported.logged digest past in_step in
       let replies : RepliesOver setup (record { texts = past; journal = journal_old }) one
       (record { texts = logged.texts; journal = journal_new }) =
@@ -201,43 +213,26 @@ module _ (one : Exchange) (effect_is : Effect) (journal_old journal_new : Journa
       ) in
       let behind = logged_behind digest setup (record { texts = past; journal = journal_old }) one
       (record { texts = logged.texts; journal = journal_new }) replies in
-      has_next digest past in_step logged.texts logged.in_step replies behind.0 behind.1
+      has_next digest past in_step logged.texts logged.in_step replies behind.0 behind.1 logged.moments
   logged_one digest past in_step (inl (response, inr (room, none, still, logged), written, is, seen)) =
       has_next digest past in_step past (in_step_still digest past in_step still logged)
       (inr (
         inl (room, written_no_memory response.reply (ap (λ (r : Response). r.reply) none) written),
         ap (λ (journal : JournalState). record { texts = past; journal = journal }) logged,
-      )) [] (sym (append-nil past))
+      )) [] (sym (append-nil past)) (no_moment digest past logged)
   logged_one digest past in_step (inr ((unanswered, logged), silent, is)) =
       has_next digest past in_step past (in_step_still digest past in_step unanswered.1 logged)
       (inr (
         inr (unanswered.0, silent),
         ap (λ (journal : JournalState). record { texts = past; journal = journal }) logged,
-      )) [] (sym (append-nil past))
-
-  -- the file was only appended to
-  added_one : IsServed one effect_is journal_old journal_new old new → journal_new.uncut ≡ journal_old.uncut
-  added_one (inl (response, inl reported, written, is, seen)) = reported.added_to
-  added_one (inl (response, inr (room, none, still, logged), written, is, seen)) =
-      ap (λ (journal : JournalState). journal.uncut) logged
-  added_one (inr ((unanswered, logged), silent, is)) = ap (λ (journal : JournalState). journal.uncut) logged
+      )) [] (sym (append-nil past)) (no_moment digest past logged)
 
 -- no connection was served yet
 pub served_none : (reported : Option (List ℕ)) (journal : JournalState) (house : HouseFields)
     → AreServed [] reported reported journal journal house house
 served_none reported journal house = record {
-  added_to = refl;
-  replied =
-      λ past stands. record { end = past; walks = refl; stands = stands; tells = tells_none house.setup past reported };
-  logged = λ digest past in_step. record {
-    end = past;
-    walks = refl;
-    in_step = in_step;
-    moments = λ left may.
-        subst (λ (texts : List (List ℕ)). LeavesTexts digest left texts (length past)) (append-nil past)
-        (left_since digest past [] journal journal left in_step.has
-        (subst (λ (texts : List (List ℕ)). HasTexts digest texts journal) (sym (append-nil past)) in_step.has) may);
-  };
+  replied = λ past stands. (past, refl, stands, tells_none house.setup past reported);
+  logged = λ digest past in_step. (past, refl, in_step);
 }
 
 -- one more was served
@@ -249,35 +244,24 @@ pub served_more : (exchanges : List Exchange) (one : Exchange) (changed : Effect
     → AreServed (exchanges ++ one ∷ []) rounds_old rounds_new journal_old journal_new old new
 served_more exchanges one changed rounds_old rounds_mid rounds_new journal_old journal_mid journal_new old mid new
     limits same before served tells = record {
-      added_to = added_one one changed journal_mid journal_new mid new old.setup limits same served ∙ before.added_to;
       replied = λ past stands.
           let so_far = before.replied past stands in
-          let next = replied_one one changed journal_mid journal_new mid new old.setup limits same so_far.end
-          so_far.stands served in
-          record {
-            end = next.next;
-            walks = walks_on (RepliesTo old.setup) past exchanges so_far.end one next.next so_far.walks next.replies;
-            stands = next.stands;
-            tells = tells_on old.setup past so_far.end next.next changed rounds_old rounds_mid rounds_new
-                so_far.tells next.counts tells;
-          };
+          let next = replied_one one changed journal_mid journal_new mid new old.setup limits same so_far.0
+          so_far.2 served in (
+            next.next,
+            walks_on (RepliesTo old.setup) past exchanges so_far.0 one next.next so_far.1 next.replies,
+            next.stands,
+            tells_on old.setup past so_far.0 next.next changed rounds_old rounds_mid rounds_new
+                so_far.3 next.counts tells,
+          );
       logged = λ digest past in_step.
           let so_far = before.logged digest past in_step in
-          let next = logged_one one changed journal_mid journal_new mid new old.setup limits same digest so_far.end
-          so_far.in_step served in
+          let next = logged_one one changed journal_mid journal_new mid new old.setup limits same digest so_far.0
+          so_far.2 served in
           let first : LoggedTexts = record { texts = past; journal = journal_old } in
           let last : LoggedTexts = record { texts = next.next; journal = journal_new } in
           let walks : Walks (LogsText digest old.setup) first (exchanges ++ one ∷ []) last =
           walks_on (LogsText digest old.setup) first exchanges
-          (record { texts = so_far.end; journal = journal_mid }) one last so_far.walks next.keeps in
-          let behind = all_behind digest old.setup first (exchanges ++ one ∷ []) last walks in
-          record {
-            end = next.next;
-            walks = walks;
-            in_step = next.in_step;
-            moments = λ left may.
-                subst (λ (texts : List (List ℕ)). LeavesTexts digest left texts (length past)) (sym behind.1)
-                (left_since digest past behind.0 journal_old journal_new left in_step.has
-                (subst (λ (texts : List (List ℕ)). HasTexts digest texts journal_new) behind.1 next.in_step.has) may);
-          };
+          (record { texts = so_far.0; journal = journal_mid }) one last so_far.1 next.keeps in
+          (next.next, walks, next.in_step);
     }

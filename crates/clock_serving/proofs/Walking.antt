@@ -7,8 +7,8 @@ use Rattle.std.proofs.lemmas.List.{map-append}
 use Rattle.clock_front.specs.Effects.{effect}
 use Rattle.clock_journal.specs.Reading.{onto}
 use Rattle.clock_keeping.specs.Keeping.{GrowsBy, is_change, logged_when}
-use Rattle.clock_serving.specs.Exchanges.{Came, Closes, Exchange, HasClosedConnections, Offer, bytes_given}
-use Rattle.clock_serving.specs.Serving.{LogsText, LoggedTexts, RepliesOver, Walks}
+use Rattle.clock_serving.specs.Exchanges.{Came, Exchange, Offer, bytes_given}
+use Rattle.clock_serving.specs.Serving.{LoggedTexts, RepliesOver, Walks}
 
 -- nothing was appended
 pub grown_none : {A : Type 0} (list : Option (List A)) → GrowsBy list list []
@@ -80,28 +80,23 @@ logged_behind digest setup before one after (inl (text, answer, replied, inr (le
 logged_behind digest setup before one after (inr (alone, is)) =
     ([], ap (λ (logged : LoggedTexts). logged.texts) is ∙ sym (append-nil before.texts))
 
-pub all_behind : (digest : List ℕ) (setup : SetupFields) (past : LoggedTexts) (exchanges : List Exchange)
-    (end : LoggedTexts) → Walks (LogsText digest setup) past exchanges end
-    → (more : List (List ℕ)) × (end.texts ≡ past.texts ++ more)
-all_behind digest setup past [] end walks =
-    ([], ap (λ (logged : LoggedTexts). logged.texts) walks ∙ sym (append-nil past.texts))
-all_behind digest setup past (one ∷ others) end walks =
-    let here = logged_behind digest setup past one walks.0 walks.1.replies in
-    let later = all_behind digest setup walks.0 others end walks.2 in (
-      here.0 ++ later.0,
-      later.1 ∙ ap (λ (texts : List (List ℕ)). texts ++ later.0) here.1 ∙ append_assoc past.texts here.0 later.0,
-    )
-
 -- the open connection was closed
 pub closed_one : (first mid last : Option (List Exchange)) (offer : Offer) (one : Exchange) → mid ≡ first
-    → offer.source ≡ one.reading.before → offer.sink ≡ one.writing.before → Closes mid last
-    (record one.reading { before = offer.source }) (record one.writing { before = offer.sink }) one.logged
-    → HasClosedConnections first last
-    (record { reading = one.reading; writing = one.writing; logged = one.logged } ∷ [])
+    → offer.source ≡ one.reading.before → offer.sink ≡ one.writing.before → GrowsBy mid last (record {
+      reading = record one.reading { before = offer.source };
+      writing = record one.writing { before = offer.sink };
+      logged = one.logged;
+    } ∷ [])
+    → GrowsBy first last (record { reading = one.reading; writing = one.writing; logged = one.logged } ∷ [])
 closed_one first mid last offer one same from to closes =
     let reading = one.reading in
     let writing = one.writing in
-    subst (λ (closed : Option (List Exchange)). Closes closed last reading writing one.logged) same
-    (subst (λ (report : SourceReport). Closes mid last (record reading { before = report }) writing one.logged) from
-    (subst (λ (report : SinkReport). Closes mid last (record reading { before = offer.source })
-    (record writing { before = report }) one.logged) to closes))
+    subst (λ (closed : Option (List Exchange)).
+    GrowsBy closed last (record { reading = reading; writing = writing; logged = one.logged } ∷ [])) same
+    (subst (λ (report : SourceReport). GrowsBy mid last
+    (record { reading = record reading { before = report }; writing = writing; logged = one.logged } ∷ [])) from
+    (subst (λ (report : SinkReport). GrowsBy mid last (record {
+      reading = record reading { before = offer.source };
+      writing = record writing { before = report };
+      logged = one.logged;
+    } ∷ [])) to closes))

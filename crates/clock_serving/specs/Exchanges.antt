@@ -2,16 +2,13 @@
 -- contracts do not see it.
 --     Offer      what a connection has when it is accepted
 --     Exchange      what was read and written on a connection until it was closed
---     HasClosedConnections old new exchanges      exactly these connections were closed, in order
 --     Came old new given      connections with these bytes were accepted, in order; the others are
 --         still to come
 --     bytes_given exchanges      what the source of each had before it was read
---     Closes old new reading writing logged      one connection was closed
 --     IsShownJournal seen journal      this was the journal, if contracts see it
-use Rattle.std.specs.Prelude.{◌≡◌, ◌++◌, ℕ, List, [], ◌∷◌, map, Option, Some, None}
+use Rattle.std.specs.Prelude.{◌≡◌, ◌++◌, ℕ, List, map, Option, Some, None}
 use Rattle.clock_device.specs.Reports.{Reading, SinkReport, SourceReport, Writing}
 use Rattle.clock_journal.specs.Logged.{JournalState}
-use Rattle.clock_keeping.specs.Keeping.{GrowsBy}
 
 -- what contracts see of its source and its sink
 pub record Offer : Type 0 where
@@ -25,11 +22,6 @@ pub record Exchange : Type 0 where
   pub writing : Writing
   pub logged : Option JournalState
 
--- exactly these connections were closed, in order
-abbrev pub HasClosedConnections : Option (List Exchange) → Option (List Exchange)
-    → List Exchange → Type 0
-HasClosedConnections old new exchanges = GrowsBy old new exchanges
-
 -- these were the first of the connections to come, in order; the rest is still to come
 abbrev pub Came : Option (List (List ℕ)) → Option (List (List ℕ)) → List (Option (List ℕ)) → Type 0
 Came None left given = Unit {0}
@@ -39,12 +31,6 @@ Came (Some coming) left given =
 -- what the source of each had when the connection was accepted
 abbrev pub bytes_given : List Exchange → List (Option (List ℕ))
 bytes_given exchanges = map (λ one. one.reading.before.left) exchanges
-
--- one connection was closed
-abbrev pub Closes : Option (List Exchange) → Option (List Exchange) → Reading → Writing
-    → Option JournalState → Type 0
-Closes old new reading writing logged = HasClosedConnections old new
-    (record { reading = reading; writing = writing; logged = logged } ∷ [])
 
 -- the journal that was shown, if one was, is this one
 abbrev pub IsShownJournal : Option JournalState → JournalState → Type 0

@@ -1,7 +1,8 @@
 ghost use Rattle.std.specs.Prelude.{◌≡◌, ◌||◌, ◌∷◌, [], ℕ, Bool, List, Option, IfOk, OnOk, OnErr};
 ghost use Rattle.std.specs.Prelude.{is_err, not, true, false, None};
 ghost use Rattle.clock_device.specs.Reports.{IsUnread, IsUnused, unread, unused};
-ghost use Rattle.clock_serving.specs.Exchanges.{Came, Closes, Exchange, Offer};
+ghost use Rattle.clock_keeping.specs.Keeping.{GrowsBy};
+ghost use Rattle.clock_serving.specs.Exchanges.{Came, Exchange, Offer};
 
 use crate::outlet::Outlet;
 use clock_device::{Failed, FromReader, Source, ToWriter};
@@ -59,12 +60,17 @@ pub trait Acceptor {
         ensures open { is_open self.new ≡ false }
         ensures coming { coming self.new ≡ coming self.old }
         ensures failed { has_failed self.new ≡ has_failed self.old }
-        ensures closed { Closes (closed self.old) (closed self.new) (record {
-          before = (offer self.old).source;
-          after = Self.Reader.report connection.source;
-        })
-            (record { before = (offer self.old).sink; after = Self.Writer.report connection.sink })
-            (Self.Writer.logged connection.sink) };
+        ensures closed { GrowsBy (closed self.old) (closed self.new) (record {
+          reading = record {
+            before = (offer self.old).source;
+            after = Self.Reader.report connection.source;
+          };
+          writing = record {
+            before = (offer self.old).sink;
+            after = Self.Writer.report connection.sink;
+          };
+          logged = Self.Writer.logged connection.sink;
+        } ∷ []) };
 }
 
 /// The connections of a TCP port. In contracts, it shows no bytes, since sockets show none.

@@ -1,6 +1,7 @@
 ghost use Rattle.std.specs.Prelude.{◌≡◌, [], List, Err, true, false};
 ghost use Rattle.clock_front.specs.Fronts.{StandsForTexts};
-ghost use Rattle.clock_serving.specs.Exchanges.{Came, Exchange, HasClosedConnections, bytes_given};
+ghost use Rattle.clock_keeping.specs.Keeping.{GrowsBy};
+ghost use Rattle.clock_serving.specs.Exchanges.{Came, Exchange, bytes_given};
 ghost use Rattle.clock_serving.specs.Generations.{EndsGeneration, GenerationsContinue};
 
 use crate::acceptor::Acceptor;
@@ -41,7 +42,7 @@ pub fn serve_from<P: Processor, D: Durable, C: Acceptor, F: FnOnce(Recovered)>(
     requires closed { C.is_open connections.old ≡ false }
     requires taken { C.has_failed connections.old ≡ false }
     ensures generation { (exchanges : List Exchange)
-        × HasClosedConnections (C.closed connections.old) (C.closed connections.new) exchanges
+        × GrowsBy (C.closed connections.old) (C.closed connections.new) exchanges
         × Came (C.coming connections.old) (C.coming connections.new) (bytes_given exchanges)
         × EndsGeneration auction.old.front.setup count exchanges bytes.now journal.old journal.new
         result }

@@ -1,8 +1,8 @@
 ghost use Rattle.std.specs.Prelude.{◌≡◌, List, OnOk, None, false};
 ghost use Rattle.clock_device.specs.Reports.{IsUnread, IsUnused};
-ghost use Rattle.clock_keeping.specs.Keeping.{no_journal};
-ghost use Rattle.clock_serving.specs.Exchanges.{Came, Exchange, HasClosedConnections, bytes_given};
-ghost use Rattle.clock_serving.specs.{Laws.{ReportedBytes}, Serving.{EndsServing, is_accept_fault}};
+ghost use Rattle.clock_keeping.specs.Keeping.{GrowsBy, no_journal};
+ghost use Rattle.clock_serving.specs.Exchanges.{Came, Exchange, bytes_given};
+ghost use Rattle.clock_serving.specs.Serving.{EndsServing, is_accept_fault};
 ghost use Rattle.clock_serving.specs.inside.Served.{EndsOne, EndsTaken, IsReportedAs};
 
 use crate::acceptor::{Acceptor, PortAcceptor};
@@ -126,7 +126,7 @@ pub fn serve_all<P: Processor, K: RequestLog, C: Acceptor>(
     requires closed { C.is_open connections.old ≡ false }
     requires taken { C.has_failed connections.old ≡ false }
     ensures served { (exchanges : List Exchange)
-        × HasClosedConnections (C.closed connections.old) (C.closed connections.new) exchanges
+        × GrowsBy (C.closed connections.old) (C.closed connections.new) exchanges
         × Came (C.coming connections.old) (C.coming connections.new) (bytes_given exchanges)
         × EndsServing count exchanges (K.rounds log.old) (K.rounds log.new) (K.journal log.old)
         (K.journal log.new) front.old front.new result }
@@ -155,9 +155,3 @@ pub fn serve_on<P: Processor>(
     let mut port = PortAcceptor::new(listener);
     serve_all(alloc, front, &mut NoLog, &mut port, connections)
 }
-
-/// A law, which does nothing when it runs: if contracts see a connection's bytes, its request was
-/// their beginning, and its client got the reply or a prefix of it.
-pub fn law_reported_bytes()
-    ensures { ReportedBytes }
-{}

@@ -17,7 +17,7 @@ use std::alloc::Global;
 use std::process::Abort;
 
 /// A client that sends this text in small pieces, and takes a reply in small pieces.
-fn client(text: &str) -> Client<'_> {
+pub(super) fn client(text: &str) -> Client<'_> {
     Client {
         bytes: text.as_bytes(),
         read: 7,
@@ -45,7 +45,7 @@ fn clients() -> [Client<'static>; 5] {
 }
 
 /// Asserts what was written on each connection.
-fn assert_written(rt: &impl Abort, connections: &[Closed<'_>], written: &[&str]) {
+pub(super) fn assert_written(rt: &impl Abort, connections: &[Closed<'_>], written: &[&str]) {
     assert_is(rt, connections.len(), written.len());
     for (place, (closed, bytes)) in connections.iter().zip(written).enumerate() {
         assert_reads_at(rt, place, closed.written(), bytes);

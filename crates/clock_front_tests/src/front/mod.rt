@@ -1,6 +1,8 @@
 //! Requests, hubs, and streams, from their bytes to those of their replies.
 mod answers;
 mod bodies;
+mod crash_disk;
+mod crashes;
 mod endless;
 mod events;
 mod example;

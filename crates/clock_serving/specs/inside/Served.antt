@@ -4,28 +4,25 @@
 --         auction
 --     IsAnswered reading response ..      this, or the out-of-memory reply
 --     IsServed one effect ..      one connection was served, with this effect
---     IsUnlogged one ..      its text could not be logged
 --     EndsTaken one .. result      how serving an accepted connection ends
 --     EndsOne coming_old coming_new .. result      how accepting and serving one ends
 --     IsReportedAs old new served result      the closed round, if any, was reported
 --     round_closed effect      the closed round, if any
-use Rattle.std.specs.Prelude.{◌≡◌, ◌⊎◌, ℕ, true, List, [], ◌∷◌, Option, Result, Ok, Err}
+use Rattle.std.specs.Prelude.{◌≡◌, ◌⊎◌, ℕ, List, [], ◌∷◌, Option, Result, Ok, Err}
 use Rattle.clock_device.specs.Reports.{Reading}
 use Rattle.clock_device.specs.Writings.{WritesNothing}
 use Rattle.clock_house.specs.House.{HouseFields}
 use Rattle.clock_connections.specs.Arrivals.{HasArrived, HasNoMemory}
 use Rattle.clock_front.specs.FixedReplies.{no_memory}
 use Rattle.clock_front.specs.Effects.{RespondsTo}
-use Rattle.clock_front.specs.Fronts.{StandsForTexts}
 use Rattle.clock_front.specs.Streamed.{IsLeftUnread}
 use Rattle.clock_front.specs.declared.front.response.Effect.{Effect}
 use Rattle.clock_front.specs.declared.front.response.Effect.TheVariants.{Nothing, Sheet, Closing}
 use Rattle.clock_front.specs.declared.front.response.Response.{Response}
 use Rattle.clock_journal.specs.Logged.{JournalState}
-use Rattle.clock_keeping.specs.Keeping.{GrowsBy, IsAccepted, IsInStep, IsLogged, LeavesOneMore}
-use Rattle.clock_serving.specs.Serving.{WritesReply}
-use Rattle.clock_serving.specs.Exchanges.{Came, Exchange, HasClosedConnections, IsShownJournal}
-use Rattle.clock_serving.specs.Exchanges.{bytes_given}
+use Rattle.clock_keeping.specs.Keeping.{GrowsBy, IsInStep, IsLogged}
+use Rattle.clock_serving.specs.Serving.{IsUnlogged, WritesReply}
+use Rattle.clock_serving.specs.Exchanges.{Came, Exchange, IsShownJournal, bytes_given}
 use Rattle.clock_serving.specs.declared.serving.ServeFault.{ServeFault}
 use Rattle.clock_serving.specs.declared.serving.ServeFault.TheVariants as fault
 
@@ -41,8 +38,7 @@ pub record AnswersAndLogs (reading : Reading) (response : Response)
   pub arrived : HasArrived reading text
   pub responds : RespondsTo text response old new
   pub logged : (digest : List ℕ) (past : List (List ℕ)) → IsInStep digest past journal_old old
-      → IsLogged digest past text response.reply journal_new old new
-  pub added_to : journal_new.uncut ≡ journal_old.uncut
+      → IsLogged digest past text response.reply journal_old journal_new old new
 
 -- this; or memory ran out for the text, the reply says so, and nothing changed
 abbrev pub IsAnswered : Reading → Response → JournalState → JournalState → HouseFields
@@ -58,23 +54,6 @@ IsServed one effect journal_old journal_new old new = ((response : Response) × 
     one.reading response journal_old journal_new old new × WritesReply one.writing response.reply
     × (effect ≡ response.effect) × IsShownJournal one.logged journal_new) ⊎ (HasNoRequest
     one.reading journal_old journal_new old new × WritesNothing one.writing × (effect ≡ Nothing))
-
--- an accepted text could not be logged: the disk has what it had, and a crash leaves the texts
--- before it, and at most this one more
-pub record FailsToLog (reading : Reading) (journal_old journal_new : JournalState)
-    (old : HouseFields) : Type 0 where
-  pub text : List ℕ
-  pub arrived : HasArrived reading text
-  pub accepted : (texts : List (List ℕ)) → StandsForTexts texts old
-      → IsAccepted old.setup texts text
-  pub failed : journal_new.has_failed ≡ true
-  pub moments : LeavesOneMore text journal_old journal_new
-  pub on_disk : journal_new.synced ≡ journal_old.synced
-
--- this, and nothing was written
-abbrev pub IsUnlogged : Exchange → JournalState → JournalState → HouseFields → Type 0
-IsUnlogged one journal_old journal_new old =
-    FailsToLog one.reading journal_old journal_new old × WritesNothing one.writing
 
 -- an accepted connection was served, or its text could not be logged
 abbrev pub EndsTaken : {E : Type 0} → Exchange → JournalState → JournalState → HouseFields
@@ -111,13 +90,13 @@ abbrev pub EndsOne : {U : Type 0} → Option (List (List ℕ)) → Option (List 
     → Option (List Exchange) → Option (List Exchange) → Option (List ℕ) → Option (List ℕ)
     → JournalState → JournalState → HouseFields → HouseFields → Result U ServeFault → Type 0
 EndsOne coming_old coming_new closed_old closed_new rounds_old rounds_new journal_old journal_new
-    old new (Ok done) = (one : Exchange) × HasClosedConnections closed_old closed_new (one ∷ [])
+    old new (Ok done) = (one : Exchange) × GrowsBy closed_old closed_new (one ∷ [])
     × Came coming_old coming_new (bytes_given (one ∷ [])) × ((effect : Effect) × IsServed one effect
     journal_old journal_new old new × GrowsBy rounds_old rounds_new (round_closed effect))
 EndsOne coming_old coming_new closed_old closed_new rounds_old rounds_new journal_old journal_new
     old new (Err fault.Accept) = (closed_new ≡ closed_old) × (coming_new ≡ coming_old)
     × (journal_new ≡ journal_old) × (new ≡ old) × (rounds_new ≡ rounds_old)
 EndsOne coming_old coming_new closed_old closed_new rounds_old rounds_new journal_old journal_new
-    old new (Err fault.Journal) = (one : Exchange) × HasClosedConnections closed_old closed_new
-    (one ∷ []) × Came coming_old coming_new (bytes_given (one ∷ []))
+    old new (Err fault.Journal) = (one : Exchange) × GrowsBy closed_old closed_new (one ∷ [])
+    × Came coming_old coming_new (bytes_given (one ∷ []))
     × IsUnlogged one journal_old journal_new old × (rounds_new ≡ rounds_old)

@@ -1,4 +1,4 @@
-use Rattle.std.proofs.Common.{◌≡◌, List, [], ℕ, drop, length, refl, subst}
+use Rattle.std.proofs.Common.{◌≡◌, List, [], ℕ, refl, subst}
 use Rattle.std.proofs.lemmas.Result.{err_from_is_err_and}
 use Rattle.clock_journal.specs.Entries.{Entry, entries_onto}
 use Rattle.clock_journal.specs.declared.recovery.JournalFault.TheVariants.{NoMemory}
@@ -16,11 +16,9 @@ returns-in_err-recovered-clause-err c =
     (λ (bytes : List ℕ). IsAuditFault c.args.front.setup c.args.first.now bytes p.0) c.as_slice.ensures.value (record {
       fault = refused.field-0.0;
       reported_is = p.2;
-      is = refused.ensures.read;
-      rightly = refused_first (λ (entries : List Entry). IsRecounted entries c.args.front c.new.result.items)
+      is = refused_first (λ (entries : List Entry). IsRecounted entries c.args.front c.new.result.items)
           (record { stands = c.requires; digests_are = c.new.ensures.items })
-          (IsRefused c.args.front.setup) c.args.first.now (drop 56 c.as_slice.result.now)
-          (length c.as_slice.result.now) refused.field-0.0 refused.ensures.refused;
+          (IsRefused c.args.front.setup) c.args.first.now c.as_slice.result.now refused.field-0.0 refused.ensures.read;
     }))
 
 pub rounds_of-made-requires : goal.rounds_of-made-requires
@@ -33,7 +31,11 @@ rounds_of-made-requires c =
 pub returns-in_err-text-clause-err : goal.returns-in_err-text-clause-err
 returns-in_err-text-clause-err c =
     let p = err_from_is_err_and c.from_residual-in_err-text.result c.from_residual-in_err-text.ensures.1 in
-    rw p.1 (record { fault = NoMemory; reported_is = p.2; is = tt; rightly = tt })
+    rw p.1 (record {
+      fault = NoMemory;
+      reported_is = p.2;
+      is = record { found = tt; crash = λ all least leaves. tt; any_tail = λ first begins. tt };
+    })
 
 pub returns-clause-ok : goal.returns-clause-ok
 returns-clause-ok c =
@@ -41,5 +43,5 @@ returns-clause-ok c =
     let entries = entries_onto c.args.first.now [] all.texts [] in
     audit_is c.args.front.setup c.recover.new.machine.front.setup c.args.first.now c.args.bytes.items
     c.as_slice.result.now _ all.texts c.in_ok-recovered.recovered c.as_slice.ensures.value c.recover.ensures.rules
-    all.placed
+    all.are
     (c.in_ok-text.ensures entries (all.stands [] (record { stands = c.requires; digests_are = c.new.ensures.items })))

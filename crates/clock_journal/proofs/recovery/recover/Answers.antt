@@ -4,7 +4,8 @@ use Rattle.std.specs.Prelude.{not}
 use Rattle.std.proofs.lemmas.List.{get_or-drop, take_rest}
 use Rattle.clock_journal.specs.Entries.{Entry, entries_onto, entry_of, texts_in}
 use Rattle.clock_journal.specs.Format.{before_text, head, file_head_length, kind, link, last_link, records}
-use Rattle.clock_journal.specs.Headings.{heading, of_another, unknown}
+use Rattle.clock_journal.specs.Crash.{BeginsWithTexts, LeavesJournal}
+use Rattle.clock_journal.specs.Headings.{Heading, headed, heading, of_another, unknown}
 use Rattle.clock_journal.specs.Reading.{ReadsTexts, Ends, Next, next, damaged, whole}
 use Rattle.clock_journal.specs.inside.Replays.{IsOnWay, IsReplayed}
 use Rattle.clock_journal.specs.Recovering.{IsFoundAt, IsRefusedAt}
@@ -12,9 +13,9 @@ use Rattle.clock_journal.specs.Logged.{file_of}
 use Rattle.clock_journal.specs.declared.recovery.Record.{Record}
 use Rattle.clock_journal.proofs.EntryLaws.{entries-push, many_bytes, texts_in-onto}
 use Rattle.clock_journal.proofs.Moments.{last_link-push, length-head}
-use Rattle.clock_journal.proofs.TakenOver.{another_is, has_taken, has_taken_none, headed_at, headed_is, is_undamaged}
-use Rattle.clock_journal.proofs.TakenOver.{kind_unknown, none_unknown, short_unknown, texts_left, reported_of_left}
-use Rattle.clock_journal.proofs.Tails.{damaged_behind, has_taken_first, reported_of_front}
+use Rattle.clock_journal.proofs.TakenOver.{another_is, headed_is, is_undamaged, kind_unknown, none_unknown}
+use Rattle.clock_journal.proofs.TakenOver.{short_unknown, texts_left, reported_of_left}
+use Rattle.clock_journal.proofs.Tails.{begun_texts, damaged_behind, headed_texts, long_front, reported_of_front}
 use Rattle.clock_journal.proofs.Tested.{same_where}
 use Rattle.clock_journal.proofs.Whole.{read_back}
 use Rattle.clock_journal.proofs.recovery.recover.Goals as goal
@@ -118,9 +119,11 @@ rest_within old new first bytes chain count rest long way =
     omega (arith, way.within, length-drop file_head_length bytes)
 
 found_at : (old new : List Entry → Type 0) (first bytes chain : List ℕ) (count : ℕ) (rest : List ℕ) (found : Next)
-    → file_head_length ≤ length bytes → IsOnWay old new first (drop file_head_length bytes) chain count rest → next
-    chain rest ≡ found → IsFoundAt first (drop file_head_length bytes) (length bytes) (length bytes - length rest) found
-found_at old new first bytes chain count rest found long way is = record {
+    → file_head_length ≤ length bytes → heading first bytes ≡ headed (drop file_head_length bytes)
+    → IsOnWay old new first (drop file_head_length bytes) chain count rest → next chain rest ≡ found
+    → IsFoundAt first bytes (length bytes - length rest) found
+found_at old new first bytes chain count rest found long whole_head way is = record {
+  is_headed = whole_head;
   texts = way.texts;
   rest = rest;
   reads = way.reads;
@@ -145,81 +148,86 @@ replayed old new first bytes chain count rest long way ends = record {
 
 refused_at : (refuses now : List (List ℕ) → List ℕ → Type 0) (old new : List Entry → Type 0)
     (first bytes chain : List ℕ) (count : ℕ) (rest text : List ℕ) → (long : file_head_length ≤ length bytes)
+    → heading first bytes ≡ headed (drop file_head_length bytes)
     → (way : IsOnWay old new first (drop file_head_length bytes) chain count rest) → next chain rest ≡ whole text
     → now ≡ refuses → ((entries : List Entry) → new entries → now (texts_in entries) text)
-    → IsRefusedAt refuses old first (drop file_head_length bytes) (length bytes) (length bytes - length rest)
+    → IsRefusedAt refuses old first bytes (length bytes - length rest)
 unfolding found_at
-refused_at refuses now old new first bytes chain count rest text long way is same refused = record {
+refused_at refuses now old new first bytes chain count rest text long whole_head way is same refused = record {
   text = text;
-  found = found_at old new first bytes chain count rest (whole text) long way is;
+  found = found_at old new first bytes chain count rest (whole text) long whole_head way is;
   refused = λ past was.
       subst (λ (all : List (List ℕ)). refuses all text) (texts_in-onto first [] way.texts past)
       (subst (λ (by : List (List ℕ) → List ℕ → Type 0). by (texts_in (entries_onto first [] way.texts past)) text) same
       (refused (entries_onto first [] way.texts past) (way.stands past was)));
 }
 
+-- ---- a file with less than a head
+
+pub returns-then-eq-clause-read : goal.returns-then-eq-clause-read
+returns-then-eq-clause-read g c = record {
+  texts = [];
+  are = begun_texts c.args.digest.now c.args.bytes.now (search rules) (omega (arith, c.if-bytes-lt-HEAD_LENGTH.true))
+      (same_where _ _ (subst (λ (h : List ℕ). bytes_eq c.args.bytes.now (take (length c.args.bytes.now) h) ≡ true)
+      c.head_of-head.ensures (sym c.eq.ensures ∙ c.if-eq.true)));
+  stands = λ past was. was;
+}
+
 pub returns-then-bytes-lt-HEAD_LENGTH-clause-read : goal.returns-then-bytes-lt-HEAD_LENGTH-clause-read
-returns-then-bytes-lt-HEAD_LENGTH-clause-read g c = short_unknown c.args.digest.now c.args.bytes.now
-    (omega (arith, c.if-bytes-lt-HEAD_LENGTH.true)) (subst (λ (h : List ℕ). bytes_eq c.args.bytes.now
-    (take (length c.args.bytes.now) h) ≡ false) c.head_of-head.ensures (sym c.eq.ensures ∙ c.if-eq.false))
+returns-then-bytes-lt-HEAD_LENGTH-clause-read g c =
+    let short : length c.args.bytes.now < file_head_length = omega (arith, c.if-bytes-lt-HEAD_LENGTH.true) in
+    let none = short_unknown c.args.digest.now c.args.bytes.now short (subst (λ (h : List ℕ). bytes_eq c.args.bytes.now
+    (take (length c.args.bytes.now) h) ≡ false) c.head_of-head.ensures (sym c.eq.ensures ∙ c.if-eq.false)) in
+    record {
+      found = none;
+      crash = λ all least leaves.
+          none_unknown c.args.digest.now c.args.bytes.now all least (search rules) leaves short none;
+      any_tail = λ first begins.
+          let long = long_front c.args.digest.now c.args.bytes.now first (search rules) begins in
+          omega (arith, long, short);
+    }
+
+-- ---- a file with another head
+
+-- what a crash left, and what begins with a journal, has its own head
+not_headed : (digest bytes : List ℕ) (reported : Heading) → length digest ≡ 32 → file_head_length ≤ length bytes
+    → reported ≡ heading digest bytes → (reported ≡ headed (drop file_head_length bytes) → ⊥)
+    → ((all : List (List ℕ)) (least : ℕ) → LeavesJournal digest bytes all least → ⊥)
+    × ((first : List (List ℕ)) → BeginsWithTexts digest bytes first → ⊥)
+not_headed digest bytes reported size long is other = (
+  λ all least leaves.
+      other (reported_of_left digest bytes all least reported size (texts_left digest bytes all least leaves long) is),
+  λ first begins. other (reported_of_front digest bytes first reported size begins is),
+)
+
+not_unknown : (rest : List ℕ) → unknown ≡ headed rest → ⊥
+not_unknown rest is = cc
+
+not_another : (rest : List ℕ) → of_another ≡ headed rest → ⊥
+not_another rest is = cc
 
 pub returns-then-ne-clause-read : goal.returns-then-ne-clause-read
 unfolding kind
-returns-then-ne-clause-read g c = kind_unknown c.args.digest.now c.args.bytes.now
-    (omega (arith, c.if-bytes-lt-HEAD_LENGTH.false)) (was_false _ (sym c.ne.ensures ∙ c.if-ne.true))
-
-pub returns-then-ne-clause-crash : goal.returns-then-ne-clause-crash
-unfolding kind
-returns-then-ne-clause-crash g c texts least leaves =
+returns-then-ne-clause-read g c =
+    let long : file_head_length ≤ length c.args.bytes.now = omega (arith, c.if-bytes-lt-HEAD_LENGTH.false) in
     let none : heading c.args.digest.now c.args.bytes.now ≡ unknown = kind_unknown c.args.digest.now c.args.bytes.now
-    (omega (arith, c.if-bytes-lt-HEAD_LENGTH.false)) (was_false _ (sym c.ne.ensures ∙ c.if-ne.true)) in
-    let e =
-    reported_of_left c.args.digest.now c.args.bytes.now texts least unknown (search rules) (texts_left c.args.digest.now
-    c.args.bytes.now texts least leaves (omega (arith, c.if-bytes-lt-HEAD_LENGTH.false))) (sym none) in cc
+    long (was_false _ (sym c.ne.ensures ∙ c.if-ne.true)) in
+    let no = not_headed c.args.digest.now c.args.bytes.now unknown (search rules) long (sym none)
+    (not_unknown (drop file_head_length c.args.bytes.now)) in
+    record { found = none; crash = no.0; any_tail = no.1 }
 
-pub returns-then-ne-2-clause-crash : goal.returns-then-ne-2-clause-crash
+pub returns-then-ne-2-clause-read : goal.returns-then-ne-2-clause-read
 unfolding kind
-returns-then-ne-2-clause-crash g c texts least leaves =
+returns-then-ne-2-clause-read g c =
     let long : file_head_length ≤ length c.args.bytes.now = omega (arith, c.if-bytes-lt-HEAD_LENGTH.false) in
     let other : heading c.args.digest.now c.args.bytes.now ≡ of_another = another_is c.args.digest.now c.args.bytes.now
     long (was_true _ (sym c.ne.ensures ∙ c.if-ne.false)) (subst (λ (h : List ℕ). bytes_eq (take file_head_length
     c.args.bytes.now) h ≡ false) c.head_of-head.ensures (was_false _ (sym c.ne-2.ensures ∙ c.if-ne-2.true))) in
-    let e = reported_of_left c.args.digest.now c.args.bytes.now texts least of_another (search rules)
-    (texts_left c.args.digest.now c.args.bytes.now texts least leaves long) (sym other) in cc
+    let no = not_headed c.args.digest.now c.args.bytes.now of_another (search rules) long (sym other)
+    (not_another (drop file_head_length c.args.bytes.now)) in
+    record { found = other; crash = no.0; any_tail = no.1 }
 
-pub returns-then-bytes-lt-HEAD_LENGTH-clause-crash : goal.returns-then-bytes-lt-HEAD_LENGTH-clause-crash
-returns-then-bytes-lt-HEAD_LENGTH-clause-crash g c texts least leaves = none_unknown c.args.digest.now c.args.bytes.now
-    texts least (search rules) leaves (omega (arith, c.if-bytes-lt-HEAD_LENGTH.true)) (short_unknown c.args.digest.now
-    c.args.bytes.now (omega (arith, c.if-bytes-lt-HEAD_LENGTH.true)) (subst (λ (h : List ℕ). bytes_eq c.args.bytes.now
-    (take (length c.args.bytes.now) h) ≡ false) c.head_of-head.ensures (sym c.eq.ensures ∙ c.if-eq.false)))
-
-pub returns-then-eq-clause-crash : goal.returns-then-eq-clause-crash
-returns-then-eq-clause-crash g c texts least leaves = has_taken_none (g.M.Machine.stands_for c.args.machine.now)
-    c.args.digest.now c.args.bytes.now texts least (search rules) leaves (omega (arith, c.if-bytes-lt-HEAD_LENGTH.true))
-
-pub returns-then-ne-clause-any_tail : goal.returns-then-ne-clause-any_tail
-unfolding kind
-returns-then-ne-clause-any_tail g c texts begins =
-    let none : heading c.args.digest.now c.args.bytes.now ≡ unknown = kind_unknown c.args.digest.now c.args.bytes.now
-    (omega (arith, c.if-bytes-lt-HEAD_LENGTH.false)) (was_false _ (sym c.ne.ensures ∙ c.if-ne.true)) in
-    let e = reported_of_front c.args.digest.now c.args.bytes.now texts unknown (search rules) begins (sym none) in cc
-
-pub returns-then-ne-2-clause-any_tail : goal.returns-then-ne-2-clause-any_tail
-unfolding kind
-returns-then-ne-2-clause-any_tail g c texts begins =
-    let other : heading c.args.digest.now c.args.bytes.now ≡ of_another = another_is c.args.digest.now c.args.bytes.now
-    (omega (arith, c.if-bytes-lt-HEAD_LENGTH.false)) (was_true _ (sym c.ne.ensures ∙ c.if-ne.false))
-    (subst (λ (h : List ℕ). bytes_eq (take file_head_length c.args.bytes.now) h ≡ false) c.head_of-head.ensures
-    (was_false _ (sym c.ne-2.ensures ∙ c.if-ne-2.true))) in
-    let e =
-    reported_of_front c.args.digest.now c.args.bytes.now texts of_another (search rules) begins (sym other) in cc
-
-pub returns-then-ne-2-clause-read : goal.returns-then-ne-2-clause-read
-unfolding kind
-returns-then-ne-2-clause-read g c = another_is c.args.digest.now c.args.bytes.now
-    (omega (arith, c.if-bytes-lt-HEAD_LENGTH.false)) (was_true _ (sym c.ne.ensures ∙ c.if-ne.false))
-    (subst (λ (h : List ℕ). bytes_eq (take file_head_length c.args.bytes.now) h ≡ false) c.head_of-head.ensures
-    (was_false _ (sym c.ne-2.ensures ∙ c.if-ne-2.true)))
+-- ---- the texts after the head
 
 pub loop-chain-init : goal.loop-chain-init
 loop-chain-init g c = (
@@ -247,67 +255,44 @@ returns-in-Ended-clause-read g c =
     c.loop-chain.texts c.loop-chain.rest.now long c.loop-chain.invariant.0 (search rules) in
     record {
       texts = done.texts;
-      placed = inl (headed_at _ _ c.args.digest.now c.args.bytes.now _ (λ place. search rules) long same done);
+      are = headed_texts _ _ c.args.digest.now c.args.bytes.now _ (λ place. search rules) (search rules) long same done;
       stands = done.stands;
     }
 
-pub returns-in-Ended-clause-crash : goal.returns-in-Ended-clause-crash
-returns-in-Ended-clause-crash g c texts least leaves =
-    let long : file_head_length ≤ length c.args.bytes.now = omega (arith, c.if-bytes-lt-HEAD_LENGTH.false) in
-    has_taken _ _ c.args.digest.now c.args.bytes.now texts least _ (λ place. search rules) (search rules) long
-    (texts_left c.args.digest.now c.args.bytes.now texts least leaves long) (replayed (g.M.Machine.stands_for
-    c.args.machine.now) (g.M.Machine.stands_for c.loop-chain.machine) c.args.digest.now c.args.bytes.now
-    c.loop-chain.chain c.loop-chain.texts c.loop-chain.rest.now long c.loop-chain.invariant.0 (search rules))
-
 pub returns-in-Damaged-clause-read : goal.returns-in-Damaged-clause-read
 returns-in-Damaged-clause-read g c =
-    let long : file_head_length ≤ length c.args.bytes.now = omega (arith, c.if-bytes-lt-HEAD_LENGTH.false) in (
-      headed_is c.args.digest.now c.args.bytes.now long (subst (λ (h : List ℕ). bytes_eq (take file_head_length
-          c.args.bytes.now) h ≡ true) c.head_of-head.ensures (was_true _ (sym c.ne-2.ensures ∙ c.if-ne-2.false))),
-      found_at (g.M.Machine.stands_for c.args.machine.now) (g.M.Machine.stands_for c.loop-chain.machine)
-          c.args.digest.now c.args.bytes.now c.loop-chain.chain c.loop-chain.texts c.loop-chain.rest.now damaged long
-          c.loop-chain.invariant.0 (sym c.in-Damaged.ensures.next),
-    )
-
-pub returns-in-Damaged-clause-crash : goal.returns-in-Damaged-clause-crash
-returns-in-Damaged-clause-crash g c texts least leaves =
-    let long : file_head_length ≤ length c.args.bytes.now = omega (arith, c.if-bytes-lt-HEAD_LENGTH.false) in
-    is_undamaged c.args.digest.now c.args.bytes.now texts least (length c.args.bytes.now) _ (search rules) (texts_left
-    c.args.digest.now c.args.bytes.now texts least leaves long) (found_at (g.M.Machine.stands_for c.args.machine.now)
-    (g.M.Machine.stands_for c.loop-chain.machine) c.args.digest.now c.args.bytes.now c.loop-chain.chain
-    c.loop-chain.texts c.loop-chain.rest.now damaged long c.loop-chain.invariant.0 (sym c.in-Damaged.ensures.next))
+    let digest = c.args.digest.now in
+    let bytes = c.args.bytes.now in
+    let long : file_head_length ≤ length bytes = omega (arith, c.if-bytes-lt-HEAD_LENGTH.false) in
+    let found = found_at (g.M.Machine.stands_for c.args.machine.now) (g.M.Machine.stands_for c.loop-chain.machine)
+    digest bytes c.loop-chain.chain c.loop-chain.texts c.loop-chain.rest.now damaged long
+    (headed_is digest bytes long (subst (λ (h : List ℕ). bytes_eq (take file_head_length bytes) h ≡ true)
+    c.head_of-head.ensures (was_true _ (sym c.ne-2.ensures ∙ c.if-ne-2.false)))) c.loop-chain.invariant.0
+    (sym c.in-Damaged.ensures.next) in
+    record {
+      found = found;
+      crash = λ all least leaves.
+          is_undamaged digest bytes all least _ (search rules) (texts_left digest bytes all least leaves long) found;
+      any_tail = λ first begins.
+          damaged_behind digest bytes first _ (λ place. search rules) (search rules) begins found;
+    }
 
 pub returns-in-Err-Refused-clause-read : goal.returns-in-Err-Refused-clause-read
 returns-in-Err-Refused-clause-read g c =
-    let long : file_head_length ≤ length c.args.bytes.now = omega (arith, c.if-bytes-lt-HEAD_LENGTH.false) in (
-      headed_is c.args.digest.now c.args.bytes.now long (subst (λ (h : List ℕ). bytes_eq (take file_head_length
-          c.args.bytes.now) h ≡ true) c.head_of-head.ensures (was_true _ (sym c.ne-2.ensures ∙ c.if-ne-2.false))),
-      (
-        c.in-Whole.text.now,
-        found_at (g.M.Machine.stands_for c.args.machine.now) (g.M.Machine.stands_for c.loop-chain.machine)
-            c.args.digest.now c.args.bytes.now c.loop-chain.chain c.loop-chain.texts c.loop-chain.rest.now
-            (whole c.in-Whole.text.now) long c.loop-chain.invariant.0 (sym c.in-Whole.ensures.next),
-      ),
-    )
+    let bytes = c.args.bytes.now in
+    let long : file_head_length ≤ length bytes = omega (arith, c.if-bytes-lt-HEAD_LENGTH.false) in
+    record {
+      found = refused_at (g.M.Machine.refuses (g.M.Machine.rules c.args.machine.now))
+          (g.M.Machine.refuses (g.M.Machine.rules c.loop-chain.machine)) (g.M.Machine.stands_for c.args.machine.now)
+          (g.M.Machine.stands_for c.loop-chain.machine) c.args.digest.now bytes c.loop-chain.chain c.loop-chain.texts
+          c.loop-chain.rest.now c.in-Whole.text.now long (headed_is c.args.digest.now bytes long
+          (subst (λ (h : List ℕ). bytes_eq (take file_head_length bytes) h ≡ true) c.head_of-head.ensures
+          (was_true _ (sym c.ne-2.ensures ∙ c.if-ne-2.false)))) c.loop-chain.invariant.0 (sym c.in-Whole.ensures.next)
+          (ap g.M.Machine.refuses c.loop-chain.invariant.1) (λ entries. c.take.ensures.refused entries (search rules));
+      crash = λ all least leaves. tt;
+      any_tail = λ first begins. tt;
+    }
 
-pub returns-in-Err-Refused-clause-refused : goal.returns-in-Err-Refused-clause-refused
-returns-in-Err-Refused-clause-refused g c = refused_at (g.M.Machine.refuses (g.M.Machine.rules c.args.machine.now))
-    (g.M.Machine.refuses (g.M.Machine.rules c.loop-chain.machine)) (g.M.Machine.stands_for c.args.machine.now)
-    (g.M.Machine.stands_for c.loop-chain.machine) c.args.digest.now c.args.bytes.now c.loop-chain.chain
-    c.loop-chain.texts c.loop-chain.rest.now c.in-Whole.text.now
-    (omega (arith, c.if-bytes-lt-HEAD_LENGTH.false)) c.loop-chain.invariant.0 (sym c.in-Whole.ensures.next)
-    (ap g.M.Machine.refuses c.loop-chain.invariant.1) (λ entries. c.take.ensures.refused entries (search rules))
-
-pub returns-in-Ended-clause-any_tail : goal.returns-in-Ended-clause-any_tail
-returns-in-Ended-clause-any_tail g c texts begins = has_taken_first (g.M.Machine.stands_for c.args.machine.now)
-    (g.M.Machine.stands_for c.loop-chain.machine) c.args.digest.now c.args.bytes.now texts _ (λ place. search rules)
-    (search rules) begins (replayed (g.M.Machine.stands_for c.args.machine.now) (g.M.Machine.stands_for
-    c.loop-chain.machine) c.args.digest.now c.args.bytes.now c.loop-chain.chain c.loop-chain.texts c.loop-chain.rest.now
-    (omega (arith, c.if-bytes-lt-HEAD_LENGTH.false)) c.loop-chain.invariant.0 (search rules))
-
-pub returns-in-Damaged-clause-any_tail : goal.returns-in-Damaged-clause-any_tail
-returns-in-Damaged-clause-any_tail g c texts begins =
-    damaged_behind c.args.digest.now c.args.bytes.now texts _ (λ place. search rules) (search rules) begins
-    (found_at (g.M.Machine.stands_for c.args.machine.now) (g.M.Machine.stands_for c.loop-chain.machine)
-    c.args.digest.now c.args.bytes.now c.loop-chain.chain c.loop-chain.texts c.loop-chain.rest.now damaged
-    (omega (arith, c.if-bytes-lt-HEAD_LENGTH.false)) c.loop-chain.invariant.0 (sym c.in-Damaged.ensures.next))
+pub returns-in-Err-NoMemory-clause-read : goal.returns-in-Err-NoMemory-clause-read
+returns-in-Err-NoMemory-clause-read g c =
+    record { found = tt; crash = λ all least leaves. tt; any_tail = λ first begins. tt }

@@ -28,17 +28,15 @@ returns-in_err-response-in-Ok-clause-served g c =
     let reading : Reading =
     record { before = g.R.Source.report c.args.source.now; after = g.R.Source.report c.read_request.new.source } in
     let has = arrived reading c.in-Ok.request c.as_slice.result.now c.as_slice.ensures c.in-Ok.ensures.arrival in
-    rw p.1 (
-      record {
-        text = c.as_slice.result.now;
-        arrived = has;
-        accepted = c.in_err-response-in-Ok.ensures.accepted;
-        failed = disk_failed reading c.as_slice.result.now _ has c.in_err-response-in-Ok.ensures.err;
-        moments = c.in_err-response-in-Ok.ensures.moments;
-        on_disk = c.in_err-response-in-Ok.ensures.on_disk;
-      },
-      nothing_written _ c.requires.unused,
-    )
+    rw p.1 (record {
+      text = c.as_slice.result.now;
+      arrived = has;
+      accepted = c.in_err-response-in-Ok.ensures.accepted;
+      failed = disk_failed reading c.as_slice.result.now _ has c.in_err-response-in-Ok.ensures.err;
+      silent = nothing_written _ c.requires.unused;
+      moments = c.in_err-response-in-Ok.ensures.moments;
+      on_disk = c.in_err-response-in-Ok.ensures.on_disk;
+    })
 
 pub returns-clause-served : goal.returns-clause-served
 returns-clause-served g c =
@@ -55,7 +53,6 @@ returns-clause-served g c =
             arrived = arrived _ w.in-Ok.request w.as_slice.result.now w.as_slice.ensures w.in-Ok.ensures.arrival;
             responds = w.in_ok-response-in-Ok.ensures.response;
             logged = w.in_ok-response-in-Ok.ensures.logged;
-            added_to = w.in_ok-response-in-Ok.ensures.moments.added_to;
           }))
       | in-Err-Memory w ↦ answered_as reading (record { reply = w.no_memory_reply.result; effect = Nothing })
           join.response (journal c.args.log.now) (journal c.args.log.now) (journal join.log) c.args.front.now
