@@ -11,7 +11,8 @@ use Rattle.clock_journal.specs.Logged.{file_of}
 use Rattle.clock_journal.specs.Crash.{BeginsWith, BeginsWithTexts}
 use Rattle.clock_journal.specs.Recovering.{AreTextsOf, IsFoundAt}
 use Rattle.clock_journal.specs.declared.recovery.Recovered.{Recovered}
-use Rattle.clock_journal.specs.inside.Replays.{IsReplayed, Stops}
+use Rattle.clock_journal.specs.inside.Replays.{IsReplayed}
+use Rattle.clock_journal.specs.Reading.{Stops}
 use Rattle.clock_journal.proofs.Whole.{read_back}
 use Rattle.clock_journal.proofs.Fronts.{reads_first, ends_stop, damage_stops}
 use Rattle.clock_journal.proofs.Moments.{length-head}

@@ -4,7 +4,8 @@ ghost use Rattle.clock_journal.specs.{Disks.{LeaveOnly, MayBeLeft}, Format.{Fits
 ghost use Rattle.clock_journal.specs.{Logged.{HasTexts, JournalState}, Recovering.{IsPlaced}};
 ghost use Rattle.clock_journal.specs.Crash.{BeginsWithTexts, EveryFront, LeavesJournal};
 ghost use Rattle.clock_journal.specs.Crash.{LeavesTexts, StaysSo};
-ghost use Rattle.clock_journal.specs.Chain.{JournalsBind};
+ghost use Rattle.clock_journal.specs.{Chain.{ChainBinds, JournalsBind}, Laws.{CutLeaves}};
+ghost use Rattle.clock_journal.specs.Laws.{ReadsBack, WhateverFollows};
 
 use crate::durable::Durable;
 use crate::format::{Link, front_of, head_of, link_of};
@@ -144,11 +145,15 @@ impl<D: Durable> Journal<D> {
 
 /// Laws of all journals. The call does nothing.
 ///
-/// `any`: two journals with the same last digest are the same, or two different messages that were
-/// hashed for them have the same digest. For journals of different lengths there is a third case:
-/// the set-up document of the shorter one begins with 32 bytes that are a digest of the other
-/// journal. `every_front`: a prefix of a journal reads as the first of its texts.
+/// `as_many`, `any`: two journals with the same last digest are the same, or two different messages
+/// that were hashed for them have the same digest. For journals of different lengths, `any` has a
+/// third case: the set-up document of the shorter one begins with 32 bytes that are a digest of the
+/// other journal. `every_front`: a prefix of a journal reads as the first of its texts.
 pub fn law_of_journals()
+    ensures as_many { ChainBinds }
     ensures any { JournalsBind }
     ensures every_front { EveryFront }
+    ensures whatever_follows { WhateverFollows }
+    ensures read_back { ReadsBack }
+    ensures cut_leaves { CutLeaves }
 {}

@@ -10,7 +10,7 @@ use Rattle.clock_journal.specs.Format.{before_text, head, file_head_length, kind
 use Rattle.clock_journal.specs.Entries.{Entry}
 use Rattle.clock_journal.specs.Headings.{begun, headed, heading, of_another, unknown}
 use Rattle.clock_journal.specs.Reading.{ReadsTexts, next, onto, whole}
-use Rattle.clock_journal.specs.inside.Replays.{Stops}
+use Rattle.clock_journal.specs.Reading.{Stops}
 use Rattle.clock_journal.specs.Crash.{IsPartOfHead, LeavesJournal, LeavesTexts}
 use Rattle.clock_journal.specs.Recovering.{IsRefusedAt}
 use Rattle.clock_journal.specs.declared.recovery.JournalFault.{JournalFault}

@@ -5,7 +5,9 @@
 #![tactic(auto)]
 
 mod keeping;
+mod starts;
 mod taking;
 
 pub use keeping::{NoLog, RequestLog};
+pub use starts::law_of_starts;
 pub use taking::{ReplayedAuction, ResumeFault, resume_auction, take_text};

@@ -3,4 +3,5 @@ pub mod Telling
 mod Served
 mod Ends
 mod Reports
+mod Bytes
 mod GenerationLaws

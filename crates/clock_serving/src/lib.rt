@@ -14,4 +14,4 @@ mod serving;
 pub use acceptor::{Acceptor, Connection, PortAcceptor};
 pub use generation::{GenerationFault, law_of_generations, serve_from};
 pub use outlet::Outlet;
-pub use serving::{ServeFault, serve_all, serve_on};
+pub use serving::{ServeFault, law_reported_bytes, serve_all, serve_on};

@@ -2,7 +2,7 @@ ghost use Rattle.std.specs.Prelude.{◌≡◌, List, OnOk, None, false};
 ghost use Rattle.clock_device.specs.Reports.{IsUnread, IsUnused};
 ghost use Rattle.clock_keeping.specs.Keeping.{GrowsBy, no_journal};
 ghost use Rattle.clock_serving.specs.Exchanges.{Came, Exchange, bytes_given};
-ghost use Rattle.clock_serving.specs.Serving.{EndsServing, is_accept_fault};
+ghost use Rattle.clock_serving.specs.{Laws.{ReportedBytes}, Serving.{EndsServing, is_accept_fault}};
 ghost use Rattle.clock_serving.specs.inside.Served.{EndsOne, EndsTaken, IsReportedAs};
 
 use crate::acceptor::{Acceptor, PortAcceptor};
@@ -155,3 +155,9 @@ pub fn serve_on<P: Processor>(
     let mut port = PortAcceptor::new(listener);
     serve_all(alloc, front, &mut NoLog, &mut port, connections)
 }
+
+/// A law, which does nothing when it runs: if contracts see a connection's bytes, its request was
+/// their beginning, and its client got the reply or a prefix of it.
+pub fn law_reported_bytes()
+    ensures { ReportedBytes }
+{}

@@ -3,11 +3,10 @@
 --         nothing or torn
 --     IsOnWay old new first bytes chain count rest      `count` texts were taken, and `rest` is
 --         left
---     Stops chain rest      what is left does not start with a whole record
 use Rattle.std.specs.Prelude.{◌≡◌, ◌≤◌, ◌+◌, ℕ, List, [], length}
 use Rattle.clock_journal.specs.Entries.{Entry, entries_onto}
 use Rattle.clock_journal.specs.Format.{last_link}
-use Rattle.clock_journal.specs.Reading.{ReadsTexts, Ends, next, whole}
+use Rattle.clock_journal.specs.Reading.{ReadsTexts, Ends}
 use Rattle.clock_journal.specs.declared.recovery.Recovered.{Recovered}
 
 -- the bytes read as texts, and the machine stands for what it stood for, and then these texts
@@ -31,7 +30,3 @@ pub record IsOnWay (old new : List Entry → Type 0) (first bytes chain : List �
   pub count_is : count ≡ length texts
   pub within : length rest ≤ length bytes
   pub stands : (past : List Entry) → old past → new (entries_onto first [] texts past)
-
--- what is left does not start with a whole record
-abbrev pub Stops : List ℕ → List ℕ → Type 0
-Stops chain rest = (text : List ℕ) → next chain rest ≡ whole text → ⊥
