@@ -1,7 +1,6 @@
 ghost use Rattle.std.specs.Prelude.{◌≡◌, ◌≤◌, ◌+◌, [], ◌∷◌, drop, length, map, IfOk, MatchBool};
-ghost use Rattle.std.specs.Prelude.{None};
-ghost use Rattle.std.specs.Prelude.{Some, true, false};
-ghost use Rattle.clock_device.specs.{Reported.{unread, unused}, SourceState.{source_report}};
+ghost use Rattle.std.specs.Prelude.{None, Some, true, false};
+ghost use Rattle.clock_device.specs.{Reports.{unread, unused}, SourceState.{source_report}};
 ghost use Rattle.clock_device.specs.SinkState.{sink_report};
 ghost use Rattle.clock_keeping.specs.Keeping.{GrowsBy};
 ghost use Rattle.clock_serving.specs.Exchanges.{Exchange};
