@@ -1,5 +1,5 @@
 //! A disk in memory that remembers what a crash at each moment could have left.
-ghost use Rattle.std.specs.Prelude.{◌≡◌, ◌∷◌, [], Some, false};
+ghost use Rattle.std.specs.Prelude.{◌≡◌, ◌++◌, ◌∷◌, [], Some, false};
 ghost use Rattle.clock_front_tests.specs.inside.Moments.{newest_first};
 
 use clock_device::Failed;
@@ -37,8 +37,14 @@ fn copy<R: Abort>(rt: &R, alloc: Global, bytes: &[u8]) -> Vec<u8>
     bytes.to_vec(alloc).expect(rt, "a copy")
 }
 
+/// Appends a moment.
+fn push<R: Abort>(rt: &R, moments: &mut Vec<Passed>, passed: Passed)
+    ensures { moments.new.items ≡ moments.old.items ++ passed ∷ [] }
+{
+    moments.push(passed).expect(rt, "a moment");
+}
+
 /// Remembers a moment.
-#[tactic(auto, using(crate::proofs::Moments::one_more))]
 fn remember<R: Abort>(
     rt: &R,
     alloc: Global,
@@ -57,7 +63,7 @@ fn remember<R: Abort>(
         synced: copy(rt, alloc, synced),
         written: copy(rt, alloc, written),
     };
-    moments.push(passed).expect(rt, "a moment");
+    push(rt, moments, passed);
 }
 
 impl<'a, R: Abort> CrashDisk<'a, R> {
