@@ -17,7 +17,7 @@ use Rattle.clock_journal.specs.Entries.{Entry, entries_onto, texts_in}
 use Rattle.clock_journal.specs.Recovering.{AreTextsOf}
 use Rattle.clock_journal.specs.declared.recovery.Record.{Record}
 use Rattle.clock_journal.specs.declared.recovery.Recovered.{Recovered}
-use Rattle.clock_serving.proofs.Telling.{CountsOn, counts_text}
+use Rattle.clock_server.proofs.Telling.{CountsOn, counts_text}
 use Rattle.clock_auction.specs.Audits.{IsAuditOf, IsRecounted, audited, closed_after, closing_digests, with_digest}
 
 still_enough : (one : Effect) (before after : ℕ) (digests : List (List ℕ)) (chain : List ℕ) → CountsOn one before after

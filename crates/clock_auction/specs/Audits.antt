@@ -24,7 +24,7 @@ use Rattle.clock_journal.specs.Entries.{Entry, entries_onto, texts_in}
 use Rattle.clock_journal.specs.Recovering.{AreTextsOf, IsJournalRefusal}
 use Rattle.clock_journal.specs.declared.recovery.JournalFault.{JournalFault}
 use Rattle.clock_journal.specs.declared.recovery.Recovered.{Recovered}
-use Rattle.clock_keeping.specs.Keeping.{IsRefused}
+use Rattle.clock_server.specs.Keeping.{IsRefused}
 use Rattle.clock_reports.specs.FinalReport.{report_of}
 use Rattle.clock_reports.specs.ReportText.{audit_text}
 

@@ -1,7 +1,7 @@
 -- How the command `serve` reports that it does not resume a journal.
 --     of_start fault      the fault of a refused file, or of a disk
-use Rattle.clock_keeping.specs.declared.taking.ResumeFault.{ResumeFault}
-use Rattle.clock_keeping.specs.declared.taking.ResumeFault.TheVariants.{Refused, Failed}
+use Rattle.clock_server.specs.declared.taking.ResumeFault.{ResumeFault}
+use Rattle.clock_server.specs.declared.taking.ResumeFault.TheVariants.{Refused, Failed}
 use Rattle.clock_commands.specs.FaultLines.{of_journal}
 use Rattle.clock_commands.specs.declared.fault.Fault.{Fault}
 use Rattle.clock_commands.specs.declared.fault.Fault.TheVariants.{Journal}

@@ -3,7 +3,7 @@ ghost use Rattle.std.specs.Prelude.{◌≡◌, [], List, ℕ, IfOk, IfErr, OnOk}
 ghost use Rattle.clock_terms.specs.Limits.{SetupFields};
 ghost use Rattle.clock_front.specs.Fronts.{StandsForTexts};
 ghost use Rattle.clock_journal.specs.Entries.{Entry};
-ghost use Rattle.clock_keeping.specs.Keeping.{IsRefused};
+ghost use Rattle.clock_server.specs.Keeping.{IsRefused};
 ghost use Rattle.clock_auction.specs.Audits.{IsAuditOf, IsRecounted, IsAuditFault, audited};
 ghost use Rattle.clock_auction.specs.Audits.{with_digest};
 
@@ -13,9 +13,9 @@ use clock_commands::Fault;
 use clock_device::{NoMemory, Sink, Text, write_all};
 use clock_front::{Effect, Front};
 use clock_journal::{Link, Machine, Record, Recovered, TakeError, digest_of, recover};
-use clock_keeping::take_text;
 use clock_queue::Woken;
 use clock_reports::{Digits, audit_text, report_so_far};
+use clock_server::take_text;
 use clock_words::NamedFiles;
 use std::alloc::Global;
 use std::fs::File;

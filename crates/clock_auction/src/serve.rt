@@ -12,10 +12,11 @@ use clock_device::{Failed, Text};
 use clock_front::{Front, Response};
 use clock_http::Progress;
 use clock_journal::{Durable, FileDisk, Journal, Link, Recovered, digest_of};
-use clock_keeping::{NoLog, ReplayedAuction, RequestLog, ResumeFault, resume_auction};
 use clock_processor::Processor;
 use clock_queue::Woken;
-use clock_serving::{PortAcceptor, serve_all};
+use clock_server::{
+    NoLog, PortAcceptor, ReplayedAuction, RequestLog, ResumeFault, resume_auction, serve_all,
+};
 use clock_words::Serving;
 use std::alloc::Global;
 use std::fs::{File, OpenOptions};

@@ -16,8 +16,8 @@ use Rattle.clock_sim.specs.declared.simulation.SimFault.{SimFault}
 use Rattle.clock_sim.specs.declared.simulation.SimFault.TheVariants as in_simulation
 use Rattle.clock_journal.specs.declared.recovery.JournalFault.{JournalFault}
 use Rattle.clock_journal.specs.declared.recovery.JournalFault.TheVariants as in_journal
-use Rattle.clock_serving.specs.declared.serving.ServeFault.{ServeFault}
-use Rattle.clock_serving.specs.declared.serving.ServeFault.TheVariants as in_serving
+use Rattle.clock_server.specs.declared.serving.ServeFault.{ServeFault}
+use Rattle.clock_server.specs.declared.serving.ServeFault.TheVariants as in_serving
 use Rattle.clock_http.specs.Codes.{code_text}
 use Rattle.clock_commands.specs.declared.fault.Fault.{Fault}
 use Rattle.clock_commands.specs.declared.fault.Fault.TheVariants as fault

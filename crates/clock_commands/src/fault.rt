@@ -12,7 +12,7 @@ use clock_device::{Failed, NoMemory, Sink, write_all, write_number};
 use clock_http::Code;
 use clock_journal::JournalFault;
 use clock_replays::ScriptFault;
-use clock_serving::ServeFault;
+use clock_server::ServeFault;
 use clock_setup::{OpeningFault, Place, SetupFault};
 use clock_sim::SimFault;
 

@@ -3,7 +3,7 @@
 --         what its source had when it was accepted, what was read and written on each closed one,
 --         and whether accepting one has failed
 use Rattle.std.specs.Prelude.{ℕ, Bool, List}
-use Rattle.clock_serving.specs.Exchanges.{Exchange}
+use Rattle.clock_server.specs.Exchanges.{Exchange}
 
 -- the connections to come, the open one, and the closed ones
 pub record MemoryAcceptorState : Type 0 where

@@ -2,12 +2,11 @@ ghost use Rattle.std.specs.Prelude.{◌≡◌, ◌≤◌, ◌+◌, [], ◌∷◌
 ghost use Rattle.std.specs.Prelude.{None, Some, true, false};
 ghost use Rattle.clock_device.specs.{Reports.{unread, unused}, SourceState.{source_report}};
 ghost use Rattle.clock_device.specs.SinkState.{sink_report};
-ghost use Rattle.clock_keeping.specs.Keeping.{GrowsBy};
-ghost use Rattle.clock_serving.specs.Exchanges.{Exchange};
+ghost use Rattle.clock_server.specs.{Exchanges.{Exchange}, Keeping.{GrowsBy}};
 ghost use Rattle.clock_front_tests.specs.MemoryAcceptor.{MemoryAcceptorState};
 
 use clock_device::{Bounded, Failed, Items, ListSink, ListSource, NoMemory, Stop};
-use clock_serving::{Acceptor, Connection};
+use clock_server::{Acceptor, Connection};
 use std::alloc::Global;
 use std::marker::Model;
 

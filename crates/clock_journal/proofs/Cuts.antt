@@ -182,5 +182,5 @@ cut_leaves digest bytes texts read least recovered left long leaves (inr begun) 
     let size = ap length leaves.headed in
     let before = length-head digest long in
     let part = length-take (length (head digest)) bytes in
-    let short = begun.short in
+    let short = begun.0.short in
     absurd (omega (arith, size, before, part, short))

@@ -1,5 +1,5 @@
 -- Resuming with the file of a journal that was replayed.
-use Rattle.std.proofs.Common.{◌≡◌, ◌≢◌, inl, inr, ℕ, List, [], length, take, Option, Some, ap, ◌∙◌, subst, arith}
+use Rattle.std.proofs.Common.{◌≡◌, ◌≢◌, inl, inr, ℕ, List, [], length, take, Option, Some, ap, ◌∙◌, arith}
 use Rattle.std.proofs.Common.{length-append}
 use Rattle.std.specs.Prelude.{option_map}
 use Rattle.clock_journal.specs.Format.{head, records}
@@ -17,7 +17,7 @@ placed_empty digest bytes texts recovered long nowhere (inl headed) =
     let before = length-head digest long in
     let none : length (take recovered.end bytes) ≡ 0 = ap (λ (n : ℕ). length (take n bytes)) nowhere in
     absurd (omega (arith, same, size, before, none))
-placed_empty digest bytes texts recovered long nowhere (inr begun) = begun.none
+placed_empty digest bytes texts recovered long nowhere (inr begun) = begun.1
 
 pub cut_is : (old mid new : Option (List ℕ)) (bytes : List ℕ) (place : ℕ) → mid ≡ old → old ≡ Some bytes
     → new ≡ option_map (take place) mid → new ≡ Some (take place bytes)
@@ -34,4 +34,4 @@ logged_when_cut digest bytes texts recovered written synced somewhere (inl heade
   fit = headed.fit;
 }
 logged_when_cut digest bytes texts recovered written synced somewhere (inr begun) cut on_disk =
-    absurd (somewhere begun.end_is)
+    absurd (somewhere (ap (λ (at : Recovered). at.end) begun.2))

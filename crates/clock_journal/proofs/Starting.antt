@@ -163,7 +163,7 @@ tail_cut digest bytes texts read recovered left size begins (inl headed) may =
     }
 tail_cut digest bytes texts read recovered left size begins (inr begun) may =
     let long = long_front digest bytes texts size begins in
-    let short = begun.short in
+    let short = begun.0.short in
     absurd (omega (arith, long, short))
 
 -- ---- a journal that begins again
@@ -182,7 +182,7 @@ begun_anew : (digest bytes : List ℕ) (read : List (List ℕ)) (recovered : Rec
 begun_anew digest bytes read recovered size nowhere (inl headed) =
     let long = long_file digest bytes read recovered size headed in
     absurd (omega (arith, long.1, nowhere))
-begun_anew digest bytes read recovered size nowhere (inr begun) = begun.short
+begun_anew digest bytes read recovered size nowhere (inr begun) = begun.0.short
 
 none_of_any : (digest left : List ℕ) (texts : List (List ℕ)) → LeavesTexts digest left [] 0
     → LeavesTexts digest left texts 0

@@ -8,13 +8,12 @@ use Rattle.clock_journal.specs.Headings.{Heading, headed, heading}
 use Rattle.clock_journal.specs.Reading.{ReadsTexts, damaged}
 use Rattle.clock_journal.specs.Entries.{Entry}
 use Rattle.clock_journal.specs.Logged.{file_of}
-use Rattle.clock_journal.specs.Crash.{BeginsWith, BeginsWithTexts}
+use Rattle.clock_journal.specs.Crash.{BeginsWithTexts}
 use Rattle.clock_journal.specs.Recovering.{AreTextsOf, IsFoundAt}
 use Rattle.clock_journal.specs.declared.recovery.Recovered.{Recovered}
 use Rattle.clock_journal.specs.inside.Replays.{IsReplayed}
-use Rattle.clock_journal.specs.Reading.{Stops}
 use Rattle.clock_journal.proofs.Whole.{read_back}
-use Rattle.clock_journal.proofs.Fronts.{reads_first, ends_stop, damage_stops}
+use Rattle.clock_journal.proofs.Fronts.{BeginsWith, Stops, reads_first, ends_stop, damage_stops}
 use Rattle.clock_journal.proofs.Moments.{length-head}
 use Rattle.clock_journal.proofs.TakenOver.{headed_at, headed_is, left_first, left_none, texts_left}
 use Rattle.clock_journal.proofs.Tested.{bytes_eq_same}
@@ -107,8 +106,7 @@ pub begun_texts : (digest bytes : List ℕ) → length digest ≡ 32 → length 
     → bytes ≡ take (length bytes) (head digest)
     → AreTextsOf digest bytes [] (record { chain = digest; end = 0; texts = 0 })
 begun_texts digest bytes size short front = record {
-  placed = inr
-      (record { none = refl; short = short; front = front; chain_is = refl; end_is = refl; count_is = refl });
+  placed = inr (record { short = short; front = front }, refl, refl);
   crash = λ all least leaves. left_none digest bytes all [] least size leaves short refl;
   any_tail = λ first begins.
       let long = long_front digest bytes first size begins in absurd (omega (arith, long, short));

@@ -7,5 +7,4 @@ pub mod Headings
 pub mod Entries
 pub mod Recovering
 pub mod Chain
-pub mod Laws
 pub mod inside

@@ -1,6 +1,5 @@
 -- How the journal in a file is replayed by a machine.
 --     BeginsWithHead digest bytes texts recovered      the file has its head, and then the texts
---     IsBegun digest bytes texts recovered      the file is less than a head
 --     IsPlaced digest bytes texts recovered      the recovered part of the file is the journal of
 --         the texts
 --     AreTextsOf digest bytes texts recovered      these texts are read of the file
@@ -11,10 +10,10 @@
 --     IsDamagedWhere may_be why      any damage is at such a place
 --     IsJournalRefusal refuses old digest bytes why      the file has this fault, and what a crash
 --         left has no damage
-use Rattle.std.specs.Prelude.{◌≡◌, ◌⊎◌, ◌<◌, ◌≤◌, ◌+◌, ℕ, List, [], length, take, drop}
-use Rattle.clock_journal.specs.Crash.{BeginsWith, BeginsWithTexts, LeavesJournal}
+use Rattle.std.specs.Prelude.{◌≡◌, ◌⊎◌, ◌≤◌, ◌+◌, ◌++◌, ℕ, List, [], length, take, drop}
+use Rattle.clock_journal.specs.Crash.{BeginsWithTexts, IsPartOfHead, LeavesJournal}
 use Rattle.clock_journal.specs.Entries.{Entry, entries_onto, texts_in}
-use Rattle.clock_journal.specs.Format.{head, file_head_length, last_link, AllFit}
+use Rattle.clock_journal.specs.Format.{file_head_length, last_link, AllFit}
 use Rattle.clock_journal.specs.Logged.{file_of}
 use Rattle.clock_journal.specs.Headings.{heading, headed, of_another, unknown}
 use Rattle.clock_journal.specs.Reading.{ReadsTexts, Ends, Next, next, damaged, whole, onto}
@@ -33,19 +32,11 @@ pub record BeginsWithHead (digest bytes : List ℕ) (texts : List (List ℕ))
   pub count_is : recovered.texts ≡ length texts
   pub ends : Ends (last_link digest texts) (drop recovered.end bytes)
 
--- the file is less than a head, and the journal begins again
-pub record IsBegun (digest bytes : List ℕ) (texts : List (List ℕ))
-    (recovered : Recovered) : Type 0 where
-  pub none : texts ≡ []
-  pub short : length bytes < file_head_length
-  pub front : bytes ≡ take (length bytes) (head digest)
-  pub chain_is : recovered.chain ≡ digest
-  pub end_is : recovered.end ≡ 0
-  pub count_is : recovered.texts ≡ 0
-
+-- this; or the file is less than a head, and the journal begins again
 abbrev pub IsPlaced : List ℕ → List ℕ → List (List ℕ) → Recovered → Type 0
-IsPlaced digest bytes texts recovered =
-    BeginsWithHead digest bytes texts recovered ⊎ IsBegun digest bytes texts recovered
+IsPlaced digest bytes texts recovered = BeginsWithHead digest bytes texts recovered
+    ⊎ (IsPartOfHead digest bytes × (texts ≡ [])
+    × (recovered ≡ record { chain = digest; end = 0; texts = 0 }))
 
 -- these texts are read of the file. If a crash left it of the journal of some texts, they are the
 -- first of those, at least `least`; if it begins with a journal, they begin with its texts
@@ -55,7 +46,7 @@ pub record AreTextsOf (digest bytes : List ℕ) (texts : List (List ℕ))
   pub crash : (all : List (List ℕ)) (least : ℕ) → LeavesJournal digest bytes all least
       → (count : ℕ) × (least ≤ count) × (count ≤ length all) × (texts ≡ take count all)
   pub any_tail : (first : List (List ℕ)) → BeginsWithTexts digest bytes first
-      → BeginsWith first texts
+      → (further : List (List ℕ)) × (texts ≡ first ++ further)
 
 -- the machine stands for what it stood for, and then the texts of the file
 pub record IsRecovered (old new : List Entry → Type 0) (digest bytes : List ℕ)

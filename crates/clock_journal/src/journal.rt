@@ -1,11 +1,9 @@
 ghost use Rattle.std.specs.Prelude.{◌≡◌, ◌++◌, [], ◌∷◌, List, ℕ, OnOk, OnErr, Some, false, is_err};
-ghost use Rattle.std.specs.Prelude.{length};
-ghost use Rattle.clock_journal.specs.{Disks.{LeaveOnly, MayBeLeft}, Format.{Fits, link}};
+ghost use Rattle.clock_journal.specs.{Disks.{LeaveOnly}, Format.{Fits, link}};
 ghost use Rattle.clock_journal.specs.{Logged.{HasTexts, JournalState}, Recovering.{IsPlaced}};
 ghost use Rattle.clock_journal.specs.Crash.{BeginsWithTexts, EveryFront, LeavesJournal};
-ghost use Rattle.clock_journal.specs.Crash.{LeavesTexts, StaysSo};
-ghost use Rattle.clock_journal.specs.{Chain.{ChainBinds, JournalsBind}, Laws.{CutLeaves}};
-ghost use Rattle.clock_journal.specs.Laws.{ReadsBack, WhateverFollows};
+ghost use Rattle.clock_journal.specs.{Chain.{ChainBinds, JournalsBind}, Crash.{LeavesOneMore}};
+ghost use Rattle.clock_journal.specs.Crash.{StaysSo};
 
 use crate::durable::Durable;
 use crate::format::{Link, front_of, head_of, link_of};
@@ -108,13 +106,7 @@ impl<D: Durable> Journal<D> {
         requires unfailed { self.old.has_failed ≡ false }
         ensures logged { (digest : List ℕ) (texts : List (List ℕ)) → HasTexts digest texts self.old
             → OnOk result (HasTexts digest (texts ++ text.now ∷ []) self.new) }
-        ensures any_moment { (digest : List ℕ) (texts : List (List ℕ))
-            → HasTexts digest texts self.old
-            → (left : List ℕ) → MayBeLeft self.old.synced self.new.written left
-            → LeavesTexts digest left (texts ++ text.now ∷ []) (length texts) }
-        ensures moments { (digest : List ℕ) (texts : List (List ℕ)) → HasTexts digest texts self.old
-            → LeaveOnly self.old.moments self.new.moments
-            (λ left. LeavesTexts digest left (texts ++ text.now ∷ []) (length texts)) }
+        ensures moments { LeavesOneMore text.now self.old self.new }
         ensures on_disk { OnErr result (self.new.synced ≡ self.old.synced) }
         ensures link { OnOk result (self.new.chain ≡ link self.old.chain text.now) }
         ensures failed { self.new.has_failed ≡ is_err result }
@@ -153,7 +145,4 @@ pub fn law_of_journals()
     ensures as_many { ChainBinds }
     ensures any { JournalsBind }
     ensures every_front { EveryFront }
-    ensures whatever_follows { WhateverFollows }
-    ensures read_back { ReadsBack }
-    ensures cut_leaves { CutLeaves }
 {}

@@ -2,7 +2,7 @@
 use super::texts::{ACCEPTED, CUT_SHORT, FIRST_ROUND, PUT, STATUS};
 use crate::comparing::assert_is;
 use crate::front::example::on_one_product;
-use clock_serving::serve_on;
+use clock_server::serve_on;
 use std::alloc::Global;
 use std::io::{self, Read, Write};
 use std::net::{Ipv4Addr, Shutdown, SocketAddr, TcpListener, TcpStream};

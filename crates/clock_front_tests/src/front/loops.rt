@@ -10,9 +10,8 @@ use clock_device::Stop;
 use clock_fixtures::MemoryDisk;
 use clock_front::Front;
 use clock_journal::Journal;
-use clock_keeping::{NoLog, RequestLog};
 use clock_processor::Plain;
-use clock_serving::{ServeFault, serve_all};
+use clock_server::{NoLog, RequestLog, ServeFault, serve_all};
 use std::alloc::Global;
 use std::process::Abort;
 

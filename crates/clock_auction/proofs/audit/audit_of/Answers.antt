@@ -2,8 +2,8 @@ use Rattle.std.proofs.Common.{◌≡◌, List, [], ℕ, refl, subst}
 use Rattle.std.proofs.lemmas.Result.{err_from_is_err_and}
 use Rattle.clock_journal.specs.Entries.{Entry, entries_onto}
 use Rattle.clock_journal.specs.declared.recovery.JournalFault.TheVariants.{NoMemory}
-use Rattle.clock_keeping.specs.Keeping.{IsRefused}
-use Rattle.clock_keeping.proofs.TakenUp.{refused_first}
+use Rattle.clock_server.specs.Keeping.{IsRefused}
+use Rattle.clock_server.proofs.TakenUp.{refused_first}
 use Rattle.clock_auction.specs.Audits.{IsRecounted, IsAuditFault}
 use Rattle.clock_auction.proofs.AuditLaws.{audit_is}
 use Rattle.clock_auction.proofs.audit.audit_of.Goals as goal

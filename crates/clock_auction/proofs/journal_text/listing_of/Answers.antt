@@ -3,7 +3,7 @@ use Rattle.std.proofs.lemmas.Result.{err_from_is_err_and}
 use Rattle.clock_journal.specs.Entries.{Entry, entries_onto}
 use Rattle.clock_journal.specs.Recovering.{IsJournalRefusal}
 use Rattle.clock_journal.specs.declared.recovery.JournalFault.TheVariants.{NoMemory}
-use Rattle.clock_keeping.proofs.TakenUp.{refused_first}
+use Rattle.clock_server.proofs.TakenUp.{refused_first}
 use Rattle.clock_auction.specs.Listings.{listing_text}
 use Rattle.clock_auction.proofs.journal_text.listing_of.Goals as goal
 

@@ -40,45 +40,6 @@ returns-clause-logged g c digest texts has =
     journal.chain c.args.text.now c.front_of.result c.link_of-digest.result c.front_of.ensures c.link_of-digest.ensures
     c.in_ok-append.ensures.written c.in_ok-append-2.ensures.written) c.sync.ensures.written now_synced)
 
-pub returns-clause-any_moment : goal.returns-clause-any_moment
-returns-clause-any_moment g c digest texts =
-    let reported = g.D.Durable.written in
-    let journal = c.self.inside in
-    subst (λ (journal : JournalState). HasTexts digest texts journal → (left : List ℕ)
-    → MayBeLeft journal.synced (reported c.sync.new.self) left → LeavesTexts digest left (texts ++ c.args.text.now ∷ [])
-    (length texts)) c.self.view_is (left_reads digest texts c.args.text.now journal.chain (reported journal.disk)
-    (g.D.Durable.synced journal.disk) (reported c.sync.new.self) c.requires.fits (all_is_front (reported journal.disk)
-    (reported c.sync.new.self) (record_of journal.chain c.args.text.now) (subst (λ (new : Option (List ℕ)).
-    HasWritten (reported journal.disk) new (record_of journal.chain c.args.text.now)) (sym c.sync.ensures.written)
-    (written _ (reported c.append.new.self) _ journal.chain c.args.text.now c.front_of.result c.link_of-digest.result
-    c.front_of.ensures c.link_of-digest.ensures c.in_ok-append.ensures.written c.in_ok-append-2.ensures.written))))
-
-pub returns-in_err-append-clause-any_moment : goal.returns-in_err-append-clause-any_moment
-returns-in_err-append-clause-any_moment g c digest texts =
-    let reported = g.D.Durable.written in
-    let journal = c.self.inside in
-    subst (λ (journal : JournalState). HasTexts digest texts journal → (left : List ℕ)
-    → MayBeLeft journal.synced (reported c.append.new.self) left → LeavesTexts digest left (texts ++ c.args.text.now
-    ∷ []) (length texts)) c.self.view_is (left_reads digest texts c.args.text.now journal.chain (reported journal.disk)
-    (g.D.Durable.synced journal.disk) (reported c.append.new.self) c.requires.fits
-    (subst (HasWrittenFront (reported journal.disk) (reported c.append.new.self)) (record_is journal.chain
-    c.args.text.now c.front_of.result c.link_of-digest.result c.front_of.ensures c.link_of-digest.ensures)
-    (front_written _ _ c.front_of.result c.args.text.now c.in_err-append.ensures.written)))
-
-pub returns-in_err-append-2-clause-any_moment : goal.returns-in_err-append-2-clause-any_moment
-returns-in_err-append-2-clause-any_moment g c digest texts =
-    let reported = g.D.Durable.written in
-    let journal = c.self.inside in
-    subst (λ (journal : JournalState). HasTexts digest texts journal → (left : List ℕ)
-    → MayBeLeft journal.synced (reported c.append-2.new.self) left → LeavesTexts digest left (texts ++ c.args.text.now
-    ∷ []) (length texts)) c.self.view_is (left_reads digest texts c.args.text.now journal.chain (reported journal.disk)
-    (g.D.Durable.synced journal.disk) (reported c.append-2.new.self) c.requires.fits (subst (HasWrittenFront
-    (reported journal.disk) (reported c.append-2.new.self)) (record_is journal.chain c.args.text.now c.front_of.result
-    c.link_of-digest.result c.front_of.ensures c.link_of-digest.ensures) (front_beyond _ (reported c.append.new.self) _
-    c.front_of.result c.args.text.now c.in_ok-append.ensures.written c.in_err-append-2.ensures.written)))
-
--- ---- at each moment
-
 keeps_on : (digest : List ℕ) (texts : List (List ℕ)) (old synced same : Option (List ℕ)) (chain : List ℕ)
     → same ≡ synced → Keeps digest texts old synced chain → Keeps digest texts old same chain
 keeps_on digest texts old synced same chain is keeps =
@@ -99,65 +60,101 @@ early old new chain text front digest front_is linked some = subst (HasWrittenFr
     (record_is chain text front digest front_is linked) (front_written old new front text some)
 
 pub returns-in_err-append-clause-moments : goal.returns-in_err-append-clause-moments
-returns-in_err-append-clause-moments g c digest texts =
-    let reported = g.D.Durable.written in
-    let passed = g.D.Durable.moments in
-    let journal = c.self.inside in
-    subst (λ (at : JournalState). HasTexts digest texts at → LeaveOnly at.moments (passed c.append.new.self)
-    (λ left. LeavesTexts digest left (texts ++ c.args.text.now ∷ []) (length texts))) c.self.view_is
-    (λ has. passes (passed journal.disk) (passed c.append.new.self) digest texts c.args.text.now journal.chain
-    (reported journal.disk) (g.D.Durable.synced journal.disk) (reported c.append.new.self) c.requires.fits
-    (early _ _ journal.chain c.args.text.now c.front_of.result c.link_of-digest.result c.front_of.ensures
-    c.link_of-digest.ensures c.in_err-append.ensures.written) has c.append.ensures.moments)
+returns-in_err-append-clause-moments g c = record {
+  at_end = λ digest texts.
+      let reported = g.D.Durable.written in
+      let journal = c.self.inside in
+      subst (λ (journal : JournalState). HasTexts digest texts journal → (left : List ℕ)
+      → MayBeLeft journal.synced (reported c.append.new.self) left → LeavesTexts digest left (texts ++ c.args.text.now
+      ∷ []) (length texts)) c.self.view_is (left_reads digest texts c.args.text.now journal.chain
+      (reported journal.disk) (g.D.Durable.synced journal.disk) (reported c.append.new.self) c.requires.fits
+      (subst (HasWrittenFront (reported journal.disk) (reported c.append.new.self)) (record_is journal.chain
+      c.args.text.now c.front_of.result c.link_of-digest.result c.front_of.ensures c.link_of-digest.ensures)
+      (front_written _ _ c.front_of.result c.args.text.now c.in_err-append.ensures.written)));
+  moments = λ digest texts.
+      let reported = g.D.Durable.written in
+      let passed = g.D.Durable.moments in
+      let journal = c.self.inside in
+      subst (λ (at : JournalState). HasTexts digest texts at → LeaveOnly at.moments (passed c.append.new.self)
+      (λ left. LeavesTexts digest left (texts ++ c.args.text.now ∷ []) (length texts))) c.self.view_is
+      (λ has. passes (passed journal.disk) (passed c.append.new.self) digest texts c.args.text.now journal.chain
+      (reported journal.disk) (g.D.Durable.synced journal.disk) (reported c.append.new.self) c.requires.fits
+      (early _ _ journal.chain c.args.text.now c.front_of.result c.link_of-digest.result c.front_of.ensures
+      c.link_of-digest.ensures c.in_err-append.ensures.written) has c.append.ensures.moments);
+}
 
 pub returns-in_err-append-2-clause-moments : goal.returns-in_err-append-2-clause-moments
-returns-in_err-append-2-clause-moments g c digest texts =
-    let reported = g.D.Durable.written in
-    let passed = g.D.Durable.moments in
-    let on_disk = g.D.Durable.synced in
-    let journal = c.self.inside in
-    let text = c.args.text.now in
-    let some = all_is_front (reported journal.disk)
-    (reported c.append.new.self) c.front_of.result c.in_ok-append.ensures.written in
-    subst (λ (at : JournalState). HasTexts digest texts at → LeaveOnly at.moments (passed c.append-2.new.self)
-    (λ left. LeavesTexts digest left (texts ++ text ∷ []) (length texts))) c.self.view_is
-    (λ has. leave_then (passed journal.disk) (passed c.append.new.self) (passed c.append-2.new.self)
-    (λ left. LeavesTexts digest left (texts ++ text ∷ []) (length texts))
-    (passes (passed journal.disk) (passed c.append.new.self) digest texts text journal.chain (reported journal.disk)
-    (on_disk journal.disk) (reported c.append.new.self) c.requires.fits (early _ _ journal.chain text c.front_of.result
-    c.link_of-digest.result c.front_of.ensures c.link_of-digest.ensures some) has c.append.ensures.moments)
-    (passes (passed c.append.new.self) (passed c.append-2.new.self) digest texts text journal.chain
-    (reported journal.disk) (on_disk c.append.new.self) (reported c.append-2.new.self) c.requires.fits
-    (subst (HasWrittenFront (reported journal.disk) (reported c.append-2.new.self))
-    (record_is journal.chain text c.front_of.result c.link_of-digest.result c.front_of.ensures c.link_of-digest.ensures)
-    (front_beyond _ (reported c.append.new.self) _ c.front_of.result text c.in_ok-append.ensures.written
-    c.in_err-append-2.ensures.written)) (keeps_on digest texts (reported journal.disk) (on_disk journal.disk)
-    (on_disk c.append.new.self) journal.chain c.append.ensures.synced has) c.append-2.ensures.moments))
+returns-in_err-append-2-clause-moments g c = record {
+  at_end = λ digest texts.
+      let reported = g.D.Durable.written in
+      let journal = c.self.inside in
+      subst (λ (journal : JournalState). HasTexts digest texts journal → (left : List ℕ) → MayBeLeft journal.synced
+      (reported c.append-2.new.self) left → LeavesTexts digest left (texts ++ c.args.text.now ∷ []) (length texts))
+      c.self.view_is (left_reads digest texts c.args.text.now journal.chain (reported journal.disk)
+      (g.D.Durable.synced journal.disk) (reported c.append-2.new.self) c.requires.fits (subst (HasWrittenFront
+      (reported journal.disk) (reported c.append-2.new.self)) (record_is journal.chain c.args.text.now c.front_of.result
+      c.link_of-digest.result c.front_of.ensures c.link_of-digest.ensures) (front_beyond _ (reported c.append.new.self)
+      _ c.front_of.result c.args.text.now c.in_ok-append.ensures.written c.in_err-append-2.ensures.written)));
+  moments = λ digest texts.
+      let reported = g.D.Durable.written in
+      let passed = g.D.Durable.moments in
+      let on_disk = g.D.Durable.synced in
+      let journal = c.self.inside in
+      let text = c.args.text.now in
+      let some = all_is_front (reported journal.disk)
+      (reported c.append.new.self) c.front_of.result c.in_ok-append.ensures.written in
+      subst (λ (at : JournalState). HasTexts digest texts at → LeaveOnly at.moments (passed c.append-2.new.self)
+      (λ left. LeavesTexts digest left (texts ++ text ∷ []) (length texts))) c.self.view_is (λ has. leave_then
+      (passed journal.disk) (passed c.append.new.self) (passed c.append-2.new.self) (λ left. LeavesTexts digest left
+      (texts ++ text ∷ []) (length texts)) (passes (passed journal.disk) (passed c.append.new.self) digest texts text
+      journal.chain (reported journal.disk) (on_disk journal.disk) (reported c.append.new.self) c.requires.fits (early _
+      _ journal.chain text c.front_of.result c.link_of-digest.result c.front_of.ensures c.link_of-digest.ensures some)
+      has c.append.ensures.moments) (passes (passed c.append.new.self) (passed c.append-2.new.self) digest texts text
+      journal.chain (reported journal.disk) (on_disk c.append.new.self) (reported c.append-2.new.self) c.requires.fits
+      (subst (HasWrittenFront (reported journal.disk) (reported c.append-2.new.self)) (record_is journal.chain text
+      c.front_of.result c.link_of-digest.result c.front_of.ensures c.link_of-digest.ensures)
+      (front_beyond _ (reported c.append.new.self) _ c.front_of.result text c.in_ok-append.ensures.written
+      c.in_err-append-2.ensures.written)) (keeps_on digest texts (reported journal.disk) (on_disk journal.disk)
+      (on_disk c.append.new.self) journal.chain c.append.ensures.synced has) c.append-2.ensures.moments));
+}
 
 pub returns-clause-moments : goal.returns-clause-moments
-returns-clause-moments g c digest texts =
-    let reported = g.D.Durable.written in
-    let passed = g.D.Durable.moments in
-    let on_disk = g.D.Durable.synced in
-    let journal = c.self.inside in
-    let text = c.args.text.now in
-    let some = all_is_front (reported journal.disk)
-    (reported c.append.new.self) c.front_of.result c.in_ok-append.ensures.written in
-    let all = all_is_front (reported journal.disk) (reported c.append-2.new.self) (record_of journal.chain text)
-    (written _ (reported c.append.new.self) _ journal.chain text c.front_of.result c.link_of-digest.result
-    c.front_of.ensures c.link_of-digest.ensures c.in_ok-append.ensures.written c.in_ok-append-2.ensures.written) in
-    let Leaves = λ (left : List ℕ). LeavesTexts digest left (texts ++ text ∷ []) (length texts) in
-    subst (λ (at : JournalState). HasTexts digest texts at → LeaveOnly at.moments (passed c.sync.new.self)
-    (λ left. LeavesTexts digest left (texts ++ text ∷ []) (length texts))) c.self.view_is
-    (λ has. leave_then (passed journal.disk) (passed c.append.new.self) (passed c.sync.new.self) Leaves
-    (passes (passed journal.disk) (passed c.append.new.self) digest texts text journal.chain (reported journal.disk)
-    (on_disk journal.disk) (reported c.append.new.self) c.requires.fits (early _ _ journal.chain text c.front_of.result
-    c.link_of-digest.result c.front_of.ensures c.link_of-digest.ensures some) has c.append.ensures.moments)
-    (leave_then (passed c.append.new.self) (passed c.append-2.new.self) (passed c.sync.new.self) Leaves (passes
-    (passed c.append.new.self) (passed c.append-2.new.self) digest texts text journal.chain (reported journal.disk)
-    (on_disk c.append.new.self) (reported c.append-2.new.self) c.requires.fits all (keeps_on digest texts
-    (reported journal.disk) (on_disk journal.disk) (on_disk c.append.new.self) journal.chain c.append.ensures.synced
-    has) c.append-2.ensures.moments) (passes (passed c.append-2.new.self) (passed c.sync.new.self) digest texts text
-    journal.chain (reported journal.disk) (on_disk c.append-2.new.self) (reported c.append-2.new.self) c.requires.fits
-    all (keeps_on digest texts (reported journal.disk) (on_disk journal.disk) (on_disk c.append-2.new.self)
-    journal.chain (c.append-2.ensures.synced ∙ c.append.ensures.synced) has) c.sync.ensures.moments)))
+returns-clause-moments g c = record {
+  at_end = λ digest texts.
+      let reported = g.D.Durable.written in
+      let journal = c.self.inside in
+      subst (λ (journal : JournalState). HasTexts digest texts journal → (left : List ℕ) → MayBeLeft journal.synced
+      (reported c.sync.new.self) left → LeavesTexts digest left (texts ++ c.args.text.now ∷ []) (length texts))
+      c.self.view_is (left_reads digest texts c.args.text.now journal.chain (reported journal.disk)
+      (g.D.Durable.synced journal.disk) (reported c.sync.new.self) c.requires.fits (all_is_front (reported journal.disk)
+      (reported c.sync.new.self) (record_of journal.chain c.args.text.now) (subst (λ (new : Option (List ℕ)).
+      HasWritten (reported journal.disk) new (record_of journal.chain c.args.text.now)) (sym c.sync.ensures.written)
+      (written _ (reported c.append.new.self) _ journal.chain c.args.text.now c.front_of.result c.link_of-digest.result
+      c.front_of.ensures c.link_of-digest.ensures c.in_ok-append.ensures.written c.in_ok-append-2.ensures.written))));
+  moments = λ digest texts.
+      let reported = g.D.Durable.written in
+      let passed = g.D.Durable.moments in
+      let on_disk = g.D.Durable.synced in
+      let journal = c.self.inside in
+      let text = c.args.text.now in
+      let some = all_is_front (reported journal.disk)
+      (reported c.append.new.self) c.front_of.result c.in_ok-append.ensures.written in
+      let all = all_is_front (reported journal.disk) (reported c.append-2.new.self) (record_of journal.chain text)
+      (written _ (reported c.append.new.self) _ journal.chain text c.front_of.result c.link_of-digest.result
+      c.front_of.ensures c.link_of-digest.ensures c.in_ok-append.ensures.written c.in_ok-append-2.ensures.written) in
+      let Leaves = λ (left : List ℕ). LeavesTexts digest left (texts ++ text ∷ []) (length texts) in
+      subst (λ (at : JournalState). HasTexts digest texts at → LeaveOnly at.moments (passed c.sync.new.self)
+      (λ left. LeavesTexts digest left (texts ++ text ∷ []) (length texts))) c.self.view_is (λ has. leave_then
+      (passed journal.disk) (passed c.append.new.self) (passed c.sync.new.self) Leaves (passes (passed journal.disk)
+      (passed c.append.new.self) digest texts text journal.chain (reported journal.disk) (on_disk journal.disk)
+      (reported c.append.new.self) c.requires.fits (early _ _ journal.chain text c.front_of.result
+      c.link_of-digest.result c.front_of.ensures c.link_of-digest.ensures some) has c.append.ensures.moments)
+      (leave_then (passed c.append.new.self) (passed c.append-2.new.self) (passed c.sync.new.self) Leaves (passes
+      (passed c.append.new.self) (passed c.append-2.new.self) digest texts text journal.chain (reported journal.disk)
+      (on_disk c.append.new.self) (reported c.append-2.new.self) c.requires.fits all (keeps_on digest texts
+      (reported journal.disk) (on_disk journal.disk) (on_disk c.append.new.self) journal.chain c.append.ensures.synced
+      has) c.append-2.ensures.moments) (passes (passed c.append-2.new.self) (passed c.sync.new.self) digest texts text
+      journal.chain (reported journal.disk) (on_disk c.append-2.new.self) (reported c.append-2.new.self) c.requires.fits
+      all (keeps_on digest texts (reported journal.disk) (on_disk journal.disk) (on_disk c.append-2.new.self)
+      journal.chain (c.append-2.ensures.synced ∙ c.append.ensures.synced) has) c.sync.ensures.moments)));
+}

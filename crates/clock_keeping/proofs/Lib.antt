@@ -1,6 +1,0 @@
-pub mod EffectLaws
-mod TakenTexts
-mod Untouched
-mod LoggedLaws
-pub mod TakenUp
-pub mod AcceptedLaws

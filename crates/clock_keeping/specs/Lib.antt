@@ -1,4 +1,0 @@
-pub mod Keeping
-pub mod Starts
-pub mod Accepted
-pub mod inside

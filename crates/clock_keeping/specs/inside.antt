@@ -1,2 +1,0 @@
--- What only proofs and private functions use: no clause of a public call cites it.
-pub mod Taken

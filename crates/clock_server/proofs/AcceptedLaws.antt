@@ -1,0 +1,147 @@
+-- Texts that were accepted, and starts on what a crash left of them.
+use Rattle.std.proofs.Common.{◌≡◌, ◌+◌, ◌++◌, inl, inr, ℕ, zero, suc, Bool, true, false, List, [], ◌∷◌}
+use Rattle.std.proofs.Common.{length, take, drop, refl, sym, ap, ◌∙◌, subst}
+use Rattle.std.specs.Prelude.{bytes_eq, if◌then◌else◌, nat_lt}
+use Rattle.std.proofs.lemmas.List.{length-take-le}
+use Rattle.clock_terms.specs.Limits.{SetupFields}
+use Rattle.clock_house.specs.House.{HouseFields}
+use Rattle.clock_front.specs.Effects.{effect}
+use Rattle.clock_journal.specs.Format.{before_text, head, file_head_length, kind, last_link, link}
+use Rattle.clock_journal.specs.Entries.{Entry}
+use Rattle.clock_journal.specs.Headings.{begun, headed, heading, of_another, unknown}
+use Rattle.clock_journal.specs.Reading.{ReadsTexts, next, onto, whole}
+use Rattle.clock_journal.specs.Crash.{IsPartOfHead, LeavesJournal, LeavesTexts}
+use Rattle.clock_journal.specs.Recovering.{IsRefusedAt}
+use Rattle.clock_journal.specs.declared.recovery.JournalFault.TheVariants as fault
+use Rattle.clock_journal.proofs.Fronts.{Stops, ends_stop}
+use Rattle.clock_journal.proofs.Tested.{bytes_eq_same, lt_true, not_less, same_where}
+use Rattle.clock_server.specs.Accepted.{AreAccepted, IsNotRefused}
+use Rattle.clock_server.specs.Starts.{IsNotResumed}
+use Rattle.clock_server.specs.Keeping.{IsAccepted, IsRefused, is_change, logged_after}
+use Rattle.clock_server.proofs.EffectLaws.{logged_when}
+use Rattle.clock_server.specs.declared.taking.ResumeFault.{ResumeFault}
+use Rattle.clock_server.specs.declared.taking.ResumeFault.TheVariants.{Refused, Failed}
+
+-- ---- lists of accepted texts
+
+pub accepted_take : (setup : SetupFields) (past texts : List (List ℕ)) (count : ℕ) → AreAccepted setup past texts
+    → AreAccepted setup past (take count texts)
+accepted_take setup past [] zero accepted = tt
+accepted_take setup past [] (suc count) accepted = tt
+accepted_take setup past (text ∷ texts) zero accepted = tt
+accepted_take setup past (text ∷ texts) (suc count) accepted =
+    (accepted.0, accepted_take setup (text ∷ past) texts count accepted.1)
+
+accepted_at : (setup : SetupFields) (past before : List (List ℕ)) (text : List ℕ) (more : List (List ℕ))
+    → AreAccepted setup past (before ++ text ∷ more) → IsAccepted setup (onto before past) text
+accepted_at setup past [] text more accepted = accepted.0
+accepted_at setup past (one ∷ before) text more accepted = accepted_at setup (one ∷ past) before text more accepted.1
+
+pub accepted_push : (setup : SetupFields) (past texts : List (List ℕ)) (text : List ℕ) → AreAccepted setup past texts
+    → IsAccepted setup (onto texts past) text → AreAccepted setup past (texts ++ text ∷ [])
+accepted_push setup past [] text accepted is = (is, tt)
+accepted_push setup past (one ∷ texts) text accepted is =
+    (accepted.0, accepted_push setup (one ∷ past) texts text accepted.1 is)
+
+-- a text is logged only if it is accepted
+logged_if : (changes : Bool) (setup : SetupFields) (texts : List (List ℕ)) (text : List ℕ)
+    → is_change (effect setup (onto texts []) text) ≡ changes → AreAccepted setup [] texts
+    → AreAccepted setup [] (logged_when changes texts text)
+logged_if true setup texts text is accepted = accepted_push setup [] texts text accepted is
+logged_if false setup texts text is accepted = accepted
+
+pub accepted_after : (setup : SetupFields) (texts : List (List ℕ)) (text : List ℕ) → AreAccepted setup [] texts
+    → AreAccepted setup [] (logged_after setup texts text)
+accepted_after setup texts text accepted =
+    logged_if (is_change (effect setup (onto texts []) text)) setup texts text refl accepted
+
+-- ---- a start on a file that a crash left
+
+-- a text that is found after some texts of a file is one of the texts that the file reads as
+found_among : (chain bytes : List ℕ) (all before : List (List ℕ)) (rest other_rest text : List ℕ)
+    → ReadsTexts chain bytes all rest → Stops (last_link chain all) rest → ReadsTexts chain bytes before other_rest
+    → next (last_link chain before) other_rest ≡ whole text → (more : List (List ℕ)) × (all ≡ before ++ text ∷ more)
+found_among chain bytes [] [] rest other_rest text reads stops others is =
+    absurd (stops text (ap (next chain) (reads ∙ sym others) ∙ is))
+found_among chain bytes [] (one ∷ before) rest other_rest text reads stops others is =
+    absurd (stops one (ap (next chain) reads ∙ others.0))
+found_among chain bytes (first ∷ all) [] rest other_rest text reads stops others is =
+    let twice : whole first ≡ whole text = sym reads.0 ∙ (ap (next chain) (sym others) ∙ is) in
+    let same : first ≡ text = cc in
+    (all, ap (λ (t : List ℕ). t ∷ all) same)
+found_among chain bytes (first ∷ all) (one ∷ before) rest other_rest text reads stops others is =
+    let twice : whole one ≡ whole first = sym others.0 ∙ reads.0 in
+    let same : one ≡ first = cc in
+    let later = subst
+    (λ (t : List ℕ). ReadsTexts (link chain t) (drop (before_text + length t) bytes) before other_rest) same others.1 in
+    let now = subst (λ (t : List ℕ). next (last_link (link chain t) before) other_rest ≡ whole text) same is in
+    let inner = found_among (link chain first) (drop (before_text + length first) bytes) all before rest other_rest text
+    reads.1 stops later now in
+    (inner.0, ap (λ (t : List ℕ). t ∷ all) (sym same) ∙ ap (λ (others : List (List ℕ)). one ∷ others) inner.1)
+
+not_both : (changes : Bool) → changes ≡ true → changes ≡ false → ⊥
+not_both changes one other = let bad : true ≡ false = sym one ∙ other in cc
+
+headed_where : (short part same known : Bool) (rest found : List ℕ)
+    → (if short then (if part then begun else unknown)
+    else (if same then headed rest else (if known then of_another else unknown)))
+    ≡ headed found → (short ≡ false) × (same ≡ true)
+headed_where true true same known rest found is = cc
+headed_where true false same known rest found is = cc
+headed_where false part true known rest found is = (refl, refl)
+headed_where false part false true rest found is = cc
+headed_where false part false false rest found is = cc
+
+-- a file that has its head has all of it
+whole_head : (digest bytes found : List ℕ) → heading digest bytes ≡ headed found
+    → length (head digest) ≡ file_head_length
+unfolding heading
+whole_head digest bytes found is =
+    let parts = headed_where (nat_lt (length bytes) file_head_length)
+    (bytes_eq bytes (take (length bytes) (head digest))) (bytes_eq (take file_head_length bytes) (head digest))
+    (bytes_eq (take (length kind) bytes) kind) (drop file_head_length bytes) found is in
+    sym (ap length (same_where (take file_head_length bytes) (head digest) parts.1))
+    ∙ length-take-le file_head_length bytes (not_less (length bytes) file_head_length parts.0)
+
+begun_is : (digest left : List ℕ) → IsPartOfHead digest left → heading digest left ≡ begun
+unfolding heading
+begun_is digest left part =
+    rw (
+      lt_true (length left) file_head_length part.short,
+      bytes_eq_same left (take (length left) (head digest)) part.front,
+    ) refl
+
+-- so no text of the file is refused
+none_refused : (setup : SetupFields) (digest bytes : List ℕ) (texts : List (List ℕ)) (least place : ℕ)
+    → length (head digest) ≡ file_head_length → AreAccepted setup [] texts → LeavesTexts digest bytes texts least
+    → IsRefusedAt (IsRefused setup) (λ (past : List Entry). past ≡ []) digest bytes place → ⊥
+none_refused setup digest bytes texts least place long accepted leaves refused =
+    let some = leaves.reads in
+    let found = refused.found in
+    let reads = subst (λ (n : ℕ). ReadsTexts digest (drop n bytes) (take some.count texts) some.rest) long some.reads in
+    let among = found_among digest (drop file_head_length bytes) (take some.count texts) found.texts some.rest
+    found.rest refused.text reads (ends_stop _ _ some.ends) found.reads found.found_is in
+    let all = subst (λ (list : List (List ℕ)). AreAccepted setup [] list) among.1
+    (accepted_take setup [] texts some.count accepted) in
+    not_both (is_change (effect setup (onto found.texts []) refused.text))
+    (accepted_at setup [] found.texts refused.text among.0 all) (refused.refused [] refl)
+
+-- if a crash left the journal of accepted texts, each fault that a start may report is of memory or of the disk
+pub own_starts : (setup : SetupFields) (digest bytes : List ℕ) (texts : List (List ℕ)) (least : ℕ)
+    (house : HouseFields) (why : ResumeFault) → AreAccepted setup [] texts → LeavesJournal digest bytes texts least
+    → IsNotResumed setup digest bytes house why → IsNotRefused why
+own_starts setup digest bytes texts least house (Refused fault.Unknown) accepted leaves refused =
+    absurd (refused.crash texts least leaves)
+own_starts setup digest bytes texts least house (Refused fault.Setup) accepted leaves refused =
+    absurd (refused.crash texts least leaves)
+own_starts setup digest bytes texts least house (Refused (fault.Damaged place)) accepted leaves refused =
+    absurd (refused.crash texts least leaves)
+own_starts setup digest bytes texts least house (Refused (fault.Refused place)) accepted (inl leaves) refused =
+    absurd (none_refused setup digest bytes texts least place
+    (whole_head digest bytes (drop file_head_length bytes) refused.found.found.is_headed) accepted leaves refused.found)
+own_starts setup digest bytes texts least house (Refused (fault.Refused place)) accepted (inr part) refused =
+    let both : begun ≡ headed (drop file_head_length bytes) =
+    sym (begun_is digest bytes part.1) ∙ refused.found.found.is_headed in
+    absurd (let no : ⊥ = cc in no)
+own_starts setup digest bytes texts least house (Refused fault.NoMemory) accepted leaves refused = tt
+own_starts setup digest bytes texts least house Failed accepted leaves refused = tt

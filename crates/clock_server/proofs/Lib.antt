@@ -1,0 +1,13 @@
+mod EffectLaws
+mod TakenTexts
+mod Untouched
+mod LoggedLaws
+pub mod TakenUp
+mod AcceptedLaws
+mod Walking
+pub mod Telling
+mod Served
+mod Ends
+mod Reports
+mod Bytes
+mod GenerationLaws

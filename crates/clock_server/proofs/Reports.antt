@@ -1,0 +1,71 @@
+-- How serving one connection ends, by what was reported to the log.
+use Rattle.std.proofs.Common.{◌≡◌, false, ℕ, List, [], ◌∷◌, Option, Result, Ok, Err, refl, sym, subst}
+use Rattle.std.specs.Prelude.{OnOk}
+use Rattle.clock_house.specs.House.{HouseFields}
+use Rattle.clock_front.specs.declared.front.response.Effect.{Effect}
+use Rattle.clock_front.specs.declared.front.response.Effect.TheVariants.{Nothing, Sheet, Closing}
+use Rattle.clock_journal.specs.Logged.{JournalState}
+use Rattle.clock_server.specs.Keeping.{GrowsBy}
+use Rattle.clock_server.specs.declared.serving.ServeFault.{ServeFault}
+use Rattle.clock_server.specs.declared.serving.ServeFault.TheVariants.{Accept, Journal}
+use Rattle.clock_server.specs.Exchanges.{Came, Exchange, bytes_given}
+use Rattle.clock_server.specs.Serving.{IsUnlogged, is_accept_fault}
+use Rattle.clock_server.specs.inside.Served.{EndsOne, EndsTaken, IsServed, IsReported, IsReportedAs}
+use Rattle.clock_server.specs.inside.Served.{round_closed}
+use Rattle.clock_server.proofs.Walking.{grown_none}
+
+grows_by : (one : Effect) (rounds_old rounds_new : Option (List ℕ)) → IsReported rounds_old rounds_new one
+    → GrowsBy rounds_old rounds_new (round_closed one)
+grows_by Nothing rounds_old rounds_new reported =
+    subst (λ (now : Option (List ℕ)). GrowsBy rounds_old now []) (sym reported) (grown_none rounds_old)
+grows_by Sheet rounds_old rounds_new reported =
+    subst (λ (now : Option (List ℕ)). GrowsBy rounds_old now []) (sym reported) (grown_none rounds_old)
+grows_by (Closing round) rounds_old rounds_new reported = reported
+
+module _ (coming_old coming_new : Option (List (List ℕ))) (closed_old closed_new : Option (List Exchange))
+    (rounds_old rounds_new : Option (List ℕ)) (journal_old journal_mid journal_new : JournalState)
+    (old new : HouseFields) (one : Exchange) where
+  pub ends_one : {U E : Type 0} (served : Result Effect E) (result : Result U ServeFault)
+      → GrowsBy closed_old closed_new (one ∷ []) → Came coming_old coming_new (bytes_given (one ∷ []))
+      → EndsTaken one journal_old journal_mid old new served → journal_new ≡ journal_mid
+      → IsReportedAs rounds_old rounds_new served result
+      → EndsOne coming_old coming_new closed_old closed_new rounds_old rounds_new journal_old journal_new old new result
+  ends_one (Ok effect) (Ok done) closed came ends logged reported = (
+    one,
+    closed,
+    came,
+    (
+      effect,
+      subst (λ (journal : JournalState). IsServed one effect journal_old journal old new) (sym logged) ends,
+      grows_by effect rounds_old rounds_new reported,
+    ),
+  )
+  ends_one (Ok effect) (Err fault) closed came ends logged reported = absurd reported
+  ends_one (Err failed) (Ok done) closed came ends logged reported = absurd reported
+  ends_one (Err failed) (Err Accept) closed came ends logged reported = absurd reported
+  ends_one (Err failed) (Err Journal) closed came ends logged reported = (
+    one,
+    closed,
+    came,
+    subst (λ (journal : JournalState). IsUnlogged one journal_old journal old) (sym logged) ends,
+    reported,
+  )
+
+-- accepting the connection has not failed
+pub not_accept : {U E : Type 0} (rounds_old rounds_new : Option (List ℕ)) (served : Result Effect E)
+    (result : Result U ServeFault) → IsReportedAs rounds_old rounds_new served result → false ≡ is_accept_fault result
+not_accept rounds_old rounds_new (Ok effect) (Ok done) reported = refl
+not_accept rounds_old rounds_new (Ok effect) (Err fault) reported = absurd reported
+not_accept rounds_old rounds_new (Err failed) (Ok done) reported = absurd reported
+not_accept rounds_old rounds_new (Err failed) (Err Accept) reported = absurd reported
+not_accept rounds_old rounds_new (Err failed) (Err Journal) reported = refl
+
+pub unfailed : {U E : Type 0} (rounds_old rounds_new : Option (List ℕ)) (served : Result Effect E)
+    (result : Result U ServeFault) (journal_mid journal_new : JournalState)
+    → IsReportedAs rounds_old rounds_new served result → journal_new ≡ journal_mid
+    → OnOk served (journal_mid.has_failed ≡ false) → OnOk result (journal_new.has_failed ≡ false)
+unfailed rounds_old rounds_new (Ok effect) (Ok done) journal_mid journal_new reported logged fresh =
+    subst (λ (journal : JournalState). journal.has_failed ≡ false) (sym logged) fresh
+unfailed rounds_old rounds_new (Ok effect) (Err fault) journal_mid journal_new reported logged fresh = tt
+unfailed rounds_old rounds_new (Err failed) (Ok done) journal_mid journal_new reported logged fresh = absurd reported
+unfailed rounds_old rounds_new (Err failed) (Err fault) journal_mid journal_new reported logged fresh = tt

@@ -1,0 +1,103 @@
+-- Lists that grow by one connection at a time.
+use Rattle.std.proofs.Common.{◌≡◌, inl, inr, ℕ, Bool, true, false, List, [], ◌∷◌, ◌++◌, map, Option, Some, None}
+use Rattle.std.proofs.Common.{refl, sym, ap, ◌∙◌, subst, append_assoc, append-nil}
+use Rattle.clock_terms.specs.Limits.{SetupFields}
+use Rattle.clock_device.specs.Reports.{SinkReport, SourceReport}
+use Rattle.std.proofs.lemmas.List.{map-append}
+use Rattle.clock_front.specs.Effects.{effect}
+use Rattle.clock_journal.specs.Reading.{onto}
+use Rattle.clock_server.proofs.EffectLaws.{logged_when}
+use Rattle.clock_server.specs.Keeping.{GrowsBy, is_change}
+use Rattle.clock_server.specs.Exchanges.{Came, Exchange, Offer, bytes_given}
+use Rattle.clock_server.specs.Serving.{LoggedTexts, RepliesOver, Walks}
+
+-- nothing was appended
+pub grown_none : {A : Type 0} (list : Option (List A)) → GrowsBy list list []
+grown_none None = tt
+grown_none (Some old) = ap Some (sym (append-nil old))
+
+-- these were appended, and then those
+pub grown_more : {A : Type 0} (first mid last : Option (List A)) (some others : List A) → GrowsBy first mid some
+    → GrowsBy mid last others → GrowsBy first last (some ++ others)
+grown_more None mid last some others before after = tt
+grown_more {A = A} (Some old) mid last some others before after =
+    subst (λ (list : Option (List A)). GrowsBy list last others) before after ∙ ap Some (append_assoc old some others)
+
+-- none came
+pub came_none : (coming : Option (List (List ℕ))) → Came coming coming []
+came_none None = tt
+came_none (Some coming) = (coming, refl, refl)
+
+came_then : (first mid last : Option (List (List ℕ))) (some others : List (Option (List ℕ))) → Came first mid some
+    → Came mid last others → Came first last (some ++ others)
+came_then None mid last some others before after = tt
+came_then (Some coming) mid last some others before after =
+    let later : Came (Some before.0) last others =
+    subst (λ (left : Option (List (List ℕ))). Came left last others) before.1 after in (
+      later.0,
+      later.1,
+      before.2 ∙ ap (λ (given : List (Option (List ℕ))). some ++ given) later.2
+          ∙ sym (append_assoc some others (map Some later.0)),
+    )
+
+-- these came, and then one more
+pub came_more : (first mid last : Option (List (List ℕ))) (exchanges : List Exchange) (one : Exchange)
+    → Came first mid (bytes_given exchanges) → Came mid last (bytes_given (one ∷ []))
+    → Came first last (bytes_given (exchanges ++ one ∷ []))
+came_more first mid last exchanges one before after = subst (λ (given : List (Option (List ℕ))). Came first last given)
+    (sym (map-append (λ one. one.reading.before.left) exchanges (one ∷ [])))
+    (came_then first mid last (bytes_given exchanges) (bytes_given (one ∷ [])) before after)
+
+-- the accepted connection came
+pub came_one : (first mid last : Option (List (List ℕ))) (offer : Offer) (one : Exchange) → Came first mid
+    (offer.source.left ∷ []) → last ≡ mid → offer.source ≡ one.reading.before → Came first last (bytes_given (one ∷ []))
+came_one first mid last offer one came still from =
+    subst (λ (left : Option (List (List ℕ))). Came first left (one.reading.before.left ∷ [])) (sym still)
+    (subst (λ (report : SourceReport). Came first mid (report.left ∷ [])) from came)
+
+-- one more connection
+pub walks_on : {A : Type 0} (step : A → Exchange → A → Type 0) (past : A) (exchanges : List Exchange) (end : A)
+    (one : Exchange) (next : A) → Walks step past exchanges end → step end one next
+    → Walks step past (exchanges ++ one ∷ []) next
+walks_on {A = A} step past [] end one next walks steps =
+    (next, subst (λ (now : A). step now one next) walks steps, refl)
+walks_on step past (first ∷ others) end one next walks steps =
+    (walks.0, walks.1, walks_on step walks.0 others end one next walks.2 steps)
+
+-- the logged texts are unchanged, and more come after them
+logged_if_behind : (changes : Bool) (past : List (List ℕ)) (text : List ℕ)
+    → (more : List (List ℕ)) × (logged_when changes past text ≡ past ++ more)
+logged_if_behind true past text = (text ∷ [], refl)
+logged_if_behind false past text = ([], sym (append-nil past))
+
+pub logged_behind : (digest : List ℕ) (setup : SetupFields) (before : LoggedTexts) (one : Exchange)
+    (after : LoggedTexts) → RepliesOver setup before one after
+    → (more : List (List ℕ)) × (after.texts ≡ before.texts ++ more)
+logged_behind digest setup before one after (inl (text, answer, replied, inl (right, is), seen)) =
+    let behind = logged_if_behind (is_change (effect setup (onto before.texts []) text)) before.texts text in
+    (behind.0, is ∙ behind.1)
+logged_behind digest setup before one after (inl (text, answer, replied, inr (left_out, is), seen)) =
+    ([], is ∙ sym (append-nil before.texts))
+logged_behind digest setup before one after (inr (alone, is)) =
+    ([], ap (λ (logged : LoggedTexts). logged.texts) is ∙ sym (append-nil before.texts))
+
+-- the open connection was closed
+pub closed_one : (first mid last : Option (List Exchange)) (offer : Offer) (one : Exchange) → mid ≡ first
+    → offer.source ≡ one.reading.before → offer.sink ≡ one.writing.before → GrowsBy mid last (record {
+      reading = record one.reading { before = offer.source };
+      writing = record one.writing { before = offer.sink };
+      logged = one.logged;
+    } ∷ [])
+    → GrowsBy first last (record { reading = one.reading; writing = one.writing; logged = one.logged } ∷ [])
+closed_one first mid last offer one same from to closes =
+    let reading = one.reading in
+    let writing = one.writing in
+    subst (λ (closed : Option (List Exchange)).
+    GrowsBy closed last (record { reading = reading; writing = writing; logged = one.logged } ∷ [])) same
+    (subst (λ (report : SourceReport). GrowsBy mid last
+    (record { reading = record reading { before = report }; writing = writing; logged = one.logged } ∷ [])) from
+    (subst (λ (report : SinkReport). GrowsBy mid last (record {
+      reading = record reading { before = offer.source };
+      writing = record writing { before = report };
+      logged = one.logged;
+    } ∷ [])) to closes))

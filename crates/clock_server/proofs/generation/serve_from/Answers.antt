@@ -1,0 +1,60 @@
+use Rattle.std.proofs.Common.{[], refl}
+use Rattle.clock_server.proofs.AcceptedLaws.{own_starts}
+use Rattle.clock_server.proofs.GenerationLaws.{ends_by_fault, has_resumed, own_left, served_all}
+use Rattle.clock_server.proofs.Walking.{came_none, grown_none}
+use Rattle.clock_server.proofs.generation.serve_from.Goals as goal
+
+pub returns-in-Err-clause-generation : goal.returns-in-Err-clause-generation
+returns-in-Err-clause-generation g c =
+    let found = c.args.journal.now in
+    let bytes = c.args.bytes.now in
+    let setup = c.args.auction.now.front.setup in
+    let auction = c.resume_auction.new.auction in
+    let now = c.in-Err.ensures in (
+      [],
+      grown_none (g.C.Acceptor.closed c.args.connections.now),
+      came_none (g.C.Acceptor.coming c.args.connections.now),
+      (
+        refl,
+        now.refused,
+        λ written texts least synced is own.
+            let leaves = own_left setup found.chain texts least found synced bytes is written own in (
+              own_starts setup found.chain bytes texts least auction.front c.in-Err.fault own.accepted leaves now.err,
+              now.crash synced texts least written is own.leaves,
+            ),
+      ),
+    )
+
+pub returns-in-Ok-clause-generation : goal.returns-in-Ok-clause-generation
+returns-in-Ok-clause-generation g c =
+    let started = c.in_default.ensures in
+    let found = c.args.journal.now in
+    let first = c.resume_auction.new.journal in
+    let house = c.resume_auction.new.auction.front in
+    let ends = c.in-Ok.ensures.served in (
+      ends.0,
+      ends.1,
+      ends.2,
+      (
+        ends.3.0,
+        served_all c.args.auction.now.front.setup found first c.serve_all.new.log c.args.bytes.now house started.setup
+            (λ texts least written leaves. has_resumed found.chain c.args.bytes.now first house _ texts least
+            (started.in_step written) leaves) ends.0 _ _ c.serve_all.new.front ends.3.1,
+      ),
+    )
+
+pub returns-in-Err-serve_all-clause-generation : goal.returns-in-Err-serve_all-clause-generation
+returns-in-Err-serve_all-clause-generation g c =
+    let started = c.in_default.ensures in
+    let found = c.args.journal.now in
+    let first = c.resume_auction.new.journal in
+    let house = c.resume_auction.new.auction.front in
+    let ends = c.in-Err-serve_all.ensures.served in (
+      ends.0,
+      ends.1,
+      ends.2,
+      ends_by_fault c.args.auction.now.front.setup found first c.serve_all.new.log c.args.bytes.now house started.setup
+          (λ texts least written leaves. has_resumed found.chain c.args.bytes.now first house _ texts least
+          (started.in_step written) leaves) (Unit {0}) c.args.count ends.0 _ _ c.serve_all.new.front
+          c.in-Err-serve_all.fault ends.3,
+    )

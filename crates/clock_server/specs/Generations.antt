@@ -1,0 +1,132 @@
+-- The second headline: what is proved of a server over all of its crashes and restarts. In plain
+-- words: a generation is what one server does with a journal's file, from its start until it ends.
+-- Take any list of generations. The first one starts on an empty file, and each later one on what a
+-- crash may have left of the one before.
+-- - No start is refused. It fails only if memory runs out or a call of the disk fails.
+-- - Each start resumes with every text that was logged when the generation before ended, and with
+--   at most one more, which was accepted. A connection whose text could not be logged got no reply.
+-- - Each reply of each generation is the right one after the texts that are logged, and private, as
+--   in the headline. An accepted text is on the disk before the first byte of its reply is written.
+--
+-- A crash may come at any moment: a generation that crashes is one that ends there. The disk and
+-- the network may fail at each call, and a failed write may have written any part of its bytes. A
+-- failed start is a generation too. The premise is that a crash leaves all synced bytes of a file,
+-- and some prefix of the rest (`MayBeLeft`).
+--     Generation      a start that failed, or a start and the connections that were served
+--     ServesFrom setup digest texts least exchanges end      it resumes with a prefix of these
+--         texts, and serves
+--     IsGeneration setup digest one      what one generation does with an auction's own file
+--     LeftSince old new left      a crash at a moment between two states of a disk may leave this
+--     MayLeave one left      a crash of this generation may leave this
+--     AreRestarts setup digest Leaves generations      each starts on what a crash may have left of
+--         the one before
+--     ContinueFrom setup digest texts least generations      each continues after the one before
+--     GenerationsContinue      generations on one file continue one auction
+--     EndsGeneration setup count exchanges bytes found end result      how one generation ends
+use Rattle.std.specs.Prelude.{◌≡◌, ◌<◌, ◌≤◌, ◌⊎◌, ◌++◌, ℕ, List, [], ◌∷◌, length, take}
+use Rattle.std.specs.Prelude.{Option, Some, None, Result, Ok, Err}
+use Rattle.clock_terms.specs.Limits.{SetupFields}
+use Rattle.clock_device.specs.Writings.{WritesNothing}
+use Rattle.clock_journal.specs.Crash.{LeavesJournal}
+use Rattle.clock_journal.specs.Disks.{CouldBeLeft, LeaveOnly, MayBeLeft, Moment}
+use Rattle.clock_journal.specs.Logged.{JournalState}
+use Rattle.clock_server.specs.Accepted.{IsNotRefused, IsOwnFile}
+use Rattle.clock_server.specs.Starts.{IsLeftBy}
+use Rattle.clock_server.specs.declared.taking.ResumeFault.{ResumeFault}
+use Rattle.clock_server.specs.Exchanges.{Exchange}
+use Rattle.clock_server.specs.Serving.{LogsText, LoggedTexts, Walks}
+use Rattle.clock_server.specs.declared.generation.GenerationFault.{GenerationFault}
+use Rattle.clock_server.specs.declared.generation.GenerationFault.TheVariants.{Start, Serve}
+use Rattle.clock_server.specs.declared.serving.ServeFault.TheVariants as fault
+
+-- a start that failed with this fault, or a start and then these connections. The first journal is
+-- the one before any call, the last one that at the end
+pub data Generation : Type 0 where
+  failed : JournalState → ResumeFault → JournalState → Generation
+  served : JournalState → List Exchange → JournalState → Generation
+
+-- it resumes with the first `count` of these texts, and serves these connections. Then a crash
+-- leaves all texts that are logged, and at most one more, which is accepted
+pub record ServesFrom (setup : SetupFields) (digest : List ℕ) (texts : List (List ℕ)) (least : ℕ)
+    (exchanges : List Exchange) (end : JournalState) : Type 0 where
+  pub count : ℕ
+  pub enough : least ≤ count
+  pub most : count ≤ length texts
+  pub resumed : JournalState
+  pub last : LoggedTexts
+  pub walks : Walks (LogsText digest setup)
+      (record { texts = take count texts; journal = resumed }) exchanges last
+  pub more : List (List ℕ)
+  pub few : length more ≤ 1
+  pub own : IsOwnFile setup digest (last.texts ++ more) (length last.texts) end
+
+-- on an auction's own file a start fails only because of memory or the disk, and a crash since
+-- leaves the same texts; or it serves from these texts
+abbrev pub IsGeneration : SetupFields → List ℕ → Generation → Type 0
+IsGeneration setup digest (failed found fault end) =
+    (texts : List (List ℕ)) (least : ℕ) (synced : List ℕ) → found.synced ≡ Some synced
+    → IsOwnFile setup digest texts least found → IsNotRefused fault
+    × LeaveOnly found.moments end.moments (λ left. LeavesJournal digest left texts least)
+IsGeneration setup digest (served found exchanges end) =
+    (texts : List (List ℕ)) (least : ℕ) (synced : List ℕ) → found.synced ≡ Some synced
+    → IsOwnFile setup digest texts least found → ServesFrom setup digest texts least exchanges end
+
+-- a crash at a moment since then may leave this
+abbrev pub LeftSince : Option (List Moment) → Option (List Moment) → List ℕ → Type 0
+LeftSince (Some old) new left =
+    (since : List Moment) × (new ≡ Some (since ++ old)) × CouldBeLeft since left
+LeftSince None new left = ⊥
+
+-- a crash at its end may leave this, or one before or during a start that failed
+abbrev pub MayLeave : Generation → List ℕ → Type 0
+MayLeave (failed found fault end) left =
+    MayBeLeft found.synced found.written left ⊎ LeftSince found.moments end.moments left
+MayLeave (served found exchanges end) left = MayBeLeft end.synced end.written left
+
+-- the journal before the first call
+abbrev pub found_by : Generation → JournalState
+found_by (failed found fault end) = found
+found_by (served found exchanges end) = found
+
+-- each is a generation, and whatever a crash leaves of its file, a crash of the generation before
+-- may have left
+abbrev pub AreRestarts : SetupFields → List ℕ → (List ℕ → Type 0) → List Generation → Type 0
+AreRestarts setup digest Leaves [] = Unit {0}
+AreRestarts setup digest Leaves (one ∷ others) =
+    IsGeneration setup digest one
+    × ((synced : List ℕ) × ((found_by one).synced ≡ Some synced))
+    × ((left : List ℕ) → MayBeLeft (found_by one).synced (found_by one).written left → Leaves left)
+    × AreRestarts setup digest (MayLeave one) others
+
+-- each serves from the texts that the one before has left: all that were logged, and at most one
+-- more
+abbrev pub ContinueFrom : SetupFields → List ℕ → List (List ℕ) → ℕ → List Generation → Type 0
+ContinueFrom setup digest texts least [] = Unit {0}
+ContinueFrom setup digest texts least (failed found fault end ∷ others) =
+    IsNotRefused fault × ContinueFrom setup digest texts least others
+ContinueFrom setup digest texts least (served found exchanges end ∷ others) =
+    (serves : ServesFrom setup digest texts least exchanges end)
+    × ContinueFrom setup digest (serves.last.texts ++ serves.more) (length serves.last.texts) others
+
+-- generations on one file, which is empty at first, continue one auction
+abbrev pub GenerationsContinue : Type 0
+GenerationsContinue = (setup : SetupFields) (digest : List ℕ) (generations : List Generation)
+    → AreRestarts setup digest (λ left. left ≡ []) generations
+    → ContinueFrom setup digest [] 0 generations
+
+-- if these are all bytes of the file, this was a generation, which served these connections. If a
+-- text could not be logged, the last connection is not among them: it got no reply
+abbrev pub EndsGeneration : {U : Type 0} → SetupFields → ℕ → List Exchange → List ℕ
+    → JournalState → JournalState → Result U GenerationFault → Type 0
+EndsGeneration setup count exchanges bytes found end (Ok done) = (length exchanges ≡ count)
+    × (found.written ≡ Some bytes → IsGeneration setup found.chain (served found exchanges end))
+EndsGeneration setup count exchanges bytes found end (Err (Start fault)) = (exchanges ≡ [])
+    × IsLeftBy found end fault
+    × (found.written ≡ Some bytes → IsGeneration setup found.chain (failed found fault end))
+EndsGeneration setup count exchanges bytes found end (Err (Serve fault.Accept)) =
+    (length exchanges < count)
+    × (found.written ≡ Some bytes → IsGeneration setup found.chain (served found exchanges end))
+EndsGeneration setup count exchanges bytes found end (Err (Serve fault.Journal)) =
+    (some : List Exchange) × (last : Exchange) × (exchanges ≡ some ++ last ∷ [])
+    × (length exchanges ≤ count) × WritesNothing last.writing
+    × (found.written ≡ Some bytes → IsGeneration setup found.chain (served found some end))

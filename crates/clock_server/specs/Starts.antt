@@ -1,0 +1,39 @@
+-- How a server resumes a journal.
+--     IsResumed digest bytes journal house recovered      journal and auction have the texts of a
+--         file
+--     IsNotResumed setup digest bytes house fault      the file has this fault, or a call of the
+--         disk failed after the replay
+--     IsLeftBy old new fault      what a call that did not resume did to the file
+use Rattle.std.specs.Prelude.{◌≡◌, ℕ, List, [], true}
+use Rattle.clock_terms.specs.Limits.{SetupFields}
+use Rattle.clock_house.specs.House.{HouseFields}
+use Rattle.clock_front.specs.Fronts.{StandsForTexts}
+use Rattle.clock_journal.specs.Logged.{JournalState}
+use Rattle.clock_journal.specs.Reading.{onto}
+use Rattle.clock_journal.specs.Recovering.{AreTextsOf, IsJournalRefusal}
+use Rattle.clock_journal.specs.declared.recovery.Recovered.{Recovered}
+use Rattle.clock_server.specs.Keeping.{IsInStep, IsRefused}
+use Rattle.clock_server.specs.declared.taking.ResumeFault.{ResumeFault}
+use Rattle.clock_server.specs.declared.taking.ResumeFault.TheVariants.{Refused, Failed}
+
+-- these are the texts of the file; all are on the disk, and the auction stands for them
+pub record IsResumed (digest bytes : List ℕ) (journal : JournalState) (house : HouseFields)
+    (recovered : Recovered) : Type 0 where
+  pub texts : List (List ℕ)
+  pub are : AreTextsOf digest bytes texts recovered
+  pub in_step : IsInStep digest texts journal house
+
+-- the file has this fault or memory ran out; or the auction stands for all texts, and a call of the
+-- disk failed
+abbrev pub IsNotResumed : SetupFields → List ℕ → List ℕ → HouseFields → ResumeFault → Type 0
+IsNotResumed setup digest bytes house (Refused fault) =
+    IsJournalRefusal (IsRefused setup) (λ past. past ≡ []) digest bytes fault
+IsNotResumed setup digest bytes house Failed =
+    (recovered : Recovered) × (texts : List (List ℕ)) × AreTextsOf digest bytes texts recovered
+    × StandsForTexts (onto texts []) house
+
+-- no call was made on a refused file: neither its bytes nor its moments have changed. Otherwise a
+-- call of the disk has failed
+abbrev pub IsLeftBy : JournalState → JournalState → ResumeFault → Type 0
+IsLeftBy old new (Refused fault) = new ≡ old
+IsLeftBy old new Failed = new.has_failed ≡ true

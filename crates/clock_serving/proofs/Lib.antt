@@ -1,7 +1,0 @@
-mod Walking
-pub mod Telling
-mod Served
-mod Ends
-mod Reports
-mod Bytes
-mod GenerationLaws

@@ -1,5 +1,0 @@
-use Rattle.clock_serving.proofs.Bytes.{reported_bytes}
-use Rattle.clock_serving.proofs.serving.law_reported_bytes.Goals as goal
-
-pub returns : goal.returns
-returns c = reported_bytes
