@@ -1,7 +1,7 @@
-ghost use Rattle.std.specs.Prelude.{◌≡◌, ◌≤◌};
+ghost use Rattle.std.specs.Prelude.{◌≡◌, ◌≤◌, ◌<◌, [], length, Err, OnOk, IfErr};
 ghost use Rattle.clock_device.specs.Reports.{IsUnread};
-ghost use Rattle.clock_connections.specs.Arrivals.{most_request_reads, EndsArrival};
-ghost use Rattle.clock_connections.specs.Arrivals.{StopsWhenDecided};
+ghost use Rattle.clock_connections.specs.Arrivals.{most_piece, most_request_reads};
+ghost use Rattle.clock_connections.specs.Arrivals.{EndsArrival, HasArrived, StopsWhenDecided};
 ghost use Rattle.clock_connections.specs.declared.arrival.RequestReadError.TheVariants as unread;
 
 use clock_device::{NoMemory, Source, Stop, room_for_read};
@@ -31,6 +31,38 @@ impl From<NoMemory> for RequestReadError {
     }
 }
 
+/// Reads until the bytes are a whole request or refused, or the input ends, and appends them to
+/// `request`, which is empty. Each read has `piece` as its buffer. Retries interrupted reads; makes
+/// 2,000,000 reads at most. Errors: those of [`read_request`].
+fn read_into<R: Source>(
+    source: &mut R,
+    piece: &mut [u8],
+    request: &mut Arriving,
+) -> Result<(), RequestReadError>
+    requires unread { IsUnread (R.report source.old) }
+    requires some { 0 < length piece.old }
+    requires short { length piece.old ≤ most_piece }
+    requires empty { request.old ≡ [] }
+    ensures arrived { OnOk result (HasArrived
+        (record { before = R.report source.old; after = R.report source.new }) request.new) }
+    ensures unread { IfErr result (λ why. EndsArrival
+        (record { before = R.report source.old; after = R.report source.new }) (Err why)) }
+    ensures calls { (R.report source.new).calls ≤ most_request_reads }
+{
+    for _read in 0..MOST_READS {
+        let count = match source.read(piece) {
+            Ok(count) => count,
+            Err(Stop::Interrupted) => continue,
+            Err(Stop::Failed) => return Err(RequestReadError::Read),
+        };
+        let short = request.take(&piece[..count])?;
+        if count == 0 || !short {
+            return Ok(());
+        }
+    }
+    Err(RequestReadError::Read)
+}
+
 /// Reads until the bytes are a whole request or refused, or the input ends. Retries interrupted
 /// reads; makes 2,000,000 reads at most. Requires a source without earlier reads. Errors: `Read`.
 /// May return `Memory`, also after some reads.
@@ -42,18 +74,15 @@ pub fn read_request<R: Source>(alloc: Global, source: &mut R) -> Result<Arriving
 {
     let mut piece = room_for_read(alloc, PIECE)?;
     let mut request = Arriving::new(alloc);
-    for _read in 0..MOST_READS {
-        let count = match source.read(piece.as_mut_slice()) {
-            Ok(count) => count,
-            Err(Stop::Interrupted) => continue,
-            Err(Stop::Failed) => return Err(RequestReadError::Read),
-        };
-        let short = request.take(&piece[..count])?;
-        if count == 0 || !short {
-            return Ok(request);
+    let done = read_into(source, piece.as_mut_slice(), &mut request);
+    drop(piece);
+    match done {
+        Ok(()) => Ok(request),
+        Err(why) => {
+            drop(request);
+            Err(why)
         }
     }
-    Err(RequestReadError::Read)
 }
 
 /// A law, which does nothing when it runs: if the bytes read were decided, and a read has failed

@@ -1,39 +1,9 @@
--- Each turn of the loop makes one read, whose bytes extend those so far. It ends as the first read does that completes
--- the request, fails, or finds no memory.
-use Rattle.std.proofs.Common.{◌≡◌, [], List, ℕ, sym, subst, ap, ◌∙◌, arith}
+-- Proves that no memory for the buffer is no memory before any read.
 use Rattle.std.proofs.lemmas.Result.{err_from_is_err_and}
-use Rattle.clock_device.specs.Streams.{HasRead}
-use Rattle.clock_http.specs.Framing.{needs_more}
-use Rattle.clock_connections.proofs.ArrivalLaws.{no_room, no_room_at_first, nothing_needs_more, nothing_read}
+use Rattle.clock_connections.proofs.ArrivalLaws.{no_room_at_first}
 use Rattle.clock_connections.proofs.arrival.read_request.Goals as goal
 
 pub returns-in_err-piece-clause-arrival : goal.returns-in_err-piece-clause-arrival
 returns-in_err-piece-clause-arrival g c =
     let p = err_from_is_err_and c.from_residual.result c.from_residual.ensures.1 in
     rw (p.1, p.2) (no_room_at_first (g.R.Source.report c.args.source.now) c.requires)
-
-pub loop-read-init : goal.loop-read-init
-loop-read-init g c =
-    let none : c.new-request.result ≡ [] = c.new-request.ensures in
-    let left = (g.R.Source.report c.args.source.now).left in
-    record {
-      room = omega (arith, c.in_ok-piece.ensures);
-      short = omega (arith, c.in_ok-piece.ensures);
-      read = subst (λ (bytes : List ℕ). HasRead left left bytes) (sym none) (nothing_read left);
-      needed = ap needs_more none ∙ nothing_needs_more;
-      counted = c.requires.uncounted;
-      used = omega arith;
-      interrupted = omega (arith, c.requires.uninterrupted);
-      unfailed = c.requires.unfailed;
-    }
-
-pub returns-in_err-short-clause-arrival : goal.returns-in_err-short-clause-arrival
-returns-in_err-short-clause-arrival g c =
-    let p = err_from_is_err_and c.from_residual-in_err-short.result c.from_residual-in_err-short.ensures.1 in
-    let report = g.R.Source.report in
-    let loop = c.loop-read in
-    let once = c.in-Ok.ensures in
-    rw (p.1, p.2) (no_room (record { before = report c.args.source.now; after = report c.read.new.self })
-    (report loop.source) loop.request loop.invariant.read loop.invariant.needed
-    (omega (arith, loop.invariant.counted, loop.invariant.used)) loop.invariant.unfailed
-    (omega (arith, once.counted, loop.invariant.counted)) (omega (arith, once.interrupted)) _ once.bytes.0 once.failed)
