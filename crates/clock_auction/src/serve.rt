@@ -4,7 +4,7 @@ ghost use Rattle.clock_terms.specs.Faults.{IsRefusal};
 ghost use Rattle.clock_front.specs.Fronts.{StandsForTexts};
 ghost use Rattle.clock_setup.specs.SetupDocument.{document_setup};
 ghost use Rattle.clock_commands.specs.Answers.{read_in};
-ghost use Rattle.clock_auction.specs.Starts.{of_start};
+ghost use Rattle.clock_auction.specs.Starts.{of_serving, of_start};
 
 use crate::files::{Hex, file_bytes, locked_bytes, tell_journal};
 use clock_commands::{Fault, setup_in};
@@ -15,7 +15,8 @@ use clock_journal::{Durable, FileDisk, Journal, Link, Recovered, digest_of};
 use clock_processor::Processor;
 use clock_queue::Woken;
 use clock_server::{
-    NoLog, PortAcceptor, ReplayedAuction, RequestLog, ResumeFault, resume_auction, serve_all,
+    NoLog, PortAcceptor, ReplayedAuction, RequestLog, ResumeFault, ServeFault, resume_auction,
+    serve_all,
 };
 use clock_words::Serving;
 use std::alloc::Global;
@@ -137,7 +138,17 @@ where
     let listener = TcpListener::bind(rt, (Ipv4Addr::LOCALHOST, port)).or(Err(Fault::Bind))?;
     println!(rt; "ready {port}").or(Err(Fault::Output))?;
     let mut taken = PortAcceptor::new(&listener);
-    Ok(serve_all(rt.alloc(), front, log, &mut taken, serving.connections)?)
+    serve_all(rt.alloc(), front, log, &mut taken, serving.connections).map_err(serve_fault)
+}
+
+/// Returns the fault of a server that ended before it served all connections.
+pub fn serve_fault(fault: ServeFault) -> Fault
+    ensures { result ≡ of_serving fault }
+{
+    match fault {
+        ServeFault::Accept => Fault::Accept,
+        ServeFault::Journal => Fault::Journal,
+    }
 }
 
 /// A journal that prints each closing with its digest. Contracts do not see what is printed.

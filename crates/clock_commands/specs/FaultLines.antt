@@ -2,7 +2,6 @@
 --     fault_line fault     `fault: WORDS` and a line feed
 --     of_setup fault, of_opening fault, of_script fault      the fault of a document
 --     of_journal fault      the fault of a file that is not accepted as the journal
---     of_serving fault      why a server ended before it served all connections
 use Rattle.std.specs.Prelude.{ℕ, List, ◌++◌, codes, decimal}
 use Rattle.clock_setup.specs.declared.fault.Place.{Place}
 use Rattle.clock_setup.specs.declared.fault.Place.TheVariants as place
@@ -16,8 +15,6 @@ use Rattle.clock_sim.specs.declared.simulation.SimFault.{SimFault}
 use Rattle.clock_sim.specs.declared.simulation.SimFault.TheVariants as in_simulation
 use Rattle.clock_journal.specs.declared.recovery.JournalFault.{JournalFault}
 use Rattle.clock_journal.specs.declared.recovery.JournalFault.TheVariants as in_journal
-use Rattle.clock_server.specs.declared.serving.ServeFault.{ServeFault}
-use Rattle.clock_server.specs.declared.serving.ServeFault.TheVariants as in_serving
 use Rattle.clock_http.specs.Codes.{code_text}
 use Rattle.clock_commands.specs.declared.fault.Fault.{Fault}
 use Rattle.clock_commands.specs.declared.fault.Fault.TheVariants as fault
@@ -106,11 +103,6 @@ recovery_words in_journal.Setup = codes "journal_setup"
 recovery_words (in_journal.Damaged place) = codes "journal_damaged " ++ decimal place
 recovery_words (in_journal.Refused place) = codes "journal_refused " ++ decimal place
 recovery_words in_journal.NoMemory = codes "memory"
-
--- why a server ended before it served all connections
-abbrev pub of_serving : ServeFault → Fault
-of_serving in_serving.Accept = fault.Accept
-of_serving in_serving.Journal = fault.Journal
 
 -- a fault of a document has the document's words
 abbrev pub fault_words : Fault → List ℕ

@@ -1,7 +1,6 @@
 ghost use Rattle.std.specs.Prelude.{◌≡◌, ◌++◌, ◌||◌, codes, is_err};
 ghost use Rattle.clock_device.specs.Streams.{WritesText};
-ghost use Rattle.clock_commands.specs.FaultLines.{of_journal, of_opening, of_script, of_serving};
-ghost use Rattle.clock_commands.specs.FaultLines.{of_setup};
+ghost use Rattle.clock_commands.specs.FaultLines.{of_journal, of_opening, of_script, of_setup};
 ghost use Rattle.clock_commands.specs.FaultLines.{fault_line, fault_words, opening_words};
 ghost use Rattle.clock_commands.specs.FaultLines.{place_words};
 ghost use Rattle.clock_commands.specs.FaultLines.{script_words, setup_words};
@@ -12,7 +11,6 @@ use clock_device::{Failed, NoMemory, Sink, write_all, write_number};
 use clock_http::Code;
 use clock_journal::JournalFault;
 use clock_replays::ScriptFault;
-use clock_server::ServeFault;
 use clock_setup::{OpeningFault, Place, SetupFault};
 use clock_sim::SimFault;
 
@@ -101,17 +99,6 @@ impl From<JournalFault> for Fault {
         match fault {
             JournalFault::NoMemory => Fault::Memory,
             _ => Fault::Recovery(fault),
-        }
-    }
-}
-
-impl From<ServeFault> for Fault {
-    ghost from_gives = { λ fault given. given ≡ of_serving fault };
-
-    fn from(fault: ServeFault) -> Fault {
-        match fault {
-            ServeFault::Accept => Fault::Accept,
-            ServeFault::Journal => Fault::Journal,
         }
     }
 }
