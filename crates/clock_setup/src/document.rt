@@ -9,7 +9,9 @@ ghost use Rattle.clock_setup.specs.inside.SetupDocument.{distinct_checks};
 ghost use Rattle.clock_setup.specs.SetupDocument as document;
 
 use crate::fault::{Place, SetupFault};
-use crate::setup_checks::{check, each_within, has_distinct_names, has_distinct_tokens, is_token};
+use crate::setup_checks::{
+    check_each, each_within, has_distinct_names, has_distinct_tokens, is_token,
+};
 use crate::setup_scan::FoundSetup;
 use crate::setup_tree::{SetupEntries, entries_of};
 use clock_device::Text;
@@ -53,10 +55,12 @@ pub(crate) fn within_limits(alloc: Global, entries: &SetupEntries) -> Result<Set
         (IsFirstFault SetupFault.NoMemory (first_fault (document.setup_checks entries.now))) }
 {
     let requirement = is_within(LEAST_REQUIREMENT, MOST_REQUIREMENT, entries.requirement);
-    check(requirement, Place::Requirement)?;
     let limit = is_within(LEAST_LIMIT, MOST_LIMIT, entries.limit);
-    check(limit, Place::Limit)?;
-    check(is_token(entries.operator), Place::Operator)?;
+    check_each(&[
+        (Place::Requirement, requirement),
+        (Place::Limit, limit),
+        (Place::Operator, is_token(entries.operator)),
+    ])?;
     let products = each_within(alloc, Place::Products, MOST_PRODUCTS, &entries.products)?;
     let bidders = each_within(alloc, Place::Bidders, MOST_BIDDERS, &entries.bidders)?;
     let operator = distinct_operator(alloc, entries)?;

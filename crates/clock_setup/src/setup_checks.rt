@@ -2,10 +2,10 @@ ghost use Rattle.std.specs.Prelude.{◌≡◌, ◌∷◌, ℕ, List, Bool, true,
 ghost use Rattle.std.specs.Prelude.{OnOk};
 ghost use Rattle.std.specs.List.{list_all};
 ghost use Rattle.clock_terms.specs.Limits as limits;
-ghost use Rattle.clock_terms.specs.Faults.{IsFirstFault, first_fault};
+ghost use Rattle.clock_terms.specs.Faults.{IsFirstFault, first_fault, in_turn};
 ghost use Rattle.clock_setup.specs.declared.fault.SetupFault.{SetupFault};
 ghost use Rattle.clock_setup.specs.SetupDocument.{product_checks, bidder_checks};
-ghost use Rattle.clock_setup.specs.inside.SetupDocument.{counted_checks};
+ghost use Rattle.clock_setup.specs.inside.SetupDocument.{counted_checks, range_check};
 
 use crate::fault::{Place, SetupFault};
 use crate::setup_tree::{BidderEntry, ProductEntry};
@@ -37,11 +37,24 @@ pub(crate) fn is_token(token: &str) -> bool
 }
 
 /// Returns the range fault of `place` unless the value there passes.
-pub(crate) fn check(passes: bool, place: Place) -> Result<(), SetupFault>
+fn check(passes: bool, place: Place) -> Result<(), SetupFault>
     ensures ok { OnOk result (passes ≡ true) }
     ensures err { IfErr result (λ fault. (passes ≡ false) × (fault ≡ SetupFault.Range place)) }
 {
     passes.then_some(()).ok_or(SetupFault::Range(place))
+}
+
+/// Returns the range fault of the first place whose value does not pass.
+#[inline(always)]
+pub(crate) fn check_each(tests: &[(Place, bool)]) -> Result<(), SetupFault>
+    ensures ok { OnOk result (first_fault (in_turn range_check 0 tests.now) ≡ None) }
+    ensures err { IfErr result
+        (λ fault. first_fault (in_turn range_check 0 tests.now) ≡ Some fault) }
+{
+    for test in tests {
+        check(test.1, test.0)?;
+    }
+    Ok(())
 }
 
 /// An entry of a document, a product or a bidder, with limits for each of its values.
@@ -86,12 +99,18 @@ impl<'v> LimitedEntry for ProductEntry<'v> {
     }
 
     fn within(&self, alloc: Global, i: u64) -> Result<Product, SetupFault> {
-        check(is_name(self.name), Place::Name(i))?;
-        check(is_within(1, MOST_UNITS, self.units), Place::Units(i))?;
-        check(is_within(1, MOST_SUPPLY, self.supply), Place::Supply(i))?;
-        check(is_within(1, self.supply, self.cap), Place::Cap(i))?;
-        let opening = Price::new(self.opening).ok_or(SetupFault::Range(Place::Opening(i)))?;
-        check(is_within(1, MOST_GRANULE, self.granule), Place::Granule(i))?;
+        check_each(&[
+            (Place::Name(i), is_name(self.name)),
+            (Place::Units(i), is_within(1, MOST_UNITS, self.units)),
+            (Place::Supply(i), is_within(1, MOST_SUPPLY, self.supply)),
+            (Place::Cap(i), is_within(1, self.supply, self.cap)),
+            (
+                Place::Opening(i),
+                is_within(1, Price::HIGHEST, self.opening),
+            ),
+            (Place::Granule(i), is_within(1, MOST_GRANULE, self.granule)),
+        ])?;
+        let opening = Price::new(self.opening).unwrap();
         Ok(Product {
             name: Text::from_slice(alloc, self.name.as_bytes())?,
             units: self.units,
@@ -118,9 +137,11 @@ impl<'v> LimitedEntry for BidderEntry<'v> {
     }
 
     fn within(&self, alloc: Global, i: u64) -> Result<Bidder, SetupFault> {
-        check(is_name(self.name), Place::BidderName(i))?;
-        check(is_token(self.token), Place::Token(i))?;
-        check(self.eligibility <= MOST_ELIGIBILITY, Place::Eligibility(i))?;
+        check_each(&[
+            (Place::BidderName(i), is_name(self.name)),
+            (Place::Token(i), is_token(self.token)),
+            (Place::Eligibility(i), self.eligibility <= MOST_ELIGIBILITY),
+        ])?;
         Ok(Bidder {
             name: Text::from_slice(alloc, self.name.as_bytes())?,
             token: Text::from_slice(alloc, self.token.as_bytes())?,

@@ -1,4 +1,5 @@
 -- The checks of a set-up in four parts, as the code makes them.
+--     range_check i test      the range fault of a place, with the test of its value
 --     head_checks setup      the values before the products
 --     counted_checks fault most checks items      the number of items, then each item
 --     products_checks products, bidders_checks bidders      the products, and the bidders
@@ -6,6 +7,7 @@
 use Rattle.std.specs.Prelude.{ℕ, Bool, List, [], ◌∷◌, length}
 use Rattle.clock_terms.specs.declared.setup.Product.{Product}
 use Rattle.clock_terms.specs.declared.setup.Bidder.{Bidder}
+use Rattle.clock_setup.specs.declared.fault.Place.{Place}
 use Rattle.clock_setup.specs.declared.fault.Place.TheVariants.{Requirement, Limit, Operator}
 use Rattle.clock_setup.specs.declared.fault.Place.TheVariants.{Products, Bidders}
 use Rattle.clock_setup.specs.declared.fault.SetupFault.{SetupFault}
@@ -17,6 +19,10 @@ use Rattle.clock_terms.specs.Limits.{most_products, most_bidders}
 use Rattle.clock_terms.specs.Faults.{in_turn}
 use Rattle.clock_setup.specs.SetupDocument.{product_checks, bidder_checks, has_distinct_names}
 use Rattle.clock_setup.specs.SetupDocument.{has_distinct_tokens}
+
+-- the range fault of a place, with the test of its value; its number in a list of tests is not used
+abbrev pub range_check : ℕ → Place × Bool → List (SetupFault × Bool)
+range_check i test = (Range test.0, test.1) ∷ []
 
 -- the values before the products: requirement, limit, and operator
 unfoldable pub head_checks : SetupFields → List (SetupFault × Bool)
