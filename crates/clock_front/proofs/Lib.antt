@@ -6,6 +6,7 @@ mod OutcomeLaws
 pub mod FrontLaws
 mod ChangeLaws
 mod ReplyLaws
+mod AskLaws
 pub mod AnswerLaws
 pub mod RunLaws
 mod ConnectionLaws

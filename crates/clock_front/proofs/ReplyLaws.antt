@@ -1,9 +1,9 @@
 -- Proves that the response to a sheet or a closing is right, case by case: accepted, refused by the rules, or a body
 -- that could not be read.
-use Rattle.std.proofs.Common.{◌≡◌, ◌≢◌, ℕ, List, Bool, Option, Some, None, Result, Ok, Err, IfOk, OnOk, refl, sym, ap}
-use Rattle.std.proofs.Common.{◌∙◌, subst}
-use Rattle.clock_terms.specs.declared.increments.Increments.{Increments}
-use Rattle.clock_order.specs.declared.ties.Tie.{Tie}
+use Rattle.std.proofs.Common.{◌≡◌, ◌≢◌, ℕ, Option, Some, None, Result, Ok, Err, IfOk, OnOk, refl, sym, ap}
+use Rattle.std.proofs.Common.{◌∙◌, subst, true, false, true≢false}
+use Rattle.std.specs.Prelude.{IfErr}
+use Rattle.clock_terms.specs.Limits.{SetupFields}
 use Rattle.clock_house.specs.Command as command
 use Rattle.clock_closing.specs.declared.closed_round.ClosedRound.{ClosedRound}
 use Rattle.clock_closing.specs.declared.fault.CloseFault.{CloseFault}
@@ -18,11 +18,12 @@ use Rattle.clock_bodies.specs.declared.body.BodyFault.{BodyFault}
 use Rattle.clock_bodies.specs.declared.body.BodyFault.TheVariants.{NoMemory}
 use Rattle.clock_front.specs.Effects.{close_effect, effect_in, put_effect}
 use Rattle.clock_front.specs.Requests.{Ask, put, close}
-use Rattle.clock_front.specs.Outcomes.{answer_of, body_code, close_command, close_outcome, close_to, command_of}
-use Rattle.clock_front.specs.Outcomes.{outcome, put_outcome, refused}
+use Rattle.clock_front.specs.Outcomes.{Outcome, answer_of, body_code, close_command, close_outcome, close_to}
+use Rattle.clock_front.specs.Outcomes.{command_of, outcome, put_outcome, refused}
+use Rattle.clock_front.specs.Rooms.{NeedsRoom, asks_for_page}
 use Rattle.clock_front.specs.declared.front.callers.Caller.{Caller}
 use Rattle.clock_front.specs.declared.front.callers.Caller.TheVariants.{Operator, Bidder}
-use Rattle.clock_front.specs.declared.front.response.Effect.{Effect}
+use Rattle.clock_front.specs.declared.front.replies.AnswerError.{AnswerError}
 use Rattle.clock_front.specs.declared.front.response.Effect.TheVariants.{Nothing, Sheet, Closing}
 use Rattle.clock_front.specs.declared.front.response.Response.{Response}
 use Rattle.clock_front.specs.inside.Replies.{IsRightFor}
@@ -43,6 +44,26 @@ unchanged_right who ask house response reply nothing none = record {
   followed = none_followed _ house none;
   still = λ changed. same_stands house;
 }
+
+-- A request that asks for no change is no command.
+no_command : (setup : SetupFields) (who : Caller) (ask : Ask) → asks_for_page who ask ≡ true
+    → command_of setup who ask ≡ command.other
+no_command setup Operator (close body) asks = absurd cc
+no_command setup (Bidder bidder) (put body) asks = absurd cc
+no_command setup who ask asks = refl
+
+-- The response to a request that asks for no change is right.
+pub page_right : (who : Caller) (ask : Ask) (house : HouseFields) (response : Response) → asks_for_page who ask ≡ true
+    → response.reply ≡ answer_of (outcome house who ask) → response.effect ≡ Nothing
+    → IsRightFor who ask house house response
+page_right who ask house response asks reply nothing =
+    unchanged_right who ask house response reply nothing (no_command house.setup who ask asks)
+
+-- A request that asks for a change may be out of memory for any reason.
+pub change_wants : (reported : Result Response AnswerError) (who : Caller) (ask : Ask) (right : Outcome)
+    → asks_for_page who ask ≡ false → IfErr reported (NeedsRoom who ask right)
+change_wants (Ok response) who ask right changes = tt
+change_wants (Err why) who ask right changes = λ asks. absurd (true≢false (sym asks ∙ changes))
 
 -- The reply of a right response.
 pub right_reply : {N : Type 0} (reported : Result Response N) (old new : HouseFields) (who : Caller) (ask : Ask) → IfOk

@@ -1,6 +1,7 @@
 -- Definitions that only proofs and private functions use. No clause of a public call cites them.
 pub mod Answered
 pub mod Callers
+pub mod Changes
 pub mod EventRuns
 pub mod FixedReplies
 pub mod Hubs

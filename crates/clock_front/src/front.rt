@@ -55,9 +55,9 @@ fn fixed_parts(alloc: Global, setup: &Setup) -> Result<FixedParts, NoMemory>
         × IsProductsPage setup.now base.products) }
 {
     Ok(FixedParts {
-        tokens: tokens_of(alloc, setup)?,
-        routes: Routes::new(alloc)?,
         products: products_page(alloc, setup)?,
+        routes: Routes::new(alloc)?,
+        tokens: tokens_of(alloc, setup)?,
     })
 }
 
@@ -76,9 +76,14 @@ impl<P: Processor> Front<P> {
         ensures setup { IfOk result (λ front. front.setup ≡ setup) }
         ensures stands { IfOk result (StandsForTexts []) }
     {
-        let base = fixed_parts(alloc, &setup)?;
         let house = House::new(alloc, setup, processor)?;
-        Ok(Front { alloc, house, base })
+        match fixed_parts(alloc, house.setup()) {
+            Ok(base) => Ok(Front { alloc, house, base }),
+            Err(refused) => {
+                drop(house);
+                Err(refused)
+            }
+        }
     }
 
     /// Answers a request that `framing` has split into head and body, after which the input has

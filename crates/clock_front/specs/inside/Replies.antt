@@ -2,14 +2,15 @@
 --     IsPageIn answer room result      this reply, or the allocation of `room` bytes failed
 --     IsReplyOrFailure house who ask result      the right reply to a sender, or its page's
 --         allocation failed
+--     IsReplyWithoutChange who ask house result      the same, if the sender asks for no change
 --     IsRightFor who ask old new response      the right reply and effect, and the house did it
-use Rattle.std.specs.Prelude.{◌≡◌, ℕ, Result, Ok, Err}
+use Rattle.std.specs.Prelude.{◌≡◌, ℕ, true, Result, Ok, Err}
 use Rattle.clock_house.specs.House.{HouseFields, IsFollowedBy, StandsForTheSame}
 use Rattle.clock_http.specs.Replies.{Answer}
 use Rattle.clock_front.specs.Effects.{effect_in}
 use Rattle.clock_front.specs.Requests.{Ask}
 use Rattle.clock_front.specs.Outcomes.{answer_of, command_of, outcome}
-use Rattle.clock_front.specs.Rooms.{reply_room}
+use Rattle.clock_front.specs.Rooms.{asks_for_page, reply_room}
 use Rattle.clock_front.specs.declared.front.callers.Caller.{Caller}
 use Rattle.clock_front.specs.declared.front.response.Effect.TheVariants.{Nothing}
 use Rattle.clock_front.specs.declared.front.response.Response.{Response}
@@ -24,6 +25,12 @@ IsPageIn answer room (Err wanted) = wanted ≡ room
 abbrev pub IsReplyOrFailure : HouseFields → Caller → Ask → Result Answer ℕ → Type 0
 IsReplyOrFailure house who ask result =
     IsPageIn (answer_of (outcome house who ask)) (reply_room ask (outcome house who ask)) result
+
+-- If the sender asks for no change, the result is the right reply, or the allocation for its page
+-- failed.
+abbrev pub IsReplyWithoutChange : Caller → Ask → HouseFields → Result Answer ℕ → Type 0
+IsReplyWithoutChange who ask house result =
+    asks_for_page who ask ≡ true → IsReplyOrFailure house who ask result
 
 -- The reply and the effect follow from the old house. The new house stands for one more command; if
 -- the effect is `Nothing`, it also stands for the commands of the old one.

@@ -1,7 +1,8 @@
 //! The reply to a request, by its page and its sender. The page of a change is built before the
 //! change.
 
-ghost use Rattle.std.specs.Prelude.{◌≡◌, ◌≢◌, ◌<◌, Ok, Err, length, IfOk, IfErr, OnOk, OnErr};
+ghost use Rattle.std.specs.Prelude.{◌≡◌, ◌≢◌, ◌<◌, ℕ, List, Ok, Err, length};
+ghost use Rattle.std.specs.Prelude.{IfOk, IfErr, OnOk, OnErr};
 ghost use Rattle.clock_http.specs.{Routes.{page_of}, Shown.{shown_head}};
 ghost use Rattle.clock_house.specs.House.{StandsForTheSame};
 ghost use Rattle.clock_views.specs.Refusals.{bare};
@@ -12,21 +13,22 @@ ghost use Rattle.clock_front.specs.Outcomes.{answer_of, body_code, outcome, refu
 ghost use Rattle.clock_front.specs.Rooms.{NeedsRoom, refusal_room};
 ghost use Rattle.clock_front.specs.Requests as asked;
 ghost use Rattle.clock_front.specs.inside.{Callers.{IsKnown}, FixedPage.{IsProductsPage}};
-ghost use Rattle.clock_front.specs.inside.Replies.{IsRightFor};
+ghost use Rattle.clock_front.specs.inside.Replies.{IsReplyWithoutChange, IsRightFor};
+ghost use Rattle.clock_front.specs.inside.Changes.{change_asked};
 
 use crate::front::FixedParts;
 use crate::front::callers::Caller;
 use crate::front::replies::{
-    AnswerError, account, bids, products, refusal, results, sheet, slip, status,
+    AnswerError, accepted, account, bids, closed, products, refusal, results, sheet, slip, status,
 };
 use crate::front::response::{Effect, Response, unchanged};
 use clock_bodies::{BodyFault, CloseBody, is_of_version, read_close, read_put};
 use clock_closing::CloseFault;
 use clock_house::{House, PutFault};
-use clock_http::{Code, HEADROOM, Head, Page, Reply, last_segment};
+use clock_http::{Code, Head, NoRoom, Page, Reply, last_segment};
 use clock_processor::Processor;
 use clock_terms::Setup;
-use clock_views::{Refusal, headed_accepted, headed_closed};
+use clock_views::Refusal;
 use std::alloc::Global;
 
 /// Refuses a body for its fault. If the fault is `NoMemory`, this is an error. For any other fault,
@@ -65,14 +67,19 @@ fn put_sheet<P: Processor>(
     };
     let count = sheet.bids.as_slice().len() as u64;
     match house.prepare_sheet(bidder, sheet.round, sheet.bids) {
-        Ok(prepared) => {
-            let text = headed_accepted(alloc, HEADROOM, sheet.round, count)?;
-            house.commit_put(prepared);
-            Ok(Response {
-                reply: Reply::written(Code::Done, None, text),
-                effect: Effect::Sheet,
-            })
-        }
+        Ok(prepared) => match accepted(alloc, sheet.round, count) {
+            Ok(reply) => {
+                house.commit_put(prepared);
+                Ok(Response {
+                    reply,
+                    effect: Effect::Sheet,
+                })
+            }
+            Err(room) => {
+                drop(prepared);
+                Err(AnswerError::Room(room))
+            }
+        },
         Err(PutFault::NoMemory) => Err(AnswerError::Change),
         Err(fault) => Ok(unchanged(refusal(alloc, Refusal::from(fault), None)?)),
     }
@@ -112,22 +119,83 @@ fn close_round<P: Processor>(
     let settled = house.prepare(round, &closing.increments, closing.ties.as_slice());
     drop(closing);
     match settled {
-        Ok(settled) => {
-            let text = headed_closed(alloc, HEADROOM, round, settled.ended())?;
-            house.commit(settled);
-            Ok(Response {
-                reply: Reply::written(Code::Done, None, text),
-                effect: Effect::Closing(round),
-            })
-        }
+        Ok(settled) => match closed(alloc, round, settled.ended()) {
+            Ok(reply) => {
+                house.commit(settled);
+                Ok(Response {
+                    reply,
+                    effect: Effect::Closing(round),
+                })
+            }
+            Err(room) => {
+                drop(settled);
+                Err(AnswerError::Room(room))
+            }
+        },
         Err(CloseFault::NoMemory) => Err(AnswerError::Change),
         Err(why) => Ok(unchanged(refusal(alloc, Refusal::from(why), None)?)),
     }
 }
 
-/// Answers a request: with a page, with a change, or with a refusal. Refusals, in this order: no
-/// such page, no such method on this page, no valid token, another role, then what the page itself
-/// refuses.
+/// The change that a request asks for: none, a sheet of this bidder, or a closing.
+enum Change {
+    Nothing,
+    Sheet(u32),
+    Closing,
+}
+
+/// Returns the change that a request asks for whose path names `page`.
+fn change_of(page: Option<Page>, caller: Caller, head: &Head<'_>) -> Change
+    ensures { result ≡ change_asked page caller (shown_head head.now) }
+{
+    match (page, caller) {
+        (Some(Page::Bids), Caller::Bidder(bidder)) if head.is_put() => Change::Sheet(bidder),
+        (Some(Page::Close), Caller::Operator) if Page::Close.has_method(head.method) => {
+            Change::Closing
+        }
+        (_, _) => Change::Nothing,
+    }
+}
+
+/// The reply to a request that asks for no change: a page or a refusal. `page` is the one that its
+/// path names. Refusals, in this order: no such page, no such method on this page, no valid token,
+/// another role, then what the page itself refuses.
+fn reply_without_change<P>(
+    alloc: Global,
+    house: &House<P>,
+    base: &FixedParts,
+    caller: Caller,
+    head: &Head<'_>,
+    page: Option<Page>,
+) -> Result<Reply, NoRoom>
+    requires page { IsProductsPage house.now.setup base.now.products }
+    requires known { IsKnown (length house.now.setup.bidders) caller }
+    ensures { (body : List ℕ) → IsReplyWithoutChange caller
+        (asked.ask_by_route page (shown_head head.now) body) house.now result }
+{
+    let Some(page) = page else {
+        return refusal(alloc, Refusal::bare(Code::NoPage), None);
+    };
+    if !page.has_method(head.method) {
+        return refusal(alloc, Refusal::bare(Code::Method), Some(page));
+    }
+    match (page, caller) {
+        (Page::Status, _) => status(alloc, house),
+        (Page::Products, _) => products(alloc, base.products.as_slice()),
+        (Page::Sheet, _) => sheet(alloc, house, last_segment(head.path)),
+        (Page::Account, Caller::Bidder(bidder)) => account(alloc, house, bidder),
+        (Page::Bids, Caller::Bidder(bidder)) => bids(alloc, house, bidder),
+        (Page::Slip, Caller::Bidder(bidder)) => {
+            slip(alloc, house, bidder, last_segment(head.path))
+        }
+        (Page::Results, Caller::Operator) => results(alloc, house),
+        (_, Caller::Nobody) => refusal(alloc, Refusal::bare(Code::Token), None),
+        (_, _) => refusal(alloc, Refusal::bare(Code::Role), None),
+    }
+}
+
+/// Answers a request: with a change if it is a bidder's sheet or the operator's closing, and with
+/// a page or a refusal otherwise.
 pub(crate) fn answer_request<P: Processor>(
     alloc: Global,
     house: &mut House<P>,
@@ -145,30 +213,13 @@ pub(crate) fn answer_request<P: Processor>(
         (asked.ask_by_route (page_of head.now.path.now) (shown_head head.now) body.now))) }
     ensures still { OnErr result (StandsForTheSame house.old house.new) }
 {
-    let Some(page) = base.routes.page_of(head.path) else {
-        return Ok(unchanged(refusal(alloc, Refusal::bare(Code::NoPage), None)?));
-    };
-    if !page.has_method(head.method) {
-        return Ok(unchanged(refusal(alloc, Refusal::bare(Code::Method), Some(page))?));
-    }
-    match (page, caller) {
-        (Page::Status, _) => Ok(unchanged(status(alloc, house)?)),
-        (Page::Products, _) => Ok(unchanged(products(alloc, base.products.as_slice())?)),
-        (Page::Sheet, _) => Ok(unchanged(sheet(alloc, house, last_segment(head.path))?)),
-        (Page::Account, Caller::Bidder(bidder)) => Ok(unchanged(account(alloc, house, bidder)?)),
-        (Page::Bids, Caller::Bidder(bidder)) if head.is_put() => Ok(put_sheet(
-            alloc, house, bidder, body,
-        )?),
-        (Page::Bids, Caller::Bidder(bidder)) => Ok(unchanged(bids(alloc, house, bidder)?)),
-        (Page::Slip, Caller::Bidder(bidder)) => Ok(unchanged(slip(
-            alloc,
-            house,
-            bidder,
-            last_segment(head.path),
-        )?)),
-        (Page::Close, Caller::Operator) => Ok(close_round(alloc, house, body)?),
-        (Page::Results, Caller::Operator) => Ok(unchanged(results(alloc, house)?)),
-        (_, Caller::Nobody) => Ok(unchanged(refusal(alloc, Refusal::bare(Code::Token), None)?)),
-        (_, _) => Ok(unchanged(refusal(alloc, Refusal::bare(Code::Role), None)?)),
+    let page = base.routes.page_of(head.path);
+    match change_of(page, caller, head) {
+        Change::Sheet(bidder) => put_sheet(alloc, house, bidder, body),
+        Change::Closing => close_round(alloc, house, body),
+        Change::Nothing => match reply_without_change(alloc, house, base, caller, head, page) {
+            Ok(reply) => Ok(unchanged(reply)),
+            Err(room) => Err(AnswerError::Room(room)),
+        },
     }
 }

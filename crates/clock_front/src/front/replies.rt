@@ -4,6 +4,7 @@
 ghost use Rattle.std.specs.Prelude.{◌≡◌, ◌<◌, length, IfOk, IfErr, IsTrue};
 ghost use Rattle.clock_terms.specs.Limits.{SetupFields, public_setup};
 ghost use Rattle.clock_views.specs.{PublicPages.{products_value}, RefusalPage.{refusal_value}};
+ghost use Rattle.clock_views.specs.{BidderPages.{accepted_value}, OperatorPages.{closed_value}};
 ghost use Rattle.clock_front.specs.declared.front.callers.Caller.TheVariants as who;
 ghost use Rattle.clock_front.specs.declared.front.replies.AnswerError.TheVariants as unanswered;
 ghost use Rattle.clock_front.specs.FixedReplies.{no_memory};
@@ -16,8 +17,8 @@ ghost use Rattle.clock_front.specs.Requests as asked;
 use clock_house::House;
 use clock_http::{Code, HEADROOM, NoRoom, Page, Reply, plain_number, text_with_room};
 use clock_views::{
-    Refusal, headed_account, headed_bids, headed_refusal, headed_results, headed_sheet,
-    headed_slip, headed_status,
+    Refusal, headed_accepted, headed_account, headed_bids, headed_closed, headed_refusal,
+    headed_results, headed_sheet, headed_slip, headed_status,
 };
 use std::alloc::Global;
 
@@ -129,6 +130,14 @@ pub(crate) fn bids<P>(alloc: Global, house: &House<P>, bidder: u32) -> Result<Re
     Ok(Reply::written(Code::Done, None, text))
 }
 
+/// The page of an accepted sheet of this round with this number of bids.
+pub(crate) fn accepted(alloc: Global, round: u64, bids: u64) -> Result<Reply, NoRoom>
+    ensures { IfOk result (λ reply. reply ≡ answer_of (done (accepted_value round bids))) }
+{
+    let text = headed_accepted(alloc, HEADROOM, round, bids)?;
+    Ok(Reply::written(Code::Done, None, text))
+}
+
 /// A bidder's results of the round whose number `segment` is. If it is not closed, a refusal.
 /// Requires a bidder of the set-up.
 pub(crate) fn slip<P>(
@@ -156,5 +165,13 @@ pub(crate) fn results<P>(alloc: Global, house: &House<P>) -> Result<Reply, NoRoo
     ensures { IsReplyOrFailure house.now who.Operator asked.results result }
 {
     let text = headed_results(alloc, HEADROOM, house)?;
+    Ok(Reply::written(Code::Done, None, text))
+}
+
+/// The page of a closed round of this number, and of whether the auction ended with it.
+pub(crate) fn closed(alloc: Global, round: u64, ended: bool) -> Result<Reply, NoRoom>
+    ensures { IfOk result (λ reply. reply ≡ answer_of (done (closed_value round ended))) }
+{
+    let text = headed_closed(alloc, HEADROOM, round, ended)?;
     Ok(Reply::written(Code::Done, None, text))
 }
