@@ -1,7 +1,6 @@
 //! `audit`: an auction that is counted again, from its set-up document and its journal only.
 ghost use Rattle.std.specs.Prelude.{◌≡◌, [], List, ℕ, IfOk, IfErr, OnOk};
 ghost use Rattle.clock_terms.specs.Limits.{SetupFields};
-ghost use Rattle.clock_front.specs.Fronts.{StandsForTexts};
 ghost use Rattle.clock_journal.specs.Entries.{Entry};
 ghost use Rattle.clock_server.specs.Keeping.{IsRefused};
 ghost use Rattle.clock_auction.specs.Audits.{IsAuditOf, IsRecounted, IsAuditFault, audited};
@@ -29,21 +28,22 @@ where
     let document = file_bytes(rt, named.setup)?;
     let first = digest_of(document.as_slice());
     let front = front_in(rt.alloc(), document)?;
-    let bytes = match journal_bytes(rt, named.journal) {
-        Ok(bytes) => bytes,
-        Err(fault) => {
-            drop(front);
-            return Err(fault);
-        }
+    let digests = Vec::new(rt.alloc());
+    let mut recount = Recount { front, digests };
+    let made = match journal_bytes(rt, named.journal) {
+        Ok(bytes) => audit_of(rt.alloc(), &mut recount, &first, bytes),
+        Err(fault) => Err(fault),
     };
-    let (text, recovered) = audit_of(rt.alloc(), front, &first, bytes)?;
+    // `drop` here keeps the proof small: at the end of the scope, each field is proved
+    drop(recount);
+    let (text, recovered) = made?;
     write_all(out, text.as_slice()).or(Err(Fault::Output))?;
     tell_journal(rt, recovered)
 }
 
 /// An auction that takes the texts of a journal, and the digest of each closing.
 #[derive(Drop)]
-struct Recount {
+pub struct Recount {
     front: Front<Woken>,
     digests: Vec<Digits>,
 }
@@ -76,28 +76,21 @@ fn remember(digests: &mut Vec<Digits>, effect: Effect, digest: &Link) -> Result<
 
 /// Returns the lines of the closed rounds in a journal, each with the digest of its closing, and if
 /// the auction has ended, what each bidder won. `first` is the digest of the set-up document.
-/// Returns what was recovered, too.
+/// Returns what was recovered, too. Requires a recount without texts.
 pub fn audit_of(
     alloc: Global,
-    front: Front<Woken>,
+    recount: &mut Recount,
     first: &Link,
     bytes: Vec<u8>,
 ) -> Result<(Text, Recovered), Fault>
-    requires { StandsForTexts [] front }
+    requires { IsRecounted [] recount.old.front recount.old.digests.items }
     ensures ok { IfOk result
-        (λ audit. IsAuditOf front.setup first.now bytes.items audit.0 audit.1) }
-    ensures err { IfErr result (IsAuditFault front.setup first.now bytes.items) }
+        (λ audit. IsAuditOf recount.old.front.setup first.now bytes.items audit.0 audit.1) }
+    ensures err { IfErr result (IsAuditFault recount.old.front.setup first.now bytes.items) }
 {
-    let mut recount = Recount {
-        front,
-        digests: Vec::new(alloc),
-    };
-    let recovered = recover(&mut recount, first, bytes.as_slice())?;
+    let recovered = recover(recount, first, bytes.as_slice())?;
     drop(bytes);
-    let made = rounds_of(alloc, &recount);
-    // `drop` here keeps the proof small: at the end of the scope, each field is proved
-    drop(recount);
-    let text = made?;
+    let text = rounds_of(alloc, recount)?;
     Ok((text, recovered))
 }
 

@@ -1,4 +1,4 @@
-use Rattle.std.proofs.Common.{◌≡◌, List, [], ℕ, refl, subst}
+use Rattle.std.proofs.Common.{List, [], ℕ, subst}
 use Rattle.std.proofs.lemmas.Result.{err_from_is_err_and}
 use Rattle.clock_journal.specs.Entries.{Entry, entries_onto}
 use Rattle.clock_journal.specs.declared.recovery.JournalFault.TheVariants.{NoMemory}
@@ -12,21 +12,19 @@ pub returns-in_err-recovered-clause-err : goal.returns-in_err-recovered-clause-e
 returns-in_err-recovered-clause-err c =
     let p = err_from_is_err_and c.from_residual.result c.from_residual.ensures.1 in
     let refused = c.in_err-recovered in
+    let was = c.args.recount.now in
     rw p.1 (subst
-    (λ (bytes : List ℕ). IsAuditFault c.args.front.setup c.args.first.now bytes p.0) c.as_slice.ensures.value (record {
+    (λ (bytes : List ℕ). IsAuditFault was.front.setup c.args.first.now bytes p.0) c.as_slice.ensures.value (record {
       fault = refused.field-0.0;
       reported_is = p.2;
-      is = refused_first (λ (entries : List Entry). IsRecounted entries c.args.front c.new.result.items)
-          (record { stands = c.requires; digests_are = c.new.ensures.items })
-          (IsRefused c.args.front.setup) c.args.first.now c.as_slice.result.now refused.field-0.0 refused.ensures.read;
+      is = refused_first (λ (entries : List Entry). IsRecounted entries was.front was.digests.items) c.requires
+          (IsRefused was.front.setup) c.args.first.now c.as_slice.result.now refused.field-0.0 refused.ensures.read;
     }))
 
-pub rounds_of-made-requires : goal.rounds_of-made-requires
-rounds_of-made-requires c =
-    let all = c.in_ok-recovered.ensures.read in (
-      entries_onto c.args.first.now [] all.texts [],
-      all.stands [] (record { stands = c.requires; digests_are = c.new.ensures.items }),
-    )
+pub rounds_of-requires : goal.rounds_of-requires
+rounds_of-requires c =
+    let all = c.in_ok-recovered.ensures.read in
+    (entries_onto c.args.first.now [] all.texts [], all.stands [] c.requires)
 
 pub returns-in_err-text-clause-err : goal.returns-in_err-text-clause-err
 returns-in_err-text-clause-err c =
@@ -41,7 +39,7 @@ pub returns-clause-ok : goal.returns-clause-ok
 returns-clause-ok c =
     let all = c.in_ok-recovered.ensures.read in
     let entries = entries_onto c.args.first.now [] all.texts [] in
-    audit_is c.args.front.setup c.recover.new.machine.front.setup c.args.first.now c.args.bytes.items
+    audit_is c.args.recount.now.front.setup c.recover.new.machine.front.setup c.args.first.now c.args.bytes.items
     c.as_slice.result.now _ all.texts c.in_ok-recovered.recovered c.as_slice.ensures.value c.recover.ensures.rules
     all.are
-    (c.in_ok-text.ensures entries (all.stands [] (record { stands = c.requires; digests_are = c.new.ensures.items })))
+    (c.in_ok-text.ensures entries (all.stands [] c.requires))
