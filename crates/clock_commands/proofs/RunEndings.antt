@@ -1,9 +1,9 @@
 -- Each way in which a run can stop is one of the endings. By cases on the fault.
-use Rattle.std.proofs.Common.{◌≡◌, [], Option, Some, Err, refl, arith}
+use Rattle.std.proofs.Common.{◌≡◌, [], Option, Some, None, Err, refl, arith}
 use Rattle.clock_device.specs.Reports.{IsUnread, IsUnused, Reading, SinkReport, SourceReport, Writing}
 use Rattle.clock_device.specs.Writings.{WritesNothing}
 use Rattle.clock_commands.specs.Input.{IsReadingOf}
-use Rattle.clock_commands.specs.Run.{ComesTo, IsRunOf, Shows, stopped}
+use Rattle.clock_commands.specs.Run.{ComesTo, IsRunOf, Shows, refused, stopped}
 use Rattle.clock_commands.specs.FaultLines.{fault_line}
 use Rattle.clock_words.specs.declared.words.Job.{Job}
 use Rattle.clock_commands.specs.declared.fault.Fault.{Fault}
@@ -27,6 +27,20 @@ unread_for_memory report unused = (
     omega arith,
   ),
   unused.unfailed,
+)
+
+-- words that ask for no job are refused, and nothing is read
+pub refused_run : (asked : Option Job) → asked ≡ None → (source : SourceReport) → IsUnread source → (sink : SinkReport)
+    → IsUnused sink → (shown : Writing) → ComesTo asked (record { before = source; after = source })
+    (record { before = sink; after = sink }) shown 2
+refused_run asked none source unread sink unused shown = (
+  refused,
+  refl,
+  (
+    none,
+    record { bytes = same_bytes source.left; none = unread.uncounted; unfailed = unread.unfailed },
+    untouched sink unused,
+  ),
 )
 
 module _ (asked : Option Job) (job : Job) (asks : asked ≡ Some job) (reading : Reading) (output shown : Writing) where

@@ -1,10 +1,20 @@
 -- Each exit status is that of one of the endings.
-use Rattle.std.proofs.Common.{◌≡◌, Some, refl, rules}
+use Rattle.std.proofs.Common.{◌≡◌, Some, None, refl, rules}
 use Rattle.clock_words.specs.Words.{job_of}
-use Rattle.clock_commands.specs.Run.{stopped}
+use Rattle.clock_commands.specs.Run.{printed, stopped}
 use Rattle.clock_commands.specs.declared.fault.Fault.TheVariants as fault
-use Rattle.clock_commands.proofs.RunEndings.{stopped_run, unread_for_memory, untouched}
+use Rattle.clock_commands.proofs.RunEndings.{refused_run, stopped_run, unread_for_memory, untouched}
 use Rattle.clock_commands.proofs.run.parsed_command.Goals as goal
+
+pub returns-in-Ok-run-clause-ending : goal.returns-in-Ok-run-clause-ending
+returns-in-Ok-run-clause-ending g c words parsing =
+    let asked : job_of words ≡ Some c.in-Ok-Some-Job.job = search (rules, parsing) in
+    (printed, refl, ((c.in-Ok-Some-Job.job, asked, c.in-Ok-run.ensures.run), untouched _ c.requires.unshown))
+
+pub returns-in-Some-clause-ending : goal.returns-in-Some-clause-ending
+returns-in-Some-clause-ending g c words parsing =
+    let none : job_of words ≡ None = search (rules, parsing) in
+    refused_run (job_of words) none _ c.requires.unread _ c.requires.unwritten _
 
 pub returns-in-Err-run-clause-ending : goal.returns-in-Err-run-clause-ending
 returns-in-Err-run-clause-ending g c words parsing =
