@@ -2,14 +2,16 @@
 -- its value back, and the limits decide the rest.
 use Rattle.std.proofs.Common.{◌≡◌, ℕ, ◌⊎◌, inl, inr, Bool, true, false, ◌==◌, List, [], ◌∷◌, map, All, Option, Some}
 use Rattle.std.proofs.Common.{None, Result, Ok, Err, IfOk}
-use Rattle.std.proofs.Common.{IfErr, codes, refl, sym, ap, ◌∙◌, subst}
-use Rattle.std.specs.Prelude.{⊤, if◌then◌else◌}
+use Rattle.std.proofs.Common.{IfErr, codes, refl, sym, ap, ◌∙◌, subst, arith}
+use Rattle.std.specs.Option.{IsSomeAnd}
+use Rattle.std.specs.Prelude.{⊤, if◌then◌else◌, OnOk}
 use Rattle.std.proofs.lemmas.Bool.{eqb-true}
 use Rattle.std.proofs.lemmas.List.Elements.{All-nil, All-head, All-tail}
 use Rattle.std.specs.Str.{IsUtf8}
 use Rattle.serde_json.specs.Data.{Data, object}
 use Rattle.serde_json.specs.Read.{read}
-use Rattle.clock_json.specs.Reading.{items_in, found_members}
+use Rattle.clock_json.specs.Members.{ReadsField}
+use Rattle.clock_json.specs.Reading.{Token, Fields, ReadsValue, items_in, found_members}
 use Rattle.clock_terms.specs.declared.setup.Product.{Product}
 use Rattle.clock_terms.specs.declared.setup.Bidder.{Bidder}
 use Rattle.clock_terms.specs.Limits.{SetupFields, IsWithin, IsOfFirstVersion, latest_version, first_granule}
@@ -18,11 +20,24 @@ use Rattle.clock_setup.specs.declared.fault.SetupFault.TheVariants.{NoMemory}
 use Rattle.clock_terms.specs.Faults.{first_fault, unless, IsFirstFault, IsRefusal}
 use Rattle.clock_terms.proofs.WithinLaws.{test_of_within}
 use Rattle.clock_json.specs.Tree.{each, number_at, ◌>>=◌}
+use Rattle.clock_setup.specs.inside.FoundEntries.{NotesField}
 use Rattle.clock_setup.specs.SetupShape.{product_of, bidder_of, fields_from}
 use Rattle.clock_setup.specs.SetupDocument.{setup_checks, setup_of, document_setup}
 use Rattle.clock_json.proofs.JsonLaws.{json_value}
 use Rattle.clock_setup.specs.SetupData.{added, product_data, products_data, bidder_data, bidders_data, setup_fields}
 use Rattle.clock_setup.specs.SetupData.{setup_data}
+
+-- a number that was read is noted under its key
+pub noted : {E : Type 0} (levels : ℕ) (result : Result Unit E) (key : List ℕ) (value : Data) (old new : List Token)
+    (before after : Fields) → OnOk result (NotesField key value before after) → ReadsValue 0 old value new
+    → OnOk result (ReadsField levels key old before new after)
+noted levels (Err stop) key value old new before after notes reads = tt
+noted levels (Ok done) key value old new before after notes reads = (
+  notes.0,
+  notes.1,
+  subst (λ found. IsSomeAnd found (λ value. ReadsValue levels old value new)) (sym notes.2)
+      (λ depth enough. reads depth (omega arith)),
+)
 
 -- products so far, of the version of the next one or none, are products of that version
 pub of_common_version : (so_far next : ℕ) (products : List Product) → (so_far ≡ 0 → products ≡ [])

@@ -1,10 +1,12 @@
 //! Reads a set-up by bytes, without a tree of values, if no text has an escape and each number has
 //! only digits.
-ghost use Rattle.std.specs.Prelude.{◌≡◌, ◌<◌, length, Ok, IfOk, OnOk};
-ghost use Rattle.clock_json.specs.Reading.{ReadsValue};
-ghost use Rattle.clock_setup.specs.SetupData.{product_data, products_data, bidder_data, setup_data};
+ghost use Rattle.std.specs.Prelude.{◌≡◌, ◌<◌, length, Ok, IfSome, IfOk, OnOk};
+ghost use Rattle.clock_json.specs.Reading.{ReadsValue, whole_number};
+ghost use Rattle.clock_terms.specs.Limits.{IsWithin, first_limit, latest_version};
+ghost use Rattle.clock_setup.specs.SetupData.{added, product_data, products_data, bidder_data};
+ghost use Rattle.clock_setup.specs.SetupData.{setup_data};
 ghost use Rattle.clock_setup.specs.SetupDocument.{setup_of};
-ghost use Rattle.clock_setup.specs.inside.FoundEntries.{found_product, found_bidder};
+ghost use Rattle.clock_setup.specs.inside.FoundEntries.{NotesField, found_product, found_bidder};
 ghost use Rattle.clock_setup.specs.inside.FoundSetup.{found_setup};
 
 use crate::document::within_limits;
@@ -28,6 +30,24 @@ struct FoundProduct<'v> {
     units: Option<u64>,
 }
 
+impl<'v> FoundProduct<'v> {
+    /// Notes the number that was read under `key`, if a product has a number there.
+    fn note(&mut self, key: &[u8], number: u64) -> Result<(), ScanStop>
+        ensures { OnOk result (NotesField key.now (whole_number number)
+            (found_product self.old) (found_product self.new)) }
+    {
+        match key {
+            _ if is_key(key, "cap") => self.cap = Some(number),
+            _ if is_key(key, "opening") => self.opening = Some(number),
+            _ if is_key(key, "supply") => self.supply = Some(number),
+            _ if is_key(key, "units") => self.units = Some(number),
+            _ if is_key(key, "granule") => self.granule = Some(number),
+            _ => return Err(ScanStop::Unusual),
+        }
+        Ok(())
+    }
+}
+
 impl<'v> ScannedMembers<'v> for FoundProduct<'v> {
     type Whole = VersionedProduct<'v>;
 
@@ -42,16 +62,12 @@ impl<'v> ScannedMembers<'v> for FoundProduct<'v> {
     }
 
     fn read(&mut self, _alloc: Global, key: &[u8], scan: &mut Scan<'v>) -> Result<(), ScanStop> {
-        match key {
-            _ if is_key(key, "name") => self.name = Some(scan.text()?),
-            _ if is_key(key, "cap") => self.cap = Some(scan.number()?),
-            _ if is_key(key, "opening") => self.opening = Some(scan.number()?),
-            _ if is_key(key, "supply") => self.supply = Some(scan.number()?),
-            _ if is_key(key, "units") => self.units = Some(scan.number()?),
-            _ if is_key(key, "granule") => self.granule = Some(scan.number()?),
-            _ => return Err(ScanStop::Unusual),
+        if is_key(key, "name") {
+            self.name = Some(scan.text()?);
+            return Ok(());
         }
-        Ok(())
+        let number = scan.number()?;
+        self.note(key, number)
     }
 
     fn whole(self) -> Option<VersionedProduct<'v>> {
@@ -131,6 +147,20 @@ impl<'v> ScannedMembers<'v> for FoundBidder<'v> {
     }
 }
 
+/// Returns the activity limit of a set-up of `version`, under whose key `found` was found. `None`
+/// if the version is unknown, or does not go with what was found.
+fn limit_in(version: u64, found: Option<u64>) -> Option<u64>
+    ensures known { IfSome result (λ _. IsWithin 1 latest_version version) }
+    ensures found { IfSome result (λ limit. added version limit ≡ found) }
+    ensures first { IfSome result (λ limit. version ≡ 1 → limit ≡ first_limit) }
+{
+    match (version, found) {
+        (1, None) => Some(FIRST_LIMIT),
+        (2, Some(limit)) => Some(limit),
+        _ => None,
+    }
+}
+
 /// The values found so far of a set-up.
 #[derive(Default, Drop)]
 pub(crate) struct FoundSetup<'v> {
@@ -140,6 +170,22 @@ pub(crate) struct FoundSetup<'v> {
     products: Option<VersionedProducts<'v>>,
     requirement: Option<u64>,
     version: Option<u64>,
+}
+
+impl<'v> FoundSetup<'v> {
+    /// Notes the number that was read under `key`, if a set-up has a number there.
+    fn note(&mut self, key: &[u8], number: u64) -> Result<(), ScanStop>
+        ensures { OnOk result (NotesField key.now (whole_number number)
+            (found_setup self.old) (found_setup self.new)) }
+    {
+        match key {
+            _ if is_key(key, "version") => self.version = Some(number),
+            _ if is_key(key, "requirement") => self.requirement = Some(number),
+            _ if is_key(key, "limit") => self.limit = Some(number),
+            _ => return Err(ScanStop::Unusual),
+        }
+        Ok(())
+    }
 }
 
 impl<'v> ScannedMembers<'v> for FoundSetup<'v> {
@@ -156,38 +202,44 @@ impl<'v> ScannedMembers<'v> for FoundSetup<'v> {
     }
 
     fn read(&mut self, alloc: Global, key: &[u8], scan: &mut Scan<'v>) -> Result<(), ScanStop> {
-        match key {
-            _ if is_key(key, "products") => self.products = Some(products(alloc, scan)?),
-            _ if is_key(key, "bidders") => self.bidders = Some(scanned_parts::<FoundBidder>(
-                alloc, scan, 0,
-            )?),
-            _ if is_key(key, "operator") => self.operator = Some(scan.text()?),
-            _ if is_key(key, "version") => self.version = Some(scan.number()?),
-            _ if is_key(key, "requirement") => self.requirement = Some(scan.number()?),
-            _ if is_key(key, "limit") => self.limit = Some(scan.number()?),
-            _ => return Err(ScanStop::Unusual),
+        if is_key(key, "products") {
+            self.products = Some(products(alloc, scan)?);
+            return Ok(());
         }
-        Ok(())
+        if is_key(key, "bidders") {
+            self.bidders = Some(scanned_parts::<FoundBidder>(alloc, scan, 0)?);
+            return Ok(());
+        }
+        if is_key(key, "operator") {
+            self.operator = Some(scan.text()?);
+            return Ok(());
+        }
+        let number = scan.number()?;
+        self.note(key, number)
     }
 
     fn whole(self) -> Option<ScannedSetup<'v>> {
-        let version = self.version?;
-        let limit = match (version, self.limit) {
-            (1, None) => FIRST_LIMIT,
-            (2, Some(limit)) => limit,
-            _ => return None,
+        let (Some(version), Some(requirement), Some(operator)) = (
+            self.version,
+            self.requirement,
+            self.operator,
+        ) else {
+            return None;
         };
-        let products = self.products?;
+        let limit = limit_in(version, self.limit)?;
+        let (Some(products), Some(bidders)) = (self.products, self.bidders) else {
+            return None;
+        };
         if products.version != version {
             return None;
         }
         let entries = SetupEntries {
             version,
             limit,
-            requirement: self.requirement?,
-            operator: self.operator?,
+            requirement,
+            operator,
             products: products.entries,
-            bidders: self.bidders?,
+            bidders,
         };
         Some(ScannedSetup { entries })
     }
