@@ -29,6 +29,15 @@ unread_for_memory report unused = (
   unused.unfailed,
 )
 
+-- reading failed, and nothing was printed
+pub read_failed : (job : Job) (reading : Reading) (sink : SinkReport) (cause : Fault) → IsUnused sink
+    → IsReadingOf reading (Err cause)
+    → IsRunOf {U = Unit {0}} job reading (record { before = sink; after = sink }) (Err cause)
+read_failed job reading sink fault.Input unused is = (is, untouched sink unused)
+read_failed job reading sink fault.LongInput unused is = (is, untouched sink unused)
+read_failed job reading sink fault.Memory unused is = (is, untouched sink unused)
+read_failed job reading sink other unused is = absurd is
+
 -- words that ask for no job are refused, and nothing is read
 pub refused_run : (asked : Option Job) → asked ≡ None → (source : SourceReport) → IsUnread source → (sink : SinkReport)
     → IsUnused sink → (shown : Writing) → ComesTo asked (record { before = source; after = source })
