@@ -1,5 +1,5 @@
 //! Who sent a request, by its token.
-ghost use Rattle.std.specs.Prelude.{◌≡◌, ℕ, List, length, IfOk, OnOk, if◌then◌else◌};
+ghost use Rattle.std.specs.Prelude.{◌≡◌, ℕ, List, [], length, IfOk, OnOk, if◌then◌else◌};
 ghost use Rattle.clock_terms.specs.Limits.{SetupFields};
 ghost use Rattle.clock_http.specs.{Shown.{shown_bytes}, Heads.{same_bytes}};
 ghost use Rattle.clock_front.specs.{Callers.{caller as caller_with}, inside.Callers.{IsKnown}};
@@ -33,25 +33,34 @@ fn add(alloc: Global, tokens: &mut Tokens, token: &[u8], caller: Caller) -> Resu
     Ok(())
 }
 
-/// The tokens of a set-up with their owners. The operator's token is added last, as the rules look
-/// for it first.
-pub(crate) fn tokens_of(alloc: Global, setup: &Setup) -> Result<Tokens, NoMemory>
-    ensures { IfOk result (λ tokens. IsTableOf setup.now tokens.entries) }
+/// Adds the tokens of a set-up with their owners to an empty table. The operator's token is added
+/// last, as the rules look for it first.
+fn add_all(alloc: Global, tokens: &mut Tokens, setup: &Setup) -> Result<(), NoMemory>
+    requires { tokens.old.entries ≡ [] }
+    ensures { OnOk result (IsTableOf setup.now tokens.new.entries) }
 {
-    let mut tokens = IndexMap::new(alloc);
     let mut number = setup.bidders.len();
     while number > 0 {
         number -= 1;
         let token = setup.bidders[number].token.as_slice();
-        add(alloc, &mut tokens, token, Caller::Bidder(number as u32))?;
+        add(alloc, tokens, token, Caller::Bidder(number as u32))?;
     }
-    add(
-        alloc,
-        &mut tokens,
-        setup.operator.as_slice(),
-        Caller::Operator,
-    )?;
-    Ok(tokens)
+    add(alloc, tokens, setup.operator.as_slice(), Caller::Operator)?;
+    Ok(())
+}
+
+/// The tokens of a set-up with their owners.
+pub(crate) fn tokens_of(alloc: Global, setup: &Setup) -> Result<Tokens, NoMemory>
+    ensures { IfOk result (λ tokens. IsTableOf setup.now tokens.entries) }
+{
+    let mut tokens = IndexMap::new(alloc);
+    match add_all(alloc, &mut tokens, setup) {
+        Ok(()) => Ok(tokens),
+        Err(refused) => {
+            drop(tokens);
+            Err(refused)
+        }
+    }
 }
 
 /// Returns who sent a request with this token, or with none. Allocates nothing.

@@ -1,7 +1,7 @@
 use Rattle.std.proofs.Common.{◌≡◌, ◌≤◌, ℕ, List, length, drop}
 use Rattle.clock_front.specs.Callers.{holder, bidder_tokens}
 use Rattle.clock_front.specs.inside.TokenTable.{found}
-use Rattle.clock_front.proofs.front.callers.tokens_of.Given as goal
+use Rattle.clock_front.proofs.front.callers.add_all.Given as goal
 
 -- The table has the tokens of all bidders from this number on.
 abbrev pub invariant-loop-number : goal.invariant-loop-number
