@@ -3,7 +3,13 @@ use Rattle.std.proofs.Common.{ℕ, List, ap, length, take, length-take, arith, r
 use Rattle.std.proofs.lemmas.Result.{err_from_is_err_and}
 use Rattle.clock_device.proofs.Streams.{read_nothing}
 use Rattle.clock_commands.proofs.Reading.{failed_last, no_memory, too_much}
+use Rattle.clock_commands.proofs.RunEndings.{unread_for_memory}
 use Rattle.clock_commands.proofs.run.read_all.Goals as goal
+
+pub returns-in_err-piece-clause-reading : goal.returns-in_err-piece-clause-reading
+returns-in_err-piece-clause-reading g c =
+    let p = err_from_is_err_and c.from_residual.result c.from_residual.ensures.1 in
+    rw (p.1, p.2) (unread_for_memory _ c.requires)
 
 pub returns-in-Err-Failed-clause-reading : goal.returns-in-Err-Failed-clause-reading
 returns-in-Err-Failed-clause-reading g c =
