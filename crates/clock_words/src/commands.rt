@@ -64,7 +64,21 @@ fn with_command<'a>(
     ensures { (app below : App) → IfOk program.entry (IsCommand app) → IfOk command.entry
         (IsCommand below) → IfOk result (IsCommand (with_subcommand app below.top)) }
 {
-    program?.subcommand(command?)
+    let program = match program {
+        Ok(program) => program,
+        // `drop` here keeps the proof small: with `?`, each field would be proved
+        Err(refused) => {
+            drop(command);
+            return Err(refused);
+        }
+    };
+    match command {
+        Ok(command) => program.subcommand(command),
+        Err(refused) => {
+            drop(program);
+            Err(refused)
+        }
+    }
 }
 
 /// Makes the command `prices` with its option.
@@ -129,11 +143,13 @@ pub fn program<'a>(alloc: Global) -> Result<Command<'a>, AllocError>
     let replay = "Rehearse an auction with scripted bidders";
     let purpose = "Print the requests that a journal contains";
     let won = "Recount an auction from its set-up and journal";
-    let journal = files_command(alloc, "journal", purpose, JOURNAL_HELP);
-    let audit = files_command(alloc, "audit", won, AUDIT_HELP);
     let program = with_command(program_only(alloc), prices_command(alloc));
     let program = with_command(program, Ok(named(alloc, "opening", opening, OPENING_HELP)));
     let program = with_command(program, Ok(named(alloc, "replay", replay, REPLAY_HELP)));
     let program = with_command(program, serve_command(alloc));
-    with_command(with_command(program, journal), audit)
+    let program = with_command(
+        program,
+        files_command(alloc, "journal", purpose, JOURNAL_HELP),
+    );
+    with_command(program, files_command(alloc, "audit", won, AUDIT_HELP))
 }

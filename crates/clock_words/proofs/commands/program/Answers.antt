@@ -11,5 +11,6 @@ returns c =
     let opened = c.with_command-program-2.ensures _ (new_app (codes "opening")) priced c.named.ensures in
     let replayed = c.with_command-program-3.ensures _ (new_app (codes "replay")) opened c.named-2.ensures in
     let served = c.with_command-program-4.ensures _ serve_grammar replayed c.serve_command.ensures in
-    let reported = c.with_command.ensures _ (files_grammar (codes "journal")) served c.files_command-journal.ensures in
-    c.with_command-2.ensures _ (files_grammar (codes "audit")) reported c.files_command-audit.ensures
+    let reported =
+    c.with_command-program-5.ensures _ (files_grammar (codes "journal")) served c.files_command.ensures in
+    c.with_command.ensures _ (files_grammar (codes "audit")) reported c.files_command-2.ensures

@@ -2,6 +2,6 @@
 use Rattle.clock_words.proofs.Grammar.{with_below}
 use Rattle.clock_words.proofs.commands.with_command.Goals as goal
 
-pub returns : goal.returns
-returns c app below is is_below = with_below app c.in_ok-program.field-0 (rw c.in_ok-program.was at is) below
-    c.in_ok-command.field-0 c.subcommand.result (rw c.in_ok-command.was at is_below) c.subcommand.ensures
+pub returns-in-Ok-command : goal.returns-in-Ok-command
+returns-in-Ok-command c app below is is_below = with_below app c.in-Ok.program (rw c.in-Ok.is at is) below
+    c.in-Ok-command.command c.subcommand.result (rw c.in-Ok-command.is at is_below) c.subcommand.ensures
