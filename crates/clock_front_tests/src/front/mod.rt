@@ -1,6 +1,5 @@
 //! Requests, hubs, and streams, from their bytes to those of their replies.
 mod answers;
-mod bodies;
 mod crash_disk;
 mod crashes;
 mod endless;
@@ -15,6 +14,7 @@ mod loopback;
 mod loops;
 mod pieces;
 mod requests;
+mod rounds;
 mod routes;
 mod streams;
 mod texts;
