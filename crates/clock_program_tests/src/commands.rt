@@ -1,7 +1,7 @@
 //! Runs of the program on bytes in memory. The gate compares the output for each kind of document
 //! and arguments on the built program.
-use crate::played::REPORT;
 use crate::comparing::{assert_is_at, assert_reads_at};
+use crate::played::REPORT;
 use Trouble::{Fault, Nothing, Output, Read, Room};
 use clock_commands::command;
 use clock_device::{ListSink, ListSource, Stop};

@@ -1,7 +1,7 @@
 //! Replays, and their report or first fault.
 
-use crate::documents::joined;
 use crate::comparing::{assert_is_at, assert_reads_at};
+use crate::documents::joined;
 use clock_device::Text;
 use clock_fixtures::ONE_PRODUCT;
 use clock_http::Code;
