@@ -1,8 +1,8 @@
 //! Runs of the program on bytes in memory. The gate compares the output for each kind of document
 //! and arguments on the built program.
+use crate::commands::Trouble::{Fault, Nothing, Output, Read, Room};
 use crate::comparing::{assert_is_at, assert_reads_at};
 use crate::played::REPORT;
-use Trouble::{Fault, Nothing, Output, Read, Room};
 use clock_commands::command;
 use clock_device::{ListSink, ListSource, Stop};
 use clock_fixtures::ONE_PRODUCT;
@@ -119,8 +119,6 @@ const NO_SETUP: &str = r#"{"setup":{},"scripts":[],"closings":[]}"#;
 
 const PRICES: &[&str] = &["prices"];
 
-const REPLAY: &[&str] = &["replay"];
-
 /// The output for the set-up of one product.
 const LINE: &str = "A 100 110\n";
 
@@ -138,7 +136,12 @@ const SOUND: &[Run<'static>] = &[
     (PRICES, "", Nothing, (1, "", "fault: setup_not_json\n")),
     (PRICES, "{", Nothing, (1, "", "fault: setup_not_json\n")),
     (&["opening"], "[]", Nothing, (1, "", "fault: shape\n")),
-    (REPLAY, NO_SETUP, Nothing, (1, "", "fault: setup_shape\n")),
+    (
+        &["replay"],
+        NO_SETUP,
+        Nothing,
+        (1, "", "fault: setup_shape\n"),
+    ),
 ];
 
 #[test]
@@ -146,152 +149,103 @@ fn words_ask_for_the_lines_of_a_document(rt: HostRuntime) {
     all_end(&rt, rt.alloc(), SOUND);
 }
 
-/// Replays of the set-up of one product. In the first, X leaves two blocks at 120 and 115, and Y
-/// one at 130. All others have a fault.
-const REPLAYS: &[Run<'static>] = &[
+/// A replay of the set-up of one product with these scripts and closings.
+fn replay_document(alloc: Global, scripts: &str, closings: &str) -> Option<String> {
+    format!(in alloc;
+        "{{\"setup\":{ONE_PRODUCT},\"scripts\":[{scripts}],\"closings\":[{closings}]}}"
+    ).ok()
+}
+
+/// Scripts by which X leaves two blocks at 120 and 115, and Y one at 130.
+const SINCERE: &str =
+    r#"{"kind":"sincere","limits":[[120,115]]},{"kind":"sincere","limits":[[130]]}"#;
+
+/// Three closings, which these scripts need to end.
+const CLOSINGS: &str =
+    r#"{"increment":10,"ties":[]},{"increment":10,"ties":[]},{"increment":10,"ties":[]}"#;
+
+/// Scripts and closings, and the end of their replay.
+const REPLAYS: &[(&str, &str, Reported<'static>)] = &[
+    (SINCERE, CLOSINGS, (0, REPORT, "")),
+    ("{", CLOSINGS, (1, "", "fault: not_json\n")),
+    ("1", CLOSINGS, (1, "", "fault: shape\n")),
     (
-        REPLAY,
-        r#"{"scripts":[{"kind":"sincere","limits":[[120,115]]},{"kind":"sincere","limits":[[130]]}],
-"closings":[{"increment":10,"ties":[]},{"increment":10,"ties":[]},{"increment":10,"ties":[]}],"setup":{"version":1,"requirement":95,"operator":"OPERATOROPERATOR",
-"products":[{"name":"A","units":1,"supply":2,"cap":2,"opening":100}],
-"bidders":[{"name":"X","token":"XXXXXXXXXXXXXXXX","eligibility":10},
-{"name":"Y","token":"YYYYYYYYYYYYYYYY","eligibility":10}]}}"#,
-        Nothing,
-        (0, REPORT, ""),
-    ),
-    (
-        REPLAY,
-        r#"{"scripts":[{],
-"closings":[{"increment":10,"ties":[]},{"increment":10,"ties":[]},{"increment":10,"ties":[]}],"setup":{"version":1,"requirement":95,"operator":"OPERATOROPERATOR",
-"products":[{"name":"A","units":1,"supply":2,"cap":2,"opening":100}],
-"bidders":[{"name":"X","token":"XXXXXXXXXXXXXXXX","eligibility":10},
-{"name":"Y","token":"YYYYYYYYYYYYYYYY","eligibility":10}]}}"#,
-        Nothing,
-        (1, "", "fault: not_json\n"),
-    ),
-    (
-        REPLAY,
-        r#"{"scripts":[1],
-"closings":[{"increment":10,"ties":[]},{"increment":10,"ties":[]},{"increment":10,"ties":[]}],"setup":{"version":1,"requirement":95,"operator":"OPERATOROPERATOR",
-"products":[{"name":"A","units":1,"supply":2,"cap":2,"opening":100}],
-"bidders":[{"name":"X","token":"XXXXXXXXXXXXXXXX","eligibility":10},
-{"name":"Y","token":"YYYYYYYYYYYYYYYY","eligibility":10}]}}"#,
-        Nothing,
-        (1, "", "fault: shape\n"),
-    ),
-    (
-        REPLAY,
-        r#"{"scripts":[{"kind":"literal","sheets":[]}],
-"closings":[{"increment":10,"ties":[]},{"increment":10,"ties":[]},{"increment":10,"ties":[]}],"setup":{"version":1,"requirement":95,"operator":"OPERATOROPERATOR",
-"products":[{"name":"A","units":1,"supply":2,"cap":2,"opening":100}],
-"bidders":[{"name":"X","token":"XXXXXXXXXXXXXXXX","eligibility":10},
-{"name":"Y","token":"YYYYYYYYYYYYYYYY","eligibility":10}]}}"#,
-        Nothing,
+        r#"{"kind":"literal","sheets":[]}"#,
+        CLOSINGS,
         (1, "", "fault: scripts\n"),
     ),
     (
-        REPLAY,
-        r#"{"scripts":[{"kind":"sincere","limits":[[115,120]]},{"kind":"literal","sheets":[]}],
-"closings":[{"increment":10,"ties":[]},{"increment":10,"ties":[]},{"increment":10,"ties":[]}],"setup":{"version":1,"requirement":95,"operator":"OPERATOROPERATOR",
-"products":[{"name":"A","units":1,"supply":2,"cap":2,"opening":100}],
-"bidders":[{"name":"X","token":"XXXXXXXXXXXXXXXX","eligibility":10},
-{"name":"Y","token":"YYYYYYYYYYYYYYYY","eligibility":10}]}}"#,
-        Nothing,
+        r#"{"kind":"sincere","limits":[[115,120]]},{"kind":"literal","sheets":[]}"#,
+        CLOSINGS,
         (1, "", "fault: limits 0 0\n"),
     ),
     (
-        REPLAY,
-        r#"{"scripts":[{"kind":"literal","sheets":[[{"price":100,"product":0,"quantity":3}]]},{"kind":"literal","sheets":[]}],
-"closings":[{"increment":10,"ties":[]},{"increment":10,"ties":[]},{"increment":10,"ties":[]}],"setup":{"version":1,"requirement":95,"operator":"OPERATOROPERATOR",
-"products":[{"name":"A","units":1,"supply":2,"cap":2,"opening":100}],
-"bidders":[{"name":"X","token":"XXXXXXXXXXXXXXXX","eligibility":10},
-{"name":"Y","token":"YYYYYYYYYYYYYYYY","eligibility":10}]}}"#,
-        Nothing,
+        r#"{"kind":"literal","sheets":[[{"price":100,"product":0,"quantity":3}]]},{"kind":"literal","sheets":[]}"#,
+        CLOSINGS,
         (1, "", "fault: refused 0 1 over_cap\n"),
     ),
     (
-        REPLAY,
-        r#"{"scripts":[{"kind":"sincere","limits":[[120,115]]},{"kind":"sincere","limits":[[130]]}],
-"closings":[{"increment":51,"ties":[]}],"setup":{"version":1,"requirement":95,"operator":"OPERATOROPERATOR",
-"products":[{"name":"A","units":1,"supply":2,"cap":2,"opening":100}],
-"bidders":[{"name":"X","token":"XXXXXXXXXXXXXXXX","eligibility":10},
-{"name":"Y","token":"YYYYYYYYYYYYYYYY","eligibility":10}]}}"#,
-        Nothing,
+        SINCERE,
+        r#"{"increment":51,"ties":[]}"#,
         (1, "", "fault: closing 1 increment\n"),
     ),
     (
-        REPLAY,
-        r#"{"scripts":[{"kind":"sincere","limits":[[120,115]]},{"kind":"sincere","limits":[[130]]}],
-"closings":[{"increment":10,"ties":[]},{"increment":10,"ties":[]}],"setup":{"version":1,"requirement":95,"operator":"OPERATOROPERATOR",
-"products":[{"name":"A","units":1,"supply":2,"cap":2,"opening":100}],
-"bidders":[{"name":"X","token":"XXXXXXXXXXXXXXXX","eligibility":10},
-{"name":"Y","token":"YYYYYYYYYYYYYYYY","eligibility":10}]}}"#,
-        Nothing,
+        SINCERE,
+        r#"{"increment":10,"ties":[]},{"increment":10,"ties":[]}"#,
         (1, "", "fault: closings_spent\n"),
     ),
     (
-        REPLAY,
-        r#"{"scripts":[{"kind":"sincere","limits":[[120,115]]},{"kind":"sincere","limits":[[130]]}],
-"closings":[{"increments":[10],"ties":[]}],"setup":{"version":1,"requirement":95,"operator":"OPERATOROPERATOR",
-"products":[{"name":"A","units":1,"supply":2,"cap":2,"opening":100}],
-"bidders":[{"name":"X","token":"XXXXXXXXXXXXXXXX","eligibility":10},
-{"name":"Y","token":"YYYYYYYYYYYYYYYY","eligibility":10}]}}"#,
-        Nothing,
+        SINCERE,
+        r#"{"increments":[10],"ties":[]}"#,
         (1, "", "fault: shape\n"),
     ),
 ];
 
-#[test]
-fn a_replay_has_a_report_or_a_fault(rt: HostRuntime) {
-    all_end(&rt, rt.alloc(), REPLAYS);
+/// Asserts the end of the replay of scripts and closings.
+fn replay_ends(
+    rt: &impl Abort,
+    alloc: Global,
+    scripts: &str,
+    closings: &str,
+    reported: Reported<'_>,
+) -> Option<()> {
+    let document = replay_document(alloc, scripts, closings)?;
+    ends(rt, alloc, &["replay"], document.as_str(), Nothing, reported)
 }
 
-/// Arguments that are refused with a message. The gate compares the messages of `--help` and of a
-/// command that does not exist on the built program. Here, the write of these two fails.
-const OTHER_WORDS: &[Run<'static>] = &[
-    (
-        &["prices", "--increment", "0"],
-        ONE_PRODUCT,
-        Nothing,
-        (
-            2,
-            "",
-            "error: invalid value '0' for '--increment <N>': 0 is not in 1..=50\n\nFor more information, try '--help'.\n",
-        ),
-    ),
-    (
-        &["prices", "--increment", "51"],
-        ONE_PRODUCT,
-        Nothing,
-        (
-            2,
-            "",
-            "error: invalid value '51' for '--increment <N>': 51 is not in 1..=50\n\nFor more information, try '--help'.\n",
-        ),
-    ),
-    (&["repla"], ONE_PRODUCT, Fault(0), (2, "", "")),
-    (
-        &["serve", "--setup", "a", "--port", "1", "--connections", "1"],
-        ONE_PRODUCT,
-        Nothing,
-        (
-            2,
-            "",
-            "error: `serve`, `journal` and `audit` are done by the program itself, and not over streams\n",
-        ),
-    ),
-    (&["--help"], ONE_PRODUCT, Fault(0), (2, "", "")),
-    (
-        &["--version"],
-        ONE_PRODUCT,
-        Nothing,
-        (2, "", "clock_auction 0.1.0\n"),
-    ),
+#[test]
+fn a_replay_has_a_report_or_a_fault(rt: HostRuntime) {
+    for &(scripts, closings, reported) in REPLAYS {
+        let done = replay_ends(&rt, rt.alloc(), scripts, closings, reported);
+        assert_is_at(&rt, (scripts, closings), done, Some(()));
+    }
+}
+
+/// Arguments that are refused with a message that clap writes, whatever it says.
+const OTHER_WORDS: &[&[&str]] = &[
+    &["prices", "--increment", "0"],
+    &["prices", "--increment", "51"],
+    &["repla"],
+    &["serve", "--setup", "a", "--port", "1", "--connections", "1"],
+    &["--help"],
+    &["--version"],
 ];
+
+/// The status of a run, the number of bytes it printed, and whether it wrote no fault line.
+fn shown(alloc: Global, words: &[&str]) -> Option<(u8, usize, bool)> {
+    let run = run(alloc, words, ONE_PRODUCT, streams_with(Nothing))?;
+    let (printed, is_silent) = (run.output.bytes().len(), run.faults.bytes().is_empty());
+    let status = run.status;
+    drop(run);
+    Some((status, printed, is_silent))
+}
 
 #[test]
 fn other_words_are_refused(rt: HostRuntime) {
-    all_end(&rt, rt.alloc(), OTHER_WORDS);
+    for &words in OTHER_WORDS {
+        let shown = shown(rt.alloc(), words);
+        assert_is_at(&rt, words, shown, Some((2, 0, false)));
+    }
 }
 
 /// The fault line for a writer that fails.

@@ -231,17 +231,15 @@ fn counting(is_flaky: bool) -> Counter {
 impl Read for Counter {
     fn read(&mut self, buffer: &mut [u8]) -> io::Result<usize> {
         self.calls = self.calls.saturating_add(1);
-        if self.is_flaky && self.calls == 1 {
-            return Err(io::Error::from(ErrorKind::Interrupted));
+        match (self.is_flaky, self.calls, buffer.first_mut()) {
+            (true, 1, _) => Err(io::Error::from(ErrorKind::Interrupted)),
+            (true, 3, _) => Err(io::Error::from(ErrorKind::Other)),
+            (_, calls, Some(byte)) => {
+                *byte = calls;
+                Ok(1)
+            }
+            _ => Ok(0),
         }
-        if self.is_flaky && self.calls == 3 {
-            return Err(io::Error::from(ErrorKind::Other));
-        }
-        let Some(byte) = buffer.first_mut() else {
-            return Ok(0);
-        };
-        *byte = self.calls;
-        Ok(1)
     }
 }
 

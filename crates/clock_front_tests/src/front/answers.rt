@@ -1,85 +1,56 @@
 //! Replies to requests that are sent one after the other.
-use super::heads::answers;
-use super::requests::{Reported, compare, request_of, setup_of, text_of};
+use super::requests::{Reported, compare, reply_of, request_of, setup_of, text_of};
+use super::texts::{ACCEPTED, PUT};
 use crate::comparing::{assert_is, assert_is_at};
-use crate::front::example::on_front;
+use crate::front::example::{on_front, on_one_product};
 use crate::repeated::{Repeated, repeated};
 use clock_device::{Items, Text};
 use clock_fixtures::{ACTIVITY_LIMIT, AT_THE_HIGHEST, GRANULES_AND_INCREMENTS, ONE_PRODUCT};
 use clock_front::{Front, Reply, run};
 use clock_http::Code;
-use clock_processor::{Plain, Processor};
-use clock_queue::Woken;
+use clock_processor::Plain;
 use std::alloc::Global;
 use std::process::Abort;
 
-/// A case: what it shows, its set-up document, and its requests with their replies, one a line.
-pub(super) type Case<'a> = (&'a str, &'a str, &'a str);
-
-/// Sends the request of a row of a case, and compares its reply. Returns `None` if the row lacks a
-/// field.
-fn send<P: Processor>(
-    rt: &impl Abort,
-    alloc: Global,
-    front: &mut Front<P>,
-    shows: &str,
-    row: &str,
-) -> Option<()> {
+/// Sends the request of a row, and compares its reply. Returns `None` if the row lacks a field.
+fn send(rt: &impl Abort, alloc: Global, front: &mut Front<Plain>, row: &str) -> Option<()> {
     let (request, reply) = row.split_once('>')?;
     let (status, page) = reply.split_once('|')?;
     let text = request_of(alloc, request)?;
-    compare(
-        rt,
-        alloc,
-        front,
-        (shows, row),
-        text.as_str(),
-        (status, page),
-    )
+    compare(rt, alloc, front, row, text.as_str(), (status, page))
 }
 
-/// Sends the requests of all rows of a case in turn.
-fn send_rows<P: Processor>(
-    rt: &impl Abort,
-    alloc: Global,
-    front: &mut Front<P>,
-    shows: &str,
-    rows: &str,
-) -> Option<()> {
+/// Sends the requests of all rows in turn.
+fn send_rows(rt: &impl Abort, alloc: Global, front: &mut Front<Plain>, rows: &str) -> Option<()> {
     for row in rows.split('\n') {
-        let sent = send(rt, alloc, front, shows, row);
-        assert_is_at(rt, (shows, row), sent, Some(()));
+        let sent = send(rt, alloc, front, row);
+        assert_is_at(rt, row, sent, Some(()));
     }
     Some(())
 }
 
-/// Sends the requests of a case to a front with this processor.
-fn play<P: Processor + Drop>(rt: &impl Abort, alloc: Global, processor: P, case: &Case) {
-    let &(shows, document, rows) = case;
-    let done = on_front(alloc, document, processor, |front| {
-        send_rows(rt, alloc, front, shows, rows)
-    });
-    assert_is_at(rt, shows, done, Some(()));
-}
-
-/// Sends the requests of each case to its own front: once with the rescanned list, and once with
-/// the event queue.
-pub(super) fn play_all(rt: &impl Abort, alloc: Global, cases: &[Case]) {
-    for case in cases {
-        play(rt, alloc, Plain, case);
-        play(rt, alloc, Woken, case);
-    }
-}
-
 /// X's sheet is replaced by another one, and by one without bids. Y has no sheet.
 const SHEETS: &str =
-    r#"PUT /v1/me/bids|X|{"bids":[{"price":100,"product":0,"quantity":2}],"round":1}>200 OK|{"accepted":true,"bids":1,"round":1}
-GET /v1/me/bids|X|>200 OK|{"bids":[{"price":100,"product":0,"quantity":2}],"round":1}
+    r#"GET /v1/me/bids|X|>200 OK|{"bids":[{"price":100,"product":0,"quantity":2}],"round":1}
 PUT /v1/me/bids|X|{"bids":[{"price":100,"product":0,"quantity":1}],"round":1}>200 OK|{"accepted":true,"bids":1,"round":1}
 GET /v1/me/bids|X|>200 OK|{"bids":[{"price":100,"product":0,"quantity":1}],"round":1}
 PUT /v1/me/bids|X|{"bids":[],"round":1}>200 OK|{"accepted":true,"bids":0,"round":1}
 GET /v1/me/bids|X|>200 OK|{"bids":[],"round":1}
 GET /v1/me/bids|Y|>200 OK|{"bids":null,"round":1}"#;
+
+/// Sends the 147 bytes of X's sheet and compares the reply. Then sends the rows.
+fn put_and_reported(rt: &impl Abort, alloc: Global, front: &mut Front<Plain>) -> Option<()> {
+    let reply = reply_of(alloc, front, PUT)?;
+    assert_is(rt, reply.as_str(), ACCEPTED);
+    send_rows(rt, alloc, front, SHEETS)
+}
+
+#[test]
+fn a_sheet_is_put_and_reported(rt: HostRuntime) {
+    assert_is(&rt, PUT.len(), 147);
+    let done = on_one_product(rt.alloc(), |front| put_and_reported(&rt, rt.alloc(), front));
+    assert_is(&rt, done, Some(()));
+}
 
 /// X asks to give up two blocks, and one of the two is applied.
 const DROP_IN_PART: &str =
@@ -136,44 +107,6 @@ POST /v1/close|O|{"increment":10,"round":1,"ties":[]}>200 OK|{"closed":1,"ended"
 PUT /v1/me/bids|X|{"bids":[{"price":103,"product":0,"quantity":1},{"price":105,"product":0,"quantity":2}],"round":2}>422 Unprocessable Entity|{"code":"mixed_direction","place":1,"status":422}
 PUT /v1/me/bids|X|{"bids":[{"price":105,"product":0,"quantity":2}],"round":2}>422 Unprocessable Entity|{"code":"keep_price","place":0,"status":422}"#;
 
-/// Bodies of sheets and of closings: what is read, and what has another shape or is no JSON.
-const BODIES: &str =
-    r#"PUT /v1/me/bids|X| {"round":1,"bids":[{"price":100,"product":0,"quantity":2}, {"quantity":1,"\u0070rice":0,"product":7}]}>422 Unprocessable Entity|{"code":"unknown_product","place":1,"status":422}
-PUT /v1/me/bids|X|{"bids":[],"round":18446744073709551615}>409 Conflict|{"code":"wrong_round","round":1,"status":409}
-PUT /v1/me/bids|X|{"bids":[],"round":1}>200 OK|{"accepted":true,"bids":0,"round":1}
-PUT /v1/me/bids|X|>400 Bad Request|{"code":"bad_json","status":400}
-PUT /v1/me/bids|X|{"bids":[]>400 Bad Request|{"code":"bad_json","status":400}
-PUT /v1/me/bids|X|{"bids":[],"round":1}x>400 Bad Request|{"code":"bad_json","status":400}
-PUT /v1/me/bids|X|{"bids":[],"round":1e400}>400 Bad Request|{"code":"bad_json","status":400}
-PUT /v1/me/bids|X|{"bids":[],"round":"\ud800"}>400 Bad Request|{"code":"bad_json","status":400}
-PUT /v1/me/bids|X|[]>422 Unprocessable Entity|{"code":"shape","status":422}
-PUT /v1/me/bids|X|{"bids":[]}>422 Unprocessable Entity|{"code":"shape","status":422}
-PUT /v1/me/bids|X|{"bids":null,"round":1}>422 Unprocessable Entity|{"code":"shape","status":422}
-PUT /v1/me/bids|X|{"bids":[],"round":1,"x":1}>422 Unprocessable Entity|{"code":"shape","status":422}
-PUT /v1/me/bids|X|{"bids":[1],"round":1}>422 Unprocessable Entity|{"code":"shape","status":422}
-PUT /v1/me/bids|X|{"bids":[{"price":100,"product":0}],"round":1}>422 Unprocessable Entity|{"code":"shape","status":422}
-PUT /v1/me/bids|X|{"bids":[{"price":100,"product":0,"quantity":2,"x":1}],"round":1}>422 Unprocessable Entity|{"code":"shape","status":422}
-PUT /v1/me/bids|X|{"bids":[{"price":100,"product":"0","quantity":2}],"round":1}>422 Unprocessable Entity|{"code":"shape","status":422}
-PUT /v1/me/bids|X|{"bids":[],"round":18446744073709551616}>422 Unprocessable Entity|{"code":"shape","status":422}
-PUT /v1/me/bids|X|{"bids":[],"round":-0}>422 Unprocessable Entity|{"code":"shape","status":422}
-PUT /v1/me/bids|X|{"bids":[],"round":-1}>422 Unprocessable Entity|{"code":"shape","status":422}
-PUT /v1/me/bids|X|{"bids":[],"round":1.0}>422 Unprocessable Entity|{"code":"shape","status":422}
-PUT /v1/me/bids|X|{"bids":[],"round":1e2}>422 Unprocessable Entity|{"code":"shape","status":422}
-PUT /v1/me/bids|X|{"bids":[],"round":1e-400}>422 Unprocessable Entity|{"code":"shape","status":422}
-GET /v1/me/bids|X|>200 OK|{"bids":[],"round":1}
-PUT /v1/me/bids|X|{"round":1,"bids":[{"quantity":1,"\u0070rice":100,"product":0}]}>200 OK|{"accepted":true,"bids":1,"round":1}
-GET /v1/me/bids|X|>200 OK|{"bids":[{"price":100,"product":0,"quantity":1}],"round":1}
-POST /v1/close|O|{"increment":10,"increments":[10],"round":1,"ties":[]}>422 Unprocessable Entity|{"code":"shape","status":422}
-POST /v1/close|O|{"round":1,"ties":[]}>422 Unprocessable Entity|{"code":"shape","status":422}
-POST /v1/close|O|{"increment":10,"round":1,"ties":[[0,1]]}>422 Unprocessable Entity|{"code":"shape","status":422}
-POST /v1/close|O|{"increment":10,"round":1,"ties":[[0,1,5,6]]}>422 Unprocessable Entity|{"code":"shape","status":422}
-POST /v1/close|O|{"increment":10,"round":1,"ties":[}>400 Bad Request|{"code":"bad_json","status":400}
-POST /v1/close|O|{"increment":10,"round":1,"ties":[]}>200 OK|{"closed":1,"ended":true}"#;
-
-/// A body that begins with a byte order mark.
-const MARKED: &str =
-    "PUT /v1/me/bids|X|\u{feff}{\"bids\":[],\"round\":1}>400 Bad Request|{\"code\":\"bad_json\",\"status\":400}";
-
 /// A sheet whose requested activity is above its bidder's eligibility.
 const ACTIVE: &str =
     r#"PUT /v1/me/bids|X|{"bids":[{"price":100,"product":0,"quantity":4},{"price":100,"product":1,"quantity":1}],"round":1}>422 Unprocessable Entity|{"code":"over_activity","status":422}"#;
@@ -193,31 +126,31 @@ POST /v1/close|O|{"increment":1,"round":1,"ties":[]}>200 OK|{"closed":1,"ended":
 
 /// A closing has an increment for each product.
 const VERSION_2: &str =
-    r#"GET /v1/products||>200 OK|{"limit":100,"products":[{"cap":2,"granule":25,"name":"A","opening":100,"supply":2,"units":1},{"cap":2,"granule":1,"name":"B","opening":100,"supply":2,"units":1}],"requirement":100,"version":2}
-GET /v1/status||>200 OK|{"ended":false,"round":1,"version":2}
-POST /v1/close|O|{"increment":10,"round":1,"ties":[]}>422 Unprocessable Entity|{"code":"shape","status":422}
+    r#"POST /v1/close|O|{"increment":10,"round":1,"ties":[]}>422 Unprocessable Entity|{"code":"shape","status":422}
 POST /v1/close|O|{"increments":[10],"round":1,"ties":[]}>422 Unprocessable Entity|{"code":"increment","status":422}
-POST /v1/close|O|{"increments":[10,20],"round":2,"ties":[[0,1,5],[1,0,3]]}>409 Conflict|{"code":"wrong_round","round":1,"status":409}
 POST /v1/close|O|{"increments":[10,20,30],"round":1,"ties":[]}>422 Unprocessable Entity|{"code":"increment","status":422}
 POST /v1/close|O|{"increments":[10,51],"round":1,"ties":[]}>422 Unprocessable Entity|{"code":"increment","status":422}
 POST /v1/close|O|{"increments":[10,20],"round":1,"ties":[]}>200 OK|{"closed":1,"ended":true}
 GET /v1/status||>200 OK|{"ended":true,"round":1,"version":2}"#;
 
-const AUCTIONS: &[Case<'static>] = &[
-    ("sheets in force", ONE_PRODUCT, SHEETS),
-    ("a drop in part", ONE_PRODUCT, DROP_IN_PART),
-    ("two faults or more", ONE_PRODUCT, REFUSALS),
-    ("one fault", ONE_PRODUCT, FAULTS),
-    ("bodies", ONE_PRODUCT, BODIES),
-    ("a byte order mark", ONE_PRODUCT, MARKED),
-    ("over the eligibility", ACTIVITY_LIMIT, ACTIVE),
-    ("the price limit", AT_THE_HIGHEST, PRICE_LIMIT),
-    ("version 2", GRANULES_AND_INCREMENTS, VERSION_2),
+/// The set-ups of auctions, and the requests that are sent to each.
+const AUCTIONS: &[(&str, &str)] = &[
+    (ONE_PRODUCT, DROP_IN_PART),
+    (ONE_PRODUCT, REFUSALS),
+    (ONE_PRODUCT, FAULTS),
+    (ACTIVITY_LIMIT, ACTIVE),
+    (AT_THE_HIGHEST, PRICE_LIMIT),
+    (GRANULES_AND_INCREMENTS, VERSION_2),
 ];
 
 #[test]
 fn requests_are_answered_in_turn(rt: HostRuntime) {
-    play_all(&rt, rt.alloc(), AUCTIONS);
+    for &(document, rows) in AUCTIONS {
+        let done = on_front(rt.alloc(), document, |front| {
+            send_rows(&rt, rt.alloc(), front, rows)
+        });
+        assert_is_at(&rt, document, done, Some(()));
+    }
 }
 
 /// A request line, the owner of its token, a body with one item too many, and the page of the
@@ -258,19 +191,22 @@ fn long_text(alloc: Global, asked: (&str, &str), parts: Repeated<'_>) -> Option<
 fn has_too_many(
     rt: &impl Abort,
     alloc: Global,
+    front: &mut Front<Plain>,
     asked: (&str, &str),
     parts: Repeated<'_>,
     page: &str,
 ) -> Option<()> {
     let text = long_text(alloc, asked, parts)?;
     let reported: Reported<'_> = ("422 Unprocessable Entity", page);
-    answers(rt, alloc, asked.0, text.as_str(), reported)
+    compare(rt, alloc, front, asked.0, text.as_str(), reported)
 }
 
 #[test]
 fn a_body_has_at_most_so_many_items(rt: HostRuntime) {
     for &(line, who, parts, page) in TOO_MANY {
-        let done = has_too_many(&rt, rt.alloc(), (line, who), parts, page);
+        let done = on_one_product(rt.alloc(), |front| {
+            has_too_many(&rt, rt.alloc(), front, (line, who), parts, page)
+        });
         assert_is_at(&rt, line, done, Some(()));
     }
 }

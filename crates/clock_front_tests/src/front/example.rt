@@ -3,31 +3,26 @@
 use crate::comparing::assert_is;
 use clock_fixtures::ONE_PRODUCT;
 use clock_front::Front;
-use clock_processor::{Plain, Processor};
+use clock_processor::Plain;
 use clock_setup::{SetupFault, read_setup};
 use std::alloc::Global;
 
-/// Makes the front for a set-up document, with this processor.
-pub(crate) fn opened<P: Processor>(
-    alloc: Global,
-    document: &str,
-    processor: P,
-) -> Result<Front<P>, SetupFault> {
+/// Makes the front for a set-up document.
+pub(crate) fn opened(alloc: Global, document: &str) -> Result<Front<Plain>, SetupFault> {
     let setup = read_setup(alloc, document.as_bytes())?;
-    Ok(Front::new(alloc, setup, processor)?)
+    Ok(Front::new(alloc, setup, Plain)?)
 }
 
-/// Calls `act` on the front for a set-up document, with this processor. Only here do the tests drop
-/// a front: each function that drops one is proved at length.
-pub(crate) fn on_front<P: Processor + Drop, T, F: FnOnce(&mut Front<P>) -> Option<T>>(
+/// Calls `act` on the front for a set-up document. Only here do the tests drop a front: each
+/// function that drops one is proved at length.
+pub(crate) fn on_front<T, F: FnOnce(&mut Front<Plain>) -> Option<T>>(
     alloc: Global,
     document: &str,
-    processor: P,
     act: F,
 ) -> Option<T>
     requires { F.IsAlwaysCallable act }
 {
-    let mut front = opened(alloc, document, processor).ok()?;
+    let mut front = opened(alloc, document).ok()?;
     let done = act(&mut front);
     drop(front);
     done
@@ -40,7 +35,7 @@ pub(crate) fn on_one_product<T, F: FnOnce(&mut Front<Plain>) -> Option<T>>(
 ) -> Option<T>
     requires { F.IsAlwaysCallable act }
 {
-    on_front(alloc, ONE_PRODUCT, Plain, act)
+    on_front(alloc, ONE_PRODUCT, act)
 }
 
 /// Whether the front answers with the status page.

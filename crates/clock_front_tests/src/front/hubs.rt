@@ -8,7 +8,7 @@ use std::alloc::Global;
 
 /// A hub for a set-up of one product.
 fn hub_of(alloc: Global) -> Option<Hub<Plain>> {
-    let front = opened(alloc, ONE_PRODUCT, Plain).ok()?;
+    let front = opened(alloc, ONE_PRODUCT).ok()?;
     Some(Hub::new(alloc, front))
 }
 

@@ -105,7 +105,7 @@ type Run<'a> = (&'a str, &'a str);
 fn reported_x(alloc: Global, public: &str, run: Run<'_>) -> Option<String> {
     let document = document_of(alloc, public, run.0).ok()?;
     let requests = requests_of(alloc, run.1)?;
-    on_front(alloc, document.as_str(), Plain, |front| {
+    on_front(alloc, document.as_str(), |front| {
         reported_in_turn(alloc, front, requests.as_slice())
     })
 }

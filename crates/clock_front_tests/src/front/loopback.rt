@@ -68,35 +68,39 @@ fn assert_each_hears(rt: &(impl Abort + Alloc<A = Global>), clients: Clients) ->
     assert_hears(rt, clients.status, FIRST_ROUND)
 }
 
-/// Makes two clients that are gone before they are served.
-fn left_clients(rt: &HostRuntime, address: SocketAddr) -> io::Result<()> {
+/// Makes two clients that are gone before they are served, and one that requests the status.
+fn left_client(rt: &HostRuntime, address: SocketAddr) -> io::Result<TcpStream> {
     drop(client(rt, address, PUT)?);
     drop(client(rt, address, &PUT[..10])?);
-    Ok(())
+    client(rt, address, STATUS)
 }
 
-/// Whether `count` connections of a port are served by an auction of one product.
-fn are_served(alloc: Global, listener: &TcpListener, count: u64) -> Option<bool> {
+/// Whether three connections of a port are served by an auction of one product.
+fn three_are_served(alloc: Global, listener: &TcpListener) -> Option<bool> {
     on_one_product(alloc, |front| {
-        Some(serve_on(alloc, front, listener, count).is_ok())
+        Some(serve_on(alloc, front, listener, 3).is_ok())
     })
 }
 
-/// Serves `count` connections and closes the port.
-fn serve(rt: &(impl Abort + Alloc<A = Global>), listener: TcpListener, count: u64) {
-    let is_served = are_served(rt.alloc(), &listener, count);
+/// Serves three connections and closes the port.
+fn serve_three(rt: &(impl Abort + Alloc<A = Global>), listener: TcpListener) {
+    let is_served = three_are_served(rt.alloc(), &listener);
     drop(listener);
     assert_is(rt, is_served, Some(true));
 }
 
 #[test]
-fn each_client_hears_its_own_reply_and_one_that_is_gone_ends_alone(
-    rt: HostRuntime,
-) -> io::Result<()> {
+fn connections_are_served_in_turn(rt: HostRuntime) -> io::Result<()> {
     let listener = any_port(&rt)?;
-    let address = listener.local_addr()?;
-    left_clients(&rt, address)?;
-    let clients = three_clients(&rt, address)?;
-    serve(&rt, listener, 5);
+    let clients = three_clients(&rt, listener.local_addr()?)?;
+    serve_three(&rt, listener);
     assert_each_hears(&rt, clients)
+}
+
+#[test]
+fn a_client_that_is_gone_ends_alone(rt: HostRuntime) -> io::Result<()> {
+    let listener = any_port(&rt)?;
+    let status = left_client(&rt, listener.local_addr()?)?;
+    serve_three(&rt, listener);
+    assert_hears(&rt, status, FIRST_ROUND)
 }

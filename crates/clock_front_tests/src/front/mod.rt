@@ -1,5 +1,6 @@
 //! Requests, hubs, and streams, from their bytes to those of their replies.
 mod answers;
+mod bodies;
 mod crash_disk;
 mod crashes;
 mod endless;
@@ -14,7 +15,6 @@ mod loopback;
 mod loops;
 mod pieces;
 mod requests;
-mod rounds;
 mod routes;
 mod streams;
 mod texts;

@@ -10,10 +10,9 @@
 //! ```
 use crate::comparing::assert_is_at;
 use clock_front::Front;
-use clock_processor::Processor;
+use clock_processor::Plain;
 use clock_setup::{Setup, read_setup};
 use std::alloc::Global;
-use std::fmt::Debug;
 use std::process::Abort;
 
 /// Reads the set-up of a document.
@@ -28,7 +27,6 @@ fn token_line(who: &str) -> &'static str {
         "W" => "authorization: Bearer WWWWWWWWWWWWWWWW\r\n",
         "X" => "authorization: Bearer XXXXXXXXXXXXXXXX\r\n",
         "Y" => "authorization: Bearer YYYYYYYYYYYYYYYY\r\n",
-        "Z" => "authorization: Bearer ZZZZZZZZZZZZZZZZ\r\n",
         "O" => "authorization: Bearer OPERATOROPERATOR\r\n",
         "N" => "authorization: Bearer NNNNNNNNNNNNNNNN\r\n",
         _ => "",
@@ -53,11 +51,7 @@ pub(super) fn request_of(alloc: Global, row: &str) -> Option<String> {
 }
 
 /// The bytes of the reply to a text.
-pub(super) fn reply_of<P: Processor>(
-    alloc: Global,
-    front: &mut Front<P>,
-    text: &str,
-) -> Option<String> {
+pub(super) fn reply_of(alloc: Global, front: &mut Front<Plain>, text: &str) -> Option<String> {
     let reply = front.answer(text.as_bytes());
     String::from_utf8_lossy(alloc, reply.bytes()).ok()
 }
@@ -85,11 +79,11 @@ pub(super) fn reply_with(alloc: Global, status: &str, page: &str) -> Option<Stri
 pub(super) type Reported<'a> = (&'a str, &'a str);
 
 /// Compares the reply to the text of a row with the one expected.
-pub(super) fn compare<P: Processor, R: Copy + Debug>(
+pub(super) fn compare(
     rt: &impl Abort,
     alloc: Global,
-    front: &mut Front<P>,
-    row: R,
+    front: &mut Front<Plain>,
+    row: &str,
     text: &str,
     reported: Reported<'_>,
 ) -> Option<()> {

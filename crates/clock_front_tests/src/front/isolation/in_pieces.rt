@@ -14,39 +14,44 @@ use std::process::Abort;
 /// The most bytes of a request of these runs.
 const LONGEST: usize = 200;
 
-/// A step by which bytes of the requests come: the number of its turns, and the bytes of each
-/// request in a turn. Then whether it begins at their last bytes, whether it ends after them, and
-/// whether a turn goes from the last request to the first.
-type Step = (usize, usize, bool, bool, bool);
+/// The order in which the bytes of a run's requests come. In each order, the requests are complete
+/// in their own order: each last byte comes after those before.
+#[derive(Clone, Copy, Debug)]
+enum Way {
+    /// One request after the other.
+    Apart,
+    /// A byte of each in turn, and then the last byte of each.
+    InTurn,
+    /// All bytes but the last of each, from the last request to the first, and then the last byte
+    /// of each.
+    LastFirst,
+}
 
-/// The order in which the bytes of a run's requests come: its name and its steps. In each order,
-/// the requests are complete in their own order: each last byte comes after those before.
-type Way<'a> = (&'a str, &'a [Step]);
+/// The bytes of a text that come.
+#[derive(Clone, Copy)]
+enum Part {
+    All,
+    AllButLast,
+    Last,
+    /// The byte at an index, unless it is the last.
+    At(usize),
+}
 
-const APART: Way<'static> = (
-    "one request after the other",
-    &[(1, LONGEST, false, true, false)],
-);
+/// The first index of a part of a text of `count` bytes, and the one after it.
+fn places_of(part: Part, count: usize) -> (usize, usize) {
+    let last = count.saturating_sub(1);
+    match part {
+        Part::All => (0, count),
+        Part::AllButLast => (0, last),
+        Part::Last => (last, count),
+        Part::At(place) => (place, last.min(place.saturating_add(1))),
+    }
+}
 
-const IN_TURN: Way<'static> = (
-    "a byte of each in turn, and then the last byte of each",
-    &[(LONGEST, 1, false, false, false), (1, 1, true, true, false)],
-);
-
-const LAST_FIRST: Way<'static> = (
-    "all bytes but the last of each, from the last request to the first, and then the last bytes",
-    &[(1, LONGEST, false, false, true), (1, 1, true, true, false)],
-);
-
-/// The bytes of a text that come in a turn of a step.
-fn part_of(text: &[u8], step: Step, turn: usize) -> &[u8] {
-    let (_turns, most, from_last, to_last, _is_backwards) = step;
-    let last = text.len().saturating_sub(1);
-    let end = if to_last { text.len() } else { last };
-    let before = if from_last { last } else { 0 };
-    let first = before.saturating_add(turn.saturating_mul(most));
-    text.get(first..end.min(first.saturating_add(most)))
-        .unwrap_or(b"")
+/// The bytes of a part of a text.
+fn part_of(text: &[u8], part: Part) -> &[u8] {
+    let (first, end) = places_of(part, text.len());
+    text.get(first..end).unwrap_or(b"")
 }
 
 /// Adds a piece for each byte.
@@ -57,40 +62,39 @@ fn push_bytes(alloc: Global, events: &mut Vec<Event>, number: u64, bytes: &[u8])
     Some(())
 }
 
-/// Adds the bytes of a request that come in a turn of a step.
+/// Adds the bytes of a part of a request.
 fn push_part(
     alloc: Global,
     events: &mut Vec<Event>,
     number: usize,
     row: &str,
-    step: Step,
-    turn: usize,
+    part: Part,
 ) -> Option<()> {
     let text = request_of(alloc, row)?;
-    let bytes = part_of(text.as_str().as_bytes(), step, turn);
+    let bytes = part_of(text.as_str().as_bytes(), part);
     push_bytes(alloc, events, number as u64, bytes)
 }
 
-/// Adds a turn of a step.
-fn push_turn(
+/// Adds a part of each request, from the first to the last or from the last to the first.
+fn push_parts(
     alloc: Global,
     events: &mut Vec<Event>,
     requests: &[Sent],
-    step: Step,
-    turn: usize,
+    part: Part,
+    is_backwards: bool,
 ) -> Option<()> {
     let count = requests.len();
-    for place in 0..count {
-        let number = if step.4 { count - 1 - place } else { place };
-        push_part(alloc, events, number, requests[number].0, step, turn)?;
+    for turn in 0..count {
+        let number = if is_backwards { count - 1 - turn } else { turn };
+        push_part(alloc, events, number, requests[number].0, part)?;
     }
     Some(())
 }
 
-/// Adds a step.
-fn push_step(alloc: Global, events: &mut Vec<Event>, requests: &[Sent], step: Step) -> Option<()> {
-    for turn in 0..step.0 {
-        push_turn(alloc, events, requests, step, turn)?;
+/// Adds a byte of each request in turn, except the last bytes.
+fn push_in_turn(alloc: Global, events: &mut Vec<Event>, requests: &[Sent]) -> Option<()> {
+    for place in 0..LONGEST {
+        push_parts(alloc, events, requests, Part::At(place), false)?;
     }
     Some(())
 }
@@ -102,10 +106,12 @@ fn push_requests(
     requests: &[Sent],
     way: Way,
 ) -> Option<()> {
-    for step in way.1 {
-        push_step(alloc, events, requests, *step)?;
+    match way {
+        Way::Apart => return push_parts(alloc, events, requests, Part::All, false),
+        Way::InTurn => push_in_turn(alloc, events, requests)?,
+        Way::LastFirst => push_parts(alloc, events, requests, Part::AllButLast, true)?,
     }
-    Some(())
+    push_parts(alloc, events, requests, Part::Last, false)
 }
 
 /// The events of the connections of a run.
@@ -162,13 +168,13 @@ fn reported_x_in_pieces(alloc: Global, run: Run<'_>, way: Way) -> Option<String>
 }
 
 /// Runs in which X sees the same, and the order of their bytes.
-const RUNS: &[(Run<'static>, Way<'static>)] = &[
-    ((X_AND_Y, BY_Y), APART),
-    ((V_X_AND_W, BY_W), APART),
-    ((X_AND_Y, BY_Y), IN_TURN),
-    ((V_X_AND_W, BY_W), LAST_FIRST),
-    ((X_AND_Y, BY_Y), LAST_FIRST),
-    ((V_X_AND_W, BY_W), IN_TURN),
+const RUNS: &[(Run<'static>, Way)] = &[
+    ((X_AND_Y, BY_Y), Way::Apart),
+    ((V_X_AND_W, BY_W), Way::Apart),
+    ((X_AND_Y, BY_Y), Way::InTurn),
+    ((V_X_AND_W, BY_W), Way::LastFirst),
+    ((X_AND_Y, BY_Y), Way::LastFirst),
+    ((V_X_AND_W, BY_W), Way::InTurn),
 ];
 
 /// Asserts that X's replies are those to whole requests, in whatever order the bytes come.
