@@ -8,12 +8,13 @@ use Rattle.clock_journal.specs.Headings.{Heading, headed, heading}
 use Rattle.clock_journal.specs.Reading.{ReadsTexts, damaged}
 use Rattle.clock_journal.specs.Entries.{Entry}
 use Rattle.clock_journal.specs.Logged.{file_of}
-use Rattle.clock_journal.specs.Crash.{BeginsWithTexts}
+use Rattle.clock_journal.specs.Crash.{BeginsWith, BeginsWithTexts}
 use Rattle.clock_journal.specs.Recovering.{AreTextsOf, IsFoundAt}
 use Rattle.clock_journal.specs.declared.recovery.Recovered.{Recovered}
 use Rattle.clock_journal.specs.inside.Replays.{IsReplayed}
+use Rattle.clock_journal.specs.Reading.{Stops}
 use Rattle.clock_journal.proofs.Whole.{read_back}
-use Rattle.clock_journal.proofs.Fronts.{BeginsWith, Stops, reads_first, ends_stop, damage_stops}
+use Rattle.clock_journal.proofs.Fronts.{reads_first, ends_stop, damage_stops}
 use Rattle.clock_journal.proofs.Moments.{length-head}
 use Rattle.clock_journal.proofs.TakenOver.{headed_at, headed_is, left_first, left_none, texts_left}
 use Rattle.clock_journal.proofs.Tested.{bytes_eq_same}

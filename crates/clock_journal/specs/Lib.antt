@@ -7,4 +7,5 @@ pub mod Headings
 pub mod Entries
 pub mod Recovering
 pub mod Chain
+pub mod Laws
 pub mod inside

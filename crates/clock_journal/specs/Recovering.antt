@@ -10,8 +10,8 @@
 --     IsDamagedWhere may_be why      any damage is at such a place
 --     IsJournalRefusal refuses old digest bytes why      the file has this fault, and what a crash
 --         left has no damage
-use Rattle.std.specs.Prelude.{◌≡◌, ◌⊎◌, ◌≤◌, ◌+◌, ◌++◌, ℕ, List, [], length, take, drop}
-use Rattle.clock_journal.specs.Crash.{BeginsWithTexts, IsPartOfHead, LeavesJournal}
+use Rattle.std.specs.Prelude.{◌≡◌, ◌⊎◌, ◌≤◌, ◌+◌, ℕ, List, [], length, take, drop}
+use Rattle.clock_journal.specs.Crash.{BeginsWith, BeginsWithTexts, IsPartOfHead, LeavesJournal}
 use Rattle.clock_journal.specs.Entries.{Entry, entries_onto, texts_in}
 use Rattle.clock_journal.specs.Format.{file_head_length, last_link, AllFit}
 use Rattle.clock_journal.specs.Logged.{file_of}
@@ -46,7 +46,7 @@ pub record AreTextsOf (digest bytes : List ℕ) (texts : List (List ℕ))
   pub crash : (all : List (List ℕ)) (least : ℕ) → LeavesJournal digest bytes all least
       → (count : ℕ) × (least ≤ count) × (count ≤ length all) × (texts ≡ take count all)
   pub any_tail : (first : List (List ℕ)) → BeginsWithTexts digest bytes first
-      → (further : List (List ℕ)) × (texts ≡ first ++ further)
+      → BeginsWith first texts
 
 -- the machine stands for what it stood for, and then the texts of the file
 pub record IsRecovered (old new : List Entry → Type 0) (digest bytes : List ℕ)

@@ -2,8 +2,9 @@ ghost use Rattle.std.specs.Prelude.{◌≡◌, ◌++◌, [], ◌∷◌, List, �
 ghost use Rattle.clock_journal.specs.{Disks.{LeaveOnly}, Format.{Fits, link}};
 ghost use Rattle.clock_journal.specs.{Logged.{HasTexts, JournalState}, Recovering.{IsPlaced}};
 ghost use Rattle.clock_journal.specs.Crash.{BeginsWithTexts, EveryFront, LeavesJournal};
-ghost use Rattle.clock_journal.specs.{Chain.{ChainBinds, JournalsBind}, Crash.{LeavesOneMore}};
-ghost use Rattle.clock_journal.specs.Crash.{StaysSo};
+ghost use Rattle.clock_journal.specs.{Chain.{ChainBinds, JournalsBind}, Laws.{CutLeaves}};
+ghost use Rattle.clock_journal.specs.{Crash.{LeavesOneMore, StaysSo}, Laws.{ReadsBack}};
+ghost use Rattle.clock_journal.specs.Laws.{WhateverFollows};
 
 use crate::durable::Durable;
 use crate::format::{Link, front_of, head_of, link_of};
@@ -145,4 +146,7 @@ pub fn law_of_journals()
     ensures as_many { ChainBinds }
     ensures any { JournalsBind }
     ensures every_front { EveryFront }
+    ensures whatever_follows { WhateverFollows }
+    ensures read_back { ReadsBack }
+    ensures cut_leaves { CutLeaves }
 {}

@@ -13,7 +13,8 @@ use Rattle.clock_journal.specs.Reading.{ReadsTexts, next, onto, whole}
 use Rattle.clock_journal.specs.Crash.{IsPartOfHead, LeavesJournal, LeavesTexts}
 use Rattle.clock_journal.specs.Recovering.{IsRefusedAt}
 use Rattle.clock_journal.specs.declared.recovery.JournalFault.TheVariants as fault
-use Rattle.clock_journal.proofs.Fronts.{Stops, ends_stop}
+use Rattle.clock_journal.specs.Reading.{Stops}
+use Rattle.clock_journal.proofs.Fronts.{ends_stop}
 use Rattle.clock_journal.proofs.Tested.{bytes_eq_same, lt_true, not_less, same_where}
 use Rattle.clock_server.specs.Accepted.{AreAccepted, IsNotRefused}
 use Rattle.clock_server.specs.Starts.{IsNotResumed}

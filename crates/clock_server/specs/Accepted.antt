@@ -3,13 +3,16 @@
 --     IsOwnFile setup digest texts least journal      a crash leaves the first of these accepted
 --         texts, at least `least`
 --     IsNotRefused fault      memory ran out, or a call of the disk has failed
+--     OwnStarts      a start on an auction's own file fails for no other reason
 use Rattle.std.specs.Prelude.{ℕ, List, [], ◌∷◌}
 use Rattle.clock_terms.specs.Limits.{SetupFields}
+use Rattle.clock_house.specs.House.{HouseFields}
 use Rattle.clock_journal.specs.Crash.{LeavesJournal}
 use Rattle.clock_journal.specs.Disks.{MayBeLeft}
 use Rattle.clock_journal.specs.Logged.{JournalState}
 use Rattle.clock_journal.specs.declared.recovery.JournalFault.TheVariants.{NoMemory}
 use Rattle.clock_server.specs.Keeping.{IsAccepted}
+use Rattle.clock_server.specs.Starts.{IsNotResumed}
 use Rattle.clock_server.specs.declared.taking.ResumeFault.{ResumeFault}
 use Rattle.clock_server.specs.declared.taking.ResumeFault.TheVariants.{Refused, Failed}
 
@@ -33,3 +36,11 @@ abbrev pub IsNotRefused : ResumeFault → Type 0
 IsNotRefused (Refused NoMemory) = Unit {0}
 IsNotRefused (Refused fault) = ⊥
 IsNotRefused Failed = Unit {0}
+
+-- if a crash left the journal of accepted texts, each fault that a start may report is of memory or
+-- of the disk
+abbrev pub OwnStarts : Type 0
+OwnStarts = (setup : SetupFields) (digest bytes : List ℕ) (texts : List (List ℕ)) (least : ℕ)
+    (house : HouseFields) (fault : ResumeFault) → AreAccepted setup [] texts
+    → LeavesJournal digest bytes texts least → IsNotResumed setup digest bytes house fault
+    → IsNotRefused fault

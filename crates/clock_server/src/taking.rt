@@ -3,7 +3,8 @@ ghost use Rattle.clock_journal.specs.Crash.{BeginsWithTexts, LeavesJournal, Stay
 ghost use Rattle.clock_journal.specs.Entries.{texts_in};
 ghost use Rattle.clock_terms.specs.Limits.{SetupFields};
 ghost use Rattle.clock_front.specs.{Effects.{effect as effect_of}, Fronts.{StandsForTexts}};
-ghost use Rattle.clock_server.specs.{Keeping.{IsRefused}, Starts.{IsLeftBy, IsNotResumed}};
+ghost use Rattle.clock_server.specs.{Accepted.{OwnStarts}, Keeping.{IsRefused}};
+ghost use Rattle.clock_server.specs.{Starts.{IsLeftBy, IsNotResumed}};
 ghost use Rattle.clock_server.specs.{Starts.{IsResumed}, inside.Taken.{taken_as}};
 
 use clock_front::{Effect, Front};
@@ -114,3 +115,10 @@ pub fn resume_auction<P: Processor, D: Durable, F: FnOnce(Recovered)>(
     journal.resume(recovered).or(Err(ResumeFault::Failed))?;
     Ok(recovered)
 }
+
+/// A law, which does nothing when it runs: if each text of a journal was accepted when it was
+/// logged, no start on what a crash left of it is refused. A start fails only if memory runs out or
+/// a call of the disk fails. The last premise is the clause `err` of [`resume_auction`].
+pub fn law_of_starts()
+    ensures { OwnStarts }
+{}

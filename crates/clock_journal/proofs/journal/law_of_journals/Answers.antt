@@ -1,6 +1,16 @@
 use Rattle.clock_journal.proofs.Chains.{chain_binds, journals_bind}
+use Rattle.clock_journal.proofs.Cuts.{cut_leaves}
+use Rattle.clock_journal.proofs.Fronts.{reads_first}
 use Rattle.clock_journal.proofs.Moments.{every_front}
+use Rattle.clock_journal.proofs.Whole.{read_back}
 use Rattle.clock_journal.proofs.journal.law_of_journals.Goals as goal
 
 pub returns : goal.returns
-returns c = record { as_many = chain_binds; any = journals_bind; every_front = every_front }
+returns c = record {
+  as_many = chain_binds;
+  any = journals_bind;
+  every_front = every_front;
+  whatever_follows = reads_first;
+  read_back = read_back;
+  cut_leaves = cut_leaves;
+}
