@@ -6,7 +6,7 @@ use std::process::Abort;
 
 /// Asserts that a value is the one expected.
 pub fn assert_is<T: Copy + PartialEq + Debug>(rt: &impl Abort, value: T, expected: T) {
-    assert_eq!(rt; value, expected);
+    assert_is_at(rt, (), value, expected);
 }
 
 /// Asserts that a value is the one that a row of a table expects. If it is not, the failure names

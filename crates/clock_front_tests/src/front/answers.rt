@@ -1,4 +1,5 @@
 //! Replies to requests that are sent one after the other.
+use super::heads::answers;
 use super::requests::{Reported, compare, reply_of, request_of, setup_of, text_of};
 use super::texts::{ACCEPTED, PUT};
 use crate::comparing::{assert_is, assert_is_at};
@@ -191,22 +192,19 @@ fn long_text(alloc: Global, asked: (&str, &str), parts: Repeated<'_>) -> Option<
 fn has_too_many(
     rt: &impl Abort,
     alloc: Global,
-    front: &mut Front<Plain>,
     asked: (&str, &str),
     parts: Repeated<'_>,
     page: &str,
 ) -> Option<()> {
     let text = long_text(alloc, asked, parts)?;
     let reported: Reported<'_> = ("422 Unprocessable Entity", page);
-    compare(rt, alloc, front, asked.0, text.as_str(), reported)
+    answers(rt, alloc, asked.0, text.as_str(), reported)
 }
 
 #[test]
 fn a_body_has_at_most_so_many_items(rt: HostRuntime) {
     for &(line, who, parts, page) in TOO_MANY {
-        let done = on_one_product(rt.alloc(), |front| {
-            has_too_many(&rt, rt.alloc(), front, (line, who), parts, page)
-        });
+        let done = has_too_many(&rt, rt.alloc(), (line, who), parts, page);
         assert_is_at(&rt, line, done, Some(()));
     }
 }

@@ -7,7 +7,7 @@ use super::crash_disk::{CrashDisk, Passed};
 use super::loops::{assert_written, client};
 use super::texts::{ACCEPTED, BIDS_OF_X, FIRST_ROUND, NO_BIDS, PUT, STATUS};
 use crate::comparing::{assert_is, assert_is_at};
-use crate::memory_acceptor::MemoryAcceptor;
+use crate::memory_acceptor::{Client, MemoryAcceptor};
 use clock_fixtures::ONE_PRODUCT;
 use clock_front::Front;
 use clock_journal::{Journal, Link, Recovered};
@@ -88,29 +88,6 @@ const RESTARTS: [(usize, &[&str], usize); 3] = [
     (406, &[NO_BIDS, ENDED, AFTER_THE_END], 406),
 ];
 
-/// Asserts that each crash during a start leaves the first bytes of the file.
-fn assert_left(rt: &impl Abort, moments: &[Passed], first: &[u8]) {
-    for passed in moments {
-        assert_is(rt, passed.synced.get(..first.len()), Some(first));
-    }
-}
-
-/// Starts a server on a file that a crash may have left. Compares what it replies and logs, and
-/// what crashes during its start leave.
-fn restart<R: Abort>(rt: &R, alloc: Global, file: &[u8]) -> Option<()> {
-    let (end, replies, length) = *RESTARTS.get(texts_in(file.len()))?;
-    let clients = [client(BIDS_OF_X), client(STATUS), client(PUT)];
-    let mut listed = MemoryAcceptor::new(alloc, &clients).ok()?;
-    let mut journal = Journal::new(CrashDisk::new(rt, alloc, file, 100), DIGEST);
-    let ended = generation(alloc, &mut journal, file, &mut listed, 3)?;
-    assert_is_at(rt, file.len(), ended, Ended::Served);
-    assert_written(rt, listed.closed(), replies);
-    assert_is_at(rt, file.len(), journal.disk().bytes().len(), length);
-    assert_left(rt, journal.disk().moments(), file.get(..end)?);
-    drop(journal);
-    Some(())
-}
-
 /// How a generation ended.
 #[derive(Clone, Copy, Debug, PartialEq, Eq)]
 enum Ended {
@@ -130,6 +107,63 @@ fn ended_by(end: Result<(), GenerationFault>) -> Ended {
     }
 }
 
+/// What a run must show: its row, how it ends, what it writes to each client that it accepts, and
+/// two files. Each crash leaves the first of these or more of the file, and if the second is not
+/// empty, a prefix of it.
+type Run<'a> = (usize, Ended, &'a [&'a str], &'a [u8], &'a [u8]);
+
+/// Asserts that bytes begin with these.
+fn assert_begins(rt: &impl Abort, row: usize, bytes: &[u8], first: &[u8]) {
+    assert_is_at(rt, row, bytes.get(..first.len()), Some(first));
+}
+
+/// Asserts what each crash of a run leaves.
+fn assert_left(rt: &impl Abort, moments: &[Passed], run: Run<'_>) {
+    let (row, _ended, _replies, first, whole) = run;
+    for passed in moments {
+        assert_begins(rt, row, passed.synced.as_slice(), first);
+        if !whole.is_empty() {
+            assert_begins(rt, row, whole, passed.synced.as_slice());
+            assert_begins(rt, row, whole, passed.written.as_slice());
+        }
+    }
+}
+
+/// Runs a server for these clients on a file, and a disk of which only the first `calls` calls
+/// succeed. Compares how it ends, what it writes, and what crashes leave. Returns the file then.
+/// Only here do the tests have a server's connections and its journal.
+fn run_server<R: Abort>(
+    rt: &R,
+    alloc: Global,
+    file: &[u8],
+    calls: u64,
+    clients: &[Client<'_>],
+    run: Run<'_>,
+) -> Option<Vec<u8>> {
+    let mut listed = MemoryAcceptor::new(alloc, clients).ok()?;
+    let mut journal = Journal::new(CrashDisk::new(rt, alloc, file, calls), DIGEST);
+    let count = clients.len() as u64;
+    let ended = generation(alloc, &mut journal, file, &mut listed, count);
+    assert_is_at(rt, run.0, ended, Some(run.1));
+    assert_written(rt, listed.closed(), run.2);
+    drop(listed);
+    assert_left(rt, journal.disk().moments(), run);
+    let bytes = journal.disk().bytes().to_vec(alloc).ok();
+    drop(journal);
+    bytes
+}
+
+/// Starts a server on a file that a crash may have left. Compares what it replies and logs, and
+/// what crashes during its start leave.
+fn restart<R: Abort>(rt: &R, alloc: Global, file: &[u8]) -> Option<()> {
+    let (end, replies, length) = *RESTARTS.get(texts_in(file.len()))?;
+    let clients = [client(BIDS_OF_X), client(STATUS), client(PUT)];
+    let run: Run<'_> = (file.len(), Ended::Served, replies, file.get(..end)?, b"");
+    let bytes = run_server(rt, alloc, file, 100, &clients, run)?;
+    assert_is_at(rt, file.len(), bytes.len(), length);
+    Some(())
+}
+
 /// How a server ends on an empty file if this number of calls of its disk succeed, and what it
 /// writes to each client that it accepts. A start makes four calls, and each text three.
 fn first_run(calls: u64) -> (Ended, &'static [&'static str]) {
@@ -141,49 +175,23 @@ fn first_run(calls: u64) -> (Ended, &'static [&'static str]) {
     }
 }
 
-/// Asserts that bytes are the first of a file.
-fn assert_begins(rt: &impl Abort, calls: u64, file: &[u8], first: &[u8]) {
-    assert_is_at(rt, calls, file.get(..first.len()), Some(first));
-}
-
 /// Runs a server until a call of its disk fails. Compares how it ends and what it writes, and
-/// asserts that a crash at each moment leaves a prefix of `file`.
-fn crash_at<R: Abort>(rt: &R, alloc: Global, calls: u64, file: &[u8]) -> Option<()> {
-    let (expected, replies) = first_run(calls);
+/// asserts that a crash at each moment leaves a prefix of `whole`. Returns the file.
+fn crash_at<R: Abort>(rt: &R, alloc: Global, calls: u64, whole: &[u8]) -> Option<Vec<u8>> {
+    let (ended, replies) = first_run(calls);
     let clients = [client(PUT), client(CLOSE)];
-    let mut listed = MemoryAcceptor::new(alloc, &clients).ok()?;
-    let mut journal = Journal::new(CrashDisk::new(rt, alloc, b"", calls), DIGEST);
-    let ended = generation(alloc, &mut journal, b"", &mut listed, 2)?;
-    assert_is_at(rt, calls, ended, expected);
-    assert_written(rt, listed.closed(), replies);
-    for passed in journal.disk().moments() {
-        assert_begins(rt, calls, file, passed.synced.as_slice());
-        assert_begins(rt, calls, file, passed.written.as_slice());
-    }
-    drop(journal);
-    Some(())
-}
-
-/// Returns the file of a server whose disk does not fail.
-fn whole_file<R: Abort>(rt: &R, alloc: Global) -> Option<Vec<u8>> {
-    let clients = [client(PUT), client(CLOSE)];
-    let mut listed = MemoryAcceptor::new(alloc, &clients).ok()?;
-    let mut journal = Journal::new(CrashDisk::new(rt, alloc, b"", 100), DIGEST);
-    let ended = generation(alloc, &mut journal, b"", &mut listed, 2)?;
-    assert_is(rt, ended, Ended::Served);
-    let file = journal.disk().bytes().to_vec(alloc).ok();
-    drop(journal);
-    file
+    let run: Run<'_> = (calls as usize, ended, replies, b"", whole);
+    run_server(rt, alloc, b"", calls, &clients, run)
 }
 
 /// Runs a server until each call of its disk in turn is the first to fail. Then starts another one
 /// on each prefix of the file: these are all files that a crash at some moment left.
 fn crash_and_restart<R: Abort>(rt: &R, alloc: Global) -> Option<()> {
-    let file = whole_file(rt, alloc)?;
+    let file = crash_at(rt, alloc, 100, b"")?;
     assert_is(rt, file.len(), 406);
     for calls in 0..=10 {
-        let done = crash_at(rt, alloc, calls, file.as_slice());
-        assert_is_at(rt, calls, done, Some(()));
+        let done = crash_at(rt, alloc, calls, file.as_slice()).is_some();
+        assert_is_at(rt, calls, done, true);
     }
     for length in 0..=406usize {
         let done = restart(rt, alloc, file.get(..length)?);

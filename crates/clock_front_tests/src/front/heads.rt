@@ -69,17 +69,23 @@ const TEXTS: &[(&str, Reported<'static>)] = &[
     ("GET /v1/status HTTP/1.1\r\na: b\nc: d\r\n\r\n", BAD_HEAD),
 ];
 
-/// Asserts the reply to a text as the only one of a front.
-fn answers(rt: &impl Abort, alloc: Global, text: &str, reported: Reported<'_>) -> Option<()> {
+/// Asserts the reply to the text of a row, as the only one of a front.
+pub(super) fn answers(
+    rt: &impl Abort,
+    alloc: Global,
+    row: &str,
+    text: &str,
+    reported: Reported<'_>,
+) -> Option<()> {
     on_one_product(alloc, |front| {
-        compare(rt, alloc, front, text, text, reported)
+        compare(rt, alloc, front, row, text, reported)
     })
 }
 
 #[test]
 fn header_lines_are_answered_by_their_faults(rt: HostRuntime) {
     for &(text, reported) in TEXTS {
-        let done = answers(&rt, rt.alloc(), text, reported);
+        let done = answers(&rt, rt.alloc(), text, text, reported);
         assert_is_at(&rt, text, done, Some(()));
     }
 }
@@ -108,7 +114,7 @@ fn long_head_answers(
 ) -> Option<()> {
     let text = repeated(alloc, parts)?;
     assert_is_at(rt, parts.2, text.len(), length);
-    answers(rt, alloc, text.as_str(), reported)
+    answers(rt, alloc, text.as_str(), text.as_str(), reported)
 }
 
 #[test]
