@@ -1,12 +1,13 @@
 //! Replies to requests that are sent one after the other.
 use super::heads::answers;
 use super::requests::{Reported, compare, reply_of, request_of, setup_of, text_of};
-use super::texts::{ACCEPTED, PUT};
 use crate::comparing::{assert_is, assert_is_at};
 use crate::front::example::{on_front, on_one_product};
 use crate::repeated::{Repeated, repeated};
 use clock_device::{Items, Text};
-use clock_fixtures::{ACTIVITY_LIMIT, AT_THE_HIGHEST, GRANULES_AND_INCREMENTS, ONE_PRODUCT};
+use clock_fixtures::{
+    ACCEPTED, ACTIVITY_LIMIT, AT_THE_HIGHEST, GRANULES_AND_INCREMENTS, ONE_PRODUCT, PUT,
+};
 use clock_front::{Front, Reply, run};
 use clock_http::Code;
 use clock_processor::Plain;

@@ -1,10 +1,10 @@
 //! Sources that never end.
 ghost use Rattle.std.specs.Prelude.{None, false};
 
-use super::texts::LONG_HEAD;
 use crate::comparing::{assert_is_at, assert_reads_at};
 use crate::front::example::on_one_product;
 use clock_device::{ListSink, Source, Stop};
+use clock_fixtures::LONG_HEAD;
 use clock_front::{Front, StreamFault, serve_stream};
 use clock_http::Code;
 use clock_processor::Plain;

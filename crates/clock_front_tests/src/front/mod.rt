@@ -1,8 +1,6 @@
 //! Requests, hubs, and streams, from their bytes to those of their replies.
 mod answers;
 mod bodies;
-mod crash_disk;
-mod crashes;
 mod endless;
 mod events;
 mod example;
@@ -11,10 +9,7 @@ mod heads;
 mod hostile;
 mod hubs;
 mod isolation;
-mod loopback;
-mod loops;
 mod pieces;
 mod requests;
 mod routes;
 mod streams;
-mod texts;

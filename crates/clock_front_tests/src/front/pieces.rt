@@ -3,10 +3,11 @@ use super::events::{connected, piece, push_byte};
 use super::hubs;
 use super::hubs::{fed, finished, on_hub};
 use super::requests::setup_of;
-use super::texts::{ACCEPTED, BIDS_OF_Y, CUT_SHORT, FIRST_ROUND, NO_BIDS, PUT, STATUS};
 use crate::comparing::{assert_is, assert_is_at, assert_reads_at};
 use clock_device::Text;
-use clock_fixtures::ONE_PRODUCT;
+use clock_fixtures::{
+    ACCEPTED, BIDS_OF_Y, CUT_SHORT, FIRST_ROUND, NO_BIDS, ONE_PRODUCT, PUT, STATUS,
+};
 use clock_front::{Conn, Event, EventReplies, EventReply, Hub, HubFault, run_events};
 use clock_processor::Plain;
 use std::alloc::Global;

@@ -2,10 +2,10 @@
 ghost use Rattle.std.specs.Prelude.{◌≤◌};
 
 use super::requests::reply_of;
-use super::texts::{ACCEPTED, BIDS_OF_X, NO_SHEET, PUT, SHEET};
 use crate::comparing::assert_is_at;
 use crate::front::example::on_one_product;
 use clock_device::{ListSink, ListSource, NoMemory, Stop, Text};
+use clock_fixtures::{ACCEPTED, BIDS_OF_X, NO_SHEET, PUT, SHEET};
 use clock_front::{Front, StreamFault, serve_stream};
 use clock_http::Code;
 use clock_processor::Plain;

@@ -3,12 +3,11 @@
 ghost use Rattle.std.specs.Prelude.{◌≡◌, [], IfOk, false};
 ghost use Rattle.clock_front.specs.Fronts.{StandsForTexts};
 
-use super::crash_disk::{CrashDisk, Passed};
-use super::loops::{assert_written, client};
-use super::texts::{ACCEPTED, BIDS_OF_X, FIRST_ROUND, NO_BIDS, PUT, STATUS};
 use crate::comparing::{assert_is, assert_is_at};
+use crate::crash_disk::{CrashDisk, Passed};
+use crate::loops::{assert_written, client};
 use crate::memory_acceptor::{Client, MemoryAcceptor};
-use clock_fixtures::ONE_PRODUCT;
+use clock_fixtures::{ACCEPTED, BIDS_OF_X, FIRST_ROUND, NO_BIDS, ONE_PRODUCT, PUT, STATUS};
 use clock_front::Front;
 use clock_journal::{Journal, Link, Recovered};
 use clock_processor::Plain;

@@ -1,7 +1,7 @@
 -- One more moment has passed.
 use Rattle.std.proofs.Common.{◌≡◌, ◌++◌, ℕ, List, [], ◌∷◌, Some, refl, ap, ◌∙◌}
 use Rattle.clock_journal.specs.Disks.{Moment}
-use Rattle.clock_front_tests.specs.inside.Moments.{newest_first}
+use Rattle.clock_server_tests.specs.inside.Moments.{newest_first}
 
 newest-push : {A : Type 0} (shown : A → Moment) (list : List A) (one : A) (past : List Moment)
     → newest_first shown (list ++ one ∷ []) past ≡ shown one ∷ newest_first shown list past

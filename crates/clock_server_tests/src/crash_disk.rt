@@ -1,6 +1,6 @@
 //! A disk in memory that remembers what a crash at each moment could have left.
 ghost use Rattle.std.specs.Prelude.{◌≡◌, ◌++◌, ◌∷◌, [], Some, false};
-ghost use Rattle.clock_front_tests.specs.inside.Moments.{newest_first};
+ghost use Rattle.clock_server_tests.specs.inside.Moments.{newest_first};
 
 use clock_device::Failed;
 use clock_journal::Durable;

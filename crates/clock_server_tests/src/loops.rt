@@ -2,12 +2,11 @@
 //! request can't be logged.
 ghost use Rattle.std.specs.Prelude.{◌≡◌, false};
 
-use super::texts::{ACCEPTED, CUT_SHORT, FIRST_ROUND, PUT, STATUS};
 use crate::comparing::{assert_is, assert_is_at, assert_reads_at};
-use crate::front::example::on_one_product;
+use crate::example::on_one_product;
 use crate::memory_acceptor::{Client, Closed, MemoryAcceptor};
 use clock_device::Stop;
-use clock_fixtures::MemoryDisk;
+use clock_fixtures::{ACCEPTED, CUT_SHORT, FIRST_ROUND, MemoryDisk, PUT, STATUS};
 use clock_front::Front;
 use clock_journal::Journal;
 use clock_processor::Plain;

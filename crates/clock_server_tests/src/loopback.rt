@@ -1,7 +1,7 @@
 //! Connections of this machine, made and written to by clients before any is accepted.
-use super::texts::{ACCEPTED, CUT_SHORT, FIRST_ROUND, PUT, STATUS};
 use crate::comparing::assert_is;
-use crate::front::example::on_one_product;
+use crate::example::on_one_product;
+use clock_fixtures::{ACCEPTED, CUT_SHORT, FIRST_ROUND, PUT, STATUS};
 use clock_server::serve_on;
 use std::alloc::Global;
 use std::io::{self, Read, Write};

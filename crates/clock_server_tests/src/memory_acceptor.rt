@@ -3,7 +3,7 @@ ghost use Rattle.std.specs.Prelude.{None, Some, true, false};
 ghost use Rattle.clock_device.specs.{Reports.{unread, unused}, SourceState.{source_report}};
 ghost use Rattle.clock_device.specs.SinkState.{sink_report};
 ghost use Rattle.clock_server.specs.{Exchanges.{Exchange}, Keeping.{GrowsBy}};
-ghost use Rattle.clock_front_tests.specs.MemoryAcceptor.{MemoryAcceptorState};
+ghost use Rattle.clock_server_tests.specs.MemoryAcceptor.{MemoryAcceptorState};
 
 use clock_device::{Bounded, Failed, Items, ListSink, ListSource, NoMemory, Stop};
 use clock_server::{Acceptor, Connection};

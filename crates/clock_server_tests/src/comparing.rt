@@ -1,0 +1,26 @@
+//! Assertions in functions of their own, each of which is proved once. Written out at its use, an
+//! assertion takes as much proof as a whole small test.
+
+use std::fmt::Debug;
+use std::process::Abort;
+
+/// Asserts that a value is the one expected.
+pub fn assert_is<T: Copy + PartialEq + Debug>(rt: &impl Abort, value: T, expected: T) {
+    assert_is_at(rt, (), value, expected);
+}
+
+/// Asserts that a value is the one that a row of a table expects. If it is not, the failure names
+/// the row.
+pub fn assert_is_at<T: Copy + PartialEq + Debug, R: Copy + Debug>(
+    rt: &impl Abort,
+    row: R,
+    value: T,
+    expected: T,
+) {
+    assert_eq!(rt; value, expected, "in row {row:?}");
+}
+
+/// Like [`assert_is_at`], for bytes that are text, which a failure shows as text.
+pub fn assert_reads_at<R: Copy + Debug>(rt: &impl Abort, row: R, bytes: &[u8], expected: &str) {
+    assert_is_at(rt, row, std::str::from_utf8(bytes).ok(), Some(expected));
+}
