@@ -5,28 +5,38 @@ import socket
 
 SECONDS = 60
 
-# Ports below those that the system gives to clients (from 32,768 on), in random order and none twice. Otherwise servers
-# that start at the same time, from one script or several, would race for a port.
-PORTS = range(10_000, 32_768)
+# Ports below those that the system gives to clients (from 32,768 on), in random order. A UDP socket with the port's
+# number marks it as taken until this process ends. Otherwise servers that start at the same time, from one script or
+# several, would race for a port.
+PORTS = range(10_000, 32_700)
 DRAW = random.SystemRandom()
-TAKEN: set[int] = set()
+MARKS: list[socket.socket] = []
 
 
-def free_port() -> int:
-    """A port on which nothing listens, and which no other call returned."""
+def free_port(count: int = 1) -> int:
+    """The first of `count` ports in a row, on which nothing listens, and which no script that still runs was given."""
     while True:
-        port = DRAW.choice(PORTS)
-        with socket.socket() as free:
-            # Until a process that another thread is starting runs its own program, it has this socket open too. A
-            # server may then listen on the port only if both sockets say so
-            free.setsockopt(socket.SOL_SOCKET, socket.SO_REUSEADDR, 1)
-            try:
-                free.bind(("127.0.0.1", port))
-            except OSError:
-                continue
-        if port not in TAKEN:
-            TAKEN.add(port)
-            return port
+        first = DRAW.choice(PORTS)
+        marks = [mark for port in range(first, first + count) if (mark := marked(port))]
+        MARKS.extend(marks)
+        if len(marks) == count:
+            return first
+
+
+def marked(port: int) -> socket.socket | None:
+    """The mark of a free port."""
+    mark = socket.socket(type=socket.SOCK_DGRAM)
+    with socket.socket() as free:
+        # Until a process that another thread is starting runs its own program, it has this socket open too. A server
+        # may then listen on the port only if both sockets say so
+        free.setsockopt(socket.SOL_SOCKET, socket.SO_REUSEADDR, 1)
+        try:
+            mark.bind(("127.0.0.1", port))
+            free.bind(("127.0.0.1", port))
+        except OSError:
+            mark.close()
+            return None
+    return mark
 
 
 def compact(value: object) -> bytes:

@@ -3,11 +3,12 @@ import atexit
 import contextlib
 import http.client
 import pathlib
-import random
 import signal
 import socket
 import subprocess
 import sys
+
+from loopback import free_port
 
 TOKEN = "PRACTICEPRACTICE"
 SEEN: list[str] = []
@@ -20,20 +21,11 @@ def expect(what: str, found: object, wanted: object = True) -> None:
     SEEN.append(what)
 
 
-def free_ports() -> int:
-    """A port that is free, and whose next one is free too."""
-    while True:
-        port = random.SystemRandom().randrange(10_000, 32_000)
-        with contextlib.suppress(OSError):
-            with socket.create_server(("127.0.0.1", port)), socket.create_server(("127.0.0.1", port + 1)):
-                return port
-
-
 class Practice:
     """One practice of a clone, in a folder of its own."""
 
     def __init__(self, clone: pathlib.Path, folder: pathlib.Path, *words: str) -> None:
-        self.folder, self.port, self.said = folder, free_ports(), ""
+        self.folder, self.port, self.said = folder, free_port(2), ""
         command = [clone / "examples" / "practice", "--folder", folder, "--port", str(self.port), *words]
         self.process = subprocess.Popen(
             command, stdout=subprocess.PIPE, stderr=subprocess.STDOUT, text=True, start_new_session=True

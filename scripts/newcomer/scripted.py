@@ -5,8 +5,9 @@ import socket
 import subprocess
 from typing import Any
 
+from loopback import free_port
 from newcomer.ending import check_end
-from newcomer.practice import TOKEN, Practice, expect, free_ports
+from newcomer.practice import TOKEN, Practice, expect
 
 
 class Kinds:
@@ -87,7 +88,7 @@ def refusals(clone: pathlib.Path, work: pathlib.Path, program: pathlib.Path, kin
             (["--setup", one, "--values", readme], "README.md"),
             (["--port", port], f"Port {port}: Address already in use. Choose another one with --port."),
         ]:
-            command = [clone / "examples" / "practice", "--program", program, "--port", str(free_ports()), *words]
+            command = [clone / "examples" / "practice", "--program", program, "--port", str(free_port(2)), *words]
             done = subprocess.run(command, capture_output=True, text=True)
             text = done.stdout + done.stderr
             found = (done.returncode != 0, said in text, "Traceback" in text)
