@@ -1,4 +1,5 @@
 """Requests to a server on this machine, each over one connection."""
+import collections
 import json
 import random
 import socket
@@ -6,15 +7,15 @@ import socket
 SECONDS = 60
 
 # Ports below those that the system gives to clients (from 32,768 on), in random order. A UDP socket with the port's
-# number marks it as taken until this process ends. Otherwise servers that start at the same time, from one script or
-# several, would race for a port.
+# number marks it as taken, for all scripts that run, until this script has drawn 300 more. Otherwise servers that start
+# at the same time would race for a port.
 PORTS = range(10_000, 32_700)
 DRAW = random.SystemRandom()
-MARKS: list[socket.socket] = []
+MARKS: collections.deque[socket.socket] = collections.deque(maxlen=300)
 
 
 def free_port(count: int = 1) -> int:
-    """The first of `count` ports in a row, on which nothing listens, and which no script that still runs was given."""
+    """The first of `count` ports in a row, on which nothing listens, and which no script has marked."""
     while True:
         first = DRAW.choice(PORTS)
         marks = [mark for port in range(first, first + count) if (mark := marked(port))]

@@ -1,5 +1,7 @@
 // Random sheets, sent to the program and judged by rules.js; and the form of sheet.js. Arguments: the folder of the pages, the program. See web/check_rules.
 import { spawn } from "node:child_process";
+import { randomInt } from "node:crypto";
+import dgram from "node:dgram";
 import fs from "node:fs";
 import http from "node:http";
 import net from "node:net";
@@ -20,10 +22,14 @@ const below = (n) => {
 };
 const from = (low, high) => low + below(high - low + 1);
 
+// As scripts/loopback.py draws a port: a UDP socket with its number marks it as taken, until this script ends.
 const freePort = () => new Promise((done) => {
-  const server = net.createServer().listen(0, "127.0.0.1", () => {
-    const { port } = server.address();
-    server.close(() => done(port));
+  const port = randomInt(10_000, 32_700), again = () => done(freePort());
+  const mark = dgram.createSocket("udp4").unref().on("error", again);
+  mark.bind(port, "127.0.0.1", () => {
+    const server = net.createServer().on("error", again).listen(port, "127.0.0.1", () => {
+      server.close(() => done(port));
+    });
   });
 });
 
