@@ -1,10 +1,9 @@
 -- One step of the pass that checks a sheet. If the first bids are good, the last bid before the next one for its
 -- product decides whether that has a fault, and the others decide the first fault after it.
-use Rattle.std.proofs.Common.{◌≡◌, ℕ, ◌+◌, ◌-◌, ◌*◌, ◌<◌, ◌≤◌, Bor, List, length, take, drop, refl, ap, ◌∙◌, sym, subst}
+use Rattle.std.proofs.Common.{◌≡◌, ℕ, ◌+◌, ◌*◌, ◌<◌, ◌≤◌, Bor, List, length, take, drop, refl, ap, ◌∙◌, sym, subst}
 use Rattle.std.proofs.Common.{arith, get_or}
 use Rattle.std.specs.Prelude.{Option, Some, None}
 use Rattle.std.specs.Option.{option_copied}
-use Rattle.std.proofs.lemmas.Nat.{mul-le}
 use Rattle.std.proofs.lemmas.List.{get_or_default, take_all, drop_all}
 use Rattle.clock_terms.specs.declared.setup.Product.{Product}
 use Rattle.clock_terms.specs.declared.prices.PricePair.{PricePair}
@@ -51,27 +50,11 @@ module _ (products : List Product) (prices : List PricePair) (demands : List ℕ
   all_taken = all.taken_is
       ∙ ap (λ (list : List Bid). activity products (asked_demands (length products) list)) (take_all n bids end)
 
--- the activity when a quantity replaces that of the last bid, if there is one
+-- the units of the last bid are part of the activity
 pub held_some : (units : ℕ) {taken : ℕ} {last : Option (Bor Bid)} {one : Bor Bid} → last ≡ Some one
     → units * quantity_of (option_copied last) ≤ taken → units * one.now.quantity ≤ taken
 held_some units {taken} is held =
     subst (λ (bid : Option (Bor Bid)). units * quantity_of (option_copied bid) ≤ taken) is held
-
-pub exact_some : (units taken quantity : ℕ) {next : ℕ} {last : Option (Bor Bid)} {one : Bor Bid} → last ≡ Some one
-    → units * quantity_of (option_copied last) ≤ taken → next ≡ taken - units * one.now.quantity + units * quantity
-    → next + units * quantity_of (option_copied last) ≡ taken + units * quantity
-exact_some units taken quantity is held reported =
-    omega (arith, held, reported, ap (λ (bid : Option (Bor Bid)). units * quantity_of (option_copied bid)) is)
-
-pub exact_none : (units taken quantity : ℕ) {next : ℕ} {last : Option (Bor Bid)} → last ≡ None
-    → next ≡ taken + units * quantity → next + units * quantity_of (option_copied last) ≡ taken + units * quantity
-exact_none units taken quantity is reported =
-    omega (arith, reported, ap (λ (bid : Option (Bor Bid)). units * quantity_of (option_copied bid)) is)
-
-pub taken_most : (units taken quantity : ℕ) {next : ℕ} (last : Option Bid) → next + units * quantity_of last
-    ≡ taken + units * quantity → units ≤ most_units → quantity ≤ most_supply → next ≤ taken + most_units * most_supply
-taken_most units taken quantity last exact few_units few =
-    omega (arith, exact, mul-le units quantity most_units most_supply few_units few)
 
 module _ (products : List Product) (prices : List PricePair) (demands : List ℕ) (bids : List Bid) (i taken : ℕ)
     (so_far : AreJudged products prices demands bids i taken) (within : i < length bids) (seen : List Product)

@@ -1,12 +1,12 @@
-ghost use Rattle.std.specs.Prelude.{◌≡◌, ◌<◌, ◌≤◌, ℕ, Some, None, length, map, take};
+ghost use Rattle.std.specs.Prelude.{◌≡◌, ◌+◌, ◌*◌, ◌<◌, ◌≤◌, ℕ, Some, None, length, map, take};
 ghost use Rattle.std.specs.Prelude.{slice_index_or, All, Err, OnOk, OnSome, IfOk, IfErr};
 ghost use Rattle.std.specs.Option.{option_copied};
-ghost use Rattle.clock_terms.specs.Limits.{IsRow, public_setup};
+ghost use Rattle.clock_terms.specs.Limits.{IsRow, most_supply, most_units, public_setup};
 ghost use Rattle.clock_terms.specs.Faults.{first_fault, IsFirstFault};
 ghost use Rattle.clock_terms.specs.Eligibility as eligibilities;
 ghost use Rattle.clock_bids.specs.{Holding.{holding_of}, inside.Parts.{checks_of_bids}};
 ghost use Rattle.clock_bids.specs.Sheet.{IsGoodSheet, asked_demands, most_bids, sheet_fault};
-ghost use Rattle.clock_bids.specs.inside.Chains.{bid_at, checks_by_last, last_bids};
+ghost use Rattle.clock_bids.specs.inside.Chains.{bid_at, checks_by_last, last_bids, quantity_of};
 ghost use Rattle.clock_bids.specs.inside.LastBids.{AreLastPlaces};
 
 use crate::sheet::{Bid, BidFault, Own, Sheet};
@@ -45,10 +45,10 @@ pub fn check_sheet(
         (public_setup setup.now) own.entry.round prices.now (holding_of own.entry) bids.now)) }
     ensures many { most_bids < length bids.now → result ≡ Err BidFault.TooMany }
 {
-    if bids.len() > MOST_BIDS {
-        return Err(BidFault::TooMany);
-    }
-    take_sheet(alloc, setup, prices, own, Items::from_slice(alloc, bids)?)
+    check_bids(alloc, setup, prices, own, bids)?;
+    Ok(Sheet {
+        bids: Items::from_slice(alloc, bids)?,
+    })
 }
 
 /// Like [`check_sheet`], but moves `bids` instead of copying them.
@@ -71,11 +71,32 @@ pub fn take_sheet(
         (public_setup setup.now) own.entry.round prices.now (holding_of own.entry) bids)) }
     ensures many { most_bids < length bids → result ≡ Err BidFault.TooMany }
 {
-    let list = bids.as_slice();
-    if list.len() > MOST_BIDS {
+    match check_bids(alloc, setup, prices, own, bids.as_slice()) {
+        Ok(()) => Ok(Sheet { bids }),
+        Err(fault) => Err(fault),
+    }
+}
+
+/// Checks the bids of a sheet like [`check_sheet`], but returns no copy of them.
+fn check_bids(
+    alloc: Global,
+    setup: &Setup,
+    prices: &Prices,
+    own: Own,
+    bids: &[Bid],
+) -> Result<(), BidFault>
+    requires prices { length prices.now ≡ length setup.now.products }
+    requires demands { IsRow setup.now.products own.demands.now }
+    ensures good { OnOk result (IsGoodSheet (public_setup setup.now) own.entry.round prices.now
+        (holding_of own.entry) bids.now) }
+    ensures fault { IfErr result (IsFirstFault BidFault.NoMemory (sheet_fault
+        (public_setup setup.now) own.entry.round prices.now (holding_of own.entry) bids.now)) }
+    ensures many { most_bids < length bids.now → result ≡ Err BidFault.TooMany }
+{
+    if bids.len() > MOST_BIDS {
         return Err(BidFault::TooMany);
     }
-    let taken = judge(alloc, setup, prices.as_slice(), own.demands, list)?;
+    let taken = judge(alloc, setup, prices.as_slice(), own.demands, bids)?;
     let limit = match own.round {
         1 => own.eligibility as u128,
         _ => own.eligibility as u128 * setup.limit as u128 / 100,
@@ -83,7 +104,7 @@ pub fn take_sheet(
     if taken as u128 > limit {
         return Err(BidFault::OverActivity);
     }
-    Ok(Sheet { bids })
+    Ok(())
 }
 
 /// Checks each bid against the last earlier bid for its product, and returns the requested activity
@@ -132,12 +153,27 @@ fn judge(
             return Err(fault);
         }
         let units = products[bid.product as usize].units;
-        taken = match last {
-            Some(last) => taken - units * last.quantity + units * bid.quantity,
-            None => taken + units * bid.quantity,
-        };
+        taken = taken_with(taken, units, last, bid.quantity);
     }
     Ok(taken)
+}
+
+/// Returns the activity when `quantity` blocks, of `units` bidding units each, replace those of the
+/// last bid for a product, if there is one.
+fn taken_with(taken: u64, units: u64, last: Option<&Bid>, quantity: u64) -> u64
+    requires units { units ≤ most_units }
+    requires quantity { quantity ≤ most_supply }
+    requires taken { taken ≤ most_units * most_supply * most_bids }
+    requires held { units * quantity_of (option_copied last) ≤ taken }
+    ensures exact { result + units * quantity_of (option_copied last.entry)
+        ≡ taken + units * quantity }
+    ensures most { result ≤ taken + most_units * most_supply }
+{
+    let more = taken + units * quantity;
+    match last {
+        Some(last) => more - units * last.quantity,
+        None => more,
+    }
 }
 
 /// Returns the bid at index `place - 1` if it is for `product`. It is then the last bid for it

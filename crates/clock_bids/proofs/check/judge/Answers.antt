@@ -1,20 +1,19 @@
 -- One step of the loop: each of the three ways to find the last bid for the product finds it, and with it the bid's
 -- first fault is the one of the rules. The activity so far has the units of that last bid, so that the subtraction is
 -- safe.
-use Rattle.std.proofs.Common.{◌≡◌, ℕ, ◌+◌, ◌*◌, ◌≤◌, List, length, take, ◌∙◌, ap, subst, arith, get_or, rules}
+use Rattle.std.proofs.Common.{◌≡◌, ◌+◌, ◌*◌, ◌≤◌, List, length, take, ◌∙◌, ap, subst, arith, get_or, rules}
 use Rattle.std.specs.Prelude.{None}
 use Rattle.std.specs.Option.{option_copied}
 use Rattle.clock_terms.specs.declared.setup.Product.{Product}
-use Rattle.clock_terms.specs.Limits.{most_supply, most_units}
 use Rattle.clock_bids.specs.inside.Chains.{last_bids, quantity_of}
 use Rattle.clock_bids.specs.inside.LastBids.{AreLastPlaces}
 use Rattle.clock_bids.proofs.Tables.{no_bid}
 use Rattle.clock_bids.proofs.LastBids.{none_below, known_all, last_read, below_more}
-use Rattle.clock_bids.proofs.Judging.{held_some, exact_some, exact_none, taken_most, none_judged, none_at_fault}
+use Rattle.clock_bids.proofs.Judging.{none_judged, none_at_fault}
 use Rattle.clock_bids.proofs.Judging.{all_taken, fault_found, known, units_held, judged_more}
 use Rattle.clock_bids.proofs.check.judge.Goals as goal
 use Rattle.clock_bids.proofs.check.judge.Goals.{In_default-bid_fault, then-bid-least, else-bid-least+in-Some}
-use Rattle.clock_bids.proofs.check.judge.Goals.{else-bid-least+in_default+in_ok-places, in-Some-last, in-None}
+use Rattle.clock_bids.proofs.check.judge.Goals.{else-bid-least+in_default+in_ok-places}
 
 pub loop-i-init : goal.loop-i-init
 loop-i-init c = record {
@@ -74,11 +73,20 @@ held c one = units_held c.args.setup.now.products c.args.prices.now c.args.deman
     (option_copied c.if-bid-least.last) c.bid_fault.result (c.as_slice-products.ensures
     ∙ ap (λ s. s.products) c.setup.view_is) (last_is c) c.bid_fault.ensures c.in_default-bid_fault.is one
 
-pub overflow_sub-taken : goal.overflow_sub-taken
-overflow_sub-taken c =
-    let one = c.index-products-bid.result in
-    held_some (get_or c.as_slice-products.result.now (get_or c.args.bids.now c.loop-i.i no_bid).product one).units
-    c.in-Some-last.is (held (goal.at.overflow_sub-taken c).In_default-bid_fault one)
+pub taken_with-taken-requires-clause-units : goal.taken_with-taken-requires-clause-units
+taken_with-taken-requires-clause-units c = search rules
+
+pub taken_with-taken-requires-clause-quantity : goal.taken_with-taken-requires-clause-quantity
+taken_with-taken-requires-clause-quantity c = search rules
+
+pub taken_with-taken-requires-clause-taken : goal.taken_with-taken-requires-clause-taken
+taken_with-taken-requires-clause-taken c =
+    let small = c.loop-i.invariant.judged.small in
+    omega (arith, small, c.requires.few, c.loop-i-test.true)
+
+pub taken_with-taken-requires-clause-held : goal.taken_with-taken-requires-clause-held
+taken_with-taken-requires-clause-held c =
+    held (goal.at.taken_with-taken-requires-clause-held c).In_default-bid_fault c.index-products-bid.result
 
 pub loop-i-preserved : goal.loop-i-preserved
 loop-i-preserved c =
@@ -90,22 +98,11 @@ loop-i-preserved c =
     let here = known list c.args.prices.now c.args.demands.now bids i c.loop-i.taken c.loop-i.invariant.judged
     c.loop-i-test.true c.as_slice-products.result.now (option_copied c.if-bid-least.last) c.bid_fault.result same
     (last_is at) c.bid_fault.ensures c.in_default-bid_fault.is c.index-products-bid.result in
-    let units : ℕ =
-    (get_or c.as_slice-products.result.now (get_or bids i no_bid).product c.index-products-bid.result).units in
-    let exact : c.match-last.taken + units * quantity_of (option_copied c.if-bid-least.last)
-    ≡ c.loop-i.taken + units * (get_or bids i no_bid).quantity = elim c.match-last.branch [
-      | in-Some-last w ↦ exact_some units c.loop-i.taken (get_or bids i no_bid).quantity w.in-Some-last.is
-          (held at c.index-products-bid.result) w.taken-is
-      | in-None w ↦ exact_none units c.loop-i.taken (get_or bids i no_bid).quantity w.in-None.is w.taken-is
-    ] in
-    let few_units : units ≤ most_units = search rules in
-    let few : (get_or bids i no_bid).quantity ≤ most_supply = search rules in
     record {
       judged = judged_more list c.args.prices.now c.args.demands.now bids i c.loop-i.taken c.loop-i.invariant.judged
           c.loop-i-test.true c.as_slice-products.result.now (option_copied c.if-bid-least.last) c.bid_fault.result same
-          (last_is at) c.bid_fault.ensures c.in_default-bid_fault.is c.index-products-bid.result c.match-last.taken
-          exact (taken_most units c.loop-i.taken (get_or bids i no_bid).quantity
-          (option_copied c.if-bid-least.last) exact few_units few);
+          (last_is at) c.bid_fault.ensures c.in_default-bid_fault.is c.index-products-bid.result
+          c.taken_with-taken.result c.taken_with-taken.ensures.exact c.taken_with-taken.ensures.most;
       below = elim c.if-bid-least.branch [
         | then-bid-least w ↦
             let next : c.if-bid-least.least ≡ (get_or bids i no_bid).product + 1 =
