@@ -1,5 +1,5 @@
 -- Proves that the closing returns what the rules say, from the posting that it has computed and the checks before it.
-use Rattle.std.proofs.Common.{◌≡◌, ℕ, List, Bool, true, false, ◌==◌, refl, ap, sym, subst, ◌∙◌, eq-eqb}
+use Rattle.std.proofs.Common.{◌≡◌, ◌≢◌, ℕ, List, Bool, true, false, ◌==◌, refl, ap, sym, subst, ◌∙◌, eq-eqb}
 use Rattle.std.specs.Prelude.{◌↔◌, Option, Some, None, Result, Ok, Err, length, map, IsNone, IsTrue, IfSome, IfOk}
 use Rattle.std.specs.Prelude.{IfErr}
 use Rattle.std.proofs.lemmas.Option.{none-some}
@@ -26,7 +26,7 @@ use Rattle.clock_closing.specs.OpenRound.{OpenRound, OpenRoundFields}
 use Rattle.clock_closing.specs.Closing.{ClosedRound, RoundResult, round_result, closed_round, closing, slips_after}
 use Rattle.clock_closing.specs.Results.{result_demands}
 use Rattle.clock_closing.specs.Results.{AreConsistent}
-use Rattle.clock_closing.specs.inside.Postings.{AreResults, IsRoundOf, Posts, posted}
+use Rattle.clock_closing.specs.inside.Postings.{AreResults, IsRoundOf, Posts, posted, posted_now}
 use Rattle.clock_closing.proofs.Closings.{checks}
 
 module _ (setup : PublicSetup) (now : OpenRound) (increments : Increments) (result : RoundResult) where
@@ -135,3 +135,19 @@ module _ (setup : PublicSetup) (now : OpenRound) (round : ℕ) (increments : Inc
       → are_increments (length setup.products) increments ≡ true → tie_fault (length now.holdings)
       (length setup.products) ties ≡ None → closing setup now round increments ties ≡ by_tests false true true None
   closes-fair going current within fair = closes-tied going current within None fair
+
+no_tie_by : (limit : Option ℕ) (made : ClosedRound) (tie : TieFault)
+    → unless (first_fault (fault_check close_faults.PriceLimit limit)) made ≡ Err (close_faults.Tie tie) → ⊥
+no_tie_by None made tie e = let bad : Ok made ≡ Err (close_faults.Tie tie) = e in cc
+no_tie_by (Some product) made tie e =
+    let bad : Err (close_faults.PriceLimit product) ≡ Err (close_faults.Tie tie) = e in cc
+
+-- A posting is refused for no tie-breaking number.
+pub posted-no_tie : (round : OpenRoundFields) (increments : Increments) (ties : List Tie) (fault : CloseFault)
+    → IsRefusal close_faults.NoMemory (posted_now round increments ties) fault → (tie : TieFault)
+    → fault ≢ close_faults.Tie tie
+posted-no_tie round increments ties fault is tie e =
+    let result = round_result round.setup.products round.before ties in
+    no_tie_by (price_limit_fault round.setup.products result.grid result.posted increments)
+    (closed_round (public_setup round.setup) round.before increments result) tie
+    (is (λ none. let bad : close_faults.Tie tie ≡ close_faults.NoMemory = sym e ∙ none in cc) ∙ ap Err e)

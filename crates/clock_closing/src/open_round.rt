@@ -1,11 +1,13 @@
 ghost use Rattle.std.specs.Prelude.{◌≡◌, ◌≢◌, ◌<◌, ◌≤◌, None, length, slice_index_or};
-ghost use Rattle.std.specs.Prelude.{option_copied, IfOk};
-ghost use Rattle.clock_terms.specs.{Eligibility.{activity}, Increments.{AreIncrements}};
+ghost use Rattle.std.specs.Prelude.{option_copied, IfOk, IfErr};
+ghost use Rattle.clock_terms.specs.{Eligibility.{activity}, Faults.{IsRefusal}};
+ghost use Rattle.clock_terms.specs.Increments.{AreIncrements};
 ghost use Rattle.clock_terms.specs.Limits.{IsRow, public_setup};
-ghost use Rattle.clock_bids.specs.Holding.{holding_of};
+ghost use Rattle.clock_bids.specs.{Holding.{holding_of}, Sheet.{asked_demands}};
 ghost use Rattle.clock_order.specs.declared.ties.TieFault.TheVariants as tie_faults;
 ghost use Rattle.clock_processor.specs.Board.{IsWithinEligibility};
-ghost use Rattle.clock_closing.specs.OpenRound.{IsOpenRound, OpenRoundFields, holding_at, open_at};
+ghost use Rattle.clock_closing.specs.OpenRound.{IsOpenRound, OpenRoundFields, bids_at, holding_at};
+ghost use Rattle.clock_closing.specs.OpenRound.{open_at};
 ghost use Rattle.clock_closing.specs.{Prepared.{Answers}, Results.{result_demands}};
 ghost use Rattle.clock_closing.specs.inside.OpenRound.{eligibilities_of, grid_of};
 ghost use Rattle.clock_closing.specs.inside.Postings.{AreRequests, ComesTo, IsRoundOf, posted_now};
@@ -81,19 +83,45 @@ impl<'a> OpenRound<'a> {
         ensures answer { Answers (rules.closing_now self.now increments.now ties.now) result }
         ensures memory { result ≢ Err (CloseFault.Tie tie_faults.NoMemory) }
     {
+        let (increments, ties) = self.accepted(alloc, increments, ties)?;
+        match self.results(alloc, processor, &increments, &ties, old) {
+            Ok(results) => Ok(Prepared {
+                round: self.round,
+                increments,
+                ties,
+                results,
+            }),
+            Err(fault) => {
+                // Calls keep the proof small: at the end, each part would be dropped by itself.
+                drop(increments);
+                drop(ties);
+                Err(fault)
+            }
+        }
+    }
+
+    /// Returns copies of the increments and the tie-breaking numbers, or their first fault.
+    fn accepted(
+        &self,
+        alloc: Global,
+        increments: &Increments,
+        ties: &[Tie],
+    ) -> Result<(Increments, Ties), CloseFault>
+        ensures copies { IfOk result (λ both. (both.0 ≡ increments.now) × (both.1 ≡ ties.now)) }
+        ensures allowed { IfOk result
+            (λ both. AreIncrements (length self.now.setup.products) both.0) }
+        ensures produced { IfOk result (λ both. rules.closing_now self.now increments.now ties.now
+            ≡ posted_now self.now both.0 both.1) }
+        ensures refused { IfErr result (IsRefusal CloseFault.NoMemory
+            (rules.closing_now self.now increments.now ties.now)) }
+        ensures memory { result ≢ Err (CloseFault.Tie tie_faults.NoMemory) }
+    {
         let setup = self.setup;
         if !increments.are_within(setup.products.as_slice().len()) {
             return Err(CloseFault::Increment);
         }
-        let increments = copy_of(alloc, increments)?;
         let ties = Ties::new(alloc, setup, ties)?;
-        let results = self.results(alloc, processor, &increments, &ties, old)?;
-        Ok(Prepared {
-            round: self.round,
-            increments,
-            ties,
-            results,
-        })
+        Ok((copy_of(alloc, increments)?, ties))
     }
 
     /// Computes what the closing produces. In round 1 the quantities bid become the demands. In a
@@ -136,10 +164,20 @@ impl<'a> OpenRound<'a> {
     {
         let mut rows = Vec::with_capacity(alloc, self.bidders() as usize)?;
         for bidder in 0..self.bidders() {
-            let asked = asked_demands(alloc, self.setup, bids_of(self.sheet(bidder)))?;
-            rows.push(Row::of(alloc, self.setup, asked.as_slice())?)?;
+            rows.push(self.asked_row(alloc, bidder)?)?;
         }
-        Ok(Grid::of_rows(alloc, self.setup, rows)?)
+        Grid::of_rows(alloc, self.setup, rows)
+    }
+
+    /// A bidder's requested demands, in blocks. Requires a bidder of the set-up.
+    fn asked_row(&self, alloc: Global, bidder: u32) -> Result<Row, NoMemory>
+        requires { bidder < length self.now.setup.bidders }
+        ensures asked { IfOk result (λ row. row ≡ asked_demands (length self.now.setup.products)
+            (bids_at self.now.before.sheets bidder)) }
+        ensures row { IfOk result (IsRow self.now.setup.products) }
+    {
+        let asked = asked_demands(alloc, self.setup, bids_of(self.sheet(bidder)))?;
+        Row::of(alloc, self.setup, asked.as_slice())
     }
 
     /// All bidders' requests, in the order of processing. Requires round 2 or later.
