@@ -1,8 +1,15 @@
 -- Proves what a closing does to the commands that a house stands for, case by case: accepted, refused, or out of
 -- memory.
-use Rattle.std.proofs.Common.{◌≡◌, ◌≢◌, ℕ, List, ◌∷◌, Bool, true, false, length, refl, ap, sym, subst, ◌∙◌}
+use Rattle.std.proofs.Common.{◌≡◌, ◌≢◌, ℕ, List, [], ◌∷◌, Bool, true, false, not, ◌==◌, length, refl, ap, sym, subst}
+use Rattle.std.proofs.Common.{◌∙◌}
 use Rattle.std.specs.Prelude.{Option, Some, None, Result, Ok, Err, ◌↔◌, IsNone, IsTrue, IfSome, IfOk, IfErr, map}
 use Rattle.std.specs.Prelude.{unwrap_or}
+use Rattle.std.proofs.lemmas.Option.{none-some}
+use Rattle.clock_terms.specs.Faults.{IsFirstFault, IsRefusal, first_fault, unless}
+use Rattle.clock_terms.specs.Increments.{are_increments}
+use Rattle.clock_order.specs.declared.ties.TieFault.{TieFault}
+use Rattle.clock_order.specs.Ties.{tie_fault}
+use Rattle.clock_posting.specs.Posting.{price_limit_fault}
 use Rattle.clock_terms.specs.declared.prices.PricePair.{PricePair}
 use Rattle.clock_posting.specs.Posting.{next_pair}
 use Rattle.clock_posting.specs.declared.sheet.Line.{Line}
@@ -14,7 +21,7 @@ use Rattle.clock_closing.specs.declared.fault.CloseFault.{CloseFault}
 use Rattle.clock_closing.specs.declared.fault.CloseFault.TheVariants as close_faults
 use Rattle.clock_house.specs.Command.{Command, close}
 use Rattle.clock_closing.specs.OpenRound.{OpenRound, OpenRoundFields}
-use Rattle.clock_closing.specs.Closing.{closing, closing_now}
+use Rattle.clock_closing.specs.Closing.{closing, closing_now, round_result, closed_round}
 use Rattle.clock_house.specs.History.{ClosedRound, history, public_state, closing_of, after_closing, for_each_bidder}
 use Rattle.clock_house.specs.History.{sheet_in_force}
 use Rattle.clock_house.specs.House.{HouseFields, StandsFor, IsFollowedBy, StandsForTheSame, IsUnchanged, HasClosed}
@@ -22,9 +29,10 @@ use Rattle.clock_house.specs.House.{AnswersClose, ToHistory}
 use Rattle.clock_house.specs.PublicState.{PublicState}
 use Rattle.clock_house.specs.House.{state_in, closing_in}
 use Rattle.clock_house.specs.inside.OpenRounds.{open_round_in}
+use Rattle.clock_house.specs.inside.Rounds.{round_fault}
 use Rattle.clock_closing.specs.Prepared.{Answers}
 use Rattle.clock_house.specs.Prepared.{PreparedClosing, FitsClosing}
-use Rattle.clock_closing.proofs.Closings.{IsClosing, closing_passed}
+use Rattle.clock_closing.proofs.Closings.{IsClosing, checks, closing_passed}
 use Rattle.std.proofs.lemmas.List.FromFn.{length-map-range_with_len}
 use Rattle.clock_house.proofs.InHouse.{in-many}
 use Rattle.clock_house.proofs.Stored.{stands_open}
@@ -183,6 +191,55 @@ module _ (old new : HouseFields) (same : IsUnchanged old new) (round : ℕ) (inc
   pub refused-followed : IfErr result (λ reported. reported ≢ close_faults.NoMemory
       → IsFollowedBy (close round increments ties) old new)
   refused-followed = refused_by result answers-new
+
+-- A closing that is late or for another round is refused.
+refused_round : (ended current within : Bool) (number : ℕ) (tied : Option TieFault) (limit : Option ℕ)
+    (made : ClosedRound) (fault : CloseFault)
+    → first_fault ((close_faults.Ended, not ended) ∷ (close_faults.WrongRound number, current) ∷ []) ≡ Some fault
+    → unless (first_fault (checks ended current within number tied limit)) made ≡ Err fault
+refused_round true current within number tied limit made fault e =
+    ap (λ (first : Option CloseFault). unless first made) e
+refused_round false false within number tied limit made fault e =
+    ap (λ (first : Option CloseFault). unless first made) e
+refused_round false true within number tied limit made fault e = absurd (none-some _ e)
+
+no_tie : (ended current : Bool) (number : ℕ) (tie : TieFault)
+    → first_fault ((close_faults.Ended, not ended) ∷ (close_faults.WrongRound number, current) ∷ [])
+    ≡ Some (close_faults.Tie tie) → ⊥
+no_tie true current number tie e = let bad : Some close_faults.Ended ≡ Some (close_faults.Tie tie) = e in cc
+no_tie false false number tie e =
+    let bad : Some (close_faults.WrongRound number) ≡ Some (close_faults.Tie tie) = e in cc
+no_tie false true number tie e = none-some _ e
+
+module _ (old new : HouseFields) (same : IsUnchanged old new) (round : ℕ) (increments : Increments) (ties : List Tie)
+    (fault : CloseFault) (is : IsFirstFault close_faults.NoMemory
+    (round_fault close_faults.Ended close_faults.WrongRound (state_in old) round) fault) where
+  pub round-refused : IsRefusal close_faults.NoMemory (closing_in old round increments ties) fault
+  round-refused other =
+      let now = open_round_in old in
+      let products = old.setup.products in
+      let result = round_result products now ties in
+      refused_round (state_in old).ended (round == (state_in old).round) (are_increments (length products) increments)
+      (state_in old).round (tie_fault (length now.holdings) (length products) ties)
+      (price_limit_fault products result.grid result.posted increments)
+      (closed_round (public_setup old.setup) now increments result) fault (is other)
+
+  pub round-refused-history : ToHistory old
+      (λ auction. IsRefusal close_faults.NoMemory (closing_of old.setup auction round increments ties) fault)
+  round-refused-history =
+      λ commands stands other. closing_same old round increments ties commands stands ∙ round-refused other
+
+  pub round-refused-followed : fault ≢ close_faults.NoMemory → IsFollowedBy (close round increments ties) old new
+  round-refused-followed other = record {
+    setup = same.setup;
+    stands = λ commands stands. close-refused new round increments ties commands
+        (stands_unchanged old new commands same stands) fault
+        (closing_unchanged old new same round increments ties ∙ round-refused other);
+  }
+
+  pub round-refused-memory : (tie : TieFault) → fault ≢ close_faults.Tie tie
+  round-refused-memory tie e = no_tie (state_in old).ended (round == (state_in old).round) (state_in old).round tie
+      (is (λ none. let bad : close_faults.Tie tie ≡ close_faults.NoMemory = sym e ∙ none in cc) ∙ ap Some e)
 
 -- A closing that is prepared and then committed.
 module _ (old mid new : HouseFields) (round : ℕ) (increments : Increments) (ties : List Tie)

@@ -6,11 +6,14 @@ use Rattle.std.specs.Prelude.{◌≢◌, Option, Some, None, Result, Ok, Err, If
 use Rattle.std.proofs.lemmas.Bool.{cases_eq}
 use Rattle.std.proofs.lemmas.List.{get_or-set_same, get_or-set_other, length-set}
 use Rattle.std.proofs.lemmas.List.FromFn.{fill_by_all, length-map-range_with_len, get_or-map-range_with_len}
-use Rattle.clock_terms.specs.Limits.{public_setup}
-use Rattle.clock_terms.specs.Faults.{first_fault}
+use Rattle.clock_terms.specs.declared.prices.PricePair.{PricePair}
+use Rattle.clock_terms.specs.Faults.{IsFirstFault, first_fault}
+use Rattle.clock_terms.specs.Limits.{SetupFields, public_setup}
 use Rattle.clock_bids.specs.Sheet.{sheet_fault}
 use Rattle.clock_closing.specs.Faults.{fault_check}
 use Rattle.clock_bids.specs.declared.sheet.Bid.{Bid}
+use Rattle.clock_bids.specs.declared.sheet.BidFault.{BidFault}
+use Rattle.clock_bids.specs.declared.sheet.BidFault.TheVariants as bid_faults
 use Rattle.clock_house.specs.declared.fault.PutFault.{PutFault}
 use Rattle.clock_house.specs.declared.fault.PutFault.TheVariants as put_faults
 use Rattle.clock_house.specs.Command.{Command, put}
@@ -19,6 +22,9 @@ use Rattle.clock_house.specs.History.{ClosedRound, history, public_state, holdin
 use Rattle.clock_house.specs.House.{HouseFields, StandsFor, IsFollowedBy, AnswersPut, state_in, holding_in}
 use Rattle.clock_house.specs.House.{put_fault_in, with_sheet}
 use Rattle.clock_house.specs.Prepared.{PreparedSheet, FitsSheet}
+use Rattle.clock_house.specs.ReportedFaults.{fault_from_bid}
+use Rattle.clock_house.specs.inside.Rounds.{IsCurrent, round_fault}
+use Rattle.clock_house.proofs.Rounds.{first_of_more}
 use Rattle.clock_house.proofs.Steps.{in_force-accepted, in_force-skipped}
 
 -- A prepared sheet that a house accepts, by equal parts of both.
@@ -105,23 +111,70 @@ module _ (house : HouseFields) (bidder round : ℕ) (bids : List Bid) (commands 
         (length-set house.sheets bidder (Some bids) ∙ many) (accepted_at lt e);
   }
 
--- The first fault of a sheet, check by check.
+-- Any other fault of the bids is reported as it is.
+reported_as : (fault : BidFault) → fault ≢ bid_faults.NoMemory → fault_from_bid fault ≡ put_faults.Bid fault
+reported_as bid_faults.NoMemory other = absurd (other refl)
+reported_as bid_faults.TooMany other = refl
+reported_as (bid_faults.UnknownProduct place) other = refl
+reported_as (bid_faults.PriceRange place) other = refl
+reported_as (bid_faults.OverCap place) other = refl
+reported_as (bid_faults.PriceOrder place) other = refl
+reported_as (bid_faults.MixedDirection place) other = refl
+reported_as (bid_faults.KeepPrice place) other = refl
+reported_as bid_faults.OverActivity other = refl
+
+-- The first fault of a sheet: that of its round, or that of its bids.
 module _ (house : HouseFields) (bidder round : ℕ) (bids : List Bid) where
-  abbrev by_tests : Bool → Bool → Option PutFault
-  by_tests ended current = first_fault (
+  abbrev by_tests : Bool → Bool → Option BidFault → Option PutFault
+  by_tests ended current fault = first_fault (
       (put_faults.Ended, not ended)
       ∷ (put_faults.WrongRound (state_in house).round, current)
-      ∷ fault_check put_faults.Bid
-      (sheet_fault (public_setup house.setup) (state_in house).round (state_in house).prices
-      (holding_in house bidder) bids))
+      ∷ fault_check put_faults.Bid fault)
 
-  pub put-ended : (state_in house).ended ≡ true → put_fault_in house bidder round bids ≡ Some put_faults.Ended
-  put-ended ended = ap (λ end. by_tests end (round == (state_in house).round)) ended
+  abbrev bids_fault : Option BidFault
+  bids_fault = sheet_fault (public_setup house.setup) (state_in house).round (state_in house).prices
+      (holding_in house bidder) bids
 
-  pub put-other : (state_in house).ended ≡ false → round ≢ (state_in house).round →
-      put_fault_in house bidder round bids ≡ Some (put_faults.WrongRound (state_in house).round)
-  put-other going other = ap (λ end. by_tests end (round == (state_in house).round)) going
-      ∙ ap (by_tests false) (ne_eqb round (state_in house).round other)
+  pub put-round : (found : PutFault) → round_fault put_faults.Ended put_faults.WrongRound (state_in house) round
+      ≡ Some found → put_fault_in house bidder round bids ≡ Some found
+  put-round found is = first_of_more put_faults.Ended put_faults.WrongRound (state_in house) round found
+      (fault_check put_faults.Bid bids_fault) is
+
+  module _ (current : IsCurrent (state_in house) round) (setup : SetupFields) (number : ℕ) (prices : List PricePair)
+      (eligibility : ℕ) (demands : List ℕ) (setup_is : setup ≡ house.setup)
+      (number_is : number ≡ (state_in house).round) (prices_are : prices ≡ (state_in house).prices)
+      (eligibility_is : eligibility ≡ (holding_in house bidder).eligibility)
+      (demands_are : demands ≡ (holding_in house bidder).demands) where
+    abbrev judged : SetupFields → ℕ → List PricePair → ℕ → List ℕ → Option BidFault
+    judged one n list units row =
+        sheet_fault (public_setup one) n list (record { eligibility = units; demands = row }) bids
+
+    same : judged setup number prices eligibility demands ≡ bids_fault
+    same =
+        ap (λ (one : SetupFields). judged one number prices eligibility demands) setup_is
+        ∙ ap (λ (n : ℕ). judged house.setup n prices eligibility demands) number_is
+        ∙ ap (λ (list : List PricePair). judged house.setup (state_in house).round list eligibility demands) prices_are
+        ∙ ap (λ (units : ℕ). judged house.setup (state_in house).round (state_in house).prices units demands)
+        eligibility_is
+        ∙ ap (judged house.setup (state_in house).round (state_in house).prices (holding_in house bidder).eligibility)
+        demands_are
+
+    by_bids : (found : Option BidFault) → judged setup number prices eligibility demands ≡ found
+        → put_fault_in house bidder round bids ≡ first_fault (fault_check put_faults.Bid found)
+    by_bids found is =
+        ap (λ (ended : Bool). by_tests ended (round == (state_in house).round) bids_fault) current.going
+        ∙ ap (λ (test : Bool). by_tests false test bids_fault) (eq-eqb round (state_in house).round current.number)
+        ∙ ap (by_tests false true) (sym same ∙ is)
+
+    pub put-good : judged setup number prices eligibility demands ≡ None → put_fault_in house bidder round bids ≡ None
+    put-good good = by_bids None good
+
+    pub put-bad : (found : BidFault) (reported : PutFault) → reported ≡ fault_from_bid found
+        → IsFirstFault bid_faults.NoMemory (judged setup number prices eligibility demands) found
+        → IsFirstFault put_faults.NoMemory (put_fault_in house bidder round bids) reported
+    put-bad found reported reported_is is = λ other.
+        (let memory : found ≢ bid_faults.NoMemory = λ none. other (reported_is ∙ ap fault_from_bid none) in
+        by_bids (Some found) (is memory) ∙ ap Some (sym (reported_is ∙ reported_as found memory)))
 
 -- The result of a house that checks a sheet.
 module _ (house : HouseFields) (bidder round : ℕ) (bids : List Bid) where

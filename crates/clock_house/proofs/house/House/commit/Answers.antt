@@ -1,17 +1,14 @@
 -- Proves that the house after a closing stands for one more command, and that what it stores agrees with its closed
 -- rounds.
-use Rattle.std.proofs.Common.{◌≡◌, ℕ, ◌+◌, ◌≤◌, List, [], ◌∷◌, ◌++◌, Bool, true, false, not, refl, ap, sym, subst, ◌∙◌}
+use Rattle.std.proofs.Common.{◌≡◌, ℕ, List, [], ◌∷◌, ◌++◌, Bool, true, refl, ap, sym, subst, ◌∙◌}
 use Rattle.std.proofs.Common.{arith, length}
-use Rattle.std.specs.Prelude.{Option, None, map, reverse, is_ok, if◌then◌else◌, unwrap_or}
+use Rattle.std.specs.Prelude.{Option, None, map, reverse, is_ok, if◌then◌else◌}
 use Rattle.std.specs.List.{range_with_len}
-use Rattle.std.specs.Int.{from_bool}
 use Rattle.std.proofs.lemmas.List.{reverse-append}
 use Rattle.clock_terms.specs.Limits.{IsSetup}
-use Rattle.clock_terms.specs.declared.prices.PricePair.{PricePair}
 use Rattle.clock_bids.specs.declared.sheet.Bid.{Bid}
 use Rattle.clock_house.specs.Command.{close}
 use Rattle.clock_closing.specs.declared.closed_round.Slip.{Slip}
-use Rattle.clock_closing.specs.Prepared.{PreparedClosing}
 use Rattle.clock_closing.specs.inside.OpenRound.{eligibilities_of}
 use Rattle.clock_house.specs.PublicState.{Holding, state_after}
 use Rattle.clock_house.specs.History.{ClosedRound, public_state}
@@ -24,29 +21,18 @@ use Rattle.clock_house.proofs.Closes.{close-accepted, fits_like, closed_number, 
 use Rattle.clock_house.proofs.Rows.{next_held}
 use Rattle.clock_house.proofs.house.House.commit.Goals as goal
 
-at_most : (test : Bool) (more : ℕ) → more ≡ from_bool test → more ≤ 1
-at_most true more is = let one : more ≡ 1 = is in omega (arith, one)
-at_most false more is = let none : more ≡ 0 = is in omega (arith, none)
-
--- The number of the current round after a closing.
-next_number : (ended : Bool) (round more : ℕ) → more ≡ from_bool (not ended)
-    → round + more ≡ (if ended then round else round + 1)
-next_number true round more is = let none : more ≡ 0 = is in omega (arith, none)
-next_number false round more is = let one : more ≡ 1 = is in omega (arith, one)
-
-pub overflow_add-self : goal.overflow_add-self
-overflow_add-self g c =
+pub round_after-self-inside-requires : goal.round_after-self-inside-requires
+round_after-self-inside-requires g c =
     let number = closed_number c.args.self.now c.args.prepared.round c.args.prepared.increments c.args.prepared.ties
     c.args.prepared.closed c.requires.fits in
     let limits = subst (λ (house : HouseFields). IsSetup house.setup) c.self.view_is c.self.invariant.limits in
     let stands = subst (StandsFor c.self.invariant.commands) c.self.view_is c.self.invariant.stands in
     omega (
       arith,
-      ap (λ (one : ClosedRound). one.sheet.round) (ap (λ (one : PreparedClosing). one.closed) c.prepared.view_is),
+      ap (λ (one : ClosedRound). one.sheet.round) c.parts_of-closed.ensures.closed,
       number.1,
       round_bounded c.args.self.now.setup.products (state_in c.args.self.now) limits.product_count.1
           ((stands_sound c.args.self.now limits c.self.invariant.commands stands).priced number.0),
-      at_most (not c.prepared.inside.results.closed.sheet.ended) c.from.result c.from.ensures,
     )
 
 pub take_slips-requires-clause-eligibilities : goal.take_slips-requires-clause-eligibilities
@@ -56,7 +42,7 @@ take_slips-requires-clause-eligibilities g c =
     let are = subst (λ (house : HouseFields). c.self.inside.eligibilities
     ≡ eligibilities_of (open_round_in house)) c.self.view_is c.self.invariant.eligibilities_are in
     ap length c.as_slice-slips.ensures
-    ∙ ap (λ (one : ClosedRound). length one.slips) (ap (λ (one : PreparedClosing). one.closed) c.prepared.view_is)
+    ∙ ap (λ (one : ClosedRound). length one.slips) c.parts_of-closed.ensures.closed
     ∙ slips
     ∙ sym (many_eligibilities c.args.self.now c.self.inside.eligibilities are)
 
@@ -66,7 +52,7 @@ take_slips-requires-clause-sheets g c =
     c.args.prepared.closed c.requires.fits in
     let setup = ap (λ (house : HouseFields). length house.setup.bidders) c.self.view_is in
     ap length c.as_slice-slips.ensures
-    ∙ ap (λ (one : ClosedRound). length one.slips) (ap (λ (one : PreparedClosing). one.closed) c.prepared.view_is)
+    ∙ ap (λ (one : ClosedRound). length one.slips) c.parts_of-closed.ensures.closed
     ∙ slips
     ∙ sym (stands_sheets _ c.self.invariant.commands c.self.invariant.stands ∙ setup)
 
@@ -88,11 +74,11 @@ invariant_of-self g c =
       spare = 0;
     } in
     let asked = c.args.prepared in
-    let results = c.prepared.inside.results in
+    let made = c.parts_of-closed.result in
     let fits = fits_like _ c.args.self.now c.args.prepared (sym c.self.view_is) c.requires.fits in
-    let done = (ap (λ (one : PreparedClosing). one.closed) c.prepared.view_is) in
+    let done = c.parts_of-closed.ensures.closed in
     let added = is_added c.self.inside.rounds.items c.push.new.self.items
-    (is_ok c.push.result) c.prepared.inside.results.closed c.args.prepared.closed
+    (is_ok c.push.result) c.parts_of-closed.result.0 c.args.prepared.closed
     (c.push.ensures.succeeds (omega (arith, (rw (← c.self.view_is) at c.requires.room)))) c.push.ensures.items done in
     let none = c.take_slips.ensures.sheets ∙ ap (λ (n : ℕ). map (λ (bidder : ℕ). let sheet : Option (List Bid) = None in
     sheet) (range_with_len 0 n)) (stands_sheets _ c.self.invariant.commands c.self.invariant.stands) in
@@ -104,29 +90,28 @@ invariant_of-self g c =
           c.self.invariant.stands asked.closed _ _ _ fits added none;
       ended_is = ap (λ (one : ClosedRound). one.sheet.ended) done
           ∙ sym (ap (λ (closed : List ClosedRound). (public_state c.self.inside.setup.products closed).ended) added);
-      round_is = next_number results.closed.sheet.ended results.closed.sheet.round c.from.result c.from.ensures
+      round_is = c.round_after-self-inside.ensures
           ∙ ap (λ (one : ClosedRound). (state_after one.sheet).round) done
           ∙ sym (ap (λ (closed : List ClosedRound). (public_state c.self.inside.setup.products closed).round) added);
       prices_are = λ going.
-          c.unwrap_or.ensures
-          ∙ ap (λ (old : List PricePair). unwrap_or results.next old) c.replace-prices.ensures.value
-          ∙ taken_prices results.next c.self.inside.prices results.closed.sheet.lines results.closed.sheet.ended going
-          c.prepared.invariant.end c.prepared.invariant.shown
+          c.take_prices.ensures
+          ∙ taken_prices made.1 c.self.inside.prices made.0.sheet.lines made.0.sheet.ended going
+          c.parts_of-closed.ensures.consistent.end c.parts_of-closed.ensures.consistent.shown
           ∙ ap (λ (one : ClosedRound). (state_after one.sheet).prices) done
           ∙ sym (ap (λ (closed : List ClosedRound). (public_state c.self.inside.setup.products closed).prices) added);
       eligibilities_are = next_held c.self.inside.setup
-          (λ (held : Holding). held.eligibility) 0 _ results.closed asked.closed _ _ (c.take_slips.ensures.eligibilities
+          (λ (held : Holding). held.eligibility) 0 _ made.0 asked.closed _ _ (c.take_slips.ensures.eligibilities
           ∙ ap (map (λ (slip : Slip). slip.eligibility)) c.as_slice-slips.ensures) done slips added;
-      demands_are = next_held c.self.inside.setup (λ (held : Holding). held.demands) [] _ results.closed asked.closed _
-          _ (c.replace.ensures.after ∙ c.prepared.invariant.demands) done slips added;
+      demands_are = next_held c.self.inside.setup (λ (held : Holding). held.demands) [] _ made.0 asked.closed _
+          _ (c.take_demands.ensures ∙ c.parts_of-closed.ensures.consistent.demands) done slips added;
     }
 
 pub returns-clause-closed : goal.returns-clause-closed
 returns-clause-closed g c =
     let added = is_added c.self.inside.rounds.items c.push.new.self.items
-    (is_ok c.push.result) c.prepared.inside.results.closed c.args.prepared.closed
+    (is_ok c.push.result) c.parts_of-closed.result.0 c.args.prepared.closed
     (c.push.ensures.succeeds (omega (arith, (rw (← c.self.view_is) at c.requires.room)))) c.push.ensures.items
-    (ap (λ (one : PreparedClosing). one.closed) c.prepared.view_is) in
+    c.parts_of-closed.ensures.closed in
     let none = c.take_slips.ensures.sheets ∙ ap (λ (n : ℕ). map (λ (bidder : ℕ). let sheet : Option (List Bid) = None in
     sheet) (range_with_len 0 n)) (stands_sheets _ c.self.invariant.commands c.self.invariant.stands) in
     rw (← c.self.view_is) (record { setup = refl; closed = added; sheets = none })
@@ -136,9 +121,9 @@ returns-clause-followed g c =
     let asked = c.args.prepared in
     let fits = fits_like _ c.args.self.now c.args.prepared (sym c.self.view_is) c.requires.fits in
     let added = is_added c.self.inside.rounds.items c.push.new.self.items
-    (is_ok c.push.result) c.prepared.inside.results.closed c.args.prepared.closed
+    (is_ok c.push.result) c.parts_of-closed.result.0 c.args.prepared.closed
     (c.push.ensures.succeeds (omega (arith, (rw (← c.self.view_is) at c.requires.room)))) c.push.ensures.items
-    (ap (λ (one : PreparedClosing). one.closed) c.prepared.view_is) in
+    c.parts_of-closed.ensures.closed in
     let none = c.take_slips.ensures.sheets ∙ ap (λ (n : ℕ). map (λ (bidder : ℕ). let sheet : Option (List Bid) = None in
     sheet) (range_with_len 0 n)) (stands_sheets _ c.self.invariant.commands c.self.invariant.stands) in
     rw (← c.self.view_is)
