@@ -1,7 +1,7 @@
 //! Runs of the program on bytes in memory. The gate compares the output for each kind of document
 //! and arguments on the built program.
-use crate::commands::Trouble::{Fault, Nothing, Output, Read, Room};
 use crate::comparing::{assert_is_at, assert_reads_at};
+use crate::documents::{ONE, Piece, repeated};
 use crate::played::REPORT;
 use clock_commands::command;
 use clock_device::{ListSink, ListSource, Stop};
@@ -9,46 +9,12 @@ use clock_fixtures::ONE_PRODUCT;
 use std::alloc::Global;
 use std::process::Abort;
 
-/// A failure of the streams of a run.
-#[derive(Clone, Copy, Debug)]
-enum Trouble {
-    Nothing,
-    /// The third read stops, and why.
-    Read(Stop),
-    /// Only so much output fits, in bytes.
-    Room(usize),
-    /// This write of output fails.
-    Output(u64),
-    /// This write of a fault line fails.
-    Fault(u64),
-}
-
 /// The streams of a run: the read that stops, and why; the most bytes of output; the write of
 /// output that fails, and the write of a fault line that fails.
-#[derive(Clone, Copy)]
-struct Streams {
-    read: Option<(u64, Stop)>,
-    room: usize,
-    output: Option<u64>,
-    fault: Option<u64>,
-}
+type Streams = (Option<(u64, Stop)>, usize, Option<u64>, Option<u64>);
 
-/// Makes streams with this trouble.
-fn streams_with(trouble: Trouble) -> Streams {
-    let (read, room, output, fault) = match trouble {
-        Nothing => (None, 200, None, None),
-        Read(stop) => (Some((2, stop)), 200, None, None),
-        Room(room) => (None, room, None, None),
-        Output(write) => (None, 200, Some(write), None),
-        Fault(write) => (None, 200, None, Some(write)),
-    };
-    Streams {
-        read,
-        room,
-        output,
-        fault,
-    }
-}
+/// Streams that never fail.
+const SOUND_STREAMS: Streams = (None, 200, None, None);
 
 /// The status of a run, its output, and its fault line.
 #[derive(Drop)]
@@ -60,10 +26,10 @@ struct Ending {
 
 /// Runs the program with arguments on a document, which is read in pieces of 50 bytes and answered
 /// in pieces of 5.
-fn run(alloc: Global, words: &[&str], document: &str, streams: Streams) -> Option<Ending> {
-    let mut reader = ListSource::new(document.as_bytes(), 50, streams.read);
-    let mut output = ListSink::new(alloc, streams.room, 5, streams.output).ok()?;
-    let mut faults = ListSink::new(alloc, 4096, 1000, streams.fault).ok()?;
+fn run(alloc: Global, words: &[&str], document: &[u8], streams: &Streams) -> Option<Ending> {
+    let mut reader = ListSource::new(document, 50, streams.0);
+    let mut output = ListSink::new(alloc, streams.1, 5, streams.2).ok()?;
+    let mut faults = ListSink::new(alloc, 4096, 1000, streams.3).ok()?;
     let status = command(alloc, words, &mut reader, &mut output, &mut faults);
     Some(Ending {
         status,
@@ -75,33 +41,25 @@ fn run(alloc: Global, words: &[&str], document: &str, streams: Streams) -> Optio
 /// The expected end of a run: its status, its output, and its fault line.
 type Reported<'a> = (u8, &'a str, &'a str);
 
-/// Asserts the end of a run.
-fn ends(
-    rt: &impl Abort,
-    alloc: Global,
-    words: &[&str],
-    document: &str,
-    trouble: Trouble,
-    reported: Reported<'_>,
-) -> Option<()> {
-    let run = run(alloc, words, document, streams_with(trouble))?;
-    let (status, output, fault) = reported;
-    let row = (words, document, trouble);
-    assert_is_at(rt, row, run.status, status);
-    assert_reads_at(rt, row, run.output.bytes(), output);
-    assert_reads_at(rt, row, run.faults.bytes(), fault);
+/// A run: its arguments, its document or what is special in it, its streams, and its end.
+type Run<'a> = (&'a [&'a str], &'a str, Streams, Reported<'a>);
+
+/// Asserts the end of a run on a document.
+fn ends(rt: &impl Abort, alloc: Global, row: &Run<'_>, document: &[u8]) -> Option<()> {
+    let run = run(alloc, row.0, document, &row.2)?;
+    let at = (row.0, row.1, row.2);
+    assert_is_at(rt, at, run.status, row.3.0);
+    assert_reads_at(rt, at, run.output.bytes(), row.3.1);
+    assert_reads_at(rt, at, run.faults.bytes(), row.3.2);
     drop(run);
     Some(())
 }
 
-/// A run: its arguments, its document, its trouble, and its end.
-type Run<'a> = (&'a [&'a str], &'a str, Trouble, Reported<'a>);
-
 /// Asserts the ends of runs.
-fn all_end(rt: &impl Abort, alloc: Global, runs: &[Run]) {
-    for &(words, document, trouble, reported) in runs {
-        let done = ends(rt, alloc, words, document, trouble, reported);
-        assert_is_at(rt, (words, document, trouble), done, Some(()));
+fn all_end(rt: &impl Abort, alloc: Global, runs: &[Run<'_>]) {
+    for row in runs {
+        let done = ends(rt, alloc, row, row.1.as_bytes());
+        assert_is_at(rt, (row.0, row.1), done, Some(()));
     }
 }
 
@@ -119,27 +77,39 @@ const NO_SETUP: &str = r#"{"setup":{},"scripts":[],"closings":[]}"#;
 
 const PRICES: &[&str] = &["prices"];
 
+const REPLAY: &[&str] = &["replay"];
+
 /// The output for the set-up of one product.
 const LINE: &str = "A 100 110\n";
 
 /// Runs whose streams never fail.
 const SOUND: &[Run<'static>] = &[
-    (&[], ONE_PRODUCT, Nothing, (0, LINE, "")),
-    (PRICES, ONE_PRODUCT, Nothing, (0, LINE, "")),
+    (&[], ONE_PRODUCT, SOUND_STREAMS, (0, LINE, "")),
+    (PRICES, ONE_PRODUCT, SOUND_STREAMS, (0, LINE, "")),
     (
         &["prices", "--increment=1"],
         ONE_PRODUCT,
-        Nothing,
+        SOUND_STREAMS,
         (0, "A 100 101\n", ""),
     ),
-    (&["opening"], OPENING, Nothing, (0, OPENED, "")),
-    (PRICES, "", Nothing, (1, "", "fault: setup_not_json\n")),
-    (PRICES, "{", Nothing, (1, "", "fault: setup_not_json\n")),
-    (&["opening"], "[]", Nothing, (1, "", "fault: shape\n")),
+    (&["opening"], OPENING, SOUND_STREAMS, (0, OPENED, "")),
+    (
+        PRICES,
+        "",
+        SOUND_STREAMS,
+        (1, "", "fault: setup_not_json\n"),
+    ),
+    (
+        PRICES,
+        "{",
+        SOUND_STREAMS,
+        (1, "", "fault: setup_not_json\n"),
+    ),
+    (&["opening"], "[]", SOUND_STREAMS, (1, "", "fault: shape\n")),
     (
         &["replay"],
         NO_SETUP,
-        Nothing,
+        SOUND_STREAMS,
         (1, "", "fault: setup_shape\n"),
     ),
 ];
@@ -149,75 +119,163 @@ fn words_ask_for_the_lines_of_a_document(rt: HostRuntime) {
     all_end(&rt, rt.alloc(), SOUND);
 }
 
-/// A replay of the set-up of one product with these scripts and closings.
-fn replay_document(alloc: Global, scripts: &str, closings: &str) -> Option<String> {
-    format!(in alloc;
-        "{{\"setup\":{ONE_PRODUCT},\"scripts\":[{scripts}],\"closings\":[{closings}]}}"
-    ).ok()
-}
-
 /// Scripts by which X leaves two blocks at 120 and 115, and Y one at 130.
-const SINCERE: &str =
-    r#"{"kind":"sincere","limits":[[120,115]]},{"kind":"sincere","limits":[[130]]}"#;
+const SINCERE: Piece<'static> = (
+    r#"{"kind":"sincere","limits":[[120,115]]},{"kind":"sincere","limits":[[130]]}"#,
+    1,
+);
 
 /// Three closings, which these scripts need to end.
-const CLOSINGS: &str =
-    r#"{"increment":10,"ties":[]},{"increment":10,"ties":[]},{"increment":10,"ties":[]}"#;
+const CLOSINGS: Piece<'static> = (
+    r#"{"increment":10,"ties":[]},{"increment":10,"ties":[]},{"increment":10,"ties":[]}"#,
+    1,
+);
 
-/// Scripts and closings, and the end of their replay.
-const REPLAYS: &[(&str, &str, Reported<'static>)] = &[
-    (SINCERE, CLOSINGS, (0, REPORT, "")),
-    ("{", CLOSINGS, (1, "", "fault: not_json\n")),
-    ("1", CLOSINGS, (1, "", "fault: shape\n")),
+/// What comes before the set-up, before the scripts, before the closings, and after them.
+const SETUP: Piece<'static> = ("{\"setup\":", 1);
+
+const SCRIPTS: Piece<'static> = (",\"scripts\":[", 1);
+
+const BEFORE_CLOSINGS: Piece<'static> = ("],\"closings\":[", 1);
+
+const END: Piece<'static> = ("]}", 1);
+
+/// The name of a replay, the pieces of its document, and its end.
+type Replayed<'a> = (&'a str, &'a [Piece<'a>], Reported<'a>);
+
+const REPLAYS: &[Replayed<'static>] = &[
     (
-        r#"{"kind":"literal","sheets":[]}"#,
-        CLOSINGS,
+        "sincere",
+        &[SETUP, ONE, SCRIPTS, SINCERE, BEFORE_CLOSINGS, CLOSINGS, END],
+        (0, REPORT, ""),
+    ),
+    (
+        "no JSON",
+        &[
+            SETUP,
+            ONE,
+            SCRIPTS,
+            ("{", 1),
+            BEFORE_CLOSINGS,
+            CLOSINGS,
+            END,
+        ],
+        (1, "", "fault: not_json\n"),
+    ),
+    (
+        "a number",
+        &[
+            SETUP,
+            ONE,
+            SCRIPTS,
+            ("1", 1),
+            BEFORE_CLOSINGS,
+            CLOSINGS,
+            END,
+        ],
+        (1, "", "fault: shape\n"),
+    ),
+    (
+        "one script",
+        &[
+            SETUP,
+            ONE,
+            SCRIPTS,
+            (r#"{"kind":"literal","sheets":[]}"#, 1),
+            BEFORE_CLOSINGS,
+            CLOSINGS,
+            END,
+        ],
         (1, "", "fault: scripts\n"),
     ),
     (
-        r#"{"kind":"sincere","limits":[[115,120]]},{"kind":"literal","sheets":[]}"#,
-        CLOSINGS,
+        "rising limits",
+        &[
+            SETUP,
+            ONE,
+            SCRIPTS,
+            (
+                r#"{"kind":"sincere","limits":[[115,120]]},{"kind":"literal","sheets":[]}"#,
+                1,
+            ),
+            BEFORE_CLOSINGS,
+            CLOSINGS,
+            END,
+        ],
         (1, "", "fault: limits 0 0\n"),
     ),
     (
-        r#"{"kind":"literal","sheets":[[{"price":100,"product":0,"quantity":3}]]},{"kind":"literal","sheets":[]}"#,
-        CLOSINGS,
+        "over the cap",
+        &[
+            SETUP,
+            ONE,
+            SCRIPTS,
+            (
+                r#"{"kind":"literal","sheets":[[{"price":100,"product":0,"quantity":3}]]},{"kind":"literal","sheets":[]}"#,
+                1,
+            ),
+            BEFORE_CLOSINGS,
+            CLOSINGS,
+            END,
+        ],
         (1, "", "fault: refused 0 1 over_cap\n"),
     ),
     (
-        SINCERE,
-        r#"{"increment":51,"ties":[]}"#,
+        "a steep closing",
+        &[
+            SETUP,
+            ONE,
+            SCRIPTS,
+            SINCERE,
+            BEFORE_CLOSINGS,
+            (r#"{"increment":51,"ties":[]}"#, 1),
+            END,
+        ],
         (1, "", "fault: closing 1 increment\n"),
     ),
     (
-        SINCERE,
-        r#"{"increment":10,"ties":[]},{"increment":10,"ties":[]}"#,
+        "two closings",
+        &[
+            SETUP,
+            ONE,
+            SCRIPTS,
+            SINCERE,
+            BEFORE_CLOSINGS,
+            (
+                r#"{"increment":10,"ties":[]},{"increment":10,"ties":[]}"#,
+                1,
+            ),
+            END,
+        ],
         (1, "", "fault: closings_spent\n"),
     ),
     (
-        SINCERE,
-        r#"{"increments":[10],"ties":[]}"#,
+        "an increment for each product",
+        &[
+            SETUP,
+            ONE,
+            SCRIPTS,
+            SINCERE,
+            BEFORE_CLOSINGS,
+            (r#"{"increments":[10],"ties":[]}"#, 1),
+            END,
+        ],
         (1, "", "fault: shape\n"),
     ),
 ];
 
-/// Asserts the end of the replay of scripts and closings.
-fn replay_ends(
-    rt: &impl Abort,
-    alloc: Global,
-    scripts: &str,
-    closings: &str,
-    reported: Reported<'_>,
-) -> Option<()> {
-    let document = replay_document(alloc, scripts, closings)?;
-    ends(rt, alloc, &["replay"], document.as_str(), Nothing, reported)
+/// Asserts the end of a replay.
+fn replay_ends(rt: &impl Abort, alloc: Global, row: &Replayed<'_>) -> Option<()> {
+    let document = repeated(alloc, row.1)?;
+    let run: Run<'_> = (REPLAY, row.0, SOUND_STREAMS, row.2);
+    ends(rt, alloc, &run, document.as_slice())
 }
 
 #[test]
 fn a_replay_has_a_report_or_a_fault(rt: HostRuntime) {
-    for &(scripts, closings, reported) in REPLAYS {
-        let done = replay_ends(&rt, rt.alloc(), scripts, closings, reported);
-        assert_is_at(&rt, (scripts, closings), done, Some(()));
+    for row in REPLAYS {
+        let done = replay_ends(&rt, rt.alloc(), row);
+        assert_is_at(&rt, row.0, done, Some(()));
     }
 }
 
@@ -233,7 +291,7 @@ const OTHER_WORDS: &[&[&str]] = &[
 
 /// The status of a run, the number of bytes it printed, and whether it wrote no fault line.
 fn shown(alloc: Global, words: &[&str]) -> Option<(u8, usize, bool)> {
-    let run = run(alloc, words, ONE_PRODUCT, streams_with(Nothing))?;
+    let run = run(alloc, words, ONE_PRODUCT.as_bytes(), &SOUND_STREAMS)?;
     let (printed, is_silent) = (run.output.bytes().len(), run.faults.bytes().is_empty());
     let status = run.status;
     drop(run);
@@ -251,22 +309,43 @@ fn other_words_are_refused(rt: HostRuntime) {
 /// The fault line for a writer that fails.
 const NO_OUTPUT: &str = "fault: output\n";
 
-/// Runs with trouble. A read that is interrupted is tried again. A read that fails is a fault, and
-/// so is a writer that fails or is full. If a fault line can't be written, the status is the same.
+/// Runs with trouble: the third read stops, little output fits, or a write fails. A read that is
+/// interrupted is tried again. A read that fails is a fault, and so is a writer that fails or is
+/// full. If a fault line can't be written, the status is the same.
 const TROUBLED: &[Run<'static>] = &[
-    (PRICES, ONE_PRODUCT, Read(Stop::Interrupted), (0, LINE, "")),
     (
         PRICES,
         ONE_PRODUCT,
-        Read(Stop::Failed),
+        (Some((2, Stop::Interrupted)), 200, None, None),
+        (0, LINE, ""),
+    ),
+    (
+        PRICES,
+        ONE_PRODUCT,
+        (Some((2, Stop::Failed)), 200, None, None),
         (1, "", "fault: input\n"),
     ),
-    (PRICES, ONE_PRODUCT, Output(0), (1, "", NO_OUTPUT)),
-    (PRICES, ONE_PRODUCT, Output(1), (1, "A 100", NO_OUTPUT)),
-    (PRICES, ONE_PRODUCT, Room(7), (1, "A 100 1", NO_OUTPUT)),
-    (PRICES, "{", Fault(0), (1, "", "")),
-    (PRICES, "{", Fault(1), (1, "", "fault: ")),
-    (&["none"], "{", Fault(0), (2, "", "")),
+    (
+        PRICES,
+        ONE_PRODUCT,
+        (None, 200, Some(0), None),
+        (1, "", NO_OUTPUT),
+    ),
+    (
+        PRICES,
+        ONE_PRODUCT,
+        (None, 200, Some(1), None),
+        (1, "A 100", NO_OUTPUT),
+    ),
+    (
+        PRICES,
+        ONE_PRODUCT,
+        (None, 7, None, None),
+        (1, "A 100 1", NO_OUTPUT),
+    ),
+    (PRICES, "{", (None, 200, None, Some(0)), (1, "", "")),
+    (PRICES, "{", (None, 200, None, Some(1)), (1, "", "fault: ")),
+    (&["none"], "{", (None, 200, None, Some(0)), (2, "", "")),
 ];
 
 #[test]

@@ -1,9 +1,8 @@
 //! Replays, and their report or first fault.
 
 use crate::comparing::{assert_is_at, assert_reads_at};
-use crate::documents::joined;
+use crate::documents::{CLOSINGS, END, ONE, Piece, SCRIPTS, SETUP, repeated};
 use clock_device::Text;
-use clock_fixtures::ONE_PRODUCT;
 use clock_http::Code;
 use clock_processor::Plain;
 use clock_sim::{
@@ -12,19 +11,28 @@ use clock_sim::{
 use std::alloc::Global;
 use std::process::Abort;
 
-const FALLING_LIMITS: &str = r#"{"kind":"sincere","limits":[[120,115]]}"#;
+/// X's limits fall, or it bids for more than the cap. Y wants one block up to 130.
+const FALLING_LIMITS: Piece<'static> = (
+    r#"[{"kind":"sincere","limits":[[120,115]]},{"kind":"sincere","limits":[[130]]}]"#,
+    1,
+);
 
-const OVER_CAP: &str = r#"{"kind":"literal","sheets":[[{"price":100,"product":0,"quantity":3}]]}"#;
+const OVER_CAP: Piece<'static> = (
+    r#"[{"kind":"literal","sheets":[[{"price":100,"product":0,"quantity":3}]]},{"kind":"sincere","limits":[[130]]}]"#,
+    1,
+);
 
-/// Y wants one block up to 130.
-const ONE_BLOCK: &str = r#"{"kind":"sincere","limits":[[130]]}"#;
+const TWO_CLOSINGS: Piece<'static> = (
+    r#"[{"increment":10,"ties":[]},{"increment":10,"ties":[]}]"#,
+    1,
+);
 
-const TWO_CLOSINGS: &str = r#"[{"increment":10,"ties":[]},{"increment":10,"ties":[]}]"#;
+const THREE_CLOSINGS: Piece<'static> = (
+    r#"[{"increment":10,"ties":[]},{"increment":10,"ties":[]},{"increment":10,"ties":[]}]"#,
+    1,
+);
 
-const THREE_CLOSINGS: &str =
-    r#"[{"increment":10,"ties":[]},{"increment":10,"ties":[]},{"increment":10,"ties":[]}]"#;
-
-const STEEP_CLOSING: &str = r#"[{"increment":51,"ties":[]}]"#;
+const STEEP_CLOSING: Piece<'static> = (r#"[{"increment":51,"ties":[]}]"#, 1);
 
 /// The report if X leaves its two blocks at 120 and 115.
 pub const REPORT: &str =
@@ -43,236 +51,285 @@ fn reported(alloc: Global, report: Result<Report, SimFault>) -> Result<Text, Sim
 }
 
 /// The processor of the rounds, and the source of the report's text.
-#[derive(Clone, Copy, Debug)]
-enum Settled {
-    Woken,
-    Rescanned,
-    /// The event queue, with the text from the auction itself.
-    Written,
-}
+///
+/// - [`WOKEN`]: the event queue.
+/// - [`RESCANNED`]: the rescanned list.
+/// - [`WRITTEN`]: the event queue, with the text from the auction itself.
+type Settled<'a> = &'a str;
 
-const ALL_WAYS: &[Settled] = &[Settled::Woken, Settled::Rescanned, Settled::Written];
+const WOKEN: Settled<'static> = "woken";
 
-/// Plays a replay. Returns its report or fault.
-fn played(alloc: Global, replay: Replay, settled: Settled) -> Result<Text, SimFault> {
-    match settled {
-        Settled::Woken => reported(alloc, simulate(alloc, &replay)),
-        Settled::Rescanned => reported(alloc, simulate_with(alloc, &replay, Plain)),
-        Settled::Written => replay_text(alloc, replay),
+const RESCANNED: Settled<'static> = "rescanned";
+
+const WRITTEN: Settled<'static> = "written";
+
+const ALL_WAYS: &[Settled<'static>] = &[WOKEN, RESCANNED, WRITTEN];
+
+/// Simulates a replay with one of two processors. Returns the text of its report, or its fault.
+fn simulated(alloc: Global, replay: &Replay, is_woken: bool) -> Result<Text, SimFault> {
+    if is_woken {
+        reported(alloc, simulate(alloc, replay))
+    } else {
+        reported(alloc, simulate_with(alloc, replay, Plain))
     }
 }
 
+/// Plays a replay. Returns its report or fault.
+fn played(alloc: Global, replay: Replay, settled: Settled<'_>) -> Result<Text, SimFault> {
+    if settled == WRITTEN {
+        return replay_text(alloc, replay);
+    }
+    let text = simulated(alloc, &replay, settled == WOKEN);
+    drop(replay);
+    text
+}
+
 /// Plays the replay of a document. Requires that it is a replay.
-fn outcome(alloc: Global, document: &[u8], settled: Settled) -> Result<Text, SimFault> {
+fn outcome(alloc: Global, document: &[u8], settled: Settled<'_>) -> Result<Text, SimFault> {
     match read_replay(alloc, document) {
         Ok(replay) => played(alloc, replay, settled),
         Err(_) => Err(SimFault::NoMemory),
     }
 }
 
-/// The first fault of a document, or `None`.
-fn fault_of(alloc: Global, document: &[u8]) -> Option<SimFault> {
-    outcome(alloc, document, Settled::Woken).err()
-}
+/// The pieces of a document, and its report or its fault.
+type Played<'a> = (&'a [Piece<'a>], Result<&'a str, SimFault>);
 
-/// Makes a document of one product with these scripts.
-fn with_scripts(alloc: Global, closings: &str, first: &str, second: &str) -> Option<Text> {
-    joined(
-        alloc,
-        &[
-            "{\"closings\":",
-            closings,
-            ",\"scripts\":[",
-            first,
-            ",",
-            second,
-            "],\"setup\":",
-            ONE_PRODUCT,
-            "}",
-        ],
-    )
-}
-
-/// A script of X (Y has its own), the closings, and the report or the fault. Sincere bidders leave
-/// at their limits.
-const PLAYED: &[(&str, &str, Result<&str, SimFault>)] = &[
-    (FALLING_LIMITS, THREE_CLOSINGS, Ok(REPORT)),
-    (FALLING_LIMITS, TWO_CLOSINGS, Err(SimFault::ClosingsSpent)),
+/// Sincere bidders leave at their limits.
+const PLAYED: &[Played<'static>] = &[
     (
-        OVER_CAP,
-        THREE_CLOSINGS,
+        &[
+            CLOSINGS,
+            THREE_CLOSINGS,
+            SCRIPTS,
+            FALLING_LIMITS,
+            SETUP,
+            ONE,
+            END,
+        ],
+        Ok(REPORT),
+    ),
+    (
+        &[
+            CLOSINGS,
+            TWO_CLOSINGS,
+            SCRIPTS,
+            FALLING_LIMITS,
+            SETUP,
+            ONE,
+            END,
+        ],
+        Err(SimFault::ClosingsSpent),
+    ),
+    (
+        &[CLOSINGS, THREE_CLOSINGS, SCRIPTS, OVER_CAP, SETUP, ONE, END],
         Err(SimFault::Refused(0, 1, Code::OverCap)),
     ),
     (
-        FALLING_LIMITS,
-        STEEP_CLOSING,
+        &[
+            CLOSINGS,
+            STEEP_CLOSING,
+            SCRIPTS,
+            FALLING_LIMITS,
+            SETUP,
+            ONE,
+            END,
+        ],
         Err(SimFault::Closing(1, Code::Increment)),
     ),
 ];
 
-/// A script of X, the closings, and the way to process rounds.
-type Row<'a> = (&'a str, &'a str, Settled);
-
 /// Asserts the report or the fault of a document that is played in one way.
 fn comes_to(
     rt: &impl Abort,
-    row: Row<'_>,
+    row: &Played<'_>,
+    settled: Settled<'_>,
     reported: Result<Text, SimFault>,
-    expected: Result<&str, SimFault>,
 ) {
-    match (reported, expected) {
-        (Ok(text), Ok(report)) => assert_reads_at(rt, row, text.as_slice(), report),
-        (reported, expected) => assert_is_at(rt, row, reported.err(), expected.err()),
+    match reported {
+        Ok(text) => assert_is_at(
+            rt,
+            (row.0, settled),
+            Ok(std::str::from_utf8(text.as_slice()).unwrap_or("no text")),
+            row.1,
+        ),
+        Err(fault) => assert_is_at(rt, (row.0, settled), Err(fault), row.1),
     }
 }
 
-/// Asserts the report or the fault of a script of X, with Y's, in each way.
-fn script_comes_to(
-    rt: &impl Abort,
-    alloc: Global,
-    script: &str,
-    closings: &str,
-    expected: Result<&str, SimFault>,
-) -> Option<()> {
-    let document = with_scripts(alloc, closings, script, ONE_BLOCK)?;
+/// Asserts the report or the fault of a document, in each way.
+fn script_comes_to(rt: &impl Abort, alloc: Global, row: &Played<'_>) -> Option<()> {
+    let document = repeated(alloc, row.0)?;
     for settled in ALL_WAYS {
-        let reported = outcome(alloc, document.as_slice(), *settled);
-        comes_to(rt, (script, closings, *settled), reported, expected);
+        let reported = outcome(alloc, document.as_slice(), settled);
+        comes_to(rt, row, settled, reported);
     }
     Some(())
 }
 
 #[test]
 fn a_report_or_the_first_fault_is_reported(rt: HostRuntime) {
-    for &(script, closings, expected) in PLAYED {
-        let done = script_comes_to(&rt, rt.alloc(), script, closings, expected);
-        assert_is_at(&rt, (script, closings), done, Some(()));
+    for row in PLAYED {
+        let done = script_comes_to(&rt, rt.alloc(), row);
+        assert_is_at(&rt, row.0, done, Some(()));
     }
 }
 
-/// Scripts that submit a block, and one block too many, as the first of a list and after another
-/// script.
-const ONE: &str = r#"{"kind":"literal","sheets":[[{"price":100,"product":0,"quantity":1}]]}"#;
-
-const TWO: &str = r#"{"kind":"literal","sheets":[[{"price":100,"product":0,"quantity":2}]]}"#;
-
-const ONE_MORE: &str = r#",{"kind":"literal","sheets":[[{"price":100,"product":0,"quantity":1}]]}"#;
-
-const TWO_MORE: &str = r#",{"kind":"literal","sheets":[[{"price":100,"product":0,"quantity":2}]]}"#;
-
-const BEFORE_SCRIPTS: &str = r#"{"closings":[{"increment":10,"ties":[]}],"scripts":["#;
-
-const BEFORE_BIDDERS: &str =
-    r#"],"setup":{"version":1,"requirement":95,"operator":"OPERATOROPERATOR","products":[{"name":"A","units":1,"supply":200,"cap":1,"opening":100}],"bidders":[{"eligibility":1,"name":"B0","token":"TOKENTOKENTOKENS0"}"#;
-
-/// Adds all bidders except the first.
-fn push_bidders(alloc: Global, text: &mut Text) -> Option<()> {
-    for number in 1..130 {
-        let bidder = format!(in alloc;
-            r#",{{"eligibility":1,"name":"B{number}","token":"TOKENTOKENTOKENS{number}"}}"#
-        );
-        let bidder = bidder.ok()?;
-        text.extend_from_slice(bidder.as_str().as_bytes()).ok()?;
-    }
-    Some(())
-}
-
-/// Scripts of 130 bidders, in two groups of 64 and one of two: the first script, the number of
-/// those that submit a block, and the number of those after them that submit too many.
-type Scripts<'a> = (&'a str, usize, usize);
-
-/// Adds a piece `times` times.
-fn push_times(text: &mut Text, piece: &str, times: usize) -> Option<()> {
-    for _ in 0..times {
-        text.extend_from_slice(piece.as_bytes()).ok()?;
-    }
-    Some(())
-}
-
-/// Makes a text of pieces, each with the number of its repetitions.
-fn repeated(alloc: Global, pieces: &[(&str, usize)]) -> Option<Text> {
-    let mut text = Text::new(alloc);
-    for &(piece, times) in pieces {
-        push_times(&mut text, piece, times)?;
-    }
-    Some(text)
-}
-
-/// Makes a document of a round with these scripts.
-fn many_sheets(alloc: Global, scripts: Scripts<'_>) -> Option<Text> {
-    let (first, good, faulty) = scripts;
-    let pieces = [
-        (BEFORE_SCRIPTS, 1),
-        (first, 1),
-        (ONE_MORE, good),
-        (TWO_MORE, faulty),
-        (BEFORE_BIDDERS, 1),
-    ];
-    let mut text = repeated(alloc, &pieces)?;
-    push_bidders(alloc, &mut text)?;
-    text.extend_from_slice(b"]}}").ok()?;
-    Some(text)
-}
-
-/// Scripts, and the fault of the first one that submits a block too many.
-const GROUPS: &[(Scripts<'static>, Option<SimFault>)] = &[
-    ((TWO, 0, 129), Some(SimFault::Refused(0, 1, Code::OverCap))),
-    ((ONE, 0, 129), Some(SimFault::Refused(1, 1, Code::OverCap))),
-    ((ONE, 62, 67), Some(SimFault::Refused(63, 1, Code::OverCap))),
-    ((ONE, 63, 66), Some(SimFault::Refused(64, 1, Code::OverCap))),
-    (
-        (ONE, 128, 1),
-        Some(SimFault::Refused(129, 1, Code::OverCap)),
-    ),
-    ((ONE, 129, 0), None),
-];
+/// The pieces of a document, and its first fault.
+type Faulty<'a> = (&'a [Piece<'a>], Option<SimFault>);
 
 /// The first fault of a document, or `None`. Returns `None` too if it could not be allocated.
 fn fault_in(alloc: Global, document: Option<Text>) -> Option<Option<SimFault>> {
     let document = document?;
-    Some(fault_of(alloc, document.as_slice()))
+    Some(outcome(alloc, document.as_slice(), WOKEN).err())
 }
+
+/// What comes before the scripts of 130 bidders, with a closing.
+const BEFORE_SCRIPTS: Piece<'static> = (
+    r#"{"closings":[{"increment":10,"ties":[]}],"scripts":["#,
+    1,
+);
+
+/// Scripts that submit a block, and one block too many, as the first of a list.
+const FIRST_ONE: Piece<'static> = (
+    r#"{"kind":"literal","sheets":[[{"price":100,"product":0,"quantity":1}]]}"#,
+    1,
+);
+
+const FIRST_TWO: Piece<'static> = (
+    r#"{"kind":"literal","sheets":[[{"price":100,"product":0,"quantity":2}]]}"#,
+    1,
+);
+
+/// These scripts after another script.
+const ONE_MORE: &str = r#",{"kind":"literal","sheets":[[{"price":100,"product":0,"quantity":1}]]}"#;
+
+const TWO_MORE: &str = r#",{"kind":"literal","sheets":[[{"price":100,"product":0,"quantity":2}]]}"#;
+
+/// What comes after the scripts, up to the first bidder.
+const BEFORE_BIDDERS: Piece<'static> = (
+    r#"],"setup":{"version":1,"requirement":95,"operator":"OPERATOROPERATOR","products":[{"name":"A","units":1,"supply":200,"cap":1,"opening":100}],"bidders":[{"eligibility":1,"name":"B0","token":"TOKENTOKENTOKENS0"}"#,
+    1,
+);
+
+/// Adds a bidder with this number.
+fn push_bidder(alloc: Global, text: &mut Text, number: u64) -> Option<()> {
+    let bidder = format!(in alloc;
+        r#",{{"eligibility":1,"name":"B{number}","token":"TOKENTOKENTOKENS{number}"}}"#
+    );
+    text.extend_from_slice(bidder.ok()?.as_str().as_bytes())
+        .ok()
+}
+
+/// Adds all bidders except the first, and the end of the document.
+fn push_bidders(alloc: Global, text: &mut Text) -> Option<()> {
+    for number in 1..130 {
+        push_bidder(alloc, text, number)?;
+    }
+    text.extend_from_slice(b"]}}").ok()
+}
+
+/// Makes a document of a round, from the pieces before its second bidder.
+fn many_sheets(alloc: Global, pieces: &[Piece<'_>]) -> Option<Text> {
+    let mut text = repeated(alloc, pieces)?;
+    push_bidders(alloc, &mut text)?;
+    Some(text)
+}
+
+/// Documents of 130 bidders, in two groups of 64 and one of two: the first script, those after it
+/// that submit a block, and those after them that submit too many. The fault is that of the first
+/// script that submits a block too many.
+const GROUPS: &[Faulty<'static>] = &[
+    (
+        &[BEFORE_SCRIPTS, FIRST_TWO, (TWO_MORE, 129), BEFORE_BIDDERS],
+        Some(SimFault::Refused(0, 1, Code::OverCap)),
+    ),
+    (
+        &[BEFORE_SCRIPTS, FIRST_ONE, (TWO_MORE, 129), BEFORE_BIDDERS],
+        Some(SimFault::Refused(1, 1, Code::OverCap)),
+    ),
+    (
+        &[
+            BEFORE_SCRIPTS,
+            FIRST_ONE,
+            (ONE_MORE, 62),
+            (TWO_MORE, 67),
+            BEFORE_BIDDERS,
+        ],
+        Some(SimFault::Refused(63, 1, Code::OverCap)),
+    ),
+    (
+        &[
+            BEFORE_SCRIPTS,
+            FIRST_ONE,
+            (ONE_MORE, 63),
+            (TWO_MORE, 66),
+            BEFORE_BIDDERS,
+        ],
+        Some(SimFault::Refused(64, 1, Code::OverCap)),
+    ),
+    (
+        &[
+            BEFORE_SCRIPTS,
+            FIRST_ONE,
+            (ONE_MORE, 128),
+            (TWO_MORE, 1),
+            BEFORE_BIDDERS,
+        ],
+        Some(SimFault::Refused(129, 1, Code::OverCap)),
+    ),
+    (
+        &[BEFORE_SCRIPTS, FIRST_ONE, (ONE_MORE, 129), BEFORE_BIDDERS],
+        None,
+    ),
+];
 
 #[test]
 fn groups_are_answered_in_the_order_of_the_bidders(rt: HostRuntime) {
-    for &(scripts, fault) in GROUPS {
-        let reported = fault_in(rt.alloc(), many_sheets(rt.alloc(), scripts));
-        assert_is_at(&rt, scripts, reported, Some(fault));
+    for row in GROUPS {
+        let reported = fault_in(rt.alloc(), many_sheets(rt.alloc(), row.0));
+        assert_is_at(&rt, row.0, reported, Some(row.1));
     }
 }
 
-/// The beginning of a script, up to the first bid of its sheet.
-const LONG: &str = r#",{"kind":"literal","sheets":[[{"price":100,"product":0,"quantity":1}"#;
+/// The scripts of X, up to Y's.
+const FALLING: Piece<'static> = (
+    r#"{"closings":[],"scripts":[{"kind":"sincere","limits":[[120,115]]},"#,
+    1,
+);
 
-const ONE_BID: &str = r#",{"price":100,"product":0,"quantity":1}"#;
+const OVER: Piece<'static> = (
+    r#"{"closings":[],"scripts":[{"kind":"literal","sheets":[[{"price":100,"product":0,"quantity":3}]]},"#,
+    1,
+);
 
-/// Makes a document with a script of X, in which Y's sheet has bids enough for a body that is too
-/// long.
-fn before_long(alloc: Global, script: &str) -> Option<Text> {
-    repeated(
-        alloc,
-        &[
-            (r#"{"closings":[],"scripts":["#, 1),
-            (script, 1),
-            (LONG, 1),
-            (ONE_BID, 28_000),
-            (r#"]]}],"setup":"#, 1),
-            (ONE_PRODUCT, 1),
-            ("}", 1),
-        ],
-    )
-}
+/// The beginning of Y's script, up to the first bid of its sheet.
+const LONG: Piece<'static> = (
+    r#"{"kind":"literal","sheets":[[{"price":100,"product":0,"quantity":1}"#,
+    1,
+);
+
+/// More bids, enough for a body that is too long.
+const MORE: Piece<'static> = (r#",{"price":100,"product":0,"quantity":1}"#, 28_000);
+
+const AFTER: Piece<'static> = (r#"]]}],"setup":"#, 1);
 
 /// A script of X, with a sheet of Y that is too long, and the fault.
-const BEFORE: &[(&str, SimFault)] = &[
-    (FALLING_LIMITS, SimFault::Refused(1, 1, Code::LongBody)),
-    (OVER_CAP, SimFault::Refused(0, 1, Code::OverCap)),
+const BEFORE: &[Faulty<'static>] = &[
+    (
+        &[FALLING, LONG, MORE, AFTER, ONE, END],
+        Some(SimFault::Refused(1, 1, Code::LongBody)),
+    ),
+    (
+        &[OVER, LONG, MORE, AFTER, ONE, END],
+        Some(SimFault::Refused(0, 1, Code::OverCap)),
+    ),
 ];
 
 #[test]
 fn a_sheet_that_is_too_long_waits_for_those_before_it(rt: HostRuntime) {
-    for &(script, fault) in BEFORE {
-        let reported = fault_in(rt.alloc(), before_long(rt.alloc(), script));
-        assert_is_at(&rt, script, reported, Some(Some(fault)));
+    for row in BEFORE {
+        let reported = fault_in(rt.alloc(), repeated(rt.alloc(), row.0));
+        assert_is_at(&rt, row.0, reported, Some(row.1));
     }
 }

@@ -16,16 +16,18 @@ const LONGEST: usize = 200;
 
 /// The order in which the bytes of a run's requests come. In each order, the requests are complete
 /// in their own order: each last byte comes after those before.
-#[derive(Clone, Copy, Debug)]
-enum Way {
-    /// One request after the other.
-    Apart,
-    /// A byte of each in turn, and then the last byte of each.
-    InTurn,
-    /// All bytes but the last of each, from the last request to the first, and then the last byte
-    /// of each.
-    LastFirst,
-}
+///
+/// - [`APART`]: one request after the other.
+/// - [`IN_TURN`]: a byte of each in turn, and then the last byte of each.
+/// - [`LAST_FIRST`]: all bytes but the last of each, from the last request to the first, and then
+///   the last byte of each.
+type Way<'a> = &'a str;
+
+const APART: Way<'static> = "apart";
+
+const IN_TURN: Way<'static> = "in turn";
+
+const LAST_FIRST: Way<'static> = "last first";
 
 /// The bytes of a text that come.
 #[derive(Clone, Copy)]
@@ -104,18 +106,18 @@ fn push_requests(
     alloc: Global,
     events: &mut Vec<Event>,
     requests: &[Sent],
-    way: Way,
+    way: Way<'_>,
 ) -> Option<()> {
     match way {
-        Way::Apart => return push_parts(alloc, events, requests, Part::All, false),
-        Way::InTurn => push_in_turn(alloc, events, requests)?,
-        Way::LastFirst => push_parts(alloc, events, requests, Part::AllButLast, true)?,
+        APART => return push_parts(alloc, events, requests, Part::All, false),
+        IN_TURN => push_in_turn(alloc, events, requests)?,
+        _ => push_parts(alloc, events, requests, Part::AllButLast, true)?,
     }
     push_parts(alloc, events, requests, Part::Last, false)
 }
 
 /// The events of the connections of a run.
-fn events_of(alloc: Global, requests: &[Sent], way: Way) -> Option<Vec<Event>> {
+fn events_of(alloc: Global, requests: &[Sent], way: Way<'_>) -> Option<Vec<Event>> {
     let mut events = connected(alloc, requests.len())?;
     push_requests(alloc, &mut events, requests, way)?;
     Some(events)
@@ -129,7 +131,12 @@ fn replies_to(alloc: Global, bidders: &str, events: &[Event]) -> Option<EventRep
 }
 
 /// The replies to requests whose bytes come in this order.
-fn replies_in(alloc: Global, bidders: &str, requests: &[Sent], way: Way) -> Option<EventReplies> {
+fn replies_in(
+    alloc: Global,
+    bidders: &str,
+    requests: &[Sent],
+    way: Way<'_>,
+) -> Option<EventReplies> {
     let events = events_of(alloc, requests, way)?;
     replies_to(alloc, bidders, events.as_slice())
 }
@@ -152,7 +159,7 @@ fn own_replies(alloc: Global, requests: &[Sent], replies: &[EventReply]) -> Opti
 }
 
 /// X's replies if the bytes of requests come in this order.
-fn reported_in(alloc: Global, bidders: &str, requests: &[Sent], way: Way) -> Option<String> {
+fn reported_in(alloc: Global, bidders: &str, requests: &[Sent], way: Way<'_>) -> Option<String> {
     let replies = replies_in(alloc, bidders, requests, way)?;
     let reported = own_replies(alloc, requests, replies.as_slice());
     drop(replies);
@@ -160,7 +167,7 @@ fn reported_in(alloc: Global, bidders: &str, requests: &[Sent], way: Way) -> Opt
 }
 
 /// X's replies in a run whose bytes come in this order.
-fn reported_x_in_pieces(alloc: Global, run: Run<'_>, way: Way) -> Option<String> {
+fn reported_x_in_pieces(alloc: Global, run: &Run<'_>, way: Way<'_>) -> Option<String> {
     let requests = requests_of(alloc, run.1)?;
     let reported = reported_in(alloc, run.0, requests.as_slice(), way);
     drop(requests);
@@ -168,27 +175,27 @@ fn reported_x_in_pieces(alloc: Global, run: Run<'_>, way: Way) -> Option<String>
 }
 
 /// Runs in which X sees the same, and the order of their bytes.
-const RUNS: &[(Run<'static>, Way)] = &[
-    ((X_AND_Y, BY_Y), Way::Apart),
-    ((V_X_AND_W, BY_W), Way::Apart),
-    ((X_AND_Y, BY_Y), Way::InTurn),
-    ((V_X_AND_W, BY_W), Way::LastFirst),
-    ((X_AND_Y, BY_Y), Way::LastFirst),
-    ((V_X_AND_W, BY_W), Way::InTurn),
+const RUNS: &[(Run<'static>, Way<'static>)] = &[
+    ((X_AND_Y, BY_Y), APART),
+    ((V_X_AND_W, BY_W), APART),
+    ((X_AND_Y, BY_Y), IN_TURN),
+    ((V_X_AND_W, BY_W), LAST_FIRST),
+    ((X_AND_Y, BY_Y), LAST_FIRST),
+    ((V_X_AND_W, BY_W), IN_TURN),
 ];
 
 /// Asserts that X's replies are those to whole requests, in whatever order the bytes come.
 fn is_reported_as_whole(rt: &impl Abort, alloc: Global, whole: &str) -> Option<()> {
-    for &(run, way) in RUNS {
-        let reported = reported_x_in_pieces(alloc, run, way)?;
-        assert_is_at(rt, (run, way), reported.as_str(), whole);
+    for row in RUNS {
+        let reported = reported_x_in_pieces(alloc, &row.0, row.1)?;
+        assert_is_at(rt, row, reported.as_str(), whole);
     }
     Some(())
 }
 
 /// Asserts [`is_reported_as_whole`] for X's replies to whole requests.
 fn are_reported_alike(rt: &impl Abort, alloc: Global) -> Option<()> {
-    let whole = reported_x(alloc, PUBLIC, (X_AND_Y, BY_Y))?;
+    let whole = reported_x(alloc, PUBLIC, &(X_AND_Y, BY_Y))?;
     is_reported_as_whole(rt, alloc, whole.as_str())
 }
 

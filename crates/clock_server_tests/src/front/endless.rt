@@ -41,51 +41,42 @@ impl Source for Endless {
     }
 }
 
+/// Whether the reads of a source are interrupted, the result, the bytes that are written, and the
+/// number of reads.
+type Served<'a> = (bool, Result<Code, StreamFault>, &'a str, u64);
+
 /// Serves a source that never ends. Asserts the result, the bytes that are written, and the number
 /// of reads.
 fn is_served(
     rt: &impl Abort,
     alloc: Global,
     front: &mut Front<Plain>,
-    is_interrupted: bool,
-    answer: Result<Code, StreamFault>,
-    written: &str,
-    calls: u64,
+    row: &Served<'_>,
 ) -> Option<()> {
     let mut source = Endless {
-        is_interrupted,
+        is_interrupted: row.0,
         calls: 0,
         interruptions: 0,
     };
     let mut sink = ListSink::new(alloc, 1024, 1024, None).ok()?;
     let served = serve_stream(alloc, front, &mut source, &mut sink);
-    assert_is_at(rt, is_interrupted, served, answer);
-    assert_reads_at(rt, is_interrupted, sink.bytes(), written);
-    assert_is_at(rt, is_interrupted, source.calls, calls);
+    assert_is_at(rt, row.0, served, row.1);
+    assert_reads_at(rt, row.0, sink.bytes(), row.2);
+    drop(sink);
+    assert_is_at(rt, row.0, source.calls, row.3);
     Some(())
 }
 
-/// Whether the reads of a source are interrupted, and the result: with spaces its head is too long,
-/// and interruptions use up all reads.
-const SERVED: &[(bool, Result<Code, StreamFault>, &str, u64)] = &[
+/// With spaces the head of a source is too long, and interruptions use up all reads.
+const SERVED: &[Served<'static>] = &[
     (false, Ok(Code::LongHead), LONG_HEAD, 16_384),
     (true, Err(StreamFault::Read), "", 2_000_000),
 ];
 
 #[test]
 fn a_source_without_end_is_served(rt: HostRuntime) {
-    for &(is_interrupted, answer, written, calls) in SERVED {
-        let done = on_one_product(rt.alloc(), |front| {
-            is_served(
-                &rt,
-                rt.alloc(),
-                front,
-                is_interrupted,
-                answer,
-                written,
-                calls,
-            )
-        });
-        assert_is_at(&rt, is_interrupted, done, Some(()));
+    for row in SERVED {
+        let done = on_one_product(rt.alloc(), |front| is_served(&rt, rt.alloc(), front, row));
+        assert_is_at(&rt, row.0, done, Some(()));
     }
 }

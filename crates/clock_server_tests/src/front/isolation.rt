@@ -102,7 +102,7 @@ fn document_of(alloc: Global, public: &str, bidders: &str) -> Result<String, All
 type Run<'a> = (&'a str, &'a str);
 
 /// The replies to X's requests in a run with this public set-up.
-fn reported_x(alloc: Global, public: &str, run: Run<'_>) -> Option<String> {
+fn reported_x(alloc: Global, public: &str, run: &Run<'_>) -> Option<String> {
     let document = document_of(alloc, public, run.0).ok()?;
     let requests = requests_of(alloc, run.1)?;
     on_front(alloc, document.as_str(), |front| {
@@ -219,7 +219,9 @@ PUT /v1/me/bids|Y|{"bids":[{"price":111,"product":0,"quantity":1}],"round":2}
 POST /v1/close|O|{"increment":10,"round":2,"ties":[[0,0,8]]}"#;
 
 /// What X's replies hide, the public set-up, and two runs that differ only in it.
-const RUNS: &[(&str, &str, Run<'static>, Run<'static>)] = &[
+type Hidden<'a> = (&'a str, &'a str, Run<'a>, Run<'a>);
+
+const RUNS: &[Hidden<'static>] = &[
     ("rivals", PUBLIC, (X_AND_Y, BY_Y), (V_X_AND_W, BY_W)),
     (
         "refused requests",
@@ -242,38 +244,25 @@ const RUNS: &[(&str, &str, Run<'static>, Run<'static>)] = &[
     ),
 ];
 
-/// Asserts X's replies in a run, with its pages among them. A failure names what the runs hide.
-fn is_reported(
-    rt: &impl Abort,
-    alloc: Global,
-    hidden: &str,
-    public: &str,
-    run: Run<'_>,
-    expected: &str,
-) -> Option<()> {
-    let reported = reported_x(alloc, public, run)?;
+/// Asserts X's replies in the second run, with its pages among them. A failure names what the runs
+/// hide.
+fn is_reported(rt: &impl Abort, alloc: Global, row: &Hidden<'_>, expected: &str) -> Option<()> {
+    let reported = reported_x(alloc, row.1, &row.3)?;
     let is_whole = has_pages(reported.as_str());
-    assert_is_at(rt, hidden, (reported.as_str(), is_whole), (expected, true));
+    assert_is_at(rt, row.0, (reported.as_str(), is_whole), (expected, true));
     Some(())
 }
 
 /// Asserts that X's replies in both runs are equal.
-fn is_reported_alike(
-    rt: &impl Abort,
-    alloc: Global,
-    hidden: &str,
-    public: &str,
-    one: Run<'_>,
-    two: Run<'_>,
-) -> Option<()> {
-    let reported = reported_x(alloc, public, one)?;
-    is_reported(rt, alloc, hidden, public, two, reported.as_str())
+fn is_reported_alike(rt: &impl Abort, alloc: Global, row: &Hidden<'_>) -> Option<()> {
+    let reported = reported_x(alloc, row.1, &row.2)?;
+    is_reported(rt, alloc, row, reported.as_str())
 }
 
 #[test]
 fn what_a_bidder_may_not_see_shows_in_no_reply(rt: HostRuntime) {
-    for &(hidden, public, one, two) in RUNS {
-        let done = is_reported_alike(&rt, rt.alloc(), hidden, public, one, two);
-        assert_is_at(&rt, hidden, done, Some(()));
+    for row in RUNS {
+        let done = is_reported_alike(&rt, rt.alloc(), row);
+        assert_is_at(&rt, row.0, done, Some(()));
     }
 }

@@ -116,16 +116,16 @@ fn framed(text: &[u8]) -> Framed<'_> {
 }
 
 /// Asserts the framing of texts.
-fn are_framed(rt: &impl Abort, texts: &[&[u8]], expected: Framed<'_>) {
+fn are_framed(rt: &impl Abort, texts: &[&[u8]], expected: &Framed<'_>) {
     for text in texts {
-        assert_is_at(rt, *text, framed(text), expected);
+        assert_is_at(rt, *text, framed(text), *expected);
     }
 }
 
 #[test]
 fn a_text_is_a_request_or_refused_or_needs_more(rt: HostRuntime) {
-    for &(framed, texts) in TEXTS {
-        are_framed(&rt, texts, framed);
+    for row in TEXTS {
+        are_framed(&rt, row.1, &row.0);
     }
 }
 

@@ -3,7 +3,7 @@ mod answers;
 mod bodies;
 mod endless;
 mod events;
-mod example;
+pub(crate) mod example;
 mod framing;
 mod heads;
 mod hostile;

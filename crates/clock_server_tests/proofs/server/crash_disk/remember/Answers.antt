@@ -1,6 +1,6 @@
 use Rattle.clock_server_tests.proofs.Moments.{passes}
-use Rattle.clock_server_tests.specs.declared.crash_disk.Passed.{Passed}
-use Rattle.clock_server_tests.proofs.crash_disk.remember.Goals as goal
+use Rattle.clock_server_tests.specs.declared.server.crash_disk.Passed.{Passed}
+use Rattle.clock_server_tests.proofs.server.crash_disk.remember.Goals as goal
 
 pub returns : goal.returns
 returns g c =

@@ -3,10 +3,10 @@
 ghost use Rattle.std.specs.Prelude.{◌≡◌, [], IfOk, false};
 ghost use Rattle.clock_front.specs.Fronts.{StandsForTexts};
 
+use super::crash_disk::{CrashDisk, Passed};
+use super::loops::{Sent, assert_written, clients};
 use crate::comparing::{assert_is, assert_is_at};
-use crate::crash_disk::{CrashDisk, Passed};
-use crate::loops::{assert_written, client};
-use crate::memory_acceptor::{Client, MemoryAcceptor};
+use crate::memory_acceptor::MemoryAcceptor;
 use clock_fixtures::{ACCEPTED, BIDS_OF_X, FIRST_ROUND, NO_BIDS, ONE_PRODUCT, PUT, STATUS};
 use clock_front::Front;
 use clock_journal::{Journal, Link, Recovered};
@@ -48,14 +48,30 @@ fn auction(alloc: Global) -> Result<ReplayedAuction<Plain>, SetupFault>
     Ok(ReplayedAuction { front })
 }
 
-/// Runs one generation of a server on a file. Returns `None` if memory runs out.
+const SERVED: &str = "served";
+
+const NOT_STARTED: &str = "not started";
+
+const NOT_LOGGED: &str = "not logged";
+
+/// How a generation ended, by its result.
+fn ended_by(end: Result<(), GenerationFault>) -> &'static str {
+    match end {
+        Ok(()) => SERVED,
+        Err(GenerationFault::Start(_)) => NOT_STARTED,
+        Err(GenerationFault::Serve(ServeFault::Accept)) => "not accepted",
+        Err(GenerationFault::Serve(ServeFault::Journal)) => NOT_LOGGED,
+    }
+}
+
+/// Runs one generation of a server on a file. Returns how it ended, or `None` if memory runs out.
 fn generation<R: Abort>(
     alloc: Global,
     journal: &mut Journal<CrashDisk<'_, R>>,
     file: &[u8],
     listed: &mut MemoryAcceptor<'_>,
     count: u64,
-) -> Option<Ended>
+) -> Option<&'static str>
     requires unfailed { journal.old.has_failed ≡ false }
     requires closed { listed.old.is_open ≡ false }
     requires taken { listed.old.has_failed ≡ false }
@@ -69,47 +85,10 @@ fn generation<R: Abort>(
     Some(ended_by(end))
 }
 
-/// How many whole records a file of this length has: a head of 56 bytes, and records of 40 bytes
-/// and the text.
-fn texts_in(length: usize) -> usize {
-    match length {
-        0..243 => 0,
-        243..406 => 1,
-        _ => 2,
-    }
-}
-
-/// By the number of texts: the file's length up to their end, the replies of a server that starts
-/// on them, and the length of the file after it.
-const RESTARTS: [(usize, &[&str], usize); 3] = [
-    (0, &[NO_BIDS, FIRST_ROUND, ACCEPTED], 243),
-    (243, &[BIDS, FIRST_ROUND, ACCEPTED], 430),
-    (406, &[NO_BIDS, ENDED, AFTER_THE_END], 406),
-];
-
-/// How a generation ended.
-#[derive(Clone, Copy, Debug, PartialEq, Eq)]
-enum Ended {
-    Served,
-    NotStarted,
-    NotAccepted,
-    NotLogged,
-}
-
-/// Returns how a generation ended, by its result.
-fn ended_by(end: Result<(), GenerationFault>) -> Ended {
-    match end {
-        Ok(()) => Ended::Served,
-        Err(GenerationFault::Start(_)) => Ended::NotStarted,
-        Err(GenerationFault::Serve(ServeFault::Accept)) => Ended::NotAccepted,
-        Err(GenerationFault::Serve(ServeFault::Journal)) => Ended::NotLogged,
-    }
-}
-
 /// What a run must show: its row, how it ends, what it writes to each client that it accepts, and
 /// two files. Each crash leaves the first of these or more of the file, and if the second is not
 /// empty, a prefix of it.
-type Run<'a> = (usize, Ended, &'a [&'a str], &'a [u8], &'a [u8]);
+type Run<'a> = (usize, &'a str, &'a [&'a str], &'a [u8], &'a [u8]);
 
 /// Asserts that bytes begin with these.
 fn assert_begins(rt: &impl Abort, row: usize, bytes: &[u8], first: &[u8]) {
@@ -117,85 +96,133 @@ fn assert_begins(rt: &impl Abort, row: usize, bytes: &[u8], first: &[u8]) {
 }
 
 /// Asserts what each crash of a run leaves.
-fn assert_left(rt: &impl Abort, moments: &[Passed], run: Run<'_>) {
-    let (row, _ended, _replies, first, whole) = run;
+fn assert_left(rt: &impl Abort, moments: &[Passed], run: &Run<'_>) {
     for passed in moments {
-        assert_begins(rt, row, passed.synced.as_slice(), first);
-        if !whole.is_empty() {
-            assert_begins(rt, row, whole, passed.synced.as_slice());
-            assert_begins(rt, row, whole, passed.written.as_slice());
+        assert_begins(rt, run.0, passed.synced.as_slice(), run.3);
+        if !run.4.is_empty() {
+            assert_begins(rt, run.0, run.4, passed.synced.as_slice());
+            assert_begins(rt, run.0, run.4, passed.written.as_slice());
         }
     }
 }
 
+/// Runs a server for these clients on a file. Compares how it ends, and what it writes. Returns
+/// `None` if memory runs out.
+fn serve<R: Abort>(
+    rt: &R,
+    alloc: Global,
+    journal: &mut Journal<CrashDisk<'_, R>>,
+    file: &[u8],
+    sent: &[Sent<'_>],
+    run: &Run<'_>,
+) -> Option<()>
+    requires { journal.old.has_failed ≡ false }
+{
+    let clients = clients(alloc, sent)?;
+    let mut listed = MemoryAcceptor::new(alloc, clients.as_slice()).ok()?;
+    let ended = generation(alloc, journal, file, &mut listed, sent.len() as u64);
+    assert_is_at(rt, run.0, ended, Some(run.1));
+    assert_written(rt, listed.closed(), run.2);
+    drop(listed);
+    Some(())
+}
+
 /// Runs a server for these clients on a file, and a disk of which only the first `calls` calls
 /// succeed. Compares how it ends, what it writes, and what crashes leave. Returns the file then.
-/// Only here do the tests have a server's connections and its journal.
 fn run_server<R: Abort>(
     rt: &R,
     alloc: Global,
     file: &[u8],
     calls: u64,
-    clients: &[Client<'_>],
-    run: Run<'_>,
+    sent: &[Sent<'_>],
+    run: &Run<'_>,
 ) -> Option<Vec<u8>> {
-    let mut listed = MemoryAcceptor::new(alloc, clients).ok()?;
     let mut journal = Journal::new(CrashDisk::new(rt, alloc, file, calls), DIGEST);
-    let count = clients.len() as u64;
-    let ended = generation(alloc, &mut journal, file, &mut listed, count);
-    assert_is_at(rt, run.0, ended, Some(run.1));
-    assert_written(rt, listed.closed(), run.2);
-    drop(listed);
+    let done = serve(rt, alloc, &mut journal, file, sent, run);
+    assert_is_at(rt, run.0, done, Some(()));
     assert_left(rt, journal.disk().moments(), run);
     let bytes = journal.disk().bytes().to_vec(alloc).ok();
     drop(journal);
     bytes
 }
 
-/// Starts a server on a file that a crash may have left. Compares what it replies and logs, and
-/// what crashes during its start leave.
-fn restart<R: Abort>(rt: &R, alloc: Global, file: &[u8]) -> Option<()> {
-    let (end, replies, length) = *RESTARTS.get(texts_in(file.len()))?;
-    let clients = [client(BIDS_OF_X), client(STATUS), client(PUT)];
-    let run: Run<'_> = (file.len(), Ended::Served, replies, file.get(..end)?, b"");
-    let bytes = run_server(rt, alloc, file, 100, &clients, run)?;
-    assert_is_at(rt, file.len(), bytes.len(), length);
+/// The file's length up to the end of its texts, the replies of a server that starts on them, and
+/// the length of the file after it.
+type Restart = (usize, &'static [&'static str], usize);
+
+/// The restart on a file of this length. A file has a head of 56 bytes, and records of 40 bytes and
+/// the text.
+fn restart_of(length: usize) -> Restart {
+    match length {
+        0..243 => (0, &[NO_BIDS, FIRST_ROUND, ACCEPTED], 243),
+        243..406 => (243, &[BIDS, FIRST_ROUND, ACCEPTED], 430),
+        _ => (406, &[NO_BIDS, ENDED, AFTER_THE_END], 406),
+    }
+}
+
+/// The clients after a restart.
+const AFTER_RESTART: &[Sent<'static>] = &[
+    (BIDS_OF_X, None, None),
+    (STATUS, None, None),
+    (PUT, None, None),
+];
+
+/// Starts a server on the first bytes of a file, which a crash may have left. Compares what it
+/// replies and logs, and what crashes during its start leave.
+fn restart<R: Abort>(rt: &R, alloc: Global, file: &[u8], length: usize) -> Option<()> {
+    let (end, replies, then) = restart_of(length);
+    let file = file.get(..length)?;
+    let run: Run<'_> = (length, SERVED, replies, file.get(..end)?, b"");
+    let bytes = run_server(rt, alloc, file, 100, AFTER_RESTART, &run)?;
+    assert_is_at(rt, length, bytes.len(), then);
     Some(())
 }
 
 /// How a server ends on an empty file if this number of calls of its disk succeed, and what it
 /// writes to each client that it accepts. A start makes four calls, and each text three.
-fn first_run(calls: u64) -> (Ended, &'static [&'static str]) {
+fn first_run(calls: u64) -> (&'static str, &'static [&'static str]) {
     match calls {
-        0..4 => (Ended::NotStarted, &[]),
-        4..7 => (Ended::NotLogged, &[""]),
-        7..10 => (Ended::NotLogged, &[ACCEPTED, ""]),
-        _ => (Ended::Served, &[ACCEPTED, CLOSED]),
+        0..4 => (NOT_STARTED, &[]),
+        4..7 => (NOT_LOGGED, &[""]),
+        7..10 => (NOT_LOGGED, &[ACCEPTED, ""]),
+        _ => (SERVED, &[ACCEPTED, CLOSED]),
     }
 }
+
+/// The clients of the first run.
+const FIRST: &[Sent<'static>] = &[(PUT, None, None), (CLOSE, None, None)];
 
 /// Runs a server until a call of its disk fails. Compares how it ends and what it writes, and
 /// asserts that a crash at each moment leaves a prefix of `whole`. Returns the file.
 fn crash_at<R: Abort>(rt: &R, alloc: Global, calls: u64, whole: &[u8]) -> Option<Vec<u8>> {
     let (ended, replies) = first_run(calls);
-    let clients = [client(PUT), client(CLOSE)];
     let run: Run<'_> = (calls as usize, ended, replies, b"", whole);
-    run_server(rt, alloc, b"", calls, &clients, run)
+    run_server(rt, alloc, b"", calls, FIRST, &run)
 }
 
-/// Runs a server until each call of its disk in turn is the first to fail. Then starts another one
-/// on each prefix of the file: these are all files that a crash at some moment left.
+/// Runs a server until each call of its disk in turn is the first to fail.
+fn crash_at_each_call<R: Abort>(rt: &R, alloc: Global, whole: &[u8]) {
+    for calls in 0..11 {
+        let done = crash_at(rt, alloc, calls, whole).is_some();
+        assert_is_at(rt, calls, done, true);
+    }
+}
+
+/// Starts a server on each prefix of the file: these are all files that a crash at some moment
+/// left.
+fn restart_on_each_prefix<R: Abort>(rt: &R, alloc: Global, file: &[u8]) {
+    for length in 0..407 {
+        let done = restart(rt, alloc, file, length);
+        assert_is_at(rt, length, done, Some(()));
+    }
+}
+
+/// Runs a server that crashes, and then others on what is left.
 fn crash_and_restart<R: Abort>(rt: &R, alloc: Global) -> Option<()> {
     let file = crash_at(rt, alloc, 100, b"")?;
     assert_is(rt, file.len(), 406);
-    for calls in 0..=10 {
-        let done = crash_at(rt, alloc, calls, file.as_slice()).is_some();
-        assert_is_at(rt, calls, done, true);
-    }
-    for length in 0..=406usize {
-        let done = restart(rt, alloc, file.get(..length)?);
-        assert_is_at(rt, length, done, Some(()));
-    }
+    crash_at_each_call(rt, alloc, file.as_slice());
+    restart_on_each_prefix(rt, alloc, file.as_slice());
     Some(())
 }
 

@@ -1,14 +1,13 @@
 //! Replies to requests that are sent one after the other.
-use super::heads::answers;
-use super::requests::{Reported, compare, reply_of, request_of, setup_of, text_of};
+use super::hostile::{Hostile, are_reported};
+use super::requests::{compare, reply_of, request_of, setup_of};
 use crate::comparing::{assert_is, assert_is_at};
 use crate::front::example::{on_front, on_one_product};
-use crate::repeated::{Repeated, repeated};
 use clock_device::{Items, Text};
 use clock_fixtures::{
-    ACCEPTED, ACTIVITY_LIMIT, AT_THE_HIGHEST, GRANULES_AND_INCREMENTS, ONE_PRODUCT, PUT,
+    ACCEPTED, ACTIVITY_LIMIT, AT_THE_HIGHEST, GRANULES_AND_INCREMENTS, NO_SHEET, ONE_PRODUCT, PUT,
 };
-use clock_front::{Front, Reply, run};
+use clock_front::{Front, Replies, Reply, run};
 use clock_http::Code;
 use clock_processor::Plain;
 use std::alloc::Global;
@@ -147,100 +146,102 @@ const AUCTIONS: &[(&str, &str)] = &[
 
 #[test]
 fn requests_are_answered_in_turn(rt: HostRuntime) {
-    for &(document, rows) in AUCTIONS {
-        let done = on_front(rt.alloc(), document, |front| {
-            send_rows(&rt, rt.alloc(), front, rows)
+    for row in AUCTIONS {
+        let done = on_front(rt.alloc(), row.0, |front| {
+            send_rows(&rt, rt.alloc(), front, row.1)
         });
-        assert_is_at(&rt, document, done, Some(()));
+        assert_is_at(&rt, row.0, done, Some(()));
     }
 }
 
-/// A request line, the owner of its token, a body with one item too many, and the page of the
-/// reply. A sheet has at most 8,192 bids, and a closing at most 16,384 tie-breaking numbers. All
-/// items of a body are equal.
-const TOO_MANY: &[(&str, &str, Repeated<'static>, &str)] = &[
+/// Bodies with one item too many. A sheet has at most 8,192 bids, and a closing at most 16,384
+/// tie-breaking numbers. All items of a body are equal.
+const TOO_MANY: &[Hostile<'static>] = &[
     (
-        "PUT /v1/me/bids",
-        "X",
+        "bids",
+        &[
+            (
+                b"PUT /v1/me/bids HTTP/1.1\r\nauthorization: Bearer XXXXXXXXXXXXXXXX\r\ncontent-length: 319547\r\n\r\n",
+                1,
+            ),
+            (br#"{"bids":[{"price":100,"product":0,"quantity":1}"#, 1),
+            (br#",{"price":100,"product":0,"quantity":1}"#, 8_192),
+            (br#"],"round":1}"#, 1),
+        ],
+        Some(319_639),
         (
-            r#"{"bids":[{"price":100,"product":0,"quantity":1}"#,
-            r#",{"price":100,"product":0,"quantity":1}"#,
-            8_192,
-            r#"],"round":1}"#,
+            "422 Unprocessable Entity",
+            r#"{"code":"too_many","status":422}"#,
         ),
-        r#"{"code":"too_many","status":422}"#,
+        NO_SHEET,
     ),
     (
-        "POST /v1/close",
-        "O",
+        "tie-breaking numbers",
+        &[
+            (
+                b"POST /v1/close HTTP/1.1\r\nauthorization: Bearer OPERATOROPERATOR\r\ncontent-length: 131115\r\n\r\n",
+                1,
+            ),
+            (br#"{"increment":10,"round":1,"ties":[[0,1,5]"#, 1),
+            (b",[0,1,5]", 16_384),
+            (b"]}", 1),
+        ],
+        Some(131_206),
         (
-            r#"{"increment":10,"round":1,"ties":[[0,1,5]"#,
-            ",[0,1,5]",
-            16_384,
-            "]}",
+            "422 Unprocessable Entity",
+            r#"{"code":"too_many_ties","status":422}"#,
         ),
-        r#"{"code":"too_many_ties","status":422}"#,
+        NO_SHEET,
     ),
 ];
 
-/// The text of a request, from its request line, the owner of its token, and the parts of its body.
-fn long_text(alloc: Global, asked: (&str, &str), parts: Repeated<'_>) -> Option<String> {
-    let body = repeated(alloc, parts)?;
-    text_of(alloc, asked.0, asked.1, body.as_str())
-}
-
-/// Asserts that a body of these parts is refused with a page.
-fn has_too_many(
-    rt: &impl Abort,
-    alloc: Global,
-    asked: (&str, &str),
-    parts: Repeated<'_>,
-    page: &str,
-) -> Option<()> {
-    let text = long_text(alloc, asked, parts)?;
-    let reported: Reported<'_> = ("422 Unprocessable Entity", page);
-    answers(rt, alloc, asked.0, text.as_str(), reported)
-}
-
 #[test]
 fn a_body_has_at_most_so_many_items(rt: HostRuntime) {
-    for &(line, who, parts, page) in TOO_MANY {
-        let done = has_too_many(&rt, rt.alloc(), (line, who), parts, page);
-        assert_is_at(&rt, line, done, Some(()));
-    }
+    are_reported(&rt, rt.alloc(), TOO_MANY);
 }
 
-/// The texts of rows, each a request.
-fn texts_of(alloc: Global, rows: &str) -> Option<Items<Text>> {
+/// Texts, and the codes of the replies to them.
+const RUN: &[(&str, Code)] = &[
+    ("GET /v1/status HTTP/1.1\r\n\r\n", Code::Done),
+    ("GET /v1/status", Code::CutShort),
+];
+
+/// The texts of rows.
+fn texts_of(alloc: Global, rows: &[(&str, Code)]) -> Option<Items<Text>> {
     let mut texts = Items::new(alloc);
-    for row in rows.split('|') {
-        let text = Text::from_slice(alloc, row.as_bytes()).ok()?;
+    for row in rows {
+        let text = Text::from_slice(alloc, row.0.as_bytes()).ok()?;
         texts.push(text).ok()?;
     }
     Some(texts)
 }
 
 /// Asserts the codes of replies.
-fn have_codes(rt: &impl Abort, replies: &[Reply], codes: &[Code]) {
-    assert_is(rt, replies.len(), codes.len());
-    for (place, (reply, code)) in replies.iter().zip(codes).enumerate() {
-        assert_is_at(rt, place, reply.code(), *code);
+fn have_codes(rt: &impl Abort, replies: &[Reply], rows: &[(&str, Code)]) {
+    assert_is(rt, replies.len(), rows.len());
+    for place in 0..rows.len() {
+        if let Some(reply) = replies.get(place) {
+            assert_is_at(rt, rows[place].0, reply.code(), rows[place].1);
+        }
     }
 }
 
-/// Asserts the codes of the replies to the texts of rows.
-fn run_has_codes(rt: &impl Abort, alloc: Global, rows: &str, codes: &[Code]) -> Option<()> {
-    let texts = texts_of(alloc, rows)?;
+/// The replies of a run to texts.
+fn replies_of(alloc: Global, texts: &[Text]) -> Option<Replies> {
     let setup = setup_of(alloc, ONE_PRODUCT)?;
-    let replies = run(alloc, setup, Plain, texts.as_slice()).ok()?;
-    have_codes(rt, replies.as_slice(), codes);
-    drop(replies);
+    run(alloc, setup, Plain, texts).ok()
+}
+
+/// Asserts the codes of the replies of a run to the texts of rows.
+fn run_has_codes(rt: &impl Abort, alloc: Global, rows: &[(&str, Code)]) -> Option<()> {
+    let texts = texts_of(alloc, rows)?;
+    let replies = replies_of(alloc, texts.as_slice());
+    drop(texts);
+    have_codes(rt, replies?.as_slice(), rows);
     Some(())
 }
 
 #[test]
 fn a_run_gives_a_reply_to_each_text(rt: HostRuntime) {
-    let rows = "GET /v1/status HTTP/1.1\r\n\r\n|GET /v1/status";
-    let codes = [Code::Done, Code::CutShort];
-    assert_is(&rt, run_has_codes(&rt, rt.alloc(), rows, &codes), Some(()));
+    assert_is(&rt, run_has_codes(&rt, rt.alloc(), RUN), Some(()));
 }

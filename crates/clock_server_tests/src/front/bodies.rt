@@ -23,8 +23,11 @@ const TWO_BIDS: [Bid; 2] = [
 /// A sheet: its round and its bids.
 type Sheet<'a> = (u64, &'a [Bid]);
 
-/// Bodies of sheets, and the sheet or the fault. The last two are no text.
-const SHEETS: &[(&[u8], Result<Sheet<'static>, BodyFault>)] = &[
+/// The body of a sheet, and the sheet or the fault.
+type SheetRow<'a> = (&'a [u8], Result<Sheet<'a>, BodyFault>);
+
+/// The last two are no text.
+const SHEETS: &[SheetRow<'static>] = &[
     (
         br#" {"round":1,"bids":[{"price":100,"product":0,"quantity":2}, {"quantity":1,"\u0070rice":0,"product":7}]}"#,
         Ok((1, &TWO_BIDS)),
@@ -73,20 +76,20 @@ const SHEETS: &[(&[u8], Result<Sheet<'static>, BodyFault>)] = &[
 ];
 
 /// Asserts the meaning of the body of a sheet.
-fn is_sheet(rt: &impl Abort, alloc: Global, body: &[u8], expected: Result<Sheet<'_>, BodyFault>) {
-    match read_put(alloc, body) {
+fn is_sheet(rt: &impl Abort, alloc: Global, row: &SheetRow<'_>) {
+    match read_put(alloc, row.0) {
         Ok(put) => {
             let reported = Ok((put.round, put.bids.as_slice()));
-            assert_is_at(rt, body, reported, expected);
+            assert_is_at(rt, row.0, reported, row.1);
         }
-        Err(fault) => assert_is_at(rt, body, Err(fault), expected),
+        Err(fault) => assert_is_at(rt, row.0, Err(fault), row.1),
     }
 }
 
 #[test]
 fn a_sheet_is_its_bids_and_round(rt: HostRuntime) {
-    for &(body, sheet) in SHEETS {
-        is_sheet(&rt, rt.alloc(), body, sheet);
+    for row in SHEETS {
+        is_sheet(&rt, rt.alloc(), row);
     }
 }
 
@@ -138,7 +141,7 @@ fn closing_of(alloc: Global, body: &[u8]) -> Result<Closing, BodyFault> {
 
 #[test]
 fn a_closing_has_one_form_of_increments(rt: HostRuntime) {
-    for &(body, closing) in CLOSINGS {
-        assert_is_at(&rt, body, closing_of(rt.alloc(), body), closing);
+    for row in CLOSINGS {
+        assert_is_at(&rt, row.0, closing_of(rt.alloc(), row.0), row.1);
     }
 }

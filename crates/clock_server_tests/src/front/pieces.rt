@@ -58,12 +58,19 @@ fn replies_to(alloc: Global, events: &[Event]) -> Option<EventReplies> {
     run_events(alloc, setup, Plain, events).ok()
 }
 
+/// Asserts a reply and the number of its connection.
+fn is_reply(rt: &impl Abort, one: &EventReply, expected: &(u64, &str)) {
+    assert_is_at(rt, expected.0, one.number, expected.0);
+    assert_reads_at(rt, expected.0, one.reply.bytes(), expected.1);
+}
+
 /// Asserts the replies and their order.
 fn are_reported(rt: &impl Abort, replies: &[EventReply], expected: &[(u64, &str)]) {
     assert_is(rt, replies.len(), expected.len());
-    for (one, (number, reply)) in replies.iter().zip(expected) {
-        assert_is_at(rt, *number, one.number, *number);
-        assert_reads_at(rt, *number, one.reply.bytes(), reply);
+    for place in 0..expected.len() {
+        if let Some(one) = replies.get(place) {
+            is_reply(rt, one, &expected[place]);
+        }
     }
 }
 
@@ -107,9 +114,12 @@ fn no_more_than_256_stand(rt: HostRuntime) {
 /// The words of a fault for a connection that does not exist.
 const UNKNOWN: &str = "no such connection";
 
-/// Steps in order: a connection, what happens to it, and the result. It gets a text, or its input
-/// ends; the result is empty if more is needed.
-const STEPS: &[(usize, &str, &str)] = &[
+/// A connection, what happens to it, and the result. It gets a text, or its input ends; the result
+/// is empty if more is needed.
+type Step<'a> = (usize, &'a str, &'a str);
+
+/// Steps in order.
+const STEPS: &[Step<'static>] = &[
     (0, "connect", ""),
     (0, STATUS, FIRST_ROUND),
     (0, STATUS, UNKNOWN),
@@ -168,14 +178,26 @@ fn is_reported(
     Some(())
 }
 
+/// Runs a step.
+fn take_step(
+    rt: &impl Abort,
+    alloc: Global,
+    hub: &mut Hub<Plain>,
+    conns: &mut Vec<Conn>,
+    step: &Step<'_>,
+) -> Option<()> {
+    match conns.as_slice().get(step.0) {
+        None => conns.push(hubs::connected(hub).ok()?).ok(),
+        Some(conn) => is_reported(rt, alloc, hub, *conn, step.1, step.2),
+    }
+}
+
 /// Runs all steps.
 fn take_steps(rt: &impl Abort, alloc: Global, hub: &mut Hub<Plain>) -> Option<()> {
     let mut conns = Vec::new(alloc);
-    for &(number, text, expected) in STEPS {
-        match conns.as_slice().get(number) {
-            None => conns.push(hubs::connected(hub).ok()?).ok()?,
-            Some(conn) => is_reported(rt, alloc, hub, *conn, text, expected)?,
-        }
+    for step in STEPS {
+        let done = take_step(rt, alloc, hub, &mut conns, step);
+        assert_is_at(rt, step, done, Some(()));
     }
     Some(())
 }
