@@ -1,3 +1,0 @@
-pub mod Audits
-pub mod Listings
-pub mod Starts

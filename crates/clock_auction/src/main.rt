@@ -3,17 +3,10 @@
 
 ghost use Rattle.std.specs.Prelude.{◌≡◌, map, string_bytes, IfOk};
 
-mod audit;
-mod files;
-mod journal_text;
-mod serve;
-
-use audit::tell_audit;
 use clock_commands::{Fault, parsed_command, show_fault};
 use clock_device::{FromReader, ToWriter};
+use clock_files::{serve, tell_audit, tell_texts};
 use clock_words::{Asked, read_words};
-use journal_text::tell_texts;
-use serve::serve;
 use std::alloc::{AllocError, Global};
 use std::process::ExitCode;
 use std::rt::Env;

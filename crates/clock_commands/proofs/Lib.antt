@@ -1,4 +1,1 @@
-mod Reading
 mod RunEndings
-mod Limited
-mod Lines

@@ -1,33 +1,18 @@
 -- Each way in which a run can stop is one of the endings. By cases on the fault.
-use Rattle.std.proofs.Common.{◌≡◌, [], Option, Some, None, Err, refl, arith}
+use Rattle.std.proofs.Common.{◌≡◌, Option, Some, None, Err, refl}
 use Rattle.clock_device.specs.Reports.{IsUnread, IsUnused, Reading, SinkReport, SourceReport, Writing}
 use Rattle.clock_device.specs.Writings.{WritesNothing}
-use Rattle.clock_commands.specs.Input.{IsReadingOf}
+use Rattle.clock_answers.specs.Input.{IsReadingOf}
 use Rattle.clock_commands.specs.Run.{ComesTo, IsRunOf, Shows, refused, stopped}
-use Rattle.clock_commands.specs.FaultLines.{fault_line}
+use Rattle.clock_answers.specs.FaultLines.{fault_line}
 use Rattle.clock_words.specs.declared.words.Job.{Job}
-use Rattle.clock_commands.specs.declared.fault.Fault.{Fault}
-use Rattle.clock_commands.specs.declared.fault.Fault.TheVariants as fault
-use Rattle.clock_device.proofs.Streams.{read_nothing, same_bytes}
+use Rattle.clock_answers.specs.declared.fault.Fault.{Fault}
+use Rattle.clock_answers.specs.declared.fault.Fault.TheVariants as fault
+use Rattle.clock_device.proofs.Streams.{same_bytes}
 
 -- a sink without a call is unchanged
 pub untouched : (report : SinkReport) → IsUnused report → WritesNothing (record { before = report; after = report })
 untouched report unused = record { unused = unused; bytes = same_bytes report.taken }
-
--- nothing was read, because memory was refused
-pub unread_for_memory : (report : SourceReport) → IsUnread report
-    → IsReadingOf (record { before = report; after = report }) (Err fault.Memory)
-unread_for_memory report unused = (
-  [],
-  (
-    record {
-      read = read_nothing report.left report.left (same_bytes report.left);
-      used = omega (arith, unused.uncounted);
-    },
-    omega arith,
-  ),
-  unused.unfailed,
-)
 
 -- reading failed, and nothing was printed
 pub read_failed : (job : Job) (reading : Reading) (sink : SinkReport) (cause : Fault) → IsUnused sink

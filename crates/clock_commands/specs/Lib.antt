@@ -1,6 +1,2 @@
-pub mod Input
-pub mod PriceLines
-pub mod FaultLines
 pub mod Answers
 pub mod Run
-pub mod inside

@@ -1,11 +1,11 @@
-//! The commands that read one document and print one text: their answers, their faults, and the
-//! line that reports a fault. They use a source and two sinks, so that contracts see all bytes.
+//! The commands that read one document and print one text. They use a source and two sinks, so that
+//! contracts see all bytes.
 #![tactic(auto)]
 
+// The public surface: names of another crate that callers of a command need.
+pub use clock_answers::{Fault, read_all, setup_in};
+
 mod answer;
-mod fault;
 mod run;
 
-pub use answer::setup_in;
-pub use fault::Fault;
-pub use run::{command, parsed_command, read_all, show_fault};
+pub use run::{command, parsed_command, show_fault};

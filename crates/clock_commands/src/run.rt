@@ -2,15 +2,15 @@ ghost use Rattle.std.specs.Prelude.{◌≢◌, ◌≤◌, ℕ, List, IfOk, IfSom
 ghost use Rattle.clap.specs.Words.{kind_of};
 ghost use Rattle.clock_device.specs.Reports.{IsUnread, IsUnused};
 ghost use Rattle.clock_words.specs.Words.{IsAsked, IsJob, IsParsing, job_of};
-ghost use Rattle.clock_commands.specs.FaultLines.{fault_line};
-ghost use Rattle.clock_commands.specs.Input.{most_document_reads, IsReadingOf};
+ghost use Rattle.clock_answers.specs.FaultLines.{fault_line};
+ghost use Rattle.clock_answers.specs.Input.{most_document_reads};
 ghost use Rattle.clock_commands.specs.Run.{ComesTo, IsRunOf, Shows};
 
 use crate::answer::answer;
-use crate::fault::{Fault, write_fault};
 use clap::Error;
 use clap::error::ErrorKind;
-use clock_device::{Sink, Source, Stop, Text, room_for_read, write_all};
+use clock_answers::{Fault, read_all, write_fault};
+use clock_device::{Sink, Source, write_all};
 use clock_words::{Asked, Job, read_words};
 use std::alloc::Global;
 
@@ -121,45 +121,6 @@ fn run<R: Source, W: Sink>(
     let document = read_all(alloc, reader)?;
     let text = answer(alloc, job, document)?;
     write_all(writer, text.as_slice()).or(Err(Fault::Output))
-}
-
-/// The most bytes of input.
-const MOST_BYTES: usize = 67_108_864;
-
-/// The most reads.
-const MOST_READS: u64 = 100_000_000;
-
-/// The most bytes that one read may return.
-const PIECE: usize = 65_536;
-
-/// Reads the whole input. Retries interrupted reads. Errors: `Input` if a read failed or too many
-/// were made, `LongInput` if there are more than 67,108,864 bytes. May return `Memory`.
-pub fn read_all<R: Source>(alloc: Global, reader: &mut R) -> Result<Text, Fault>
-    requires { IsUnread (R.report reader.old) }
-    ensures reading { IsReadingOf
-        (record { before = R.report reader.old; after = R.report reader.new }) result }
-    ensures calls { (R.report reader.new).calls ≤ most_document_reads }
-{
-    let mut piece = room_for_read(alloc, PIECE)?;
-    let mut document = Text::new(alloc);
-    for _call in 0..MOST_READS {
-        let free = MOST_BYTES - document.as_slice().len();
-        let asked = piece.len().min(free + 1);
-        let part = &mut piece.as_mut_slice()[..asked];
-        let count = match reader.read(part) {
-            Ok(count) => count,
-            Err(Stop::Interrupted) => continue,
-            Err(Stop::Failed) => return Err(Fault::Input),
-        };
-        if count > free {
-            return Err(Fault::LongInput);
-        }
-        if count == 0 {
-            return Ok(document);
-        }
-        document.extend_from_slice(&part[..count])?;
-    }
-    Err(Fault::Input)
 }
 
 /// Writes the line of a fault, or a prefix of it if a write fails.

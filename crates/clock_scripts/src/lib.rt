@@ -2,7 +2,9 @@
 #![tactic(auto)]
 
 mod bodies;
+mod fault;
 mod requests;
 mod sincere;
 
+pub use fault::SimFault;
 pub use requests::{Written, write_close, write_put};

@@ -17,7 +17,7 @@ use Rattle.clock_front.specs.Hubs.{HubFields, IsFed}
 use Rattle.clock_connections.specs.declared.connections.Conn.{Conn}
 use Rattle.clock_front.specs.declared.hub.Fed.{Fed}
 use Rattle.clock_front.specs.declared.hub.Fed.TheVariants.{More, Reply}
-use Rattle.clock_sim.specs.declared.simulation.SimFault.{SimFault}
+use Rattle.clock_scripts.specs.declared.fault.SimFault.{SimFault}
 use Rattle.clock_sim.specs.Rehearsal.{after_request}
 use Rattle.clock_sim.specs.inside.Groups.{GroupRequest, ClosesNoRound, text_in, after_group, HaveTextsFrom, AreApart}
 use Rattle.clock_sim.specs.inside.Groups.{IsGroup}

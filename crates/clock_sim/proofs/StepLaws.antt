@@ -15,8 +15,8 @@ use Rattle.clock_http.specs.declared.code.Code.TheVariants.{Done, Memory}
 use Rattle.clock_http.specs.Replies.{Answer}
 use Rattle.clock_front.specs.Fronts.{reply, StandsForTexts}
 use Rattle.clock_front.specs.inside.Answered.{AnswersAfter}
-use Rattle.clock_sim.specs.declared.simulation.SimFault.{SimFault}
-use Rattle.clock_sim.specs.declared.simulation.SimFault.TheVariants.{NoMemory, ClosingsSpent}
+use Rattle.clock_scripts.specs.declared.fault.SimFault.{SimFault}
+use Rattle.clock_scripts.specs.declared.fault.SimFault.TheVariants.{NoMemory, ClosingsSpent}
 use Rattle.clock_sim.specs.Rehearsal.{if_done, refused_by, after_request, rounds_after, after_puts, after_close}
 use Rattle.clock_sim.specs.Rehearsal.{after_round, rehearsed, simulated}
 use Rattle.clock_reports.specs.FinalReport.{report_of}

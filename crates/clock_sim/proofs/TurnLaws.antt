@@ -19,8 +19,8 @@ use Rattle.clock_front.specs.Hubs.{HubFields}
 use Rattle.clock_replays.specs.declared.replay.Script.{Script}
 use Rattle.clock_sim.specs.declared.rounds.Group.{Group}
 use Rattle.clock_sim.specs.declared.rounds.Waiting.{Waiting}
-use Rattle.clock_sim.specs.declared.simulation.SimFault.{SimFault}
-use Rattle.clock_sim.specs.declared.simulation.SimFault.TheVariants.{NoMemory}
+use Rattle.clock_scripts.specs.declared.fault.SimFault.{SimFault}
+use Rattle.clock_scripts.specs.declared.fault.SimFault.TheVariants.{NoMemory}
 use Rattle.clock_sim.specs.Rehearsal.{if_done, after_request, after_request_if, after_put, after_puts, rounds_after}
 use Rattle.clock_http.specs.Framing.{needs_more}
 use Rattle.clock_connections.specs.Connections.{IsConnected}

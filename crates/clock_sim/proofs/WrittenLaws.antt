@@ -14,7 +14,7 @@ use Rattle.clock_scripts.specs.declared.requests.Written.{Written}
 use Rattle.clock_scripts.specs.Pieces.{Grows, IsWrittenIn, WritesIf, written_body, written_request}
 use Rattle.clock_sim.specs.declared.rounds.Waiting.{Waiting}
 use Rattle.clock_sim.specs.declared.rounds.Group.{Group}
-use Rattle.clock_sim.specs.declared.simulation.SimFault.{SimFault}
+use Rattle.clock_scripts.specs.declared.fault.SimFault.{SimFault}
 use Rattle.clock_sim.specs.Rehearsal.{after_request}
 use Rattle.clock_sim.specs.inside.Groups.{GroupRequest, request_in, requests_in, after_group, AreApart, HaveTextsFrom}
 use Rattle.clock_sim.specs.inside.Groups.{StillWait, AreWaiting}

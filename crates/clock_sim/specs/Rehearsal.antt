@@ -19,8 +19,8 @@ use Rattle.clock_http.specs.declared.code.Code.TheVariants as codes
 use Rattle.clock_front.specs.Fronts.{commands_of, reply}
 use Rattle.clock_replays.specs.declared.replay.Script.{Script}
 use Rattle.clock_replays.specs.declared.replay.Closing.{Closing}
-use Rattle.clock_sim.specs.declared.simulation.SimFault.{SimFault}
-use Rattle.clock_sim.specs.declared.simulation.SimFault.TheVariants as faults
+use Rattle.clock_scripts.specs.declared.fault.SimFault.{SimFault}
+use Rattle.clock_scripts.specs.declared.fault.SimFault.TheVariants as faults
 use Rattle.clock_replays.specs.Replays.{ReplayFields}
 use Rattle.clock_reports.specs.Reports.{ReportFields}
 use Rattle.clock_reports.specs.FinalReport.{report_of}

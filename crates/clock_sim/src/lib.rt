@@ -7,8 +7,9 @@
 // The public surface: names of other crates that callers of a replay need.
 pub use clock_replays::{Replay, ScriptFault, read_replay};
 pub use clock_reports::{Report, report_text};
+pub use clock_scripts::SimFault;
 
 mod rounds;
 mod simulation;
 
-pub use simulation::{SimFault, replay_text, simulate, simulate_with};
+pub use simulation::{replay_text, simulate, simulate_with};

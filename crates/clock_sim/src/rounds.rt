@@ -15,14 +15,13 @@ ghost use Rattle.clock_sim.specs.inside.Groups.{IsGroupUnderWay, IsNext, HaveTex
 ghost use Rattle.clock_sim.specs.inside.Groups.{after_group, requests_in, with_put, with_turn};
 ghost use Rattle.clock_sim.specs.inside.Steps.{AreScriptsOf, IsGoing, IsResultByCode, MakesStep};
 
-use crate::simulation::SimFault;
 use clock_connections::{Conn, HubFault};
 use clock_device::NoMemory;
 use clock_front::{Fed, Hub};
 use clock_http::{Code, Reply, law_decided_once, law_one_head};
 use clock_processor::Processor;
 use clock_replays::{Closing, Script};
-use clock_scripts::{Written, write_close, write_put};
+use clock_scripts::{SimFault, Written, write_close, write_put};
 use std::alloc::Global;
 
 /// The most requests of a group.

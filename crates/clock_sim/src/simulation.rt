@@ -5,56 +5,16 @@ ghost use Rattle.clock_front.specs.Fronts.{StandsForTexts};
 ghost use Rattle.clock_reports.specs.{FinalReport.{report_of}, Reports.{IsReport}};
 ghost use Rattle.clock_sim.specs.Rehearsal as rules;
 ghost use Rattle.clock_sim.specs.inside.Steps.{AreScriptsOf, replay_of};
-ghost use Rattle.clock_sim.specs.declared.simulation.SimFault.TheVariants.{NoMemory};
 
 use crate::rounds::play;
-use clock_connections::HubFault;
-use clock_device::{NoMemory, Text};
+use clock_device::Text;
 use clock_front::{Front, Hub};
-use clock_http::Code;
 use clock_processor::Processor;
 use clock_queue::Woken;
 use clock_replays::{Closing, Closings, Replay, Script, Scripts};
 use clock_reports::{Report, final_text, report_so_far};
+use clock_scripts::SimFault;
 use std::alloc::Global;
-use thiserror::Error;
-
-/// Why a rehearsal has no report: its first fault, in the order of the requests. The codes are
-/// never [`Code::Done`] or [`Code::Memory`].
-#[derive(Clone, Copy, Debug, PartialEq, Eq, Error)]
-pub enum SimFault {
-    /// The sheet of a bidder, by its number, was refused in a round with this code.
-    #[error("bidder {0} was refused in round {1}")]
-    Refused(u64, u64, Code),
-    /// The closing of a round was refused with this code.
-    #[error("the closing of round {0} was refused")]
-    Closing(u64, Code),
-    /// The auction has not ended, and no closing is left. The sheets of the current round were
-    /// submitted.
-    #[error("no closing is left")]
-    ClosingsSpent,
-    /// Out of memory. Replaces any other result.
-    #[error("out of memory")]
-    NoMemory,
-}
-
-impl From<NoMemory> for SimFault {
-    ghost from_gives = { λ _ fault. fault ≡ NoMemory };
-
-    fn from(_refused: NoMemory) -> SimFault {
-        SimFault::NoMemory
-    }
-}
-
-/// A rehearsal uses only its own connections, fewer than 256 at once, and fewer in all than there
-/// are serial numbers. So its hub refuses one only if it is out of memory.
-impl From<HubFault> for SimFault {
-    ghost from_gives = { λ _ fault. fault ≡ NoMemory };
-
-    fn from(_refused: HubFault) -> SimFault {
-        SimFault::NoMemory
-    }
-}
 
 /// Plays an auction to its end. Requires that the front has answered no request.
 fn play_out<P: Processor>(

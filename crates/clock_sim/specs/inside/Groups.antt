@@ -32,7 +32,7 @@ use Rattle.clock_scripts.specs.Pieces.{IsWrittenIn, written_body, written_head, 
 use Rattle.clock_sim.specs.declared.rounds.Waiting.{Waiting}
 use Rattle.clock_sim.specs.declared.rounds.Group.{Group}
 use Rattle.clock_replays.specs.declared.replay.Script.{Script}
-use Rattle.clock_sim.specs.declared.simulation.SimFault.{SimFault}
+use Rattle.clock_scripts.specs.declared.fault.SimFault.{SimFault}
 use Rattle.clock_sim.specs.Rehearsal.{rounds_after, after_request, after_put}
 use Rattle.clock_sim.specs.inside.Steps.{IsGoing, MakesWay}
 

@@ -20,8 +20,8 @@ use Rattle.clock_replays.specs.declared.replay.Script.{Script}
 use Rattle.clock_replays.specs.declared.replay.Closing.{Closing}
 use Rattle.clock_terms.specs.Limits.{SetupFields}
 use Rattle.clock_replays.specs.Replays.{ReplayFields, IsScript}
-use Rattle.clock_sim.specs.declared.simulation.SimFault.{SimFault}
-use Rattle.clock_sim.specs.declared.simulation.SimFault.TheVariants.{NoMemory}
+use Rattle.clock_scripts.specs.declared.fault.SimFault.{SimFault}
+use Rattle.clock_scripts.specs.declared.fault.SimFault.TheVariants.{NoMemory}
 
 -- the scripts and closings, with the set-up of a house
 abbrev pub replay_of : HouseFields → List Script → List Closing → ReplayFields

@@ -1,5 +1,5 @@
 -- By cases: no sheet, or one whose request is submitted.
-use Rattle.std.proofs.Common.{◌≡◌, ◌==◌, Bool, Option, Vec, ℕ, true, length, vec_len, eqb-true, ap, refl, subst, sym}
+use Rattle.std.proofs.Common.{◌≡◌, ◌==◌, Bool, Option, Vec, true, length, vec_len, eqb-true, ap, refl, subst, sym}
 use Rattle.std.proofs.Common.{◌∙◌, arith}
 use Rattle.std.specs.Prelude.{IfSome}
 use Rattle.std.specs.declared.alloc.Global.{Global}

@@ -1,0 +1,3 @@
+pub mod Reading
+mod Limited
+mod Lines

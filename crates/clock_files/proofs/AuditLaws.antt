@@ -1,0 +1,82 @@
+-- Each closed round has a digest, and so an audit prints what a file's texts determine.
+use Rattle.std.proofs.Common.{◌≡◌, ◌≤◌, ℕ, List, [], ◌∷◌, length, ap, sym, ◌∙◌, subst, arith}
+use Rattle.std.proofs.Common.{length-append}
+use Rattle.std.specs.Prelude.{reverse}
+use Rattle.std.proofs.lemmas.List.{length-map, length-reverse}
+use Rattle.hex.specs.Hex.{encode_lower}
+use Rattle.clock_terms.specs.Limits.{SetupFields}
+use Rattle.clock_closing.specs.declared.closed_round.ClosedRound.{ClosedRound}
+use Rattle.clock_house.specs.House.{HouseFields}
+use Rattle.clock_front.specs.Effects.{effect}
+use Rattle.clock_front.specs.Fronts.{StandsForTexts}
+use Rattle.clock_front.specs.declared.front.response.Effect.{Effect}
+use Rattle.clock_front.specs.declared.front.response.Effect.TheVariants.{Nothing, Sheet, Closing}
+use Rattle.clock_reports.specs.FinalReport.{report_of}
+use Rattle.clock_reports.specs.Reports.{ReportFields}
+use Rattle.clock_journal.specs.Entries.{Entry, entries_onto, texts_in}
+use Rattle.clock_journal.specs.Recovering.{AreTextsOf}
+use Rattle.clock_journal.specs.declared.recovery.Record.{Record}
+use Rattle.clock_journal.specs.declared.recovery.Recovered.{Recovered}
+use Rattle.clock_server.proofs.Telling.{CountsOn, counts_text}
+use Rattle.clock_files.specs.Audits.{IsAuditOf, IsRecounted, audited, closed_after, closing_digests, with_digest}
+
+still_enough : (one : Effect) (before after : ℕ) (digests : List (List ℕ)) (chain : List ℕ) → CountsOn one before after
+    → before ≤ length digests → after ≤ length (with_digest one digests chain)
+still_enough Nothing before after digests chain counts enough = omega (arith, counts, enough)
+still_enough Sheet before after digests chain counts enough = omega (arith, counts, enough)
+still_enough (Closing round) before after digests chain counts enough =
+    omega (arith, counts.1, enough, length-append digests (encode_lower chain ∷ []))
+
+enough_digests : (setup : SetupFields) (entries : List Entry)
+    → length (closed_after setup (texts_in entries)) ≤ length (closing_digests setup entries)
+enough_digests setup [] = omega arith
+enough_digests setup (entry ∷ past) =
+    still_enough (effect setup (texts_in past) entry.1) (length (closed_after setup (texts_in past)))
+    (length (closed_after setup (entry.1 ∷ texts_in past))) (closing_digests setup past) entry.0.digest
+    (counts_text setup (texts_in past) entry.1) (enough_digests setup past)
+
+enough_for : (entries : List Entry) (house : HouseFields) (digests : List (List ℕ)) → IsRecounted entries house digests
+    → length house.closed ≤ length digests
+enough_for entries house digests is = subst (λ (all : List (List ℕ)). length house.closed ≤ length all)
+    (sym is.digests_are) (subst (λ (closed : List ClosedRound). length closed
+    ≤ length (closing_digests house.setup entries)) (sym is.stands.closed) (enough_digests house.setup entries))
+
+-- a digest for each sheet of the report
+pub enough_for_report : (entries : List Entry) (house : HouseFields) (digests given : List (List ℕ))
+    (report : ReportFields) → IsRecounted entries house digests → report ≡ report_of house.setup house.closed
+    → given ≡ digests → length report.sheets ≤ length given
+enough_for_report entries house digests given report recounted is same =
+    let many = length-map (reverse house.closed) (λ (closed : ClosedRound). closed.sheet) in
+    omega (
+      arith,
+      ap (λ (r : ReportFields). length r.sheets) is,
+      many,
+      length-reverse house.closed,
+      ap length same,
+      enough_for entries house digests recounted,
+    )
+
+-- what is printed for an auction that stands for all texts of a file
+pub audit_is : (setup setup_new : SetupFields) (first bytes given shown : List ℕ) (texts : List (List ℕ))
+    (recovered : Recovered) → given ≡ bytes → setup_new ≡ setup → AreTextsOf first given texts recovered
+    → shown ≡ audited setup_new (entries_onto first [] texts []) → IsAuditOf setup first bytes shown recovered
+audit_is setup setup_new first bytes given shown texts recovered same same_setup are is = record {
+  texts = texts;
+  are = subst (λ (file : List ℕ). AreTextsOf first file texts recovered) same are;
+  shown_is = is ∙ ap (λ (of_setup : SetupFields). audited of_setup (entries_onto first [] texts [])) same_setup;
+}
+
+-- one more text is counted
+pub recounted_on : (entries : List Entry) (at : Record) (text : List ℕ) (changed : Effect) (old new : HouseFields)
+    (digests digests_new : List (List ℕ)) → IsRecounted entries old digests
+    → changed ≡ effect old.setup (texts_in entries) text → StandsForTexts (text ∷ texts_in entries) new
+    → new.setup ≡ old.setup → digests_new ≡ with_digest changed digests at.digest
+    → IsRecounted ((at, text) ∷ entries) new digests_new
+recounted_on entries at text changed old new digests digests_new is right stands same added =
+    let before = closing_digests old.setup entries in
+    record {
+      stands = stands;
+      digests_are = added ∙ ap (λ (all : List (List ℕ)). with_digest changed all at.digest) is.digests_are
+          ∙ ap (λ (one : Effect). with_digest one before at.digest) right
+          ∙ ap (λ (setup : SetupFields). closing_digests setup ((at, text) ∷ entries)) (sym same);
+    }

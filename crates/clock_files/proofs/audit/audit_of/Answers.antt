@@ -1,0 +1,45 @@
+use Rattle.std.proofs.Common.{List, [], ℕ, subst}
+use Rattle.std.proofs.lemmas.Result.{err_from_is_err_and}
+use Rattle.clock_journal.specs.Entries.{Entry, entries_onto}
+use Rattle.clock_journal.specs.declared.recovery.JournalFault.TheVariants.{NoMemory}
+use Rattle.clock_server.specs.Keeping.{IsRefused}
+use Rattle.clock_server.proofs.TakenUp.{refused_first}
+use Rattle.clock_files.specs.Audits.{IsRecounted, IsAuditFault}
+use Rattle.clock_files.proofs.AuditLaws.{audit_is}
+use Rattle.clock_files.proofs.audit.audit_of.Goals as goal
+
+pub returns-in_err-recovered-clause-err : goal.returns-in_err-recovered-clause-err
+returns-in_err-recovered-clause-err c =
+    let p = err_from_is_err_and c.from_residual.result c.from_residual.ensures.1 in
+    let refused = c.in_err-recovered in
+    let was = c.args.recount.now in
+    rw p.1 (subst
+    (λ (bytes : List ℕ). IsAuditFault was.front.setup c.args.first.now bytes p.0) c.as_slice.ensures.value (record {
+      fault = refused.field-0.0;
+      reported_is = p.2;
+      is = refused_first (λ (entries : List Entry). IsRecounted entries was.front was.digests.items) c.requires
+          (IsRefused was.front.setup) c.args.first.now c.as_slice.result.now refused.field-0.0 refused.ensures.read;
+    }))
+
+pub rounds_of-requires : goal.rounds_of-requires
+rounds_of-requires c =
+    let all = c.in_ok-recovered.ensures.read in
+    (entries_onto c.args.first.now [] all.texts [], all.stands [] c.requires)
+
+pub returns-in_err-text-clause-err : goal.returns-in_err-text-clause-err
+returns-in_err-text-clause-err c =
+    let p = err_from_is_err_and c.from_residual-in_err-text.result c.from_residual-in_err-text.ensures.1 in
+    rw p.1 (record {
+      fault = NoMemory;
+      reported_is = p.2;
+      is = record { found = tt; crash = λ all least leaves. tt; any_tail = λ first begins. tt };
+    })
+
+pub returns-clause-ok : goal.returns-clause-ok
+returns-clause-ok c =
+    let all = c.in_ok-recovered.ensures.read in
+    let entries = entries_onto c.args.first.now [] all.texts [] in
+    audit_is c.args.recount.now.front.setup c.recover.new.machine.front.setup c.args.first.now c.args.bytes.items
+    c.as_slice.result.now _ all.texts c.in_ok-recovered.recovered c.as_slice.ensures.value c.recover.ensures.rules
+    all.are
+    (c.in_ok-text.ensures entries (all.stands [] c.requires))

@@ -1,0 +1,3 @@
+pub mod Audits
+pub mod Listings
+pub mod Starts

@@ -1,0 +1,111 @@
+//! `audit`: an auction that is counted again, from its set-up document and its journal only.
+ghost use Rattle.std.specs.Prelude.{◌≡◌, [], List, ℕ, IfOk, IfErr, OnOk};
+ghost use Rattle.clock_terms.specs.Limits.{SetupFields};
+ghost use Rattle.clock_journal.specs.Entries.{Entry};
+ghost use Rattle.clock_server.specs.Keeping.{IsRefused};
+ghost use Rattle.clock_files.specs.Audits.{IsAuditOf, IsRecounted, IsAuditFault, audited};
+ghost use Rattle.clock_files.specs.Audits.{with_digest};
+
+use crate::files::{digits_of, file_bytes, journal_bytes, tell_journal};
+use crate::serving::front_in;
+use clock_answers::Fault;
+use clock_device::{NoMemory, Sink, Text, write_all};
+use clock_front::{Effect, Front};
+use clock_journal::{Link, Machine, Record, Recovered, TakeError, digest_of, recover};
+use clock_queue::Woken;
+use clock_reports::{Digits, audit_text, report_so_far};
+use clock_server::take_text;
+use clock_words::NamedFiles;
+use std::alloc::Global;
+use std::fs::File;
+use std::rt::Files;
+
+/// Prints the rounds of a journal.
+pub fn tell_audit<R>(rt: &R, out: &mut impl Sink, named: &NamedFiles) -> Result<(), Fault>
+where
+    R: Files<File = File> + Print + Alloc<A = Global>,
+{
+    let document = file_bytes(rt, named.setup)?;
+    let first = digest_of(document.as_slice());
+    let front = front_in(rt.alloc(), document)?;
+    let digests = Vec::new(rt.alloc());
+    let mut recount = Recount { front, digests };
+    let made = match journal_bytes(rt, named.journal) {
+        Ok(bytes) => audit_of(rt.alloc(), &mut recount, &first, bytes),
+        Err(fault) => Err(fault),
+    };
+    // `drop` here keeps the proof small: at the end of the scope, each field is proved
+    drop(recount);
+    let (text, recovered) = made?;
+    write_all(out, text.as_slice()).or(Err(Fault::Output))?;
+    tell_journal(rt, recovered)
+}
+
+/// An auction that takes the texts of a journal, and the digest of each closing.
+#[derive(Drop)]
+pub struct Recount {
+    front: Front<Woken>,
+    digests: Vec<Digits>,
+}
+
+impl Machine for Recount {
+    ghost Rules = { SetupFields };
+
+    ghost rules = { λ recount. recount.front.setup };
+
+    ghost stands_for = { λ recount entries. IsRecounted entries recount.front
+        recount.digests.items };
+
+    ghost refuses = { λ setup texts text. IsRefused setup texts text };
+
+    fn take(&mut self, text: &[u8], at: &Record) -> Result<(), TakeError> {
+        let effect = take_text(&mut self.front, text)?;
+        remember(&mut self.digests, effect, &at.digest).or(Err(TakeError::NoMemory))
+    }
+}
+
+/// Appends the digest of a text, if the text closed a round.
+fn remember(digests: &mut Vec<Digits>, effect: Effect, digest: &Link) -> Result<(), NoMemory>
+    ensures { OnOk result (digests.new.items ≡ with_digest effect digests.old.items digest.now) }
+{
+    match effect {
+        Effect::Closing(_) => digests.push(digits_of(digest)).or(Err(NoMemory)),
+        Effect::Nothing | Effect::Sheet => Ok(()),
+    }
+}
+
+/// Returns the lines of the closed rounds in a journal, each with the digest of its closing, and if
+/// the auction has ended, what each bidder won. `first` is the digest of the set-up document.
+/// Returns what was recovered, too. Requires a recount without texts.
+pub fn audit_of(
+    alloc: Global,
+    recount: &mut Recount,
+    first: &Link,
+    bytes: Vec<u8>,
+) -> Result<(Text, Recovered), Fault>
+    requires { IsRecounted [] recount.old.front recount.old.digests.items }
+    ensures ok { IfOk result
+        (λ audit. IsAuditOf recount.old.front.setup first.now bytes.items audit.0 audit.1) }
+    ensures err { IfErr result (IsAuditFault recount.old.front.setup first.now bytes.items) }
+{
+    let recovered = recover(recount, first, bytes.as_slice())?;
+    drop(bytes);
+    let text = rounds_of(alloc, recount)?;
+    Ok((text, recovered))
+}
+
+/// Returns the lines of the closed rounds. `recount` has taken all texts.
+fn rounds_of(alloc: Global, recount: &Recount) -> Result<Text, NoMemory>
+    requires { (entries : List Entry) × IsRecounted entries recount.now.front
+        recount.now.digests.items }
+    ensures { (entries : List Entry)
+        → IsRecounted entries recount.now.front recount.now.digests.items
+        → IfOk result (λ text. text ≡ audited recount.now.front.setup entries) }
+{
+    let house = recount.front.house();
+    if house.closed_rounds() == 0 {
+        return Ok(Text::new(alloc));
+    }
+    let report = report_so_far(alloc, house)?;
+    audit_text(alloc, &report, recount.digests.as_slice())
+}

@@ -1,0 +1,12 @@
+//! The commands that name files: `serve`, an auction on a port of this machine; `journal`, the
+//! texts of a journal; and `audit`, an auction counted again.
+#![tactic(auto)]
+
+mod audit;
+mod files;
+mod journal_text;
+mod serving;
+
+pub use audit::{Recount, audit_of, tell_audit};
+pub use journal_text::{listing_of, tell_texts};
+pub use serving::{front_in, serve, serve_fault, start_fault};
