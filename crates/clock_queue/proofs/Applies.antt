@@ -242,7 +242,7 @@ module _ (changes : List Change) (old : Queue) (first : ℕ) (is : HasSoundLines
     covered_by place within own room (inr passed) =
         absurd (omega (arith, room, nobody_after passed.reduces passed.more place own))
 
-    bidder_in : bidder_line change.bidder < length mid.lines
+    pub bidder_in : bidder_line change.bidder < length mid.lines
     bidder_in =
         let of_mid : HasLines (length mid.lines) change = kept_mid.lines first no_change lt in
         of_mid.bidder

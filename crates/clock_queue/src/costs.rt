@@ -3,7 +3,7 @@
 ghost use Rattle.std.specs.Prelude.{◌≡◌, ◌<◌, ◌≤◌, ◌+◌, ◌*◌, [], ◌∷◌, ◌++◌, ℕ, List, length, All};
 ghost use Rattle.std.specs.Prelude.{IfSome, IfNone, OnOk, OnErr, slice_index, slice_set};
 ghost use Rattle.clock_queue.specs.inside.Costs.{AreAbove, AreFrom, HasBounds, IsFirstWithin};
-ghost use Rattle.clock_queue.specs.inside.Costs.{spent};
+ghost use Rattle.clock_queue.specs.inside.Costs.{spent, with_bound};
 
 use clock_device::NoMemory;
 use smallvec::SmallVec;
@@ -55,9 +55,7 @@ impl Costs {
         ensures err { OnErr result (self.new ≡ self.old) }
     {
         let block = self.costs.len() / BLOCK;
-        if block == self.bounds.len() {
-            self.bounds.push(SPENT)?;
-        }
+        make_bound(&mut self.bounds, block)?;
         self.costs.push(cost)?;
         self.bounds[block] = self.bounds[block].min(cost);
         self.passed = self.passed.min(block);
@@ -92,6 +90,17 @@ impl Costs {
         }
         None
     }
+}
+
+/// Adds a bound for a block, unless it has one. It is `SPENT`, because the block is empty.
+fn make_bound(bounds: &mut SmallVec<u32, 1>, block: usize) -> Result<(), NoMemory>
+    ensures ok { OnOk result (bounds.new.items ≡ with_bound bounds.old.items block) }
+    ensures err { OnErr result (bounds.new.items ≡ bounds.old.items) }
+{
+    if block == bounds.len() {
+        bounds.push(SPENT)?;
+    }
+    Ok(())
 }
 
 /// The index of the first cost of a block that is at most `limit`.

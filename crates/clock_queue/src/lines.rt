@@ -48,6 +48,21 @@ impl Line {
         }
     }
 
+    /// A line of one request, the one with an index.
+    fn with_one(alloc: Global, place: usize, cost: u32) -> Result<Line, NoMemory>
+        ensures { IfOk result (λ line. line ≡ lines.with_waiting lines.empty_line place cost) }
+    {
+        let mut line = Line::new(alloc);
+        match line.add(place, cost) {
+            Ok(()) => Ok(line),
+            // `drop` here keeps the proof small: with `?`, each field would be proved
+            Err(none) => {
+                drop(line);
+                Err(none)
+            }
+        }
+    }
+
     /// Appends the request with an index. Also returns [`NoMemory`] for an index above 32 bits,
     /// which the requests of a round never reach.
     pub(crate) fn add(&mut self, place: usize, cost: u32) -> Result<(), NoMemory>
@@ -122,11 +137,9 @@ impl WaitingLines {
     {
         let at = self.index[line];
         if at < self.lists.len() {
-            self.lists[at].add(place, cost)?;
-            return Ok(());
+            return self.lists[at].add(place, cost);
         }
-        let mut first = Line::new(*self.lists.allocator());
-        first.add(place, cost)?;
+        let first = Line::with_one(*self.lists.allocator(), place, cost)?;
         self.lists.push(first)?;
         let last = self.lists.len() - 1;
         self.index[line] = last;

@@ -1,4 +1,6 @@
-ghost use Rattle.std.specs.Prelude.{◌≡◌, ◌+◌, ◌<◌, ◌≤◌, [], ◌∷◌, length, IfOk, OnOk, All};
+ghost use Rattle.std.specs.Prelude.{◌≡◌, ◌+◌, ◌<◌, ◌≤◌, [], ◌∷◌, length, map, min, replicate};
+ghost use Rattle.std.specs.Prelude.{IfOk, OnOk, All};
+ghost use Rattle.clock_terms.specs.Limits.{most_units};
 ghost use Rattle.clock_processor.specs.{Board.{IsBoard}, Requests.{CanSettle}};
 ghost use Rattle.clock_processor.specs.Settlement.{IsSettlement, IsProperEnd};
 ghost use Rattle.clock_queue.specs.Bound.{BoundsEachLine, IsWithinTests};
@@ -34,18 +36,40 @@ impl Processor for Woken {
         ensures proper { IfOk result (λ settled. IsProperEnd board.entry changes.now settled) }
         ensures tests { IfOk result (λ settled. IsWithinTests changes.now settled) }
     {
-        let requests = changes.as_slice();
-        let mut queue = Queue {
-            board,
-            left: amounts_of(alloc, requests)?,
-            admitted: 0,
-            ready: Ready::new(alloc, requests.len())?,
-            lines: WaitingLines::new(alloc, lines_for(requests))?,
-        };
-        for _place in 0..requests.len() {
-            queue.settle_next(requests)?;
+        settle_by_queue(alloc, board, changes)
+    }
+}
+
+/// Processes the requests as [`Woken`] says. Its own function, so that the prover soon refuses
+/// another procedure in its place.
+fn settle_by_queue(alloc: Global, board: Board, changes: &Changes) -> Result<Settled, NoMemory>
+    requires { CanSettle board changes.now }
+    ensures settlement { IfOk result (λ settled. IsSettlement board.entry changes.now settled) }
+    ensures proper { IfOk result (λ settled. IsProperEnd board.entry changes.now settled) }
+    ensures tests { IfOk result (λ settled. IsWithinTests changes.now settled) }
+{
+    let requests = changes.as_slice();
+    // `drop` here and below keeps the proof small: with `?`, each field would be proved.
+    let Lists { left, ready, lines } = match first_lists(alloc, requests) {
+        Ok(lists) => lists,
+        Err(none) => {
+            drop(board);
+            return Err(none);
         }
-        Ok(queue.board.end(queue.left))
+    };
+    let mut queue = Queue {
+        board,
+        left,
+        admitted: 0,
+        ready,
+        lines,
+    };
+    match queue.settle_all(requests) {
+        Ok(()) => Ok(queue.board.end(queue.left)),
+        Err(none) => {
+            drop(queue);
+            Err(none)
+        }
     }
 }
 
@@ -55,6 +79,30 @@ impl Processor for Woken {
 pub fn law_of_tests()
     ensures { BoundsEachLine }
 {}
+
+/// The lists of a [`Queue`].
+#[derive(Drop)]
+struct Lists {
+    left: Amounts,
+    ready: Ready,
+    lines: WaitingLines,
+}
+
+/// The lists at the start of bid processing: nothing is applied, ready, or waiting.
+fn first_lists(alloc: Global, changes: &[Change]) -> Result<Lists, NoMemory>
+    ensures left { IfOk result (λ lists. lists.left ≡ map (λ change. change.amount) changes.now) }
+    ensures ready { IfOk result (λ lists. lists.ready ≡ []) }
+    ensures empty { IfOk result
+        (λ lists. lists.lines ≡ replicate (length lists.lines) lines.empty_line) }
+    ensures enough { IfOk result
+        (λ lists. All (lines.HasLines (length lists.lines)) changes.now) }
+{
+    Ok(Lists {
+        left: amounts_of(alloc, changes)?,
+        ready: Ready::new(alloc, changes.len())?,
+        lines: WaitingLines::new(alloc, lines_for(changes))?,
+    })
+}
 
 /// The state of bid processing: the board, the blocks left of each request, and what waits.
 #[derive(Drop)]
@@ -67,6 +115,23 @@ struct Queue<'a> {
 }
 
 impl<'a> Queue<'a> {
+    /// Admits all requests, one after the other, and tests ready requests until none is left.
+    fn settle_all(&mut self, changes: &[Change]) -> Result<(), NoMemory>
+        requires in_order { HasSoundLines changes.now self.old }
+        requires tracked { IsTracking changes.now self.old self.old.ready }
+        requires counts { StaysWithinTests changes.now self.old }
+        requires none { self.old.ready ≡ [] }
+        requires first { self.old.admitted ≡ 0 }
+        ensures goes_on { OnOk result (GoesOn changes.now self.old self.new) }
+        ensures none { OnOk result (self.new.ready ≡ []) }
+        ensures admitted { OnOk result (self.new.admitted ≡ length changes.now) }
+    {
+        for _place in 0..changes.len() {
+            self.settle_next(changes)?;
+        }
+        Ok(())
+    }
+
     /// Tests the next request and admits it, then tests ready requests until none is left. The next
     /// request never enters the heap, because most requests make no other one ready.
     fn settle_next(&mut self, changes: &[Change]) -> Result<(), NoMemory>
@@ -134,8 +199,7 @@ impl<'a> Queue<'a> {
         let unused = self.board.apply(change, room);
         self.left.set(place, left - room);
         self.wake_product(change, left - room)?;
-        self.wake(bidder_line(change.bidder), unused.min(MOST_UNITS) as u32)?;
-        Ok(())
+        self.wake_bidder(change, unused)
     }
 
     /// Makes ready the first request that waits for the product of an applied request. `rest` is
@@ -151,6 +215,18 @@ impl<'a> Queue<'a> {
             return Ok(());
         }
         self.wake(product_line(change.product), 0)
+    }
+
+    /// Makes ready the first request that waits for the bidder of an applied request. `unused` is
+    /// the bidder's unused eligibility, which the request's cost must not exceed.
+    fn wake_bidder(&mut self, change: &Change, unused: u64) -> Result<(), NoMemory>
+        requires line { lines.bidder_line change.now.bidder < length self.old.lines }
+        requires places { All (λ place. place < length self.old.left)
+            (line_in self.old (lines.bidder_line change.now.bidder)).places }
+        ensures { OnOk result (HasWoken (lines.bidder_line change.now.bidder)
+            (min unused most_units) self.old self.new) }
+    {
+        self.wake(bidder_line(change.bidder), unused.min(MOST_UNITS) as u32)
     }
 
     /// Makes ready the first request of a line that has blocks left and costs at most `limit`.

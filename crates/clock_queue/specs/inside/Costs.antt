@@ -4,7 +4,9 @@
 --     AreAbove limit costs from to      each cost from one index up to another is above the limit
 --     IsFirstWithin costs limit place      the first cost within the limit has this index
 --     HasBounds costs bounds passed      the bounds fit the costs
-use Rattle.std.specs.Prelude.{ℕ, ◌+◌, ◌*◌, ◌-◌, ◌^◌, ◌<◌, ◌≤◌, List, length, slice_index}
+--     with_bound bounds block      the bounds with one for this block
+use Rattle.std.specs.Prelude.{ℕ, ◌+◌, ◌*◌, ◌-◌, ◌^◌, ◌<◌, ◌≤◌, ◌==◌, List, [], ◌∷◌, ◌++◌}
+use Rattle.std.specs.Prelude.{if◌then◌else◌, length, slice_index}
 
 -- the cost that a search never finds: the greatest number of 32 bits
 abbrev pub spent : ℕ
@@ -35,3 +37,7 @@ pub record HasBounds (costs bounds : List ℕ) (passed : ℕ) : Type 0 where
       → AreFrom (slice_index bounds block) costs (64 * block) (64 * block + 64)
   pub passed_within : passed ≤ length bounds
   pub passed_spent : AreFrom spent costs 0 (64 * passed)
+
+-- the bounds, with one for this block if it is the next one
+abbrev pub with_bound : List ℕ → ℕ → List ℕ
+with_bound bounds block = if block == length bounds then bounds ++ spent ∷ [] else bounds

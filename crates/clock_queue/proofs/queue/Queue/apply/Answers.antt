@@ -2,6 +2,7 @@
 use Rattle.std.proofs.Common.{◌≡◌, ℕ, ◌-◌, ◌<◌, ◌∷◌, min, List, length, get_or, set, ap, refl, sym, subst, ◌∙◌, arith}
 use Rattle.std.proofs.Common.{All}
 use Rattle.std.proofs.lemmas.List.{get_or_read, length-set}
+use Rattle.std.proofs.lemmas.Result.{on_ok_weaker}
 use Rattle.clock_terms.specs.Limits.{most_units}
 use Rattle.clock_terms.specs.declared.change.Change.{Change}
 use Rattle.clock_processor.specs.Room.{unused_units}
@@ -11,7 +12,7 @@ use Rattle.clock_queue.specs.declared.queue.Queue.{Queue}
 use Rattle.clock_queue.specs.inside.Lines.{product_line, bidder_line}
 use Rattle.clock_queue.specs.inside.Queue.{HasWoken, HasWokenProduct, IsAppliedWhole, HasSoundLines, IsTracking}
 use Rattle.clock_queue.specs.inside.Queue.{line_in, room_in}
-use Rattle.clock_queue.proofs.Applies.{after, applied_whole, kept_mid, may_apply_first, places_within}
+use Rattle.clock_queue.proofs.Applies.{after, applied_whole, bidder_in, kept_mid, may_apply_first, places_within}
 use Rattle.clock_queue.proofs.queue.Queue.apply.Goals as goal
 
 some_room : (room r : ℕ) → room ≡ r → 0 < room → 0 < r
@@ -19,7 +20,7 @@ some_room room r same some = subst (λ n. 0 < n) same some
 
 -- the new fields, as one application of the request
 module _ (changes : List Change) (first room : ℕ) (old mid new : Queue) (one : Change) (board : BoardFields)
-    (read left : List ℕ) (unused rest other limit : ℕ) (is : HasSoundLines changes old) (lt : first < length changes)
+    (read left : List ℕ) (unused rest : ℕ) (is : HasSoundLines changes old) (lt : first < length changes)
     (is_board : IsBoard old.board.products old.board.eligibilities old.board.grid)
     (room_is : room ≡ room_in changes old first) (positive : 0 < room) (one_is : one ≡ get_or changes first one)
     (board_is : board ≡ applied_to old.board one room) (read_is : read ≡ old.left)
@@ -62,13 +63,17 @@ module _ (changes : List Change) (first room : ℕ) (old mid new : Queue) (one :
   pub places_mid : (at : ℕ) → All (λ place. place < length mid.left) (line_in mid at).places
   places_mid = places_within changes mid (kept_mid changes old first is lt is_board some mid product_woken)
 
+  pub line_mid : bidder_line one.bidder < length mid.lines
+  line_mid = subst (λ (c : Change). bidder_line c.bidder < length mid.lines) (sym change_is)
+      (bidder_in changes old first is lt is_board some mid product_woken)
+
   pub joined : IsTracking changes old (first ∷ old.ready)
-      → unused ≡ unused_units board.products board.eligibilities board.grid one.bidder → other ≡ bidder_line one.bidder
-      → limit ≡ min unused most_units → HasWoken other limit mid new → IsAppliedWhole changes first old new
-  joined tracked unused_is other_is limit_is next =
-      applied_whole changes old first is lt is_board some mid product_woken new limit
-      (subst (λ n. HasWoken n limit mid new) (other_is ∙ ap (λ (c : Change). bidder_line c.bidder) change_is) next)
-      (limit_is ∙ ap (λ n. min n most_units) (unused_is
+      → unused ≡ unused_units board.products board.eligibilities board.grid one.bidder
+      → HasWoken (bidder_line one.bidder) (min unused most_units) mid new → IsAppliedWhole changes first old new
+  joined tracked unused_is next =
+      applied_whole changes old first is lt is_board some mid product_woken new (min unused most_units)
+      (subst (λ (c : Change). HasWoken (bidder_line c.bidder) (min unused most_units) mid new) change_is next)
+      (ap (λ n. min n most_units) (unused_is
       ∙ ap (λ (b : BoardFields). unused_units b.products b.eligibilities b.grid one.bidder) board_after
       ∙ ap (λ (c : Change). unused_units old.board.products old.board.eligibilities
       (applied_to old.board (get_or changes first no_change) (room_in changes old first)).grid c.bidder) change_is))
@@ -93,18 +98,28 @@ wake_product-requires-clause-places c = λ k d within. omega (
   length-set c.args.self.now.left c.args.place (get_or c.as_slice.result.now c.args.place 0 - c.args.room),
 )
 
-pub wake-requires-clause-places : goal.wake-requires-clause-places
-wake-requires-clause-places c = places_mid c.args.changes.now c.args.place c.args.room c.args.self.now
+pub wake_bidder-requires-clause-line : goal.wake_bidder-requires-clause-line
+wake_bidder-requires-clause-line c = line_mid c.args.changes.now c.args.place c.args.room c.args.self.now
     c.wake_product.new.self c.wake_product.new.self c.index-changes-place.result c.apply-unused.new.self
     c.as_slice.result.now c.set.new.self c.apply-unused.result (get_or c.as_slice.result.now c.args.place 0
-    - c.args.room) c.bidder_line.result c.min.result c.requires.in_order c.requires.within c.requires.is_board
-    c.requires.room c.requires.positive c.index-changes-place.is c.apply-unused.ensures.applied c.as_slice.ensures
-    c.set.ensures refl c.in_ok-wake_product.ensures c.bidder_line.result
+    - c.args.room) c.requires.in_order c.requires.within c.requires.is_board c.requires.room c.requires.positive
+    c.index-changes-place.is c.apply-unused.ensures.applied c.as_slice.ensures c.set.ensures refl
+    c.in_ok-wake_product.ensures
+
+pub wake_bidder-requires-clause-places : goal.wake_bidder-requires-clause-places
+wake_bidder-requires-clause-places c = places_mid c.args.changes.now c.args.place c.args.room c.args.self.now
+    c.wake_product.new.self c.wake_product.new.self c.index-changes-place.result c.apply-unused.new.self
+    c.as_slice.result.now c.set.new.self c.apply-unused.result (get_or c.as_slice.result.now c.args.place 0
+    - c.args.room) c.requires.in_order c.requires.within c.requires.is_board c.requires.room c.requires.positive
+    c.index-changes-place.is c.apply-unused.ensures.applied c.as_slice.ensures c.set.ensures refl
+    c.in_ok-wake_product.ensures
+    (bidder_line c.index-changes-place.result.bidder)
 
 pub returns : goal.returns
-returns c = joined c.args.changes.now c.args.place c.args.room c.args.self.now c.wake_product.new.self c.wake.new.self
-    c.index-changes-place.result c.apply-unused.new.self c.as_slice.result.now c.set.new.self c.apply-unused.result
-    (get_or c.as_slice.result.now c.args.place 0 - c.args.room) c.bidder_line.result c.min.result c.requires.in_order
-    c.requires.within c.requires.is_board c.requires.room c.requires.positive c.index-changes-place.is
-    c.apply-unused.ensures.applied c.as_slice.ensures c.set.ensures refl c.in_ok-wake_product.ensures c.requires.tracked
-    c.apply-unused.ensures.unused c.bidder_line.ensures c.min.ensures c.in_ok-wake.ensures
+returns c = on_ok_weaker c.wake_bidder.result (joined c.args.changes.now c.args.place c.args.room c.args.self.now
+    c.wake_product.new.self c.wake_bidder.new.self c.index-changes-place.result c.apply-unused.new.self
+    c.as_slice.result.now c.set.new.self c.apply-unused.result (get_or c.as_slice.result.now c.args.place 0
+    - c.args.room) c.requires.in_order c.requires.within c.requires.is_board c.requires.room c.requires.positive
+    c.index-changes-place.is c.apply-unused.ensures.applied c.as_slice.ensures c.set.ensures refl
+    c.in_ok-wake_product.ensures
+    c.requires.tracked c.apply-unused.ensures.unused) c.wake_bidder.ensures
