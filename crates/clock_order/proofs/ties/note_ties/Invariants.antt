@@ -2,7 +2,7 @@
 use Rattle.std.proofs.Common.{◌≡◌, take}
 use Rattle.clock_order.specs.Entries.{ties_listed as listed_in}
 use Rattle.clock_order.proofs.TieSteps.{AreAhead}
-use Rattle.clock_order.proofs.ties.Ties.new.Given as goal
+use Rattle.clock_order.proofs.ties.note_ties.Given as goal
 
 abbrev pub invariant-loop-i : goal.invariant-loop-i
 invariant-loop-i l = record {
