@@ -1,13 +1,13 @@
 ghost use Rattle.std.specs.Prelude.{◌≡◌, ◌<◌, ◌≤◌, ℕ, if◌then◌else◌, None, length, map, max};
-ghost use Rattle.std.specs.Prelude.{slice_index, All, Any};
+ghost use Rattle.std.specs.Prelude.{◌&&◌, nat_lt, slice_index, All, Any};
 ghost use Rattle.std.specs.{Prelude.{IfOk, IfErr, IfSome}, List.{range_with_len}};
 ghost use Rattle.clock_terms.specs.{Demands.{IsGrid}, Faults.{IsFirstFault}};
 ghost use Rattle.clock_terms.specs.{Increments.{AreIncrements}, Prices.{opening_prices}};
 ghost use Rattle.clock_posting.specs.PostedPrice.{IsWithinPrices, is_applied_reduction};
-ghost use Rattle.clock_posting.specs.PostedPrice.{posted_prices};
+ghost use Rattle.clock_posting.specs.PostedPrice.{is_reduction, posted_prices};
 ghost use Rattle.clock_posting.specs.inside.Parts.{least_price};
 ghost use Rattle.clock_posting.specs.inside.RoundEnd.{FitsTogether, HasClocksOf, IsPostingOf};
-ghost use Rattle.clock_posting.specs.inside.RoundEnd.{limit_of, lines_of, next_of};
+ghost use Rattle.clock_posting.specs.inside.RoundEnd.{limit_of, line_of, lines_of, next_of};
 ghost use Rattle.clock_posting.specs.Posting as rules;
 ghost use Rattle.clock_posting.specs.declared.posting.PostFault.TheVariants as faults;
 
@@ -207,7 +207,7 @@ fn note(posted: &mut Items<Price>, prices: &[PricePair], change: &Change, left: 
         then max (slice_index posted.old p) change.now.price else slice_index posted.old p) }
 {
     let product = change.product as usize;
-    if change.kind == Kind::Reduction && left < change.amount {
+    if is_applied(change, left) {
         let pair = prices[product];
         prove!(pair.start.get() <= change.price && change.price <= pair.clock.get());
         let price = Price::new(change.price).unwrap();
@@ -215,6 +215,13 @@ fn note(posted: &mut Items<Price>, prices: &[PricePair], change: &Change, left: 
             posted.set(product, price);
         }
     }
+}
+
+/// Whether a request is a reduction that was applied at least in part.
+fn is_applied(change: &Change, left: u64) -> bool
+    ensures { result ≡ (is_reduction change.now.kind && nat_lt left change.now.amount) }
+{
+    change.kind == Kind::Reduction && left < change.amount
 }
 
 /// The input of a posting.
@@ -289,18 +296,29 @@ impl RoundEnd<'_> {
         // Every closed round stores its lines, so their memory is no larger than they need.
         let mut lines = Lines::with_capacity(alloc, self.products.len())?;
         for product in 0..self.products.len() {
-            let pair = self.prices[product];
-            let total = self.grid.total(product);
-            let supply = self.products[product].supply;
-            lines.push(Line {
-                start: pair.start,
-                clock: pair.clock,
-                posted: self.posted[product],
-                demand: (total > supply).then_some(total),
-                next: self.next_at(product, next),
-            });
+            lines.push(self.line(product, next));
         }
         Ok(lines.into_items())
+    }
+
+    /// The line of a product. Requires the prices of the next round.
+    fn line(&self, product: usize, next: &Option<Prices>) -> Line
+        requires end { FitsTogether self.now }
+        requires product { product < length self.now.products.now }
+        requires next { next.now ≡ next_of self.now }
+        requires clocks { IfSome next.now (HasClocksOf self.now) }
+        ensures { result ≡ line_of self.now product }
+    {
+        let pair = self.prices[product];
+        let total = self.grid.total(product);
+        let supply = self.products[product].supply;
+        Line {
+            start: pair.start,
+            clock: pair.clock,
+            posted: self.posted[product],
+            demand: (total > supply).then_some(total),
+            next: self.next_at(product, next),
+        }
     }
 
     /// The clock price of a product in the next round, or `None` if the auction has ended.

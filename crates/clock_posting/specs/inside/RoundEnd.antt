@@ -55,6 +55,11 @@ next_of end = prices_after end.products.now end.grid.now end.posted.now end.incr
 abbrev pub limit_of : RoundEnd → Option ℕ
 limit_of end = price_limit_fault end.products.now end.grid.now end.posted.now end.increments.now
 
+-- The line of a product.
+abbrev pub line_of : RoundEnd → ℕ → Line
+line_of end =
+    sheet_line end.products.now end.prices.now end.grid.now end.posted.now end.increments.now
+
 -- The lines of the round results.
 abbrev pub lines_of : RoundEnd → List Line
 lines_of end =

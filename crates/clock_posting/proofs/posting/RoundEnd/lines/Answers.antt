@@ -1,10 +1,9 @@
 -- Proves that the loop builds the line of each product, in order.
-use Rattle.std.proofs.Common.{◌≡◌, ℕ, ◌++◌, ◌∷◌, [], ◌+◌, List, ap, sym, ◌∙◌, map, arith}
+use Rattle.std.proofs.Common.{◌≡◌, ℕ, ◌++◌, ◌∷◌, [], ◌+◌, List, ap, sym, ◌∙◌, map, arith, length, length-append}
 use Rattle.std.specs.List.{range_with_len}
 use Rattle.std.proofs.lemmas.List.FromFn.{map-range_with_len_more}
-use Rattle.std.proofs.lemmas.Grind.{common_steps}
 use Rattle.clock_posting.specs.declared.sheet.Line.{Line}
-use Rattle.clock_posting.specs.Posting.{sheet_line}
+use Rattle.clock_posting.specs.inside.RoundEnd.{line_of}
 use Rattle.clock_posting.proofs.posting.RoundEnd.lines.Goals as goal
 
 -- The lines with one more.
@@ -16,11 +15,11 @@ one_more f n old new line pushed so_far is = pushed ∙ ap (λ (lines : List Lin
 
 pub loop-product-preserved : goal.loop-product-preserved
 loop-product-preserved c =
-    let end = c.args.self.now in
-    let f = sheet_line end.products.now end.prices.now end.grid.now end.posted.now end.increments.now in
+    let old = c.loop-product.lines.items in
     record {
-      lengths = grind (arith, common_steps);
-      room = grind (arith, common_steps);
-      so_far = one_more f c.loop-product.product c.loop-product.lines.items c.push.new.self.items _ c.push.ensures.items
-          c.loop-product.invariant.so_far (grind (arith, common_steps));
+      lengths = ap length c.push.ensures.items ∙ length-append old (c.line.result ∷ [])
+          ∙ ap (λ n. n + 1) c.loop-product.invariant.lengths;
+      room = omega (arith, c.loop-product.invariant.room, c.push.ensures.room);
+      so_far = one_more (line_of c.args.self.now) c.loop-product.product old c.push.new.self.items c.line.result
+          c.push.ensures.items c.loop-product.invariant.so_far c.line.ensures;
     }
