@@ -6,3 +6,4 @@ pub mod HeadFields
 pub mod HeadParts
 pub mod HeadTests
 pub mod Routing
+pub mod ReplyLines

@@ -1,5 +1,6 @@
 ghost use Rattle.std.specs.Prelude.{◌≡◌, ◌+◌, ◌≤◌, ◌++◌, ℕ, drop, length, codes, IfOk, IfErr};
 ghost use Rattle.clock_http.specs.Replies.{allow_line, challenge_line, reply_bytes};
+ghost use Rattle.clock_http.specs.inside.ReplyLines.{first_lines, page_lines};
 
 use crate::code::Code;
 use crate::routes::Page;
@@ -125,6 +126,39 @@ fn put_before(text: &mut Text, end: usize, piece: &[u8]) -> usize
     start
 }
 
+/// Writes the last lines of a head, those about the page, before the page. Returns the index at
+/// which they begin.
+fn put_page_lines(text: &mut Text, code: Code) -> usize
+    requires { MOST_HEAD ≤ length text.old }
+    ensures room { MOST_HEAD ≤ result + 120 }
+    ensures within { result ≤ length text.new }
+    ensures put { drop result text.new ≡ page_lines code (drop MOST_HEAD text.old) }
+{
+    let page = text.len() - MOST_HEAD;
+    let mut count = Buffer::new();
+    let last = put_before(text, MOST_HEAD, last_lines(code));
+    let kind = put_before(text, last, b"\r\ncontent-type: application/json\r\n");
+    let length = put_before(text, kind, count.format(page).as_bytes());
+    put_before(text, length, b"connection: close\r\ncontent-length: ")
+}
+
+/// Writes the first lines of a head before index `lines`, where the others begin. Returns the index
+/// at which they begin.
+fn put_first_lines(text: &mut Text, lines: usize, code: Code, allowed: Option<Page>) -> usize
+    requires room { MOST_HEAD ≤ lines + 120 }
+    requires within { lines ≤ length text.old }
+    ensures within { result ≤ length text.new }
+    ensures put { drop result text.new ≡ first_lines code allowed (drop lines text.old) }
+{
+    let mut number = Buffer::new();
+    let allow = put_before(text, lines, allow_bytes(allowed));
+    let end = put_before(text, allow, b"\r\n");
+    let words = put_before(text, end, code.reason().as_bytes());
+    let space = put_before(text, words, b" ");
+    let status = put_before(text, space, number.format(code.status()).as_bytes());
+    put_before(text, status, b"HTTP/1.1 ")
+}
+
 impl Reply {
     /// Makes a reply of constant bytes. Allocates nothing.
     pub fn constant(code: Code, bytes: &'static [u8]) -> Reply
@@ -143,20 +177,8 @@ impl Reply {
         ensures { result
             ≡ record { code = code; bytes = reply_bytes code allowed (drop MOST_HEAD text) } }
     {
-        // from its end to its start, since the length of the head is only known at the end
-        let page = text.len() - MOST_HEAD;
-        let mut count = Buffer::new();
-        let last = put_before(&mut text, MOST_HEAD, last_lines(code));
-        let kind = put_before(&mut text, last, b"\r\ncontent-type: application/json\r\n");
-        let length = put_before(&mut text, kind, count.format(page).as_bytes());
-        let connection = put_before(&mut text, length, b"connection: close\r\ncontent-length: ");
-        let allow = put_before(&mut text, connection, allow_bytes(allowed));
-        let mut number = Buffer::new();
-        let end = put_before(&mut text, allow, b"\r\n");
-        let words = put_before(&mut text, end, code.reason().as_bytes());
-        let space = put_before(&mut text, words, b" ");
-        let status = put_before(&mut text, space, number.format(code.status()).as_bytes());
-        let start = put_before(&mut text, status, b"HTTP/1.1 ");
+        let lines = put_page_lines(&mut text, code);
+        let start = put_first_lines(&mut text, lines, code, allowed);
         Reply {
             code,
             inner: ReplyBytes::Written(TextFrom { text, start }),

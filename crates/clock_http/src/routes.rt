@@ -5,7 +5,7 @@ ghost use Rattle.clock_http.specs.inside.Routing as routing;
 
 use clock_device::NoMemory;
 use http::Method;
-use matchit::{InsertError, Router};
+use matchit::Router;
 use memchr::memrchr;
 use std::alloc::Global;
 
@@ -30,19 +30,29 @@ pub enum Page {
     Results,
 }
 
+/// Adds a route. Its error stands for any error of the router.
+fn add_route(router: &mut Router<Page>, path: &str, page: Page) -> Result<(), NoMemory>
+    ensures { OnOk result (router.new ≡ routing.with_route path.now page router.old) }
+{
+    let Ok(()) = router.insert(path, page) else {
+        return Err(NoMemory);
+    };
+    Ok(())
+}
+
 /// Adds the routes of all pages. Requires an empty router.
-fn add_routes(router: &mut Router<Page>) -> Result<(), InsertError>
+fn add_routes(router: &mut Router<Page>) -> Result<(), NoMemory>
     requires { router.old ≡ [] }
     ensures { OnOk result (router.new ≡ routing.table) }
 {
-    router.insert("/v1/status", Page::Status)?;
-    router.insert("/v1/products", Page::Products)?;
-    router.insert("/v1/rounds/{n}", Page::Sheet)?;
-    router.insert("/v1/me", Page::Account)?;
-    router.insert("/v1/me/bids", Page::Bids)?;
-    router.insert("/v1/me/rounds/{n}", Page::Slip)?;
-    router.insert("/v1/close", Page::Close)?;
-    router.insert("/v1/results", Page::Results)?;
+    add_route(router, "/v1/status", Page::Status)?;
+    add_route(router, "/v1/products", Page::Products)?;
+    add_route(router, "/v1/rounds/{n}", Page::Sheet)?;
+    add_route(router, "/v1/me", Page::Account)?;
+    add_route(router, "/v1/me/bids", Page::Bids)?;
+    add_route(router, "/v1/me/rounds/{n}", Page::Slip)?;
+    add_route(router, "/v1/close", Page::Close)?;
+    add_route(router, "/v1/results", Page::Results)?;
     Ok(())
 }
 
@@ -77,17 +87,26 @@ impl Routes {
     /// Makes the routes of all pages. May return `NoMemory`.
     pub fn new(alloc: Global) -> Result<Routes, NoMemory> {
         let mut router = Router::new(alloc);
-        add_routes(&mut router).or(Err(NoMemory))?;
-        Ok(Routes { router })
+        match add_routes(&mut router) {
+            Ok(()) => Ok(Routes { router }),
+            Err(refused) => {
+                drop(router);
+                Err(refused)
+            }
+        }
     }
 
     /// Returns the page of a path, if there is one. Allocates nothing.
     pub fn page_of(&self, path: &[u8]) -> Option<Page>
         ensures { result ≡ spec.page_of path.now }
     {
-        let text = std::str::from_utf8(path).ok()?;
-        let found = self.router.at(text).ok()?;
-        Some(*found.value)
+        match std::str::from_utf8(path) {
+            Ok(text) => match self.router.at(text) {
+                Ok(found) => Some(*found.value),
+                Err(_) => None,
+            },
+            Err(_) => None,
+        }
     }
 }
 
