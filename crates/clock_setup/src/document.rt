@@ -96,10 +96,14 @@ pub fn read_setup(alloc: Global, bytes: &[u8]) -> Result<Setup, SetupFault>
     ensures err { IfErr result (IsRefusal SetupFault.NoMemory (document.document_setup bytes.now)) }
 {
     if let Some(scanned) = scanned_text::<FoundSetup>(alloc, bytes)? {
-        return within_limits(alloc, &scanned.entries);
+        let judged = within_limits(alloc, &scanned.entries);
+        drop(scanned);
+        return judged;
     }
     let value = read_value(alloc, bytes)?.ok_or(SetupFault::NotJson)?;
-    setup_of(alloc, &value)
+    let judged = setup_of(alloc, &value);
+    drop(value);
+    judged
 }
 
 /// Returns the set-up that a JSON value means, or its first fault, as [`read_setup`] does for a
@@ -121,5 +125,7 @@ pub fn setup_of(alloc: Global, value: &Value) -> Result<Setup, SetupFault>
         return Err(SetupFault::Version);
     }
     let entries = entries_of(alloc, value)?.ok_or(SetupFault::Shape)?;
-    within_limits(alloc, &entries)
+    let judged = within_limits(alloc, &entries);
+    drop(entries);
+    judged
 }

@@ -7,6 +7,7 @@ ghost use Rattle.clock_terms.specs.Limits.{most_increment};
 ghost use Rattle.clock_setup.specs.OpeningDocument.{document_opening, has_counts, opening_of};
 ghost use Rattle.clock_setup.specs.OpeningDocument.{opening_with, row_checks};
 ghost use Rattle.clock_setup.specs.inside.OpeningData.{scanned_data, found_opening};
+ghost use Rattle.clock_setup.specs.inside.OpeningData.{short_rows_in};
 ghost use Rattle.clock_setup.specs.declared.opening.OpeningFault.TheVariants as faults;
 
 use crate::document::setup_of;
@@ -143,6 +144,7 @@ fn opening_grid(
         push(&mut rows, row)?;
     }
     if !is_within(LEAST_INCREMENT, MOST_INCREMENT, increment) {
+        drop(rows);
         return Err(OpeningFault::Increment);
     }
     Ok(Grid::of_rows(alloc, setup, rows)?)
@@ -182,9 +184,21 @@ fn judged(
     }
 }
 
+/// Returns the demands that a JSON value has as an opening, as 16-bit numbers: a higher one becomes
+/// 65,535, which is above every cap too. `None` if they have another shape. May return `NoMemory`.
+fn demands_in(alloc: Global, value: &Value) -> Result<Option<ShortRows>, NoMemory>
+    ensures { IfOk result (λ demands. demands ≡ short_rows_in (view value.now)) }
+{
+    let Some(rows) = each_at(alloc, value, "demands", &RowReader)? else {
+        return Ok(None);
+    };
+    let demands = short_rows(alloc, rows.as_slice());
+    drop(rows);
+    Ok(Some(demands?))
+}
+
 /// Returns the opening that a JSON value means, or its first fault. May return `NoMemory`, which
-/// then replaces any other result. Demands are read as 16-bit numbers: a higher one becomes 65,535,
-/// which is above every cap too.
+/// then replaces any other result.
 #[tactic(auto, using(crate::proofs::OpeningLaws::opening_shape), unfolding(crate::specs::OpeningShape::opening_parts))]
 fn opening_in(alloc: Global, value: &Value) -> Result<Opening, OpeningFault>
     ensures ok { IfOk result (λ opening. opening_of (view value.now) ≡ Ok opening) }
@@ -201,14 +215,19 @@ fn opening_in(alloc: Global, value: &Value) -> Result<Opening, OpeningFault>
     if !has_members(value, 3) {
         return Err(OpeningFault::Shape);
     }
-    let rows = each_at(alloc, value, "demands", &RowReader)?.ok_or(OpeningFault::Shape)?;
-    let demands = short_rows(alloc, rows.as_slice());
-    drop(rows);
-    let demands = demands?;
+    let Some(demands) = demands_in(alloc, value)? else {
+        return Err(OpeningFault::Shape);
+    };
     match setup_of(alloc, setup) {
         Ok(setup) => judged(alloc, setup, demands, increment),
-        Err(SetupFault::NoMemory) => Err(OpeningFault::NoMemory),
-        Err(fault) => Err(OpeningFault::Setup(fault)),
+        Err(SetupFault::NoMemory) => {
+            drop(demands);
+            Err(OpeningFault::NoMemory)
+        }
+        Err(fault) => {
+            drop(demands);
+            Err(OpeningFault::Setup(fault))
+        }
     }
 }
 
@@ -232,7 +251,9 @@ pub fn read_opening(alloc: Global, bytes: &[u8]) -> Result<Opening, OpeningFault
         return judged(alloc, nested.setup, demands, increment);
     }
     let value = read_value(alloc, bytes)?.ok_or(OpeningFault::NotJson)?;
-    opening_in(alloc, &value)
+    let opening = opening_in(alloc, &value);
+    drop(value);
+    opening
 }
 
 /// What was found so far of an opening that is read by bytes. Such an opening has no escape in a

@@ -197,7 +197,9 @@ pub(crate) fn has_distinct_names<E: LimitedEntry>(
     for entry in entries {
         names.push(entry.name());
     }
-    is_distinct(alloc, names.as_slice())
+    let distinct = is_distinct(alloc, names.as_slice());
+    drop(names);
+    distinct
 }
 
 /// Whether no two bidders, and no bidder and the operator, have the same token. May return
@@ -215,5 +217,7 @@ pub(crate) fn has_distinct_tokens(
     for bidder in bidders {
         tokens.push(bidder.token);
     }
-    is_distinct(alloc, tokens.as_slice())
+    let distinct = is_distinct(alloc, tokens.as_slice());
+    drop(tokens);
+    distinct
 }

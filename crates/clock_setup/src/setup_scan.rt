@@ -99,6 +99,7 @@ fn products<'v>(alloc: Global, scan: &mut Scan<'v>) -> Result<VersionedProducts<
     'items: while !scan.closes(b']') {
         let next = FoundProduct::part(alloc, scan)?;
         if version != 0 && version != next.version {
+            drop(entries);
             return Err(ScanStop::Unusual);
         }
         version = next.version;
@@ -224,13 +225,19 @@ impl<'v> ScannedMembers<'v> for FoundSetup<'v> {
             self.requirement,
             self.operator,
         ) else {
+            drop(self);
             return None;
         };
-        let limit = limit_in(version, self.limit)?;
+        let Some(limit) = limit_in(version, self.limit) else {
+            drop(self);
+            return None;
+        };
         let (Some(products), Some(bidders)) = (self.products, self.bidders) else {
             return None;
         };
         if products.version != version {
+            drop(products);
+            drop(bidders);
             return None;
         }
         let entries = SetupEntries {
@@ -264,7 +271,9 @@ impl<'v> PartReader<'v> for NestedSetup {
 
     fn part(alloc: Global, scan: &mut Scan<'v>) -> Result<NestedSetup, ScanStop> {
         let scanned = FoundSetup::part(alloc, scan)?;
-        match within_limits(alloc, &scanned.entries) {
+        let judged = within_limits(alloc, &scanned.entries);
+        drop(scanned);
+        match judged {
             Ok(setup) => Ok(NestedSetup { setup }),
             Err(SetupFault::NoMemory) => Err(ScanStop::NoMemory),
             Err(_) => Err(ScanStop::Unusual),

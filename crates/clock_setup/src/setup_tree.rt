@@ -192,8 +192,16 @@ pub(crate) fn entries_of(alloc: Global, value: &Value) -> Result<Option<SetupEnt
     let Some(products) = each_at(alloc, value, "products", &ProductReader { version })? else {
         return Ok(None);
     };
-    let Some(bidders) = each_at(alloc, value, "bidders", &BidderReader)? else {
-        return Ok(None);
+    let bidders = match each_at(alloc, value, "bidders", &BidderReader) {
+        Ok(Some(bidders)) => bidders,
+        Ok(None) => {
+            drop(products);
+            return Ok(None);
+        }
+        Err(refused) => {
+            drop(products);
+            return Err(refused);
+        }
     };
     Ok(Some(SetupEntries {
         version,

@@ -10,17 +10,17 @@ use Rattle.clock_setup.proofs.document.read_setup.Goals as goal
 pub returns-in-Some-clause-ok : goal.returns-in-Some-clause-ok
 returns-in-Some-clause-ok c =
     let scanned = c.in-Some.scanned in
-    subst (λ answer. IfOk c.within_limits.result (λ setup. answer ≡ Ok setup))
+    subst (λ answer. IfOk c.within_limits-judged.result (λ setup. answer ≡ Ok setup))
     (sym (document_is c.args.bytes.now scanned.entries (rw c.in-Some.is at c.in_ok-scanned.ensures.text)
     (rw c.in-Some.is at c.in_ok-scanned.ensures.value)))
-    (judged_ok (setup_of (setup_data scanned.entries)) scanned.entries c.within_limits.result (setup_judged
-    scanned.entries scanned.version scanned.first_version) c.within_limits.ensures.same c.within_limits.ensures.ok)
+    (judged_ok (setup_of (setup_data scanned.entries)) scanned.entries c.within_limits-judged.result (setup_judged
+    scanned.entries scanned.version scanned.first_version) c.within_limits-judged.ensures.same c.within_limits-judged.ensures.ok)
 
 pub returns-in-Some-clause-err : goal.returns-in-Some-clause-err
 returns-in-Some-clause-err c =
     let scanned = c.in-Some.scanned in
-    subst (λ answer. IfErr c.within_limits.result (IsRefusal NoMemory answer))
+    subst (λ answer. IfErr c.within_limits-judged.result (IsRefusal NoMemory answer))
     (sym (document_is c.args.bytes.now scanned.entries (rw c.in-Some.is at c.in_ok-scanned.ensures.text)
     (rw c.in-Some.is at c.in_ok-scanned.ensures.value)))
-    (judged_err (setup_of (setup_data scanned.entries)) scanned.entries c.within_limits.result
-    (setup_judged scanned.entries scanned.version scanned.first_version) c.within_limits.ensures.err)
+    (judged_err (setup_of (setup_data scanned.entries)) scanned.entries c.within_limits-judged.result
+    (setup_judged scanned.entries scanned.version scanned.first_version) c.within_limits-judged.ensures.err)

@@ -19,6 +19,6 @@ loop-bidder-preserved c =
 pub returns : goal.returns
 returns c =
     let at = c.loop-bidder in
-    distinct_texts c.is_distinct.result _ _ _ c.as_slice.ensures
+    distinct_texts c.is_distinct-distinct.result _ _ _ c.as_slice.ensures
     (texts_end_behind (λ bidder. bidder.token) at.tokens.items c.args.bidders.now at.bidder-index c.args.operator.now
-    c.loop-bidder-test.false at.invariant.so_far) c.is_distinct.ensures
+    c.loop-bidder-test.false at.invariant.so_far) c.is_distinct-distinct.ensures
