@@ -12,9 +12,9 @@ returns-in-Some-clause-ok c =
     let scanned = c.in-Some.scanned in
     subst (λ answer. IfOk c.within_limits-judged.result (λ setup. answer ≡ Ok setup))
     (sym (document_is c.args.bytes.now scanned.entries (rw c.in-Some.is at c.in_ok-scanned.ensures.text)
-    (rw c.in-Some.is at c.in_ok-scanned.ensures.value)))
-    (judged_ok (setup_of (setup_data scanned.entries)) scanned.entries c.within_limits-judged.result (setup_judged
-    scanned.entries scanned.version scanned.first_version) c.within_limits-judged.ensures.same c.within_limits-judged.ensures.ok)
+    (rw c.in-Some.is at c.in_ok-scanned.ensures.value))) (judged_ok (setup_of (setup_data scanned.entries))
+    scanned.entries c.within_limits-judged.result (setup_judged scanned.entries scanned.version scanned.first_version)
+    c.within_limits-judged.ensures.same c.within_limits-judged.ensures.ok)
 
 pub returns-in-Some-clause-err : goal.returns-in-Some-clause-err
 returns-in-Some-clause-err c =

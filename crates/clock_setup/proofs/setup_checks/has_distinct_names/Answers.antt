@@ -16,5 +16,6 @@ loop-entry-preserved g c =
 pub returns : goal.returns
 returns g c =
     let at = c.loop-entry in
-    distinct_texts c.is_distinct-distinct.result _ _ _ c.as_slice.ensures (texts_end g.E.LimitedEntry.text at.names.items
-    c.args.entries.now at.entry-index c.loop-entry-test.false at.invariant.so_far) c.is_distinct-distinct.ensures
+    distinct_texts c.is_distinct-distinct.result _ _ _ c.as_slice.ensures
+    (texts_end g.E.LimitedEntry.text at.names.items c.args.entries.now at.entry-index c.loop-entry-test.false
+    at.invariant.so_far) c.is_distinct-distinct.ensures

@@ -8,8 +8,10 @@ returns-in-Err c = no_page _ c.in-Err.ensures.cases.0
 
 pub returns-in-Err-at : goal.returns-in-Err-at
 returns-in-Err-at c =
-    page_seen _ _ _ None c.in-Ok.ensures.cases.0 c.in-Ok.ensures.cases.1 c.args.self.now.routed c.in-Err-at.ensures.missing
+    let text = c.in-Ok.ensures.cases in
+    page_seen _ _ _ None text.0 text.1 c.args.self.now.routed c.in-Err-at.ensures.missing
 
 pub returns-in-Ok-at : goal.returns-in-Ok-at
 returns-in-Ok-at c =
-    page_seen _ _ _ _ c.in-Ok.ensures.cases.0 c.in-Ok.ensures.cases.1 c.args.self.now.routed c.in-Ok-at.ensures.found
+    let text = c.in-Ok.ensures.cases in
+    page_seen _ _ _ _ text.0 text.1 c.args.self.now.routed c.in-Ok-at.ensures.found
