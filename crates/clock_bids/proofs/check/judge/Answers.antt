@@ -1,10 +1,11 @@
 -- One step of the loop: each of the three ways to find the last bid for the product finds it, and with it the bid's
 -- first fault is the one of the rules. The activity so far has the units of that last bid, so that the subtraction is
 -- safe.
-use Rattle.std.proofs.Common.{◌≡◌, ◌+◌, ◌*◌, ◌≤◌, List, length, take, ◌∙◌, ap, subst, arith, get_or, rules}
+use Rattle.std.proofs.Common.{◌≡◌, ◌+◌, ◌*◌, ◌<◌, ◌≤◌, List, length, take, ◌∙◌, ap, sym, subst, arith, get_or, rules}
 use Rattle.std.specs.Prelude.{None}
 use Rattle.std.specs.Option.{option_copied}
 use Rattle.clock_terms.specs.declared.setup.Product.{Product}
+use Rattle.clock_terms.specs.Limits.{IsRow}
 use Rattle.clock_bids.specs.inside.Chains.{last_bids, quantity_of}
 use Rattle.clock_bids.specs.inside.LastBids.{AreLastPlaces}
 use Rattle.clock_bids.proofs.Tables.{no_bid}
@@ -22,6 +23,37 @@ loop-i-init c = record {
   order = omega arith;
   placed = λ none. absurd (omega (arith, none));
 }
+
+pub last_places-requires-clause-few : goal.last_places-requires-clause-few
+last_places-requires-clause-few c = c.requires.few
+
+pub last_places-requires-clause-order : goal.last_places-requires-clause-order
+last_places-requires-clause-order c = c.loop-i.invariant.order
+
+pub last_places-requires-clause-place : goal.last_places-requires-clause-place
+last_places-requires-clause-place c = omega (arith, c.loop-i-test.true)
+
+pub last_places-requires-clause-known : goal.last_places-requires-clause-known
+last_places-requires-clause-known c =
+    let same = c.as_slice-products.ensures ∙ ap (λ s. s.products) c.setup.view_is in
+    known_all c.args.setup.now.products c.as_slice-products.result.now (take c.loop-i.i c.args.bids.now) same
+    c.loop-i.invariant.judged.good.known
+
+pub last_places-requires-clause-placed : goal.last_places-requires-clause-placed
+last_places-requires-clause-placed c =
+    let same = c.as_slice-products.ensures ∙ ap (λ s. s.products) c.setup.view_is in
+    subst (λ (ps : List Product). 0 < c.loop-i.placed → AreLastPlaces (length ps) c.args.bids.now c.loop-i.placed
+    c.loop-i.places.items) (sym same) c.loop-i.invariant.placed
+
+pub bid_fault-requires-clause-prices : goal.bid_fault-requires-clause-prices
+bid_fault-requires-clause-prices c =
+    let same = c.as_slice-products.ensures ∙ ap (λ s. s.products) c.setup.view_is in
+    c.requires.prices ∙ sym (ap (λ (ps : List Product). length ps) same)
+
+pub bid_fault-requires-clause-demands : goal.bid_fault-requires-clause-demands
+bid_fault-requires-clause-demands c =
+    let same = c.as_slice-products.ensures ∙ ap (λ s. s.products) c.setup.view_is in
+    subst (λ (ps : List Product). IsRow ps c.args.demands.now) (sym same) c.requires.demands
 
 pub returns-in-Some-bid_fault-clause-fault : goal.returns-in-Some-bid_fault-clause-fault
 returns-in-Some-bid_fault-clause-fault c _ =

@@ -2,6 +2,7 @@
 -- processing.
 use Rattle.std.proofs.Common.{◌≡◌, ◌≢◌, ◌≤◌, ap, sym, ◌∙◌, arith}
 use Rattle.std.proofs.lemmas.List.Sorted.{All-permutation}
+use Rattle.std.proofs.lemmas.Result.{err_from_is_err_and}
 use Rattle.clock_posting.specs.PostedPrice.{IsWithinPrices}
 use Rattle.clock_posting.specs.Posting.{opening_posted}
 use Rattle.clock_closing.specs.OpenRound.{IsOpenRound, OpenRoundFields}
@@ -92,3 +93,38 @@ returns g c =
 pub post-posting-requires-clause-grid : goal.post-posting-requires-clause-grid
 post-posting-requires-clause-grid g c =
     within_grid _ c.self.invariant.1 _ (rw (← c.self.view_is) at c.in_ok-settled.ensures.within)
+
+pub post_first-posting-requires-clause-increments : goal.post_first-posting-requires-clause-increments
+post_first-posting-requires-clause-increments g c = rw (← c.self.view_is) at c.requires
+
+pub settled-requires-clause-requests : goal.settled-requires-clause-requests
+settled-requires-clause-requests g c = c.in_ok-requests.ensures.all
+
+pub post-posting-requires-clause-increments : goal.post-posting-requires-clause-increments
+post-posting-requires-clause-increments g c = rw (← c.self.view_is) at c.requires
+
+pub post-posting-requires-clause-prices : goal.post-posting-requires-clause-prices
+post-posting-requires-clause-prices g c = c.self.invariant.1.sound.priced.pairs
+
+pub post-posting-requires-clause-ordered : goal.post-posting-requires-clause-ordered
+post-posting-requires-clause-ordered g c = c.self.invariant.1.sound.priced.ordered
+
+pub post-posting-requires-clause-left : goal.post-posting-requires-clause-left
+post-posting-requires-clause-left g c = c.in_ok-settled.ensures.each
+
+-- Memory has run out in a step.
+pub returns-in_err-grid : goal.returns-in_err-grid
+returns-in_err-grid g c =
+    let reported = err_from_is_err_and c.from_residual.result c.from_residual.ensures.1 in
+    rw reported.1 (λ other. absurd (other reported.2))
+
+pub returns-in_err-requests : goal.returns-in_err-requests
+returns-in_err-requests g c =
+    let reported =
+    err_from_is_err_and c.from_residual-in_err-requests.result c.from_residual-in_err-requests.ensures.1 in
+    rw reported.1 (λ other. absurd (other reported.2))
+
+pub returns-in_err-settled : goal.returns-in_err-settled
+returns-in_err-settled g c =
+    let reported = err_from_is_err_and c.from_residual-in_err-settled.result c.from_residual-in_err-settled.ensures.1 in
+    rw reported.1 (λ other. absurd (other reported.2))

@@ -1,11 +1,11 @@
 -- Proves that the loop builds the results of each bidder, in order.
-use Rattle.std.proofs.Common.{◌≡◌, ℕ, List, [], ◌∷◌, ◌++◌, ap, sym, ◌∙◌, arith}
+use Rattle.std.proofs.Common.{◌≡◌, ◌<◌, ℕ, List, [], ◌∷◌, ◌++◌, length, ap, sym, subst, ◌∙◌, arith}
 use Rattle.std.specs.Prelude.{map}
 use Rattle.std.specs.List.{range_with_len}
 use Rattle.std.proofs.lemmas.List.{length-map}
 use Rattle.std.proofs.lemmas.List.FromFn.{map-range_with_len_more}
 use Rattle.clock_terms.specs.Demands.{row_of}
-use Rattle.clock_terms.specs.Limits.{public_setup}
+use Rattle.clock_terms.specs.Limits.{IsRow, public_setup}
 use Rattle.clock_closing.specs.declared.closed_round.Slip.{Slip}
 use Rattle.clock_closing.specs.Holdings.{Holding}
 use Rattle.clock_closing.specs.OpenRound.{holding_at}
@@ -13,6 +13,29 @@ use Rattle.clock_closing.specs.Closing.{slip_after}
 use Rattle.clock_closing.specs.Results.{result_demands}
 use Rattle.clock_closing.proofs.SlipDemands.{slips_demands}
 use Rattle.clock_closing.proofs.open_round.OpenRound.slips.Goals as goal
+
+pub row-requires : goal.row-requires
+row-requires c = omega (
+  arith,
+  c.loop-bidder-test.true,
+  c.bidders-bidder-end.ensures.held,
+  c.requires.bidders,
+  length-map c.args.self.now.before.holdings (λ (held : Holding). held.eligibility),
+)
+
+pub slip_after-requires-clause-bidder : goal.slip_after-requires-clause-bidder
+slip_after-requires-clause-bidder c = omega (arith, c.loop-bidder-test.true, c.bidders-bidder-end.ensures.each)
+
+pub slip_after-requires-clause-row : goal.slip_after-requires-clause-row
+slip_after-requires-clause-row c =
+    let known : c.loop-bidder.bidder < length c.args.demands.now = omega (
+      arith,
+      c.loop-bidder-test.true,
+      c.bidders-bidder-end.ensures.held,
+      c.requires.bidders,
+      length-map c.args.self.now.before.holdings (λ (held : Holding). held.eligibility),
+    ) in
+    subst (IsRow c.args.self.now.setup.products) (sym c.row.ensures) (c.requires.rows c.loop-bidder.bidder [] known)
 
 pub loop-bidder-preserved : goal.loop-bidder-preserved
 loop-bidder-preserved c =
