@@ -1,9 +1,10 @@
 -- Proves what submitting a sheet does to the commands that a house stands for: the sheet is in force, or nothing
 -- changes.
-use Rattle.std.proofs.Common.{◌≡◌, ℕ, ◌<◌, inl, inr, List, ◌∷◌, Bool, true, false, ◌&&◌, ◌==◌, not, refl}
+use Rattle.std.proofs.Common.{◌≡◌, ℕ, ◌<◌, inl, inr, List, [], ◌∷◌, Bool, true, false, ◌&&◌, ◌==◌, not, refl}
 use Rattle.std.proofs.Common.{ap, sym, subst, ◌∙◌, arith, get_or, set, length, eq-eqb, ne_eqb}
 use Rattle.std.specs.Prelude.{◌≢◌, Option, Some, None, Result, Ok, Err, IfOk, IfErr, is_none}
 use Rattle.std.proofs.lemmas.Bool.{cases_eq}
+use Rattle.std.proofs.lemmas.Option.{none-some}
 use Rattle.std.proofs.lemmas.List.{get_or-set_same, get_or-set_other, length-set}
 use Rattle.std.proofs.lemmas.List.FromFn.{fill_by_all, length-map-range_with_len, get_or-map-range_with_len}
 use Rattle.clock_terms.specs.declared.prices.PricePair.{PricePair}
@@ -122,6 +123,29 @@ reported_as (bid_faults.PriceOrder place) other = refl
 reported_as (bid_faults.MixedDirection place) other = refl
 reported_as (bid_faults.KeepPrice place) other = refl
 reported_as bid_faults.OverActivity other = refl
+
+-- So none is reported for bids that ran out of memory.
+pub put-memory : (fault : BidFault) (reported : PutFault) → reported ≡ fault_from_bid fault
+    → reported ≢ put_faults.Bid bid_faults.NoMemory
+put-memory fault reported is e =
+    let other : fault ≢ bid_faults.NoMemory = λ none. (let bad : put_faults.NoMemory
+    ≡ put_faults.Bid bid_faults.NoMemory = sym (is ∙ ap fault_from_bid none) ∙ e in cc) in
+    other (let same : put_faults.Bid fault ≡ put_faults.Bid bid_faults.NoMemory =
+    sym (is ∙ reported_as fault other) ∙ e in cc)
+
+no_bid : (ended current : Bool) (number : ℕ) (fault : BidFault)
+    → first_fault ((put_faults.Ended, not ended) ∷ (put_faults.WrongRound number, current) ∷ [])
+    ≡ Some (put_faults.Bid fault) → ⊥
+no_bid true current number fault e = let bad : Some put_faults.Ended ≡ Some (put_faults.Bid fault) = e in cc
+no_bid false false number fault e =
+    let bad : Some (put_faults.WrongRound number) ≡ Some (put_faults.Bid fault) = e in cc
+no_bid false true number fault e = none-some _ e
+
+-- The fault of a round is none of bids.
+pub round-no_bid : (house : HouseFields) (round : ℕ) (found : PutFault) → round_fault put_faults.Ended
+    put_faults.WrongRound (state_in house) round ≡ Some found → (fault : BidFault) → found ≢ put_faults.Bid fault
+round-no_bid house round found is fault e = no_bid (state_in house).ended (round == (state_in house).round)
+    (state_in house).round fault (is ∙ ap Some e)
 
 -- The first fault of a sheet: that of its round, or that of its bids.
 module _ (house : HouseFields) (bidder round : ℕ) (bids : List Bid) where

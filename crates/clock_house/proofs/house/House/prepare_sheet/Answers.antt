@@ -2,12 +2,14 @@
 -- view.
 use Rattle.std.proofs.Common.{ap, sym, ◌∙◌, length, rules}
 use Rattle.std.specs.Prelude.{Ok, Err}
+use Rattle.clock_bids.specs.declared.sheet.BidFault.TheVariants as bid_faults
 use Rattle.clock_house.specs.declared.fault.PutFault.TheVariants as put_faults
 use Rattle.clock_house.specs.Prepared.{PreparedSheet}
 use Rattle.clock_house.specs.House.{HouseFields, state_in}
 use Rattle.clock_house.proofs.Stored.{stands_sound}
 use Rattle.clock_house.proofs.Rounds.{current_of}
-use Rattle.clock_house.proofs.Puts.{put-round, put-good, put-bad, fits-judged, judged-followed}
+use Rattle.clock_house.proofs.Puts.{put-round, put-good, put-bad, put-memory, round-no_bid}
+use Rattle.clock_house.proofs.Puts.{fits-judged, judged-followed}
 use Rattle.clock_house.proofs.Seen.{answers-by_view}
 use Rattle.clock_house.proofs.house.House.prepare_sheet.Goals as goal
 
@@ -77,3 +79,11 @@ returns-in-Err-clause-seen g c = answers-by_view {T = PreparedSheet} c.args.self
 pub returns-in-Err-clause-followed : goal.returns-in-Err-clause-followed
 returns-in-Err-clause-followed g c = judged-followed c.args.self.now c.args.bidder c.args.round c.args.bids
     (Err c.from.result) (returns-in-Err-clause-answer g c)
+
+pub returns-in-Some-clause-memory : goal.returns-in-Some-clause-memory
+returns-in-Some-clause-memory g c = λ e. round-no_bid c.args.self.now c.args.round c.in-Some.fault
+    (sym c.put_round_fault.ensures ∙ c.in-Some.is) bid_faults.NoMemory (let same = e in cc)
+
+pub returns-in-Err-clause-memory : goal.returns-in-Err-clause-memory
+returns-in-Err-clause-memory g c =
+    λ e. put-memory c.in-Err.fault c.from.result c.from.ensures (let same = e in cc)
