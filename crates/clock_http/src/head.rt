@@ -38,7 +38,7 @@ pub(crate) fn head_length(text: &[u8], start: usize) -> Option<usize>
 }
 
 /// How the lines of a head end.
-#[derive(Clone, Copy, Debug)]
+#[derive(Clone, Copy)]
 struct LineEnds {
     /// The number of lines that end with CR LF.
     count: usize,

@@ -24,14 +24,14 @@ pub const MOST_BODY: usize = 1_048_576;
 const BEARER: &[u8] = b"bearer ";
 
 /// The header lines of one name: their number, and the value of the last one.
-#[derive(Clone, Copy, Debug, Default)]
+#[derive(Clone, Copy, Default)]
 pub(crate) struct HeaderLines {
     count: usize,
     value: Span,
 }
 
 /// The header lines that this server reads, by name.
-#[derive(Clone, Copy, Debug, Default)]
+#[derive(Clone, Copy, Default)]
 pub(crate) struct Fields {
     coding: HeaderLines,
     length: HeaderLines,

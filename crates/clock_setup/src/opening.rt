@@ -289,6 +289,9 @@ impl<'v> ScannedMembers<'v> for FoundOpening {
     }
 
     fn whole(self) -> Option<(NestedSetup, ShortRows, u64)> {
-        Some((self.nested?, self.demands?, self.increment?))
+        match (self.nested, self.demands, self.increment) {
+            (Some(nested), Some(demands), Some(increment)) => Some((nested, demands, increment)),
+            _ => None,
+        }
     }
 }
