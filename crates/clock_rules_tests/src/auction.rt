@@ -1,7 +1,10 @@
 //! Auctions as data: steps that submit, close, or check what an auction shows.
 
-use crate::comparing::assert_is_at;
+ghost use Rattle.std.specs.Prelude.{◌<◌, length, IsTrue};
+
+use crate::comparing::{assert_has, assert_is_at};
 use crate::settle::push_demands;
+use crate::setups::setup_in;
 use crate::views::{Page, page_of};
 use clock_bids::{Bid, Own};
 use clock_device::Text;
@@ -10,19 +13,42 @@ use clock_order::Tie;
 use clock_posting::sheet_lines;
 use clock_processor::{Plain, Processor};
 use clock_queue::Woken;
-use clock_setup::{Amounts, read_setup};
+use clock_setup::Amounts;
 use clock_terms::{Increments, PackedRow};
 use std::alloc::Global;
 use std::process::Abort;
 
 /// A bid: product, quantity, and price.
-pub type Offer = (u64, u64, u64);
+macro_rules! bid {
+    ($product:expr, $quantity:expr, $price:expr) => {
+        clock_bids::Bid {
+            product: $product,
+            quantity: $quantity,
+            price: $price,
+        }
+    };
+}
+
+/// The bids of a sheet.
+macro_rules! bids {
+    ($(($product:expr, $quantity:expr, $price:expr)),*) => {
+        &[$($crate::auction::bid!($product, $quantity, $price)),*]
+    };
+}
+
+/// Tie-breaking numbers: the bidder, the product, and the number of each.
+macro_rules! ties {
+    ($(($bidder:expr, $product:expr, $number:expr)),*) => {
+        &[$(clock_order::Tie { bidder: $bidder, product: $product, number: $number }),*]
+    };
+}
+
+pub(crate) use bid;
+pub(crate) use bids;
+pub(crate) use ties;
 
 /// A sheet of one bid: the bidder and the bid.
-pub type Single = (u32, Offer);
-
-/// A tie-breaking number: bidder, product, and number.
-pub type Draw = (u64, u64, u64);
+pub type Single = (u32, Bid);
 
 /// The first bidders of the set-up.
 pub const X: u32 = 0;
@@ -42,15 +68,15 @@ pub enum Rise<'a> {
 #[derive(Clone, Copy)]
 pub enum Step<'a> {
     /// A bidder submits a sheet for the current round.
-    Put(u32, &'a [Offer]),
+    Put(u32, &'a [Bid]),
     /// Bidders submit sheets of one bid for the current round, one after the other.
     PutEach(&'a [Single]),
     /// A bidder's sheet for a round is refused.
-    RefusedPut(u32, u64, &'a [Offer], PutFault),
+    RefusedPut(u32, u64, &'a [Bid], PutFault),
     /// The current round is closed.
-    Close(Rise<'a>, &'a [Draw]),
+    Close(Rise<'a>, &'a [Tie]),
     /// A closing of a round is refused.
-    RefusedClose(u64, Rise<'a>, &'a [Draw], CloseFault),
+    RefusedClose(u64, Rise<'a>, &'a [Tie], CloseFault),
     /// A closed round has these lines, one for each product.
     Lines(u64, &'a [u8]),
     /// Bidders have these eligibilities, and these demands, row by row.
@@ -58,7 +84,7 @@ pub enum Step<'a> {
     /// A bidder's results of a round: activity, eligibility, and demands.
     Slip(u32, u64, u64, u64, &'a [u64]),
     /// A bidder has a sheet of these bids in force, or none.
-    InForce(u32, Option<&'a [Offer]>),
+    InForce(u32, Option<&'a [Bid]>),
     /// The current round, and whether the auction has ended.
     Stands(u64, bool),
     /// A page of the auction is this text.
@@ -75,29 +101,29 @@ type At<'a> = (&'a str, usize);
 /// the event queue.
 pub fn play_all(rt: &impl Abort, alloc: Global, plays: &[Play]) {
     for play in plays {
-        assert_is_at(rt, play.0, play_with(rt, alloc, Plain, play), Some(()));
-        assert_is_at(rt, play.0, play_with(rt, alloc, Woken, play), Some(()));
+        play_with(rt, alloc, Plain, play);
+        play_with(rt, alloc, Woken, play);
     }
 }
 
 /// Makes an auction of a set-up document with this processor.
 fn house_of<P: Processor + Drop>(alloc: Global, document: &str, processor: P) -> Option<House<P>> {
-    let setup = read_setup(alloc, document.as_bytes()).ok()?;
+    let Some(setup) = setup_in(alloc, document) else {
+        return None;
+    };
     House::new(alloc, setup, processor).ok()
 }
 
-/// Runs the steps of a case on an auction with this processor. `None` if out of memory.
-fn play_with<P: Processor + Drop>(
-    rt: &impl Abort,
-    alloc: Global,
-    processor: P,
-    play: &Play,
-) -> Option<()> {
+/// Runs the steps of a case on an auction with this processor.
+fn play_with<P: Processor + Drop>(rt: &impl Abort, alloc: Global, processor: P, play: &Play) {
     let &(shows, document, steps) = play;
-    let mut house = house_of(alloc, document, processor)?;
-    let taken = take_all(rt, alloc, &mut house, shows, steps);
-    drop(house);
-    taken
+    match house_of(alloc, document, processor) {
+        Some(mut house) => {
+            take_all(rt, alloc, &mut house, shows, steps);
+            drop(house);
+        }
+        None => assert_is_at(rt, shows, "no auction", "an auction"),
+    }
 }
 
 /// Runs the steps one after the other.
@@ -107,91 +133,74 @@ fn take_all<P: Processor>(
     house: &mut House<P>,
     shows: &str,
     steps: &[Step],
-) -> Option<()> {
+) {
     for (number, step) in steps.iter().enumerate() {
-        take(rt, alloc, house, (shows, number), step)?;
+        take(rt, alloc, house, (shows, number), step);
     }
-    Some(())
 }
 
 /// Runs one step.
-fn take<P: Processor>(
-    rt: &impl Abort,
-    alloc: Global,
-    house: &mut House<P>,
-    at: At,
-    step: &Step,
-) -> Option<()> {
-    let round = house.round();
+fn take<P: Processor>(rt: &impl Abort, alloc: Global, house: &mut House<P>, at: At, step: &Step) {
     match *step {
-        Step::Put(bidder, offers) => put(rt, alloc, house, at, round, (bidder, offers), Ok(())),
-        Step::PutEach(sheets) => put_each(rt, alloc, house, at, sheets),
-        Step::RefusedPut(bidder, round, offers, fault) => {
-            put(rt, alloc, house, at, round, (bidder, offers), Err(fault))
+        Step::Put(bidder, bids) => {
+            let round = house.round();
+            put(rt, house, at, round, (bidder, bids), Ok(()))
         }
-        Step::Close(rise, draws) => close(rt, alloc, house, at, (round, rise, draws), Ok(())),
-        Step::RefusedClose(round, rise, draws, fault) => {
-            close(rt, alloc, house, at, (round, rise, draws), Err(fault))
+        Step::PutEach(sheets) => put_each(rt, house, at, sheets),
+        Step::RefusedPut(bidder, round, bids, fault) => {
+            put(rt, house, at, round, (bidder, bids), Err(fault))
+        }
+        Step::Close(rise, ties) => {
+            let round = house.round();
+            close(rt, alloc, house, at, (round, rise, ties), Ok(()))
+        }
+        Step::RefusedClose(round, rise, ties, fault) => {
+            close(rt, alloc, house, at, (round, rise, ties), Err(fault))
         }
         _ => see(rt, alloc, house, at, step),
     }
 }
 
-/// Checks what a step shows, if it is a check.
-fn see<P: Processor>(
+/// Checks what a step shows of the auction, if it is a check.
+fn see<P: Processor>(rt: &impl Abort, alloc: Global, house: &House<P>, at: At, step: &Step) {
+    match *step {
+        Step::Lines(round, lines) => assert_has(rt, at, lines_of(alloc, house, round), lines),
+        Step::Reads(page, text) => {
+            assert_has(rt, at, page_of(alloc, house, page), text.as_bytes())
+        }
+        Step::Stands(round, ended) => see_round(rt, house, at, round, ended),
+        _ => see_bidders(rt, alloc, house, at, step),
+    }
+}
+
+/// Checks what a step shows of bidders, if it is such a check.
+fn see_bidders<P: Processor>(
     rt: &impl Abort,
     alloc: Global,
     house: &House<P>,
     at: At,
     step: &Step,
-) -> Option<()> {
+) {
     match *step {
-        Step::Lines(round, lines) => reads(rt, at, lines_of(alloc, house, round), lines),
-        Step::Reads(page, text) => reads(rt, at, page_of(alloc, house, page), text.as_bytes()),
         Step::Hold(eligibilities, demands) => {
-            see_held(rt, alloc, house, at, eligibilities, demands)
+            see_eligible(rt, house, at, eligibilities);
+            let held = demands_held(alloc, house, eligibilities.len());
+            assert_has(rt, at, held, demands)
         }
         Step::Slip(bidder, round, activity, eligibility, demands) => {
-            let reported = (round, activity, eligibility);
-            see_slip(rt, house, at, bidder, reported, demands)
+            let shown = slip_shown(house, bidder, round, demands);
+            assert_is_at(rt, at, shown, Some((round, activity, eligibility, true)))
         }
-        Step::InForce(bidder, offers) => see_in_force(rt, alloc, house, at, bidder, offers),
-        Step::Stands(round, ended) => see_round(rt, house, at, round, ended),
-        _ => None,
+        Step::InForce(bidder, bids) => assert_is_at(rt, at, bids_of(house, bidder), Some(bids)),
+        _ => assert_is_at(rt, at, "no check", "a check"),
     }
 }
 
-/// Makes the bid of an offer.
-pub fn bid_of(&(product, quantity, price): &Offer) -> Bid {
-    Bid {
-        product,
-        quantity,
-        price,
-    }
-}
-
-/// Makes the tie-breaking number of a draw.
-pub fn tie_of(&(bidder, product, number): &Draw) -> Tie {
-    Tie {
-        bidder,
-        product,
-        number,
-    }
-}
-
-/// Makes an item of each row.
-pub fn list_of<T: Drop, F: Fn(&(u64, u64, u64)) -> T>(
-    alloc: Global,
-    rows: &[(u64, u64, u64)],
-    make: F,
-) -> Option<Vec<T>>
-    requires { F.IsAlwaysCallable make }
+/// Whether the auction has this bidder.
+pub fn has_bidder<P: Processor>(house: &House<P>, bidder: u32) -> bool
+    ensures { IsTrue result → bidder < length house.now.setup.bidders }
 {
-    let mut list = Vec::new(alloc);
-    for row in rows {
-        list.push(make(row)).ok()?;
-    }
-    Some(list)
+    (bidder as usize) < house.setup().bidders.as_slice().len()
 }
 
 /// Submits a sheet of these bids.
@@ -202,61 +211,54 @@ fn put_bids<P: Processor>(
     round: u64,
     bids: &[Bid],
 ) -> Result<(), PutFault> {
-    assert!(rt; (bidder as usize) < house.setup().bidders.as_slice().len());
+    assert!(rt; has_bidder(house, bidder));
     house.put_sheet(bidder, round, bids)
 }
 
 /// Submits a sheet and asserts the answer.
 fn put<P: Processor>(
     rt: &impl Abort,
-    alloc: Global,
     house: &mut House<P>,
     at: At,
     round: u64,
-    sheet: (u32, &[Offer]),
+    sheet: (u32, &[Bid]),
     expected: Result<(), PutFault>,
-) -> Option<()> {
-    let (bidder, offers) = sheet;
-    let bids = list_of(alloc, offers, bid_of)?;
-    let answer = put_bids(rt, house, bidder, round, bids.as_slice());
+) {
+    let answer = put_bids(rt, house, sheet.0, round, sheet.1);
     assert_is_at(rt, at, answer, expected);
-    Some(())
 }
 
 /// Submits sheets of one bid for the current round.
-fn put_each<P: Processor>(
-    rt: &impl Abort,
-    alloc: Global,
-    house: &mut House<P>,
-    at: At,
-    sheets: &[Single],
-) -> Option<()> {
-    for &(bidder, offer) in sheets {
+fn put_each<P: Processor>(rt: &impl Abort, house: &mut House<P>, at: At, sheets: &[Single]) {
+    for &(bidder, bid) in sheets {
         let round = house.round();
-        put(rt, alloc, house, at, round, (bidder, &[offer]), Ok(()))?;
+        put(rt, house, at, round, (bidder, &[bid]), Ok(()));
     }
-    Some(())
 }
 
 /// The increments of a closing.
 fn increments_of(alloc: Global, rise: Rise) -> Option<Increments> {
     match rise {
         Rise::By(percent) => Some(Increments::Single(percent)),
-        Rise::Each(percents) => {
-            let amounts = Amounts::from_slice(alloc, percents).ok()?;
-            Some(Increments::PerProduct(amounts))
-        }
+        Rise::Each(percents) => match Amounts::from_slice(alloc, percents) {
+            Ok(amounts) => Some(Increments::PerProduct(amounts)),
+            Err(_) => None,
+        },
     }
 }
 
-/// The answer of an auction to a closing.
-fn close_house<P: Processor>(
+/// The answer of an auction to a closing. `None` if out of memory.
+fn answer_of<P: Processor>(
+    alloc: Global,
     house: &mut House<P>,
-    round: u64,
-    increments: &Increments,
-    ties: &[Tie],
-) -> Result<(), CloseFault> {
-    house.close(round, increments, ties)
+    closing: (u64, Rise, &[Tie]),
+) -> Option<Result<(), CloseFault>> {
+    let Some(increments) = increments_of(alloc, closing.1) else {
+        return None;
+    };
+    let answer = house.close(closing.0, &increments, closing.2);
+    drop(increments);
+    Some(answer)
 }
 
 /// Closes a round and asserts the answer.
@@ -265,82 +267,60 @@ fn close<P: Processor>(
     alloc: Global,
     house: &mut House<P>,
     at: At,
-    closing: (u64, Rise, &[Draw]),
+    closing: (u64, Rise, &[Tie]),
     expected: Result<(), CloseFault>,
-) -> Option<()> {
-    let (round, rise, draws) = closing;
-    let increments = increments_of(alloc, rise)?;
-    let ties = list_of(alloc, draws, tie_of)?;
-    let answer = close_house(house, round, &increments, ties.as_slice());
-    assert_is_at(rt, at, answer, expected);
-    Some(())
+) {
+    let answer = answer_of(alloc, house, closing);
+    assert_is_at(rt, at, answer, Some(expected));
 }
 
 /// The lines of a closed round.
 fn lines_of<P: Processor>(alloc: Global, house: &House<P>, round: u64) -> Option<Text> {
-    let sheet = house.sheet(round)?;
-    if sheet.lines.as_slice().len() != house.setup().products.as_slice().len() {
-        return None;
+    match house.sheet(round) {
+        Some(sheet) => sheet_lines(alloc, house.setup(), sheet).ok(),
+        None => None,
     }
-    sheet_lines(alloc, house.setup(), sheet).ok()
 }
 
-/// Asserts that there is a text, and that it is the expected one.
-fn reads(rt: &impl Abort, at: At, text: Option<Text>, expected: &[u8]) -> Option<()> {
-    let text = text?;
-    assert_is_at(rt, at, text.as_slice(), expected);
-    Some(())
-}
-
-/// A bidder's eligibility and demands, if there is a bidder of this number.
-fn own_of<P: Processor>(house: &House<P>, bidder: u32) -> Option<Own<'_>> {
-    if (bidder as usize) < house.setup().bidders.as_slice().len() {
+/// The eligibility and the demands of a bidder, if there is a bidder of this number.
+fn own_of<P: Processor>(house: &House<P>, bidder: usize) -> Option<Own<'_>> {
+    let Ok(bidder) = u32::try_from(bidder) else {
+        return None;
+    };
+    if has_bidder(house, bidder) {
         Some(house.own(bidder))
     } else {
         None
     }
 }
 
+/// The eligibility of a bidder, if there is a bidder of this number.
+fn eligibility_of<P: Processor>(house: &House<P>, bidder: usize) -> Option<u64> {
+    match own_of(house, bidder) {
+        Some(own) => Some(own.eligibility),
+        None => None,
+    }
+}
+
 /// The processed demands of the first bidders, row by row.
 fn demands_held<P: Processor>(alloc: Global, house: &House<P>, bidders: usize) -> Option<Amounts> {
     let mut all = Amounts::new(alloc);
-    let mut bidder = 0u32;
-    for _ in 0..bidders {
-        push_demands(&mut all, own_of(house, bidder)?.demands).ok()?;
-        bidder = bidder.saturating_add(1);
+    for bidder in 0..bidders {
+        let Some(own) = own_of(house, bidder) else {
+            return None;
+        };
+        if push_demands(&mut all, own.demands).is_err() {
+            return None;
+        }
     }
     Some(all)
 }
 
 /// Asserts the eligibilities of bidders, from the first.
-fn see_eligible<P: Processor>(
-    rt: &impl Abort,
-    house: &House<P>,
-    at: At,
-    eligibilities: &[u64],
-) -> Option<()> {
-    let mut bidder = 0u32;
-    for eligibility in eligibilities {
-        let own = own_of(house, bidder)?;
-        assert_is_at(rt, at, own.eligibility, *eligibility);
-        bidder = bidder.saturating_add(1);
+fn see_eligible<P: Processor>(rt: &impl Abort, house: &House<P>, at: At, eligibilities: &[u64]) {
+    for (bidder, eligibility) in eligibilities.iter().enumerate() {
+        assert_is_at(rt, at, eligibility_of(house, bidder), Some(*eligibility));
     }
-    Some(())
-}
-
-/// Asserts the eligibilities and the demands of bidders, from the first, row by row.
-fn see_held<P: Processor>(
-    rt: &impl Abort,
-    alloc: Global,
-    house: &House<P>,
-    at: At,
-    eligibilities: &[u64],
-    demands: &[u64],
-) -> Option<()> {
-    see_eligible(rt, house, at, eligibilities)?;
-    let held = demands_held(alloc, house, eligibilities.len())?;
-    assert_is_at(rt, at, held.as_slice(), demands);
-    Some(())
 }
 
 /// Whether a packed row has these numbers.
@@ -356,26 +336,26 @@ fn is_packed(row: &PackedRow, numbers: &[u64]) -> bool {
     true
 }
 
-/// Asserts a bidder's results of a round: round, activity, eligibility, and demands.
-fn see_slip<P: Processor>(
-    rt: &impl Abort,
+/// A bidder's results of a round: round, activity, eligibility, and whether it has these demands.
+fn slip_shown<P: Processor>(
     house: &House<P>,
-    at: At,
     bidder: u32,
-    reported: (u64, u64, u64),
+    round: u64,
     demands: &[u64],
-) -> Option<()> {
-    assert!(rt; (bidder as usize) < house.setup().bidders.as_slice().len());
-    let slip = house.slip(bidder, reported.0)?;
-    let shown = (slip.round, slip.activity, slip.eligibility);
+) -> Option<(u64, u64, u64, bool)> {
+    if !has_bidder(house, bidder) {
+        return None;
+    }
+    let Some(slip) = house.slip(bidder, round) else {
+        return None;
+    };
     let is_packed = is_packed(&slip.demands, demands);
-    assert_is_at(rt, at, (shown, is_packed), (reported, true));
-    Some(())
+    Some((slip.round, slip.activity, slip.eligibility, is_packed))
 }
 
 /// A bidder's sheet in force, if there is a bidder of this number.
 fn bids_of<P: Processor>(house: &House<P>, bidder: u32) -> Option<Option<&[Bid]>> {
-    if (bidder as usize) >= house.setup().bidders.as_slice().len() {
+    if !has_bidder(house, bidder) {
         return None;
     }
     match house.bids(bidder) {
@@ -384,36 +364,9 @@ fn bids_of<P: Processor>(house: &House<P>, bidder: u32) -> Option<Option<&[Bid]>
     }
 }
 
-/// The bids of a sheet, if it is submitted.
-pub fn sheet_of(bids: &[Bid], is_put: bool) -> Option<&[Bid]> {
-    if is_put { Some(bids) } else { None }
-}
-
-/// Asserts the bids of a bidder's sheet in force.
-fn see_in_force<P: Processor>(
-    rt: &impl Abort,
-    alloc: Global,
-    house: &House<P>,
-    at: At,
-    bidder: u32,
-    offers: Option<&[Offer]>,
-) -> Option<()> {
-    let bids = list_of(alloc, offers.unwrap_or(&[]), bid_of)?;
-    let expected = sheet_of(bids.as_slice(), offers.is_some());
-    assert_is_at(rt, at, bids_of(house, bidder), Some(expected));
-    Some(())
-}
-
 /// Asserts the current round and whether the auction has ended, and that no later round is closed.
-fn see_round<P: Processor>(
-    rt: &impl Abort,
-    house: &House<P>,
-    at: At,
-    round: u64,
-    ended: bool,
-) -> Option<()> {
+fn see_round<P: Processor>(rt: &impl Abort, house: &House<P>, at: At, round: u64, ended: bool) {
     let stands = (house.round(), house.ended());
     let closed = (house.sheet(0).is_some(), house.sheet(round).is_some());
     assert_is_at(rt, at, (stands, closed), ((round, ended), (false, ended)));
-    Some(())
 }

@@ -3,14 +3,15 @@
 ghost use Rattle.std.specs.Prelude.{◌≡◌, ◌≤◌, ◌<◌, length, All, IsTrue, IfOk};
 ghost use Rattle.clock_terms.specs.Limits.{IsRow};
 
-use crate::auction::{Offer, bid_of, list_of, sheet_of};
-use crate::comparing::{assert_is, assert_is_at};
+use crate::auction::bids;
+use crate::comparing::{assert_has, assert_is_at};
 use crate::settle::{Asked, change_of};
+use crate::setups::setup_in;
 use clock_bids::{Bid, Changes, Kind, Own, asked_demands, changes_of, check_sheet};
 use clock_device::NoMemory;
 use clock_fixtures::{ONE_PRODUCT, TWO_PRODUCTS};
 use clock_money::Price;
-use clock_setup::{Amounts, PricePair, Prices, Product, Setup, read_setup};
+use clock_setup::{Amounts, PricePair, Prices, Product, Setup};
 use clock_terms::Row;
 use std::alloc::Global;
 use std::process::Abort;
@@ -19,17 +20,23 @@ use std::process::Abort;
 /// first bidder's eligibility and demands.
 type Round<'a> = (&'a str, u64, &'a [u64]);
 
-/// The prices of each product of a set-up.
-fn prices_of(alloc: Global, setup: &Setup) -> Option<Prices> {
-    let pair = PricePair {
-        start: Price::new(100)?,
-        clock: Price::new(110)?,
-    };
+/// This pair of prices for each product of a set-up.
+fn equal_prices(alloc: Global, setup: &Setup, pair: &PricePair) -> Option<Prices> {
     let mut prices = Prices::new(alloc);
     for _ in setup.products.as_slice() {
-        prices.push(pair).ok()?;
+        if prices.push(*pair).is_err() {
+            return None;
+        }
     }
     Some(prices)
+}
+
+/// The prices of each product of a set-up.
+fn prices_of(alloc: Global, setup: &Setup) -> Option<Prices> {
+    let (Some(start), Some(clock)) = (Price::new(100), Price::new(110)) else {
+        return None;
+    };
+    equal_prices(alloc, setup, &PricePair { start, clock })
 }
 
 /// Whether there is a demand for each product, none above its cap.
@@ -82,7 +89,8 @@ fn row_of(rt: &impl Abort, alloc: Global, setup: &Setup, demands: &[u64]) -> Res
 
 /// A bidder's eligibility and demands in the second round.
 fn held(eligibility: u64, row: &Row) -> Own<'_>
-    ensures { result.demands.now ≡ row.now }
+    ensures round { result.round ≡ 2 }
+    ensures demands { result.demands.now ≡ row.now }
 {
     Own {
         round: 2,
@@ -121,9 +129,9 @@ fn asked(
     own: Own,
     bids: Option<&[Bid]>,
 ) -> Option<Changes>
-    requires { IsRow setup.now.products own.demands.now }
+    requires round { 2 ≤ own.round }
+    requires demands { IsRow setup.now.products own.demands.now }
 {
-    assert!(rt; own.round >= 2);
     assert!(rt; rise(prices));
     assert!(rt; are_prices(setup, prices));
     match bids {
@@ -140,24 +148,26 @@ fn asked_in(
     round: &Round,
     bids: Option<&[Bid]>,
 ) -> Option<Changes> {
-    let prices = prices_of(alloc, setup)?;
+    let Some(prices) = prices_of(alloc, setup) else {
+        return None;
+    };
     let Ok(row) = row_of(rt, alloc, setup, round.2) else {
         return None;
     };
     asked(rt, alloc, setup, &prices, held(round.1, &row), bids)
 }
 
-/// The changes of the first bidder, like [`asked`], from a set-up document and offers.
+/// The changes of the first bidder, like [`asked`], from a set-up document.
 fn asked_by(
     rt: &impl Abort,
     alloc: Global,
     round: &Round,
-    offers: Option<&[Offer]>,
+    bids: Option<&[Bid]>,
 ) -> Option<Changes> {
-    let bids = list_of(alloc, offers.unwrap_or(&[]), bid_of)?;
-    let setup = read_setup(alloc, round.0.as_bytes()).ok()?;
-    let sheet = sheet_of(bids.as_slice(), offers.is_some());
-    let changes = asked_in(rt, alloc, &setup, round, sheet);
+    let Some(setup) = setup_in(alloc, round.0) else {
+        return None;
+    };
+    let changes = asked_in(rt, alloc, &setup, round, bids);
     drop(setup);
     changes
 }
@@ -168,22 +178,27 @@ type Wanted = (Asked, u32);
 /// Makes the changes of rows.
 fn wanted_changes(alloc: Global, rows: &[Wanted]) -> Option<Changes> {
     let mut changes = Changes::new(alloc);
-    for (asked, place) in rows {
-        changes.push(change_of(asked, *place)?).ok()?;
+    for row in rows {
+        let Some(change) = change_of(&row.0, row.1) else {
+            return None;
+        };
+        if changes.push(change).is_err() {
+            return None;
+        }
     }
     Some(changes)
 }
 
-/// A case: what it shows, the round, the offers of a sheet if there is one, and the changes that
-/// are expected.
-type Ask<'a> = (&'a str, Round<'a>, Option<&'a [Offer]>, &'a [Wanted]);
+/// A case: what it shows, the round, the bids of a sheet if there is one, and the changes that are
+/// expected.
+type Ask<'a> = (&'a str, Round<'a>, Option<&'a [Bid]>, &'a [Wanted]);
 
 /// Sheets of a round, and the changes they ask for.
 const ASKS: &[Ask<'static>] = &[
     (
         "a falling chain asks for a change at each bid",
         (ONE_PRODUCT, 3, &[2]),
-        Some(&[(0, 1, 103), (0, 0, 107)]),
+        Some(bids![(0, 1, 103), (0, 0, 107)]),
         &[
             ((Kind::Reduction, 0, 0, 1, 103), 0),
             ((Kind::Reduction, 0, 0, 1, 107), 1),
@@ -192,7 +207,7 @@ const ASKS: &[Ask<'static>] = &[
     (
         "so does a climbing one",
         (ONE_PRODUCT, 3, &[0]),
-        Some(&[(0, 1, 104), (0, 2, 110)]),
+        Some(bids![(0, 1, 104), (0, 2, 110)]),
         &[
             ((Kind::Increase, 0, 0, 1, 104), 0),
             ((Kind::Increase, 0, 0, 1, 110), 1),
@@ -213,13 +228,13 @@ const ASKS: &[Ask<'static>] = &[
     (
         "a bid for what is held asks for nothing",
         (ONE_PRODUCT, 3, &[2]),
-        Some(&[(0, 2, 110)]),
+        Some(bids![(0, 2, 110)]),
         &[],
     ),
     (
         "chains of two products may be interleaved",
         (TWO_PRODUCTS, 3, &[0, 2]),
-        Some(&[(1, 1, 106), (0, 1, 104), (1, 0, 108)]),
+        Some(bids![(1, 1, 106), (0, 1, 104), (1, 0, 108)]),
         &[
             ((Kind::Increase, 0, 0, 1, 104), 0),
             ((Kind::Reduction, 0, 1, 1, 106), 0),
@@ -229,53 +244,37 @@ const ASKS: &[Ask<'static>] = &[
 ];
 
 /// Asserts that the first bidder's sheet asks for the changes of a case.
-fn asks_for(rt: &impl Abort, alloc: Global, row: &Ask) -> Option<()> {
-    let &(shows, round, offers, wanted) = row;
-    let changes = asked_by(rt, alloc, &round, offers)?;
-    let wanted = wanted_changes(alloc, wanted)?;
-    assert_is_at(rt, shows, changes.as_slice(), wanted.as_slice());
-    Some(())
+fn asks_for(rt: &impl Abort, alloc: Global, row: &Ask) {
+    let changes = asked_by(rt, alloc, &row.1, row.2);
+    match wanted_changes(alloc, row.3) {
+        Some(wanted) => assert_has(rt, row.0, changes, wanted.as_slice()),
+        None => assert_is_at(rt, row.0, "no prices", "prices of the round"),
+    }
 }
 
 #[test]
 fn a_sheet_asks_for_changes(rt: HostRuntime) {
     for row in ASKS {
-        assert_is_at(&rt, row.0, asks_for(&rt, rt.alloc(), row), Some(()));
+        asks_for(&rt, rt.alloc(), row);
     }
 }
 
 /// Two bids of a chain for the second product.
-const CHAIN: [Bid; 2] = [
-    Bid {
-        product: 1,
-        quantity: 1,
-        price: 104,
-    },
-    Bid {
-        product: 1,
-        quantity: 2,
-        price: 110,
-    },
-];
+const CHAIN: &[Bid] = bids![(1, 1, 104), (1, 2, 110)];
 
 /// The requested demands of bids.
 fn demands_of(rt: &impl Abort, alloc: Global, bids: &[Bid]) -> Option<Amounts> {
-    let setup = read_setup(alloc, TWO_PRODUCTS.as_bytes()).ok()?;
+    let Some(setup) = setup_in(alloc, TWO_PRODUCTS) else {
+        return None;
+    };
     assert!(rt; are_known(&setup, bids));
     let demands = asked_demands(alloc, &setup, bids);
     drop(setup);
     demands.ok()
 }
 
-/// Asserts the requested demands of bids.
-fn ask_for(rt: &impl Abort, alloc: Global, bids: &[Bid], expected: &[u64]) -> Option<()> {
-    let demands = demands_of(rt, alloc, bids)?;
-    assert_is(rt, demands.as_slice(), expected);
-    Some(())
-}
-
 #[test]
 fn the_last_quantity_is_the_demand_asked_for(rt: HostRuntime) {
-    let asked = ask_for(&rt, rt.alloc(), &CHAIN, &[0, 2]);
-    assert_is(&rt, asked, Some(()));
+    let demands = demands_of(&rt, rt.alloc(), CHAIN);
+    assert_has(&rt, "the last quantity", demands, &[0, 2]);
 }

@@ -1,7 +1,7 @@
 //! Assertions in functions of their own, each of which is proved once. Written out at its use, an
 //! assertion takes as much proof as a whole small test.
 
-use clock_device::Text;
+use clock_device::Items;
 use std::fmt::Debug;
 use std::process::Abort;
 
@@ -20,15 +20,15 @@ pub fn assert_is_at<T: Copy + PartialEq + Debug, L: Copy + Debug>(
     assert_eq!(rt; value, expected, "at {label:?}");
 }
 
-/// Asserts that a text could be allocated, and is the one expected.
-pub fn assert_reads<L: Copy + Debug>(
+/// Asserts that a list could be made, and has these items.
+pub fn assert_has<T: Copy + Drop + PartialEq + Debug, L: Copy + Debug>(
     rt: &impl Abort,
     label: L,
-    text: Option<Text>,
-    expected: &[u8],
+    list: Option<Items<T>>,
+    expected: &[T],
 ) {
-    match text {
-        Some(text) => assert_is_at(rt, label, text.as_slice(), expected),
-        None => assert_is_at(rt, label, b"no text".as_slice(), expected),
+    match list {
+        Some(list) => assert_is_at(rt, label, list.as_slice(), expected),
+        None => assert_is_at(rt, label, None, Some(expected)),
     }
 }

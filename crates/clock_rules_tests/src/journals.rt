@@ -36,8 +36,10 @@ const OTHER: Link = [8; 32];
 /// The number of requests that a journal is resumed with, and where they end.
 fn taken(bytes: &[u8], setup: &Link) -> Result<(u64, usize), JournalFault> {
     let mut count = Count(0);
-    let recovered = recover(&mut count, setup, bytes)?;
-    Ok((count.0, recovered.end))
+    match recover(&mut count, setup, bytes) {
+        Ok(recovered) => Ok((count.0, recovered.end)),
+        Err(fault) => Err(fault),
+    }
 }
 
 /// Begins a journal. Returns whether it did.
@@ -156,10 +158,13 @@ fn each_damaged_byte_is_reported(rt: HostRuntime) {
     damage_is_reported(&rt, bytes.as_mut_slice());
 }
 
+/// Bytes of a disk, and the bytes that a journal of three requests has on it.
+const ROOMS: &[(usize, usize)] = &[(188, 188), (187, 0), (55, 0)];
+
 #[test]
 fn a_full_disk_is_reported(rt: HostRuntime) {
-    for (room, length) in [(188, 188), (187, 0), (55, 0)] {
-        assert_is(&rt, file(rt.alloc(), room).len(), length);
+    for row in ROOMS {
+        assert_is_at(&rt, row.0, file(rt.alloc(), row.0).len(), row.1);
     }
 }
 
@@ -227,43 +232,67 @@ fn is_written(file: Option<File>) -> bool {
     is_taken
 }
 
-/// Whether the file is resumed with its two requests.
-fn has_two(rt: &HostRuntime) -> Option<bool> {
-    let bytes = fs::read(rt, PATH).ok()?;
-    Some(taken(&bytes, &SETUP) == Ok((2, 144)))
+/// The requests that the file is resumed with, and where they end. `None` if it cannot be read.
+fn found(rt: &HostRuntime) -> Option<Result<(u64, usize), JournalFault>> {
+    match fs::read(rt, PATH) {
+        Ok(bytes) => Some(taken(&bytes, &SETUP)),
+        Err(_) => None,
+    }
 }
 
-/// Whether a locked file that is opened again can't be locked again.
-fn is_locked(rt: &HostRuntime, file: &File) -> Option<bool> {
-    file.try_lock().ok()?;
-    Some(opened(rt)?.try_lock().is_err())
+/// The two requests of the file.
+const TWO: Option<Result<(u64, usize), JournalFault>> = Some(Ok((2, 144)));
+
+/// Locks a file. Returns whether it did.
+fn locks(file: &Option<File>) -> bool {
+    match file {
+        Some(file) => file.try_lock().is_ok(),
+        None => false,
+    }
 }
 
-/// Whether a prefix of a third record does not count as a request, and is gone once it is cut off.
-fn is_torn(rt: &HostRuntime, file: &mut File) -> Option<bool> {
-    let torn = b"\0\0\0\x05\0\0\0\x05 and a front of more";
-    file.write_all(torn).ok()?;
-    let had_two = has_two(rt)?;
-    file.set_len(144).ok()?;
-    file.sync_all().ok()?;
-    let length = file.metadata().ok()?.len();
-    Some(had_two && has_two(rt)? && length == 144)
+/// Whether a file is locked, and whether it is locked again when it is opened a second time.
+fn is_locked(rt: &HostRuntime) -> (bool, bool) {
+    let file = opened(rt);
+    let again = opened(rt);
+    (locks(&file), locks(&again))
 }
 
-/// The results of [`is_locked`] and [`is_torn`] for the file.
-fn is_locked_and_torn(rt: &HostRuntime) -> Option<(bool, bool)> {
-    let mut file = opened(rt)?;
-    let is_locked = is_locked(rt, &file);
-    let is_torn = is_torn(rt, &mut file);
-    drop(file);
-    Some((is_locked?, is_torn?))
+/// Writes a prefix of a third record to the file. Returns whether it did.
+fn tears(file: Option<File>) -> bool {
+    match file {
+        Some(mut file) => file
+            .write_all(b"\0\0\0\x05\0\0\0\x05 and a front of more")
+            .is_ok(),
+        None => false,
+    }
+}
+
+/// The length of a file, if it can be read.
+fn length_of(file: &File) -> Option<u64> {
+    match file.metadata() {
+        Ok(data) => Some(data.len()),
+        Err(_) => None,
+    }
+}
+
+/// Cuts a prefix of a third record off the file. Returns the length of the file then.
+fn cuts(file: Option<File>) -> Option<u64> {
+    match file {
+        Some(file) if file.set_len(144).is_ok() && file.sync_all().is_ok() => length_of(&file),
+        _ => None,
+    }
 }
 
 #[test]
 fn a_file_is_taken_over(rt: HostRuntime) {
     let _ = fs::remove_file(&rt, PATH);
-    assert_is(&rt, is_written(opened(&rt)), true);
-    assert_is(&rt, has_two(&rt), Some(true));
-    assert_is(&rt, is_locked_and_torn(&rt), Some((true, true)));
-    assert_is(&rt, fs::remove_file(&rt, PATH).is_ok(), true);
+    assert_is_at(&rt, "written", is_written(opened(&rt)), true);
+    assert_is_at(&rt, "written", found(&rt), TWO);
+    assert_is_at(&rt, "locked", is_locked(&rt), (true, false));
+    assert_is_at(&rt, "torn", tears(opened(&rt)), true);
+    assert_is_at(&rt, "torn", found(&rt), TWO);
+    assert_is_at(&rt, "cut", cuts(opened(&rt)), Some(144));
+    assert_is_at(&rt, "cut", found(&rt), TWO);
+    assert_is_at(&rt, "removed", fs::remove_file(&rt, PATH).is_ok(), true);
 }

@@ -1,98 +1,98 @@
 //! Lists, sources, and sinks: each call once, on bytes in memory, and on std's readers and writers.
-use crate::comparing::assert_is;
+use crate::comparing::{assert_has, assert_is, assert_is_at};
 use clock_device::{
     Failed, FromReader, Items, ListSink, ListSource, NoMemory, Sink, Source, Stop, Text, ToWriter,
 };
 use std::alloc::Global;
-use std::fmt::Debug;
 use std::io;
 use std::io::{ErrorKind, Read, Write};
 use std::process::Abort;
 
 /// A list whose numbers were added one by one and together.
-fn three(alloc: Global) -> Result<Items<u64>, NoMemory> {
+fn three(alloc: Global) -> Option<Items<u64>> {
     let mut list = Items::new(alloc);
-    list.push(3u64)?;
-    list.extend_from_slice(&[4, 5])?;
-    Ok(list)
+    if list.push(3u64).is_err() || list.extend_from_slice(&[4, 5]).is_err() {
+        return None;
+    }
+    Some(list)
 }
 
 /// A copy of a list.
-fn copied(alloc: Global) -> Result<Items<u64>, NoMemory> {
-    let list = three(alloc)?;
-    list.copy(alloc)
+fn copied(alloc: Global) -> Option<Items<u64>> {
+    match three(alloc) {
+        Some(list) => list.copy(alloc).ok(),
+        None => None,
+    }
 }
 
 /// A list of the items of a vector.
-fn taken(alloc: Global) -> Result<Items<u64>, NoMemory> {
-    Ok(Items::from_vec(vec![in alloc; 7, 8]?))
-}
-
-/// A list of `count` zeros.
-fn zeros(alloc: Global, count: usize) -> Result<Items<u64>, NoMemory> {
-    Ok(Items::zeros(alloc, count)?)
+fn taken(alloc: Global) -> Option<Items<u64>> {
+    match vec![in alloc; 7, 8] {
+        Ok(numbers) => Some(Items::from_vec(numbers)),
+        Err(_) => None,
+    }
 }
 
 /// A list of three numbers, allocated before they are added.
-fn in_room(alloc: Global) -> Result<Items<u64>, NoMemory> {
-    let mut list = Items::with_capacity(alloc, 3)?;
+fn in_room(alloc: Global) -> Option<Items<u64>> {
+    let Ok(mut list) = Items::with_capacity(alloc, 3) else {
+        return None;
+    };
     list.push(3);
     list.extend_from_slice(&[4, 5]);
-    Ok(list.into_items())
+    Some(list.into_items())
 }
 
-/// A text that ends in a number.
-fn numbered(alloc: Global, number: u64) -> Result<Text, NoMemory> {
-    let mut text = Text::from_slice(alloc, b"round ")?;
-    text.push_number(number)?;
-    Ok(text)
-}
-
-/// The text of [`numbered`], with numbers or dashes after it.
-fn dashed(alloc: Global, number: u64, numbers: &[Option<u64>]) -> Result<Text, NoMemory> {
-    let mut text = numbered(alloc, number)?;
-    for number in numbers {
-        text.push_or_dash(*number)?;
+/// A text that ends in a number, and then has numbers or dashes.
+fn dashed(alloc: Global, number: u64, numbers: &[Option<u64>]) -> Option<Text> {
+    let Ok(mut text) = Text::from_slice(alloc, b"round ") else {
+        return None;
+    };
+    if text.push_number(number).is_err() {
+        return None;
     }
-    Ok(text)
+    for number in numbers {
+        if text.push_or_dash(*number).is_err() {
+            return None;
+        }
+    }
+    Some(text)
 }
 
 /// A text in which a byte is replaced.
-fn cut(alloc: Global) -> Result<Text, NoMemory> {
-    let mut text = Text::from_slice(alloc, b"cat")?;
+fn cut(alloc: Global) -> Option<Text> {
+    let Ok(mut text) = Text::from_slice(alloc, b"cat") else {
+        return None;
+    };
     text.set(1, b'u');
-    Ok(text)
-}
-
-/// Asserts that a list could be allocated, and has these items.
-fn holds<T: Copy + Drop + PartialEq + Debug>(
-    rt: &impl Abort,
-    list: Result<Items<T>, NoMemory>,
-    expected: &[T],
-) {
-    match list {
-        Ok(list) => assert_is(rt, list.as_slice(), expected),
-        Err(_) => assert_is(rt, [].as_slice(), expected),
-    }
+    Some(text)
 }
 
 #[test]
 fn lists_grow_and_change(rt: HostRuntime) {
     let alloc = rt.alloc();
-    holds(&rt, three(alloc), &[3, 4, 5]);
-    holds(&rt, copied(alloc), &[3, 4, 5]);
-    holds(&rt, zeros(alloc, 2), &[0, 0]);
-    holds(&rt, taken(alloc), &[7, 8]);
-    holds(&rt, in_room(alloc), &[3, 4, 5]);
+    assert_has(&rt, "three", three(alloc), &[3, 4, 5]);
+    assert_has(&rt, "copied", copied(alloc), &[3, 4, 5]);
+    assert_has(&rt, "zeros", Items::zeros(alloc, 2).ok(), &[0, 0]);
+    assert_has(&rt, "taken", taken(alloc), &[7, 8]);
+    assert_has(&rt, "in_room", in_room(alloc), &[3, 4, 5]);
 }
+
+/// The highest number.
+const MOST: u64 = 18_446_744_073_709_551_615;
+
+/// Numbers and dashes after the highest number, and the texts.
+const DASHED: &[(&[Option<u64>], &[u8])] = &[
+    (&[], b"round 18446744073709551615"),
+    (&[None, Some(0)], b"round 18446744073709551615-0"),
+];
 
 #[test]
 fn numbers_and_dashes_are_written(rt: HostRuntime) {
-    let (alloc, most) = (rt.alloc(), 18_446_744_073_709_551_615);
-    holds(&rt, numbered(alloc, most), b"round 18446744073709551615");
-    let text = dashed(alloc, most, &[None, Some(0)]);
-    holds(&rt, text, b"round 18446744073709551615-0");
-    holds(&rt, cut(alloc), b"cut");
+    for row in DASHED {
+        assert_has(&rt, row.0, dashed(rt.alloc(), MOST, row.0), row.1);
+    }
+    assert_has(&rt, "cut", cut(rt.alloc()), b"cut");
 }
 
 /// The sum of numbers.
@@ -110,11 +110,23 @@ fn read_list(list: &Items<u64>) -> (usize, bool, Option<u64>, u64) {
     (list.len(), list.is_empty(), second, sum_of(list))
 }
 
+/// What the calls of a list of three numbers return.
+fn read_three(alloc: Global) -> Option<(usize, bool, Option<u64>, u64)> {
+    match in_room(alloc) {
+        Some(list) => Some(read_list(&list)),
+        None => None,
+    }
+}
+
+/// What the calls of an empty list return.
+fn read_none(alloc: Global) -> (usize, bool, Option<u64>, u64) {
+    read_list(&Items::new(alloc))
+}
+
 #[test]
 fn a_list_is_read_as_a_slice(rt: HostRuntime) {
-    let read = in_room(rt.alloc()).map(|list| read_list(&list));
-    assert_is(&rt, read, Ok((3, false, Some(4), 12)));
-    assert_is(&rt, read_list(&Items::new(rt.alloc())), (0, true, None, 0));
+    assert_is(&rt, read_three(rt.alloc()), Some((3, false, Some(4), 12)));
+    assert_is(&rt, read_none(rt.alloc()), (0, true, None, 0));
 }
 
 /// A read into four bytes: its most bytes, the answer, and the four bytes then.
@@ -123,9 +135,9 @@ type Given<'a> = (usize, Result<usize, Stop>, &'a [u8]);
 /// Asserts what the reads of a source return, one after the other.
 fn gives<S: Source>(rt: &impl Abort, source: &mut S, reads: &[Given]) {
     let mut buffer = *b"----";
-    for &(room, answer, bytes) in reads {
-        assert_is(rt, source.read(&mut buffer[..room.min(4)]), answer);
-        assert_is(rt, buffer.as_slice(), bytes);
+    for row in reads {
+        let answer = source.read(&mut buffer[..row.0.min(4)]);
+        assert_is(rt, (answer, buffer.as_slice()), (row.1, row.2));
     }
 }
 
@@ -134,8 +146,8 @@ type Taken<'a> = (&'a [u8], Result<usize, Failed>);
 
 /// Asserts what the writes to a sink return, one after the other.
 fn takes<S: Sink>(rt: &impl Abort, sink: &mut S, writes: &[Taken]) {
-    for &(bytes, answer) in writes {
-        assert_is(rt, sink.write(bytes), answer);
+    for row in writes {
+        assert_is_at(rt, row.0, sink.write(row.0), row.1);
     }
 }
 
@@ -171,12 +183,9 @@ const STOPPED: &[(Stop, &[Given])] = &[(Stop::Interrupted, INTERRUPTED), (Stop::
 
 #[test]
 fn a_list_source_stops_at_one_read(rt: HostRuntime) {
-    for &(stop, reads) in STOPPED {
-        gives(
-            &rt,
-            &mut ListSource::new(b"hello", 4, Some((1, stop))),
-            reads,
-        );
+    for row in STOPPED {
+        let mut source = ListSource::new(b"hello", 4, Some((1, row.0)));
+        gives(&rt, &mut source, row.1);
     }
 }
 
@@ -231,14 +240,16 @@ fn counting(is_flaky: bool) -> Counter {
 impl Read for Counter {
     fn read(&mut self, buffer: &mut [u8]) -> io::Result<usize> {
         self.calls = self.calls.saturating_add(1);
-        match (self.is_flaky, self.calls, buffer.first_mut()) {
-            (true, 1, _) => Err(io::Error::from(ErrorKind::Interrupted)),
-            (true, 3, _) => Err(io::Error::from(ErrorKind::Other)),
-            (_, calls, Some(byte)) => {
-                *byte = calls;
-                Ok(1)
-            }
-            _ => Ok(0),
+        match if self.is_flaky { self.calls } else { 0 } {
+            1 => Err(io::Error::from(ErrorKind::Interrupted)),
+            3 => Err(io::Error::from(ErrorKind::Other)),
+            _ => match buffer.first_mut() {
+                Some(first) => {
+                    *first = self.calls;
+                    Ok(1)
+                }
+                None => Ok(0),
+            },
         }
     }
 }
@@ -283,9 +294,9 @@ const CALLS: &[(usize, &[u8])] = &[
 fn each_call_is_one_call_of_the_reader_or_writer_below(rt: HostRuntime) {
     let mut source = FromReader::new(counting(false));
     let mut sink = ToWriter::new(counting(false));
-    for &(count, bytes) in CALLS {
-        gives(&rt, &mut source, &[(1, Ok(1), bytes)]);
-        takes(&rt, &mut sink, &[(b"12345678", Ok(count))]);
+    for row in CALLS {
+        gives(&rt, &mut source, &[(1, Ok(1), row.1)]);
+        takes(&rt, &mut sink, &[(b"12345678", Ok(row.0))]);
     }
 }
 

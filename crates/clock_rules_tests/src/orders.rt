@@ -3,13 +3,13 @@
 ghost use Rattle.std.specs.Prelude.{◌≡◌, ◌≢◌, AllPairs, IfOk, IfSome};
 ghost use Rattle.clock_terms.specs.Requests.{AreApart};
 
-use crate::auction::{Draw, list_of, tie_of};
+use crate::auction::ties;
 use crate::comparing::{assert_is, assert_is_at};
+use crate::setups::setup_in;
 use clock_device::NoMemory;
 use clock_fixtures::{ONE_PRODUCT, TWO_PRODUCTS};
 use clock_money::Point;
-use clock_order::{TieFault, Ties, ordered};
-use clock_setup::read_setup;
+use clock_order::{Tie, TieFault, Ties, ordered};
 use clock_terms::{Change, Changes, Kind};
 use std::alloc::Global;
 
@@ -21,7 +21,9 @@ fn change(bidder: u32, reduction: &Reduction) -> Option<Change>
     ensures { IfSome result (λ change. change.bidder ≡ bidder) }
 {
     let &(product, start, price, clock) = reduction;
-    let point = Point::of(start, price, clock)?;
+    let Some(point) = Point::of(start, price, clock) else {
+        return None;
+    };
     Some(Change {
         bidder,
         product,
@@ -45,36 +47,47 @@ fn both(alloc: Global, first: &Change, second: &Change) -> Result<Changes, NoMem
 }
 
 /// The tie-breaking numbers of a list, in the auction of a set-up document, or their fault.
-fn ties_of(alloc: Global, document: &str, draws: &[Draw]) -> Option<Result<Ties, TieFault>> {
-    let draws = list_of(alloc, draws, tie_of)?;
-    let setup = read_setup(alloc, document.as_bytes()).ok()?;
-    let ties = Ties::new(alloc, &setup, draws.as_slice());
+fn ties_of(alloc: Global, document: &str, list: &[Tie]) -> Option<Result<Ties, TieFault>> {
+    let Some(setup) = setup_in(alloc, document) else {
+        return None;
+    };
+    let ties = Ties::new(alloc, &setup, list);
     drop(setup);
     Some(ties)
 }
 
 /// The bidder of the first change.
 fn first_bidder(changes: &[Change]) -> Option<u32> {
-    Some(changes.first()?.bidder)
+    match changes.first() {
+        Some(change) => Some(change.bidder),
+        None => None,
+    }
 }
 
 /// Which of two reductions, of bidder 0 and bidder 1, is processed first.
 fn first_of(alloc: Global, ties: &Ties, x: &Reduction, y: &Reduction) -> Option<u32> {
-    let Ok(changes) = both(alloc, &change(0, x)?, &change(1, y)?) else {
+    let (Some(x), Some(y)) = (change(0, x), change(1, y)) else {
         return None;
     };
-    let list = ordered(alloc, &changes, ties).ok()?;
-    first_bidder(list.as_slice())
+    let Ok(changes) = both(alloc, &x, &y) else {
+        return None;
+    };
+    match ordered(alloc, &changes, ties) {
+        Ok(list) => first_bidder(list.as_slice()),
+        Err(_) => None,
+    }
 }
 
 /// The bidder whose reduction is first, like [`first_of`], with the tie-breaking numbers of a list.
 fn first_in(
     alloc: Global,
     document: &str,
-    draws: &[Draw],
+    list: &[Tie],
     reductions: &(Reduction, Reduction),
 ) -> Option<u32> {
-    let ties = ties_of(alloc, document, draws)?.ok()?;
+    let Some(Ok(ties)) = ties_of(alloc, document, list) else {
+        return None;
+    };
     let first = first_of(alloc, &ties, &reductions.0, &reductions.1);
     drop(ties);
     first
@@ -88,35 +101,40 @@ const OF_ONE: (Reduction, Reduction) = ((0, 100, 104, 110), (0, 100, 104, 110));
 
 /// A set-up document, the tie-breaking numbers of a list, the reductions, and the bidder whose is
 /// processed first.
-const ORDERS: &[(&str, &[Draw], (Reduction, Reduction), u32)] = &[
-    (TWO_PRODUCTS, &[(0, 0, 2), (1, 1, 1)], OF_TWO, 1),
+const ORDERS: &[(&str, &[Tie], (Reduction, Reduction), u32)] = &[
+    (TWO_PRODUCTS, ties![(0, 0, 2), (1, 1, 1)], OF_TWO, 1),
     (TWO_PRODUCTS, &[], OF_TWO, 0),
-    (ONE_PRODUCT, &[(0, 0, 9), (1, 0, 3)], OF_ONE, 1),
+    (ONE_PRODUCT, ties![(0, 0, 9), (1, 0, 3)], OF_ONE, 1),
     (ONE_PRODUCT, &[], OF_ONE, 0),
 ];
 
 #[test]
 fn changes_go_by_point_and_then_by_tie_number_and_bidder(rt: HostRuntime) {
-    for (document, draws, reductions, bidder) in ORDERS {
-        let first = first_in(rt.alloc(), document, draws, reductions);
-        assert_is_at(&rt, *draws, first, Some(*bidder));
+    for row in ORDERS {
+        let first = first_in(rt.alloc(), row.0, row.1, &row.2);
+        assert_is_at(&rt, row.1, first, Some(row.3));
     }
 }
 
 /// Lists of tie-breaking numbers, and their faults in the auction of one product.
-const FAULTY: &[(&[Draw], TieFault)] = &[
-    (&[(0, 1, 5)], TieFault::Range(0)),
-    (&[(0, 0, 1), (0, 0, 2)], TieFault::Repeated(1)),
+const FAULTY: &[(&[Tie], TieFault)] = &[
+    (ties![(0, 1, 5)], TieFault::Range(0)),
+    (ties![(0, 0, 1), (0, 0, 2)], TieFault::Repeated(1)),
 ];
 
 /// The fault of a list of tie-breaking numbers, if it has one.
-fn fault_of(alloc: Global, draws: &[Draw]) -> Option<TieFault> {
-    ties_of(alloc, ONE_PRODUCT, draws)?.err()
+fn fault_of(alloc: Global, list: &[Tie]) -> Option<TieFault> {
+    ties_of(alloc, ONE_PRODUCT, list)?.err()
 }
 
 /// The fault of a list of `count` equal tie-breaking numbers.
 fn fault_of_many(alloc: Global, count: usize) -> Option<TieFault> {
-    let Ok(many) = vec![in alloc; (0, 1, 5); count] else {
+    let tie = Tie {
+        bidder: 0,
+        product: 1,
+        number: 5,
+    };
+    let Ok(many) = vec![in alloc; tie; count] else {
         return None;
     };
     fault_of(alloc, many.as_slice())
@@ -124,8 +142,8 @@ fn fault_of_many(alloc: Global, count: usize) -> Option<TieFault> {
 
 #[test]
 fn a_tie_list_is_refused_for_its_first_fault(rt: HostRuntime) {
-    for &(draws, fault) in FAULTY {
-        assert_is(&rt, fault_of(rt.alloc(), draws), Some(fault));
+    for row in FAULTY {
+        assert_is_at(&rt, row.0, fault_of(rt.alloc(), row.0), Some(row.1));
     }
     let fault = fault_of_many(rt.alloc(), 16_385);
     assert_is(&rt, fault, Some(TieFault::TooMany));

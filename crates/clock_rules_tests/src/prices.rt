@@ -1,17 +1,22 @@
 //! Prices, and how a clock price is raised.
 
-use crate::comparing::assert_is;
+use crate::comparing::assert_is_at;
 use clock_money::{LEAST_INCREMENT, MOST_GRANULE, MOST_INCREMENT, Price, clock_price};
 
 /// The dollars of a price, if there is one.
 fn dollars_of(price: Option<Price>) -> Option<u64> {
-    Some(price?.get())
+    match price {
+        Some(price) => Some(price.get()),
+        None => None,
+    }
 }
 
 /// The clock price over a start-of-round price, if that price, the increment, and the granule are
 /// within their limits.
 fn raised(start: u64, percent: u64, granule: u64) -> Option<Option<u64>> {
-    let start = Price::new(start)?;
+    let Some(start) = Price::new(start) else {
+        return None;
+    };
     if !(LEAST_INCREMENT..=MOST_INCREMENT).contains(&percent)
         || !(1..=MOST_GRANULE).contains(&granule)
     {
@@ -30,8 +35,8 @@ const DOLLARS: &[(u64, Option<u64>)] = &[
 
 #[test]
 fn a_price_is_from_one_dollar_to_the_highest(rt: HostRuntime) {
-    for &(dollars, price) in DOLLARS {
-        assert_is(&rt, dollars_of(Price::new(dollars)), price);
+    for row in DOLLARS {
+        assert_is_at(&rt, row.0, dollars_of(Price::new(row.0)), row.1);
     }
 }
 
@@ -51,7 +56,7 @@ const RAISED: &[(u64, u64, u64, Option<u64>)] = &[
 
 #[test]
 fn clock_prices_round_up_to_whole_granules(rt: HostRuntime) {
-    for &(start, percent, granule, clock) in RAISED {
-        assert_is(&rt, raised(start, percent, granule), Some(clock));
+    for row in RAISED {
+        assert_is_at(&rt, row.0, raised(row.0, row.1, row.2), Some(row.3));
     }
 }

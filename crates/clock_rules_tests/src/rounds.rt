@@ -4,7 +4,7 @@ use crate::auction::Rise::{By, Each};
 use crate::auction::Step::{
     Close, Hold, Lines, Put, PutEach, RefusedClose, RefusedPut, Slip, Stands,
 };
-use crate::auction::{Play, Step, X, Y, Z, play_all};
+use crate::auction::{Play, Step, X, Y, Z, bid, bids, play_all, ties};
 use clock_bids::BidFault;
 use clock_fixtures::{
     ACTIVITY_LIMIT, GRANULES_AND_INCREMENTS, NO_HIGHER_LIMIT, ONE_PRODUCT, SEVEN_BLOCKS,
@@ -19,7 +19,7 @@ const SECOND: u32 = 1;
 const OVER: PutFault = PutFault::Bid(BidFault::OverActivity);
 
 /// In a first round, X asks for 2 blocks and Y for 1 of a supply of 2, so that there is a second.
-const FIRST: Step<'static> = PutEach(&[(X, (0, 2, 100)), (Y, (0, 1, 100))]);
+const FIRST: Step<'static> = PutEach(&[(X, bid!(0, 2, 100)), (Y, bid!(0, 1, 100))]);
 
 const CLOSE: Step<'static> = Close(By(10), &[]);
 
@@ -27,14 +27,14 @@ const POSTED: Step<'static> = Lines(1, b"round 1\nA 100 100 100 3 110\n");
 
 /// In the second round, X drops both; or Y maintains its one too; or both give up a block at equal
 /// price points.
-const X_DROPS: Step<'static> = Put(X, &[(0, 0, 103)]);
+const X_DROPS: Step<'static> = Put(X, bids![(0, 0, 103)]);
 
-const Y_KEEPS: Step<'static> = PutEach(&[(X, (0, 0, 103)), (Y, (0, 1, 110))]);
+const Y_KEEPS: Step<'static> = PutEach(&[(X, bid!(0, 0, 103)), (Y, bid!(0, 1, 110))]);
 
-const BOTH: Step<'static> = PutEach(&[(X, (0, 1, 104)), (Y, (0, 0, 104))]);
+const BOTH: Step<'static> = PutEach(&[(X, bid!(0, 1, 104)), (Y, bid!(0, 0, 104))]);
 
 /// Y has the lower tie-breaking number.
-const Y_FIRST: Step<'static> = Close(By(10), &[(0, 0, 9), (1, 0, 3)]);
+const Y_FIRST: Step<'static> = Close(By(10), ties![(0, 0, 9), (1, 0, 3)]);
 
 /// The posted price then.
 const AT_100: Step<'static> = Lines(2, b"round 2\nA 100 110 100 - -\n");
@@ -70,7 +70,7 @@ const OF_ONE_PRODUCT: &[Play<'static>] = &[
         "demand at supply ends the auction",
         ONE_PRODUCT,
         &[
-            PutEach(&[(X, (0, 1, 100)), (Y, (0, 1, 100))]),
+            PutEach(&[(X, bid!(0, 1, 100)), (Y, bid!(0, 1, 100))]),
             Close(By(10), &[]),
             Lines(1, b"round 1\nA 100 100 100 - -\n"),
             Stands(1, true),
@@ -85,7 +85,7 @@ const OF_ONE_PRODUCT: &[Play<'static>] = &[
         "a slip tells a bidder its own results",
         ONE_PRODUCT,
         &[
-            Put(X, &[(0, 2, 100)]),
+            Put(X, bids![(0, 2, 100)]),
             Close(By(10), &[]),
             Slip(X, 1, 2, 3, &[2]),
             Slip(Y, 1, 0, 0, &[0]),
@@ -95,7 +95,11 @@ const OF_ONE_PRODUCT: &[Play<'static>] = &[
 ];
 
 /// X and Z ask for three blocks of B, and Y for both of A.
-const MORE_OF_B: Step<'static> = PutEach(&[(X, (1, 2, 100)), (Y, (0, 2, 100)), (Z, (1, 1, 100))]);
+const MORE_OF_B: Step<'static> = PutEach(&[
+    (X, bid!(1, 2, 100)),
+    (Y, bid!(0, 2, 100)),
+    (Z, bid!(1, 1, 100)),
+]);
 
 /// Rounds of auctions of two products.
 const OF_TWO_PRODUCTS: &[Play<'static>] = &[
@@ -106,9 +110,9 @@ const OF_TWO_PRODUCTS: &[Play<'static>] = &[
             MORE_OF_B,
             Close(By(10), &[]),
             Lines(1, b"round 1\nA 100 100 100 - 110\nB 100 100 100 3 110\n"),
-            Put(Y, &[(0, 1, 102)]),
-            Put(X, &[(0, 1, 104), (1, 1, 106)]),
-            Put(Z, &[(1, 1, 110)]),
+            Put(Y, bids![(0, 1, 102)]),
+            Put(X, bids![(0, 1, 104), (1, 1, 106)]),
+            Put(Z, bids![(1, 1, 110)]),
             Close(By(10), &[]),
             Lines(2, b"round 2\nA 100 110 102 - -\nB 100 110 106 - -\n"),
             Hold(&[2, 1, 1], &[1, 1, 1, 0, 0, 1]),
@@ -131,13 +135,13 @@ const OF_TWO_PRODUCTS: &[Play<'static>] = &[
         "a sheet may ask for activity up to the limit",
         ACTIVITY_LIMIT,
         &[
-            RefusedPut(X, 1, &[(0, 4, 100), (1, 1, 100)], OVER),
-            PutEach(&[(X, (0, 4, 100)), (SECOND, (0, 4, 100))]),
+            RefusedPut(X, 1, bids![(0, 4, 100), (1, 1, 100)], OVER),
+            PutEach(&[(X, bid!(0, 4, 100)), (SECOND, bid!(0, 4, 100))]),
             Close(Each(&[10, 10]), &[]),
             Lines(1, b"round 1\nA 100 100 100 8 110\nB 100 100 100 - 110\n"),
-            RefusedPut(X, 2, &[(0, 3, 104), (1, 3, 106)], OVER),
-            Put(X, &[(0, 3, 104), (1, 2, 106)]),
-            Put(SECOND, &[(0, 4, 110)]),
+            RefusedPut(X, 2, bids![(0, 3, 104), (1, 3, 106)], OVER),
+            Put(X, bids![(0, 3, 104), (1, 2, 106)]),
+            Put(SECOND, bids![(0, 4, 110)]),
             Close(Each(&[10, 10]), &[]),
             Lines(2, b"round 2\nA 100 110 110 7 121\nB 100 110 100 - 110\n"),
             Slip(X, 2, 8, 8, &[3, 1]),
@@ -147,29 +151,33 @@ const OF_TWO_PRODUCTS: &[Play<'static>] = &[
         "the limit is rounded down",
         SEVEN_BLOCKS,
         &[
-            Put(X, &[(0, 7, 100), (1, 3, 100)]),
-            Put(SECOND, &[(0, 1, 100)]),
+            Put(X, bids![(0, 7, 100), (1, 3, 100)]),
+            Put(SECOND, bids![(0, 1, 100)]),
             Close(By(10), &[]),
-            RefusedPut(X, 2, &[(0, 7, 110), (1, 6, 110)], OVER),
-            Put(X, &[(0, 7, 110), (1, 5, 110)]),
+            RefusedPut(X, 2, bids![(0, 7, 110), (1, 6, 110)], OVER),
+            Put(X, bids![(0, 7, 110), (1, 5, 110)]),
         ],
     ),
     (
         "without a higher limit the eligibility binds",
         NO_HIGHER_LIMIT,
         &[
-            PutEach(&[(X, (0, 4, 100)), (SECOND, (0, 4, 100))]),
+            PutEach(&[(X, bid!(0, 4, 100)), (SECOND, bid!(0, 4, 100))]),
             Close(Each(&[10, 10]), &[]),
-            RefusedPut(X, 2, &[(0, 3, 104), (1, 2, 106)], OVER),
+            RefusedPut(X, 2, bids![(0, 3, 104), (1, 2, 106)], OVER),
         ],
     ),
     (
         "a product without excess is raised too",
         TWO_PRODUCTS,
         &[
-            PutEach(&[(X, (1, 2, 100)), (Y, (0, 1, 100)), (Z, (1, 1, 100))]),
+            PutEach(&[
+                (X, bid!(1, 2, 100)),
+                (Y, bid!(0, 1, 100)),
+                (Z, bid!(1, 1, 100)),
+            ]),
             Close(By(10), &[]),
-            PutEach(&[(X, (1, 2, 110)), (Z, (1, 1, 110))]),
+            PutEach(&[(X, bid!(1, 2, 110)), (Z, bid!(1, 1, 110))]),
             Close(By(10), &[]),
             Lines(2, b"round 2\nA 100 110 100 - 110\nB 100 110 110 3 121\n"),
             Hold(&[2, 1, 1], &[0, 2, 1, 0, 0, 1]),

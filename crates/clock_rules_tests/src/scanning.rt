@@ -20,14 +20,21 @@ fn sum_of(rows: &ShortRows) -> u64 {
     sum
 }
 
+/// Whether each row has three numbers.
+fn have_width(rows: &ShortRows) -> bool {
+    for row in rows.as_slice() {
+        if row.len() != 3 {
+            return false;
+        }
+    }
+    true
+}
+
 /// The number of rows, the sum of their numbers, and whether each row has three numbers; or 9 and
 /// the reason that reading stopped.
 fn short_rows_of(alloc: Global, text: &str) -> (usize, u64, bool) {
     match Scan::new(text).short_rows(alloc) {
-        Ok(rows) => {
-            let has_width = rows.iter().all(|row| row.len() == 3);
-            (rows.len(), sum_of(&rows), has_width)
-        }
+        Ok(rows) => { (rows.len(), sum_of(&rows), have_width(&rows)) }
         Err(ScanStop::Unusual) => (9, 0, false),
         Err(ScanStop::NoMemory) => (9, 1, false),
     }
@@ -35,13 +42,15 @@ fn short_rows_of(alloc: Global, text: &str) -> (usize, u64, bool) {
 
 /// The lengths of the key and the text of an object with one member, if it comes next.
 fn next_member(scan: &mut Scan<'_>) -> Option<(usize, usize)> {
-    scan.opens(b'{').ok()?;
-    let key = scan.key().ok()?.len();
-    let value = scan.text().ok()?.len();
-    if scan.closes(b'}') {
-        Some((key, value))
-    } else {
-        None
+    if scan.opens(b'{').is_err() {
+        return None;
+    }
+    let Ok(key) = scan.key() else {
+        return None;
+    };
+    match scan.text() {
+        Ok(value) if scan.closes(b'}') => Some((key.len(), value.len())),
+        _ => None,
     }
 }
 
@@ -72,8 +81,8 @@ const ROWS: &[(&str, (usize, u64, bool))] = &[
 
 #[test]
 fn rows_in_one_list(rt: HostRuntime) {
-    for &(text, shown) in ROWS {
-        assert_is_at(&rt, text, short_rows_of(rt.alloc(), text), shown);
+    for row in ROWS {
+        assert_is_at(&rt, row.0, short_rows_of(rt.alloc(), row.0), row.1);
     }
 }
 
@@ -90,8 +99,8 @@ const MEMBERS: &[(&str, Option<(usize, usize)>)] = &[
 
 #[test]
 fn members_with_texts(rt: HostRuntime) {
-    for &(text, shown) in MEMBERS {
-        assert_is_at(&rt, text, member_of(text), shown);
+    for row in MEMBERS {
+        assert_is_at(&rt, row.0, member_of(row.0), row.1);
     }
 }
 
@@ -117,12 +126,8 @@ const WORDS: &[(&str, bool, bool)] = &[
 
 #[test]
 fn blank_texts_and_the_word_null(rt: HostRuntime) {
-    for &(text, is_empty, is_null) in WORDS {
-        assert_is_at(
-            &rt,
-            text,
-            (is_blank(text.as_bytes()), is_one_null(text)),
-            (is_empty, is_null),
-        );
+    for row in WORDS {
+        let found = (is_blank(row.0.as_bytes()), is_one_null(row.0));
+        assert_is_at(&rt, row.0, found, (row.1, row.2));
     }
 }

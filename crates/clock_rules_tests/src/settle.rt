@@ -1,12 +1,12 @@
 //! Requests as data, and their processing by any processor.
 
-ghost use Rattle.std.specs.Prelude.{◌≡◌, ◌≤◌, ◌<◌, ℕ, length, All, IfOk, IsTrue};
+ghost use Rattle.std.specs.Prelude.{◌≡◌, ◌≤◌, ◌<◌, ℕ, length, All, IfOk, IfSome, IsTrue};
 ghost use Rattle.clock_terms.specs.{Limits.{most_supply}, Demands.{IsGrid}};
 ghost use Rattle.clock_terms.specs.Requests.{KeepWithinCap, asked_of, is_request_of};
 ghost use Rattle.clock_processor.specs.Board.{IsWithinEligibility};
 ghost use Rattle.clock_processor.specs.Requests.{AskWithinCaps, IsRequest};
 
-use crate::comparing::assert_is;
+use crate::comparing::{assert_has, assert_is_at};
 use clock_device::NoMemory;
 use clock_money::Point;
 use clock_processor::{Board, Processor, Settled};
@@ -14,7 +14,6 @@ use clock_setup::{Amounts, Grid, Product, Setup};
 use clock_terms::{Change, Changes, Kind, Row};
 use std::alloc::Global;
 use std::process::Abort;
-use std::test::Fail;
 
 /// A request: its kind, bidder, product, blocks and price.
 pub type Asked = (Kind, u32, u32, u64, u64);
@@ -35,12 +34,17 @@ pub fn change_of(&(kind, bidder, product, amount, price): &Asked, place: u32) ->
 }
 
 /// The changes of the requests, in the order of places.
-fn requests(alloc: Global, asked: &[Asked]) -> Result<Changes, Fail> {
+fn requests(alloc: Global, asked: &[Asked]) -> Option<Changes> {
     let mut changes = Changes::new(alloc);
     for request in asked {
-        changes.push(change_of(request, 0).ok_or("no price of the round")?)?;
+        let Some(change) = change_of(request, 0) else {
+            return None;
+        };
+        if changes.push(change).is_err() {
+            return None;
+        }
     }
-    Ok(changes)
+    Some(changes)
 }
 
 /// The eligibility of each bidder.
@@ -144,7 +148,33 @@ fn can_settle(setup: &Setup, grid: &Grid, changes: &[Change]) -> bool
         && keep_caps(setup, grid, changes)
 }
 
-/// Processes requests on the demands of a round.
+/// Processes changes on the demands of a round, if they can be processed.
+fn settle_changes<P: Processor>(
+    alloc: Global,
+    processor: &P,
+    setup: &Setup,
+    eligibilities: &Amounts,
+    grid: &Grid,
+    changes: &Changes,
+) -> Option<Settled>
+    requires bidders { length eligibilities.now ≡ length setup.now.bidders }
+    requires within { IsWithinEligibility setup.now.products eligibilities.now grid.now }
+    ensures { IfSome result
+        (λ settled. IsWithinEligibility setup.now.products eligibilities.now settled.grid) }
+{
+    if !can_settle(setup, grid, changes.as_slice()) {
+        return None;
+    }
+    let Ok(board) = Board::new(alloc, setup, eligibilities, grid) else {
+        return None;
+    };
+    match processor.settle(alloc, board, changes) {
+        Ok(settled) => Some(settled),
+        Err(_) => None,
+    }
+}
+
+/// Processes requests on the demands of a round, if they can be processed.
 fn settle<P: Processor>(
     alloc: Global,
     processor: &P,
@@ -152,18 +182,18 @@ fn settle<P: Processor>(
     eligibilities: &Amounts,
     grid: &Grid,
     asked: &[Asked],
-) -> Result<Settled, Fail>
+) -> Option<Settled>
     requires bidders { length eligibilities.now ≡ length setup.now.bidders }
     requires within { IsWithinEligibility setup.now.products eligibilities.now grid.now }
-    ensures { IfOk result
+    ensures { IfSome result
         (λ settled. IsWithinEligibility setup.now.products eligibilities.now settled.grid) }
 {
-    let changes = requests(alloc, asked)?;
-    if !can_settle(setup, grid, changes.as_slice()) {
-        return Err("requests that cannot be settled".into());
-    }
-    let board = Board::new(alloc, setup, eligibilities, grid)?;
-    Ok(processor.settle(alloc, board, &changes)?)
+    let Some(changes) = requests(alloc, asked) else {
+        return None;
+    };
+    let settled = settle_changes(alloc, processor, setup, eligibilities, grid, &changes);
+    drop(changes);
+    settled
 }
 
 /// Adds a bidder's demands.
@@ -193,14 +223,18 @@ fn settle_in_turn<P: Processor>(
     eligibilities: &Amounts,
     grid: &Grid,
     requests: (&[Asked], &[Asked]),
-) -> Result<Settled, Fail>
+) -> Option<Settled>
     requires bidders { length eligibilities.now ≡ length setup.now.bidders }
     requires within { IsWithinEligibility setup.now.products eligibilities.now grid.now }
-    ensures { IfOk result (λ settled. length settled.grid ≡ length setup.now.bidders) }
+    ensures { IfSome result (λ settled. length settled.grid ≡ length setup.now.bidders) }
 {
     let (first, second) = requests;
-    let begun = settle(alloc, processor, setup, eligibilities, grid, first)?;
-    settle(alloc, processor, setup, eligibilities, begun.grid(), second)
+    let Some(begun) = settle(alloc, processor, setup, eligibilities, grid, first) else {
+        return None;
+    };
+    let settled = settle(alloc, processor, setup, eligibilities, begun.grid(), second);
+    drop(begun);
+    settled
 }
 
 /// Processes first requests on no demands, and then others on the result.
@@ -209,11 +243,15 @@ fn settle_from_none<P: Processor>(
     processor: &P,
     setup: &Setup,
     requests: (&[Asked], &[Asked]),
-) -> Result<Settled, Fail>
-    ensures { IfOk result (λ settled. length settled.grid ≡ length setup.now.bidders) }
+) -> Option<Settled>
+    ensures { IfSome result (λ settled. length settled.grid ≡ length setup.now.bidders) }
 {
-    let eligibilities = eligibilities(alloc, setup)?;
-    let none = Grid::zero(alloc, setup)?;
+    let Ok(eligibilities) = eligibilities(alloc, setup) else {
+        return None;
+    };
+    let Ok(none) = Grid::zero(alloc, setup) else {
+        return None;
+    };
     settle_in_turn(alloc, processor, setup, &eligibilities, &none, requests)
 }
 
@@ -221,24 +259,23 @@ fn settle_from_none<P: Processor>(
 /// of applications.
 pub type End<'a> = (&'a [u64], &'a [u64], u64);
 
-/// Asserts a result of bid processing. Returns the number of tests of a request's room.
-fn compare(
-    rt: &impl Abort,
-    alloc: Global,
-    settled: &Settled,
-    bidders: usize,
-    end: End,
-) -> Result<u64, NoMemory>
+/// Asserts a result of bid processing.
+fn compare(rt: &impl Abort, alloc: Global, shows: &str, settled: &Settled, bidders: usize, end: End)
     requires { bidders ≤ length settled.now.grid }
 {
-    let demands = demands_of(alloc, settled.grid(), bidders)?;
-    assert_is(rt, demands.as_slice(), end.0);
-    assert_is(rt, (settled.left(), settled.applied()), (end.1, end.2));
-    Ok(settled.tests())
+    let demands = demands_of(alloc, settled.grid(), bidders).ok();
+    assert_has(rt, shows, demands, end.0);
+    assert_is_at(
+        rt,
+        shows,
+        (settled.left(), settled.applied()),
+        (end.1, end.2),
+    );
 }
 
-/// First requests, others after them, and the result of these.
-pub type Case<'a> = (&'a [Asked], &'a [Asked], End<'a>);
+/// What a case shows, first requests, others after them, the result of these, and the most tests of
+/// a request's room by the event queue.
+pub type Case<'a> = (&'a str, &'a [Asked], &'a [Asked], End<'a>, u64);
 
 /// Processes requests after first ones, and asserts the result. Returns the number of tests of a
 /// request's room.
@@ -247,11 +284,21 @@ pub fn settle_twice<P: Processor>(
     alloc: Global,
     processor: &P,
     setup: &Setup,
-    case: Case,
-) -> Result<u64, Fail> {
-    let (first, second, end) = case;
-    let settled = settle_from_none(alloc, processor, setup, (first, second))?;
-    let tests = compare(rt, alloc, &settled, setup.bidders.as_slice().len(), end);
+    case: &Case,
+) -> Option<u64> {
+    let &(shows, first, second, end, _) = case;
+    let Some(settled) = settle_from_none(alloc, processor, setup, (first, second)) else {
+        return None;
+    };
+    compare(
+        rt,
+        alloc,
+        shows,
+        &settled,
+        setup.bidders.as_slice().len(),
+        end,
+    );
+    let tests = settled.tests();
     drop(settled);
-    Ok(tests?)
+    Some(tests)
 }

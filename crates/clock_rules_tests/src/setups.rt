@@ -64,15 +64,30 @@ fn reported(setup: &Setup) -> Reported {
     (numbers(setup), first)
 }
 
+/// The set-up of a document. `None` if the document is refused.
+pub fn setup_in(alloc: Global, document: &str) -> Option<Setup> {
+    read_setup(alloc, document.as_bytes()).ok()
+}
+
+/// Like [`reported`], and frees the set-up.
+fn taken(setup: Setup) -> Reported {
+    let reported = reported(&setup);
+    drop(setup);
+    reported
+}
+
 /// Reads a document. The result is that of a copy of the set-up.
 fn read(alloc: Global, text: &str) -> Result<Reported, SetupFault> {
-    let setup = read_setup(alloc, text.as_bytes())?;
+    let setup = match read_setup(alloc, text.as_bytes()) {
+        Ok(setup) => setup,
+        Err(fault) => return Err(fault),
+    };
     let copy = setup.copy(alloc);
     drop(setup);
-    let copy = copy?;
-    let reported = reported(&copy);
-    drop(copy);
-    Ok(reported)
+    match copy {
+        Ok(copy) => Ok(taken(copy)),
+        Err(_) => Err(SetupFault::NoMemory),
+    }
 }
 
 /// Reads the JSON value of a text.
@@ -82,10 +97,10 @@ fn read_value(alloc: Global, text: &str) -> Result<Reported, SetupFault> {
     };
     let setup = setup_of(alloc, &value);
     drop(value);
-    let setup = setup?;
-    let reported = reported(&setup);
-    drop(setup);
-    Ok(reported)
+    match setup {
+        Ok(setup) => Ok(taken(setup)),
+        Err(fault) => Err(fault),
+    }
 }
 
 /// Whether the last bidder has this name, token, and eligibility.
@@ -98,11 +113,13 @@ fn is_last_bidder(setup: &Setup, name: &[u8], token: &[u8], eligibility: u64) ->
         && bidder.eligibility == eligibility
 }
 
-fn has_z_last(alloc: Global, text: &str) -> Result<bool, SetupFault> {
-    let setup = read_setup(alloc, text.as_bytes())?;
+fn has_z_last(alloc: Global, text: &str) -> Option<bool> {
+    let Some(setup) = setup_in(alloc, text) else {
+        return None;
+    };
     let has_z = is_last_bidder(&setup, b"Z", b"ZZZZZZZZZZZZZZZZ", 1);
     drop(setup);
-    Ok(has_z)
+    Some(has_z)
 }
 
 fn setup_fault(alloc: Global, text: &str) -> Option<SetupFault> {
@@ -111,7 +128,9 @@ fn setup_fault(alloc: Global, text: &str) -> Option<SetupFault> {
 
 /// The fault of a document in which `from` is replaced, if it has `from`.
 fn changed_fault(alloc: Global, text: &str, from: &str, to: &str) -> Option<Option<SetupFault>> {
-    let (before, after) = text.split_once(from)?;
+    let Some((before, after)) = text.split_once(from) else {
+        return None;
+    };
     let Ok(text) = format!(in alloc; "{before}{to}{after}") else {
         return None;
     };
@@ -130,14 +149,18 @@ const SETUPS: &[(&str, Numbers, Limits)] = &[
     (ACTIVITY_LIMIT, [2, 125, 100, 2, 2], [2, 4, 4, 100, 1]),
 ];
 
+/// Asserts the result of reading a document by bytes, and by its JSON value.
+fn is_read(rt: &impl Abort, alloc: Global, text: &str, expected: Reported) {
+    assert_is_at(rt, text, read(alloc, text), Ok(expected));
+    assert_is_at(rt, text, read_value(alloc, text), Ok(expected));
+}
+
 #[test]
 fn reads_both_versions(rt: HostRuntime) {
-    for &(text, numbers, product) in SETUPS {
-        let reported = Ok((numbers, Some(product)));
-        assert_is_at(&rt, text, read(rt.alloc(), text), reported);
-        assert_is_at(&rt, text, read_value(rt.alloc(), text), reported);
+    for row in SETUPS {
+        is_read(&rt, rt.alloc(), row.0, (row.1, Some(row.2)));
     }
-    assert_is(&rt, has_z_last(rt.alloc(), TWO_PRODUCTS), Ok(true));
+    assert_is(&rt, has_z_last(rt.alloc(), TWO_PRODUCTS), Some(true));
 }
 
 /// Texts that are no set-up, and their faults.
@@ -162,8 +185,8 @@ const NO_SETUPS: &[(&str, SetupFault)] = &[
 
 #[test]
 fn refuses_what_is_no_setup(rt: HostRuntime) {
-    for &(text, fault) in NO_SETUPS {
-        assert_is_at(&rt, text, setup_fault(rt.alloc(), text), Some(fault));
+    for row in NO_SETUPS {
+        assert_is_at(&rt, row.0, setup_fault(rt.alloc(), row.0), Some(row.1));
     }
 }
 
@@ -172,9 +195,9 @@ type Changed<'a> = (&'a str, &'a str, Option<SetupFault>);
 
 /// Asserts that a document with one change has the fault of the row.
 fn has_faults(rt: &impl Abort, alloc: Global, document: &str, rows: &[Changed]) {
-    for &(from, to, fault) in rows {
-        let found = changed_fault(alloc, document, from, to);
-        assert_is_at(rt, to, found, Some(fault));
+    for row in rows {
+        let found = changed_fault(alloc, document, row.0, row.1);
+        assert_is_at(rt, row.1, found, Some(row.2));
     }
 }
 
@@ -253,8 +276,14 @@ fn refuses_each_fault_of_a_setup(rt: HostRuntime) {
 type Opened = Result<(u64, u64), OpeningFault>;
 
 fn opened(alloc: Global, text: &str) -> Opened {
-    let opening = read_opening(alloc, text.as_bytes())?;
-    Ok((opening.grid.total(0), opening.increment))
+    match read_opening(alloc, text.as_bytes()) {
+        Ok(opening) => {
+            let shown = (opening.grid.total(0), opening.increment);
+            drop(opening);
+            Ok(shown)
+        }
+        Err(fault) => Err(fault),
+    }
 }
 
 /// Reads an opening document with this set-up.
@@ -309,9 +338,9 @@ const OPENINGS: &[(&str, &str, &str, Opened)] = &[
 
 #[test]
 fn reads_an_opening_or_refuses_it(rt: HostRuntime) {
-    for &(demands, increment, setup, reported) in OPENINGS {
-        let found = opened_of(rt.alloc(), demands, increment, setup);
-        assert_is_at(&rt, (demands, increment), found, reported);
+    for row in OPENINGS {
+        let found = opened_of(rt.alloc(), row.0, row.1, row.2);
+        assert_is_at(&rt, (row.0, row.1), found, row.3);
     }
     let bare = opened(rt.alloc(), "{\"demands\":[],\"increment\":10}");
     assert_is(&rt, bare, Err(OpeningFault::Shape));

@@ -64,10 +64,9 @@ const OF_TIES: &[(Code, &str)] = &[
 
 /// Asserts that codes have a status, its reason, and their texts.
 fn have_status(rt: &impl Abort, row: &Status) {
-    let &(status, reason, codes) = row;
-    for &(code, text) in codes {
+    for (code, text) in row.2 {
         let reported = (code.status(), code.reason(), code.text());
-        assert_is_at(rt, code, reported, (status, reason, text));
+        assert_is_at(rt, *code, reported, (row.0, row.1, *text));
     }
 }
 

@@ -1,9 +1,9 @@
 //! Pages of a set-up and of single values.
 
-use crate::comparing::assert_reads;
+use crate::comparing::assert_has;
+use crate::setups::setup_in;
 use clock_device::Text;
 use clock_fixtures::{GRANULES_AND_INCREMENTS, ONE_PRODUCT};
-use clock_setup::read_setup;
 use clock_views::{accepted_page, closed_page, products_page, status_page};
 use std::alloc::Global;
 
@@ -24,7 +24,9 @@ const SETUPS: &[(&str, &str, &str)] = &[
 
 /// The products page of a set-up document.
 fn products_of(alloc: Global, document: &str) -> Option<Text> {
-    let setup = read_setup(alloc, document.as_bytes()).ok()?;
+    let Some(setup) = setup_in(alloc, document) else {
+        return None;
+    };
     let page = products_page(alloc, &setup);
     drop(setup);
     page.ok()
@@ -32,7 +34,9 @@ fn products_of(alloc: Global, document: &str) -> Option<Text> {
 
 /// The status page of the first round of a set-up document.
 fn status_of(alloc: Global, document: &str) -> Option<Text> {
-    let setup = read_setup(alloc, document.as_bytes()).ok()?;
+    let Some(setup) = setup_in(alloc, document) else {
+        return None;
+    };
     let page = status_page(alloc, &setup, 1, false);
     drop(setup);
     page.ok()
@@ -40,15 +44,11 @@ fn status_of(alloc: Global, document: &str) -> Option<Text> {
 
 #[test]
 fn pages_of_both_versions(rt: HostRuntime) {
-    let alloc = rt.alloc();
-    for &(document, products, status) in SETUPS {
-        assert_reads(
-            &rt,
-            document,
-            products_of(alloc, document),
-            products.as_bytes(),
-        );
-        assert_reads(&rt, document, status_of(alloc, document), status.as_bytes());
+    for row in SETUPS {
+        let products = products_of(rt.alloc(), row.0);
+        assert_has(&rt, row.0, products, row.1.as_bytes());
+        let status = status_of(rt.alloc(), row.0);
+        assert_has(&rt, row.0, status, row.2.as_bytes());
     }
 }
 
@@ -56,7 +56,7 @@ fn pages_of_both_versions(rt: HostRuntime) {
 fn answers_to_changes(rt: HostRuntime) {
     let accepted = accepted_page(rt.alloc(), 1, 1).ok();
     let expected = br#"{"accepted":true,"bids":1,"round":1}"#;
-    assert_reads(&rt, "accepted", accepted, expected);
+    assert_has(&rt, "accepted", accepted, expected);
     let closed = closed_page(rt.alloc(), 1, false).ok();
-    assert_reads(&rt, "closed", closed, br#"{"closed":1,"ended":false}"#);
+    assert_has(&rt, "closed", closed, br#"{"closed":1,"ended":false}"#);
 }

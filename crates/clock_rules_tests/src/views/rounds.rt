@@ -3,12 +3,12 @@
 
 use crate::auction::Rise::By;
 use crate::auction::Step::{Close, Put, PutEach, Reads};
-use crate::auction::{Play, Step, X, Y, play_all};
+use crate::auction::{Play, Step, X, Y, bid, bids, play_all};
 use crate::views::Page;
 use clock_fixtures::ONE_PRODUCT;
 
 /// The sheets of the first round, after which X has two blocks and Y one.
-const FIRST_SHEETS: Step<'static> = PutEach(&[(X, (0, 2, 100)), (Y, (0, 1, 100))]);
+const FIRST_SHEETS: Step<'static> = PutEach(&[(X, bid!(0, 2, 100)), (Y, bid!(0, 1, 100))]);
 
 /// The pages of auctions at each stage.
 const PAGES: &[Play<'static>] = &[
@@ -29,7 +29,7 @@ const PAGES: &[Play<'static>] = &[
         "bids in force",
         ONE_PRODUCT,
         &[
-            Put(X, &[(0, 2, 100)]),
+            Put(X, bids![(0, 2, 100)]),
             Reads(
                 Page::Bids,
                 r#"{"bids":[{"price":100,"product":0,"quantity":2}],"round":1}"#,
@@ -44,7 +44,7 @@ const PAGES: &[Play<'static>] = &[
         &[
             FIRST_SHEETS,
             Close(By(10), &[]),
-            PutEach(&[(X, (0, 0, 103)), (Y, (0, 1, 110))]),
+            PutEach(&[(X, bid!(0, 0, 103)), (Y, bid!(0, 1, 110))]),
             Close(By(10), &[]),
             Reads(
                 Page::Slip(2),

@@ -1,6 +1,6 @@
 //! The pages of an auction in its current state.
 
-use crate::auction::X;
+use crate::auction::{X, has_bidder};
 use clock_device::Text;
 use clock_house::House;
 use clock_processor::Processor;
@@ -21,24 +21,26 @@ pub enum Page {
 
 /// The page of X's bidder results of a closed round.
 fn slip_of<P: Processor>(alloc: Global, house: &House<P>, round: u64) -> Option<Text> {
-    if (X as usize) >= house.setup().bidders.as_slice().len() {
+    if !has_bidder(house, X) {
         return None;
     }
-    slip_page(alloc, house.slip(X, round)?).ok()
+    match house.slip(X, round) {
+        Some(slip) => slip_page(alloc, slip).ok(),
+        None => None,
+    }
 }
 
 /// The page of the round results of a closed round.
 fn sheet_of<P: Processor>(alloc: Global, house: &House<P>, round: u64) -> Option<Text> {
-    let sheet = house.sheet(round)?;
-    if sheet.lines.as_slice().len() != house.setup().products.as_slice().len() {
-        return None;
+    match house.sheet(round) {
+        Some(sheet) => sheet_page(alloc, house.setup(), sheet).ok(),
+        None => None,
     }
-    sheet_page(alloc, house.setup(), sheet).ok()
 }
 
 /// A page of an auction in its current state, if there is one.
 pub fn page_of<P: Processor>(alloc: Global, house: &House<P>, page: Page) -> Option<Text> {
-    if (X as usize) >= house.setup().bidders.as_slice().len() {
+    if !has_bidder(house, X) {
         return None;
     }
     match page {
