@@ -1,7 +1,7 @@
 //! Replies to requests that are sent one after the other.
 use super::hostile::{Hostile, are_reported};
 use super::requests::{compare, reply_of, request_of, setup_of};
-use crate::comparing::{assert_is, assert_is_at};
+use crate::comparing::{assert_is, assert_is_at, made_at};
 use crate::front::example::{on_front, on_one_product};
 use clock_device::{Items, Text};
 use clock_fixtures::{
@@ -13,21 +13,19 @@ use clock_processor::Plain;
 use std::alloc::Global;
 use std::process::Abort;
 
-/// Sends the request of a row, and compares its reply. Returns `None` if the row lacks a field.
-fn send(rt: &impl Abort, alloc: Global, front: &mut Front<Plain>, row: &str) -> Option<()> {
-    let (request, reply) = row.split_once('>')?;
-    let (status, page) = reply.split_once('|')?;
-    let text = request_of(alloc, request)?;
-    compare(rt, alloc, front, row, text.as_str(), (status, page))
+/// Sends the request of a row, and compares its reply.
+fn send(rt: &impl Abort, alloc: Global, front: &mut Front<Plain>, row: &str) {
+    let (request, reply) = made_at(rt, row, row.split_once('>'));
+    let reported = made_at(rt, row, reply.split_once('|'));
+    let text = made_at(rt, row, request_of(alloc, request));
+    compare(rt, alloc, front, row, text.as_str(), reported);
 }
 
 /// Sends the requests of all rows in turn.
-fn send_rows(rt: &impl Abort, alloc: Global, front: &mut Front<Plain>, rows: &str) -> Option<()> {
+fn send_rows(rt: &impl Abort, alloc: Global, front: &mut Front<Plain>, rows: &str) {
     for row in rows.split('\n') {
-        let sent = send(rt, alloc, front, row);
-        assert_is_at(rt, row, sent, Some(()));
+        send(rt, alloc, front, row);
     }
-    Some(())
 }
 
 /// X's sheet is replaced by another one, and by one without bids. Y has no sheet.
@@ -40,17 +38,21 @@ GET /v1/me/bids|X|>200 OK|{"bids":[],"round":1}
 GET /v1/me/bids|Y|>200 OK|{"bids":null,"round":1}"#;
 
 /// Sends the 147 bytes of X's sheet and compares the reply. Then sends the rows.
-fn put_and_reported(rt: &impl Abort, alloc: Global, front: &mut Front<Plain>) -> Option<()> {
-    let reply = reply_of(alloc, front, PUT)?;
+fn put_and_reported(rt: &impl Abort, alloc: Global, front: &mut Front<Plain>) {
+    let reply = made_at(rt, PUT, reply_of(alloc, front, PUT));
     assert_is(rt, reply.as_str(), ACCEPTED);
-    send_rows(rt, alloc, front, SHEETS)
+    drop(reply);
+    send_rows(rt, alloc, front, SHEETS);
 }
 
 #[test]
 fn a_sheet_is_put_and_reported(rt: HostRuntime) {
     assert_is(&rt, PUT.len(), 147);
-    let done = on_one_product(rt.alloc(), |front| put_and_reported(&rt, rt.alloc(), front));
-    assert_is(&rt, done, Some(()));
+    on_one_product(
+        &rt,
+        rt.alloc(),
+        |front| put_and_reported(&rt, rt.alloc(), front),
+    );
 }
 
 /// X asks to give up two blocks, and one of the two is applied.
@@ -147,10 +149,9 @@ const AUCTIONS: &[(&str, &str)] = &[
 #[test]
 fn requests_are_answered_in_turn(rt: HostRuntime) {
     for row in AUCTIONS {
-        let done = on_front(rt.alloc(), row.0, |front| {
+        on_front(&rt, rt.alloc(), row.0, |front| {
             send_rows(&rt, rt.alloc(), front, row.1)
         });
-        assert_is_at(&rt, row.0, done, Some(()));
     }
 }
 
@@ -233,15 +234,13 @@ fn replies_of(alloc: Global, texts: &[Text]) -> Option<Replies> {
 }
 
 /// Asserts the codes of the replies of a run to the texts of rows.
-fn run_has_codes(rt: &impl Abort, alloc: Global, rows: &[(&str, Code)]) -> Option<()> {
-    let texts = texts_of(alloc, rows)?;
-    let replies = replies_of(alloc, texts.as_slice());
-    drop(texts);
-    have_codes(rt, replies?.as_slice(), rows);
-    Some(())
+fn run_has_codes(rt: &impl Abort, alloc: Global, rows: &[(&str, Code)]) {
+    let texts = made_at(rt, "texts", texts_of(alloc, rows));
+    let replies = made_at(rt, "replies", replies_of(alloc, texts.as_slice()));
+    have_codes(rt, replies.as_slice(), rows);
 }
 
 #[test]
 fn a_run_gives_a_reply_to_each_text(rt: HostRuntime) {
-    assert_is(&rt, run_has_codes(&rt, rt.alloc(), RUN), Some(()));
+    run_has_codes(&rt, rt.alloc(), RUN);
 }

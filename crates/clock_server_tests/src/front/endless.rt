@@ -1,7 +1,7 @@
 //! Sources that never end.
 ghost use Rattle.std.specs.Prelude.{None, false};
 
-use crate::comparing::{assert_is_at, assert_reads_at};
+use crate::comparing::{assert_is_at, assert_reads_at, made_at};
 use crate::front::example::on_one_product;
 use clock_device::{ListSink, Source, Stop};
 use clock_fixtures::LONG_HEAD;
@@ -47,24 +47,18 @@ type Served<'a> = (bool, Result<Code, StreamFault>, &'a str, u64);
 
 /// Serves a source that never ends. Asserts the result, the bytes that are written, and the number
 /// of reads.
-fn is_served(
-    rt: &impl Abort,
-    alloc: Global,
-    front: &mut Front<Plain>,
-    row: &Served<'_>,
-) -> Option<()> {
+fn is_served(rt: &impl Abort, alloc: Global, front: &mut Front<Plain>, row: &Served<'_>) {
     let mut source = Endless {
         is_interrupted: row.0,
         calls: 0,
         interruptions: 0,
     };
-    let mut sink = ListSink::new(alloc, 1024, 1024, None).ok()?;
+    let mut sink = made_at(rt, row.0, ListSink::new(alloc, 1024, 1024, None).ok());
     let served = serve_stream(alloc, front, &mut source, &mut sink);
     assert_is_at(rt, row.0, served, row.1);
     assert_reads_at(rt, row.0, sink.bytes(), row.2);
     drop(sink);
     assert_is_at(rt, row.0, source.calls, row.3);
-    Some(())
 }
 
 /// With spaces the head of a source is too long, and interruptions use up all reads.
@@ -76,7 +70,8 @@ const SERVED: &[Served<'static>] = &[
 #[test]
 fn a_source_without_end_is_served(rt: HostRuntime) {
     for row in SERVED {
-        let done = on_one_product(rt.alloc(), |front| is_served(&rt, rt.alloc(), front, row));
-        assert_is_at(&rt, row.0, done, Some(()));
+        on_one_product(&rt, rt.alloc(), |front| {
+            is_served(&rt, rt.alloc(), front, row)
+        });
     }
 }

@@ -2,7 +2,7 @@
 ghost use Rattle.std.specs.Prelude.{◌≤◌, length};
 ghost use Rattle.clock_http.specs.Shown.{Knows};
 
-use crate::comparing::{assert_is, assert_is_at};
+use crate::comparing::{assert_is_at, made_at};
 use crate::front::example::on_one_product;
 use clock_front::{Framing, Front, frame};
 use clock_http::{Code, Progress};
@@ -161,20 +161,18 @@ fn is_answered_in_two(
     front: &mut Front<Plain>,
     text: &[u8],
     page: &str,
-) -> Option<()> {
+) {
     for count in 0..text.len() {
-        let reply = answer_in_two(alloc, front, text, count)?;
+        let reply = made_at(rt, count, answer_in_two(alloc, front, text, count));
         let has_page = reply.as_str().ends_with(page);
         assert_is_at(rt, count, has_page, true);
     }
-    Some(())
 }
 
 #[test]
 fn a_text_in_pieces_is_answered_as_the_text(rt: HostRuntime) {
     let page = r#"{"ended":false,"round":1,"version":1}"#;
-    let answered = on_one_product(rt.alloc(), |front| {
+    on_one_product(&rt, rt.alloc(), |front| {
         is_answered_in_two(&rt, rt.alloc(), front, STATUS.as_bytes(), page)
     });
-    assert_is(&rt, answered, Some(()));
 }

@@ -3,24 +3,32 @@
 use super::heads::{BAD_HEAD, BAD_LENGTH, CODING, CUT_SHORT, LONG_HEAD};
 use super::hubs::{bytes_of, connected, fed, finished, on_hub};
 use super::requests::{Reported, reply_with};
-use super::streams::serve;
-use crate::comparing::{assert_is_at, assert_reads_at};
+use crate::comparing::{assert_is_at, assert_reads_at, made_at};
 use crate::front::example::on_one_product;
 use crate::repeated::{Piece, repeated};
-use clock_device::Text;
+use clock_device::{ListSink, ListSource, Text};
 use clock_fixtures::{BIDS_OF_X, NO_SHEET, PUT, SHEET};
-use clock_front::{Front, Hub};
+use clock_front::{Front, Hub, serve_stream};
 use clock_processor::Plain;
 use std::alloc::Global;
 use std::process::Abort;
+
+/// The reply to a text that comes over a stream.
+fn by_stream(alloc: Global, front: &mut Front<Plain>, text: &[u8]) -> Option<Text> {
+    let mut source = ListSource::new(text, 100, None);
+    let mut sink = ListSink::new(alloc, 1024, 100, None).ok()?;
+    let _answer = serve_stream(alloc, front, &mut source, &mut sink);
+    let written = Text::from_slice(alloc, sink.bytes()).ok();
+    drop(sink);
+    written
+}
 
 /// The reply to a text as whole bytes, or over a stream.
 fn by_front(alloc: Global, front: &mut Front<Plain>, is_whole: bool, text: &[u8]) -> Option<Text> {
     if is_whole {
         return bytes_of(alloc, front.answer(text)).ok();
     }
-    let (_answer, written) = serve(alloc, front, text, 100, None, None).ok()?;
-    Some(written)
+    by_stream(alloc, front, text)
 }
 
 /// The reply to a text that comes over a connection, in single bytes that then end.
@@ -38,12 +46,14 @@ fn by_hub(alloc: Global, hub: &mut Hub<Plain>, text: &[u8]) -> Option<Text> {
 type Case<'a> = (&'a str, &'a [u8], &'a str, &'a str);
 
 /// Asserts the reply to a text.
-fn is_reply(rt: &impl Abort, way: &str, case: &Case<'_>, reply: Text) {
+fn is_reply(rt: &impl Abort, way: &str, case: &Case<'_>, reply: Option<Text>) {
+    let reply = made_at(rt, (case.0, case.1.len(), way), reply);
     assert_reads_at(rt, (case.0, case.1.len(), way), reply.as_slice(), case.2);
 }
 
 /// Asserts the end of the page of X's bids after a text.
-fn ends_with(rt: &impl Abort, way: &str, case: &Case<'_>, bids: Text) {
+fn ends_with(rt: &impl Abort, way: &str, case: &Case<'_>, bids: Option<Text>) {
+    let bids = made_at(rt, (case.0, case.1.len(), way), bids);
     let is_end = bids.as_slice().ends_with(case.3.as_bytes());
     assert_is_at(rt, (case.0, case.1.len(), way), is_end, true);
 }
@@ -55,35 +65,33 @@ fn are_by_front(
     front: &mut Front<Plain>,
     is_whole: bool,
     case: &Case<'_>,
-) -> Option<()> {
+) {
     let way = if is_whole { "whole" } else { "stream" };
-    is_reply(rt, way, case, by_front(alloc, front, is_whole, case.1)?);
+    is_reply(rt, way, case, by_front(alloc, front, is_whole, case.1));
     let asked = BIDS_OF_X.as_bytes();
-    ends_with(rt, way, case, by_front(alloc, front, is_whole, asked)?);
-    Some(())
+    ends_with(rt, way, case, by_front(alloc, front, is_whole, asked));
 }
 
 /// Asserts the replies of a hub to a text and to X's request for its bids.
-fn are_by_hub(rt: &impl Abort, alloc: Global, hub: &mut Hub<Plain>, case: &Case<'_>) -> Option<()> {
-    is_reply(rt, "connection", case, by_hub(alloc, hub, case.1)?);
+fn are_by_hub(rt: &impl Abort, alloc: Global, hub: &mut Hub<Plain>, case: &Case<'_>) {
+    is_reply(rt, "connection", case, by_hub(alloc, hub, case.1));
     let asked = BIDS_OF_X.as_bytes();
-    ends_with(rt, "connection", case, by_hub(alloc, hub, asked)?);
-    Some(())
+    ends_with(rt, "connection", case, by_hub(alloc, hub, asked));
 }
 
 /// Asserts the reply to a text by a new front, and the end of the page of X's bids then.
-fn is_reported_by(rt: &impl Abort, alloc: Global, is_whole: bool, case: &Case<'_>) -> Option<()> {
-    on_one_product(alloc, |front| {
+fn is_reported_by(rt: &impl Abort, alloc: Global, is_whole: bool, case: &Case<'_>) {
+    on_one_product(rt, alloc, |front| {
         are_by_front(rt, alloc, front, is_whole, case)
     })
 }
 
 /// Asserts the reply to a text, and the end of the page of X's bids then. The text and the request
 /// for the page come as whole bytes, over a stream, and over a connection.
-fn is_reported(rt: &impl Abort, alloc: Global, case: &Case<'_>) -> Option<()> {
-    is_reported_by(rt, alloc, true, case)?;
-    is_reported_by(rt, alloc, false, case)?;
-    on_hub(alloc, |hub| are_by_hub(rt, alloc, hub, case))
+fn is_reported(rt: &impl Abort, alloc: Global, case: &Case<'_>) {
+    is_reported_by(rt, alloc, true, case);
+    is_reported_by(rt, alloc, false, case);
+    on_hub(rt, alloc, |hub| are_by_hub(rt, alloc, hub, case))
 }
 
 /// The name of a text, its pieces, and its length if a limit depends on it; the reply, and the end
@@ -96,24 +104,18 @@ pub(super) type Hostile<'a> = (
     &'a str,
 );
 
-/// Asserts the reply to the text of a row, and the end of the page of X's bids then.
-fn text_is_reported(rt: &impl Abort, alloc: Global, row: &Hostile<'_>, text: &[u8]) -> Option<()> {
-    assert_is_at(rt, row.0, text.len(), row.2.unwrap_or(text.len()));
-    let reply = reply_with(alloc, row.3.0, row.3.1)?;
-    is_reported(rt, alloc, &(row.0, text, reply.as_str(), row.4))
-}
-
 /// Asserts what a row says.
-fn row_is_reported(rt: &impl Abort, alloc: Global, row: &Hostile<'_>) -> Option<()> {
-    let text = repeated(alloc, row.1)?;
-    text_is_reported(rt, alloc, row, text.as_slice())
+fn row_is_reported(rt: &impl Abort, alloc: Global, row: &Hostile<'_>) {
+    let text = made_at(rt, row.0, repeated(alloc, row.1));
+    assert_is_at(rt, row.0, text.len(), row.2.unwrap_or(text.len()));
+    let reply = made_at(rt, row.0, reply_with(alloc, row.3.0, row.3.1));
+    is_reported(rt, alloc, &(row.0, text.as_slice(), reply.as_str(), row.4));
 }
 
 /// Asserts what each row says.
 pub(super) fn are_reported(rt: &impl Abort, alloc: Global, rows: &[Hostile<'_>]) {
     for row in rows {
-        let done = row_is_reported(rt, alloc, row);
-        assert_is_at(rt, row.0, done, Some(()));
+        row_is_reported(rt, alloc, row);
     }
 }
 
@@ -234,8 +236,7 @@ fn each_beginning_of_a_request_is_cut_short(rt: HostRuntime) {
     for count in 0..147 {
         let text = PUT.as_bytes().get(..count).unwrap_or(b"more");
         let case: Case<'_> = ("beginning", text, clock_fixtures::CUT_SHORT, NO_SHEET);
-        let done = is_reported(&rt, rt.alloc(), &case);
-        assert_is_at(&rt, count, done, Some(()));
+        is_reported(&rt, rt.alloc(), &case);
     }
 }
 

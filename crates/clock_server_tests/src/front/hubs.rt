@@ -1,22 +1,23 @@
 //! Calls of a hub, with results that tests compare.
+use crate::comparing::made_at;
 use crate::front::example::opened;
 use clock_device::{NoMemory, Text};
 use clock_fixtures::ONE_PRODUCT;
 use clock_front::{Conn, Fed, Hub, HubFault, Reply};
 use clock_processor::Plain;
 use std::alloc::Global;
-
-/// A hub for a set-up of one product.
-fn hub_of(alloc: Global) -> Option<Hub<Plain>> {
-    let front = opened(alloc, ONE_PRODUCT).ok()?;
-    Some(Hub::new(alloc, front))
-}
+use std::process::Abort;
 
 /// Calls `act` on a hub for one product, without connections. Only here do the tests drop a hub.
-pub(super) fn on_hub<T, F: FnOnce(&mut Hub<Plain>) -> Option<T>>(alloc: Global, act: F) -> Option<T>
+pub(super) fn on_hub<T, F: FnOnce(&mut Hub<Plain>) -> T>(
+    rt: &impl Abort,
+    alloc: Global,
+    act: F,
+) -> T
     requires { F.IsAlwaysCallable act }
 {
-    let mut hub = hub_of(alloc)?;
+    let front = made_at(rt, ONE_PRODUCT, opened(alloc, ONE_PRODUCT).ok());
+    let mut hub = Hub::new(alloc, front);
     let done = act(&mut hub);
     drop(hub);
     done

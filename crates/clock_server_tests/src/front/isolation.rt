@@ -2,7 +2,7 @@
 mod in_pieces;
 
 use super::requests::{reply_of, request_of};
-use crate::comparing::assert_is_at;
+use crate::comparing::{assert_is_at, made_at};
 use crate::front::example::on_front;
 use clock_front::Front;
 use clock_processor::Plain;
@@ -17,25 +17,22 @@ const PUBLIC: &str =
 const X_AND_Y: &str =
     r#"{"name":"X","token":"XXXXXXXXXXXXXXXX","eligibility":10},{"name":"Y","token":"YYYYYYYYYYYYYYYY","eligibility":10}"#;
 
-/// X's own requests: the request line, the owner of the token, and the body. The others send theirs
-/// in turn: the turns are divided by lines that have only `~`.
-const OWN: &str = r#"GET /v1/me/bids|X|
+/// X's own requests by turns: the request line, the owner of the token, and the body. After each
+/// turn the others have theirs.
+const OWN: &[&str] = &[
+    r#"GET /v1/me/bids|X|
 PUT /v1/me/bids|X|{"bids":[{"price":100,"product":0,"quantity":3}],"round":1}
-PUT /v1/me/bids|X|{"bids":[{"price":100,"product":0,"quantity":2}],"round":1}
-~
-GET /v1/me/bids|X|
-GET /v1/rounds/1|X|
-~
-PUT /v1/me/bids|X|{"bids":[{"price":110,"product":0,"quantity":2}],"round":1}
+PUT /v1/me/bids|X|{"bids":[{"price":100,"product":0,"quantity":2}],"round":1}"#,
+    r#"GET /v1/me/bids|X|
+GET /v1/rounds/1|X|"#,
+    r#"PUT /v1/me/bids|X|{"bids":[{"price":110,"product":0,"quantity":2}],"round":1}
 GET /v1/rounds/1|X|
 GET /v1/me/rounds/1|X|
 PUT /v1/me/bids|X|{"bids":[{"price":103,"product":0,"quantity":0}],"round":2}
-GET /v1/me|X|
-~
-GET /v1/me/bids|X|
-GET /v1/status|X|
-~
-GET /v1/me|X|
+GET /v1/me|X|"#,
+    r#"GET /v1/me/bids|X|
+GET /v1/status|X|"#,
+    r#"GET /v1/me|X|
 GET /v1/me/rounds/2|X|
 GET /v1/rounds/2|X|
 GET /v1/products|X|
@@ -43,7 +40,8 @@ GET /v1/none|X|
 DELETE /v1/me/bids|X|
 GET /v1/results|X|
 POST /v1/close|X|{"increment":10,"round":2,"ties":[]}
-PUT /v1/me/bids|X|{"bids":[],"round":2}"#;
+PUT /v1/me/bids|X|{"bids":[],"round":2}"#,
+];
 
 /// The pages of X's account in round 2, and of round 2's results.
 const PAGES: &str =
@@ -57,20 +55,20 @@ type Sent<'a> = (&'a str, bool);
 /// Adds the requests of rows.
 fn push_rows<'a>(requests: &mut Vec<Sent<'a>>, rows: &'a str, is_own: bool) -> Option<()> {
     for row in rows.split('\n') {
-        if !row.is_empty() {
-            requests.push((row, is_own)).ok()?;
-        }
+        requests.push((row, is_own)).ok()?;
     }
     Some(())
 }
 
 /// The requests of a run in their order: in each turn X's, and then those of the others.
-fn requests_of(alloc: Global, others: &str) -> Option<Vec<Sent<'_>>> {
+fn requests_of<'a>(alloc: Global, others: &[&'a str]) -> Option<Vec<Sent<'a>>> {
+    let own = OWN;
     let mut requests = Vec::new(alloc);
-    let mut others = others.split('~');
-    for own in OWN.split('~') {
-        push_rows(&mut requests, own, true)?;
-        push_rows(&mut requests, others.next().unwrap_or(""), false)?;
+    for turn in 0..own.len() {
+        push_rows(&mut requests, own[turn], true)?;
+        if turn < others.len() {
+            push_rows(&mut requests, others[turn], false)?;
+        }
     }
     Some(requests)
 }
@@ -98,16 +96,17 @@ fn document_of(alloc: Global, public: &str, bidders: &str) -> Result<String, All
     format!(in alloc; "{{{public},\"bidders\":[{bidders}]}}")
 }
 
-/// A run: its bidders, and what the others send.
-type Run<'a> = (&'a str, &'a str);
+/// A run: its bidders, and what the others send in each turn.
+type Run<'a> = (&'a str, &'a [&'a str]);
 
 /// The replies to X's requests in a run with this public set-up.
-fn reported_x(alloc: Global, public: &str, run: &Run<'_>) -> Option<String> {
-    let document = document_of(alloc, public, run.0).ok()?;
-    let requests = requests_of(alloc, run.1)?;
-    on_front(alloc, document.as_str(), |front| {
+fn reported_x(rt: &impl Abort, alloc: Global, public: &str, run: &Run<'_>) -> String {
+    let document = made_at(rt, run, document_of(alloc, public, run.0).ok());
+    let requests = made_at(rt, run, requests_of(alloc, run.1));
+    let reported = on_front(rt, alloc, document.as_str(), |front| {
         reported_in_turn(alloc, front, requests.as_slice())
-    })
+    });
+    made_at(rt, run, reported)
 }
 
 /// Whether each of [`PAGES`] is in X's replies.
@@ -116,13 +115,12 @@ fn has_pages(reported: &str) -> bool {
 }
 
 /// Y asks for one block in both rounds.
-const BY_Y: &str = r#"PUT /v1/me/bids|Y|{"bids":[{"price":100,"product":0,"quantity":1}],"round":1}
-~
-POST /v1/close|O|{"increment":10,"round":1,"ties":[]}
-~
-PUT /v1/me/bids|Y|{"bids":[{"price":110,"product":0,"quantity":1}],"round":2}
-~
-POST /v1/close|O|{"increment":10,"round":2,"ties":[]}"#;
+const BY_Y: &[&str] = &[
+    r#"PUT /v1/me/bids|Y|{"bids":[{"price":100,"product":0,"quantity":1}],"round":1}"#,
+    r#"POST /v1/close|O|{"increment":10,"round":1,"ties":[]}"#,
+    r#"PUT /v1/me/bids|Y|{"bids":[{"price":110,"product":0,"quantity":1}],"round":2}"#,
+    r#"POST /v1/close|O|{"increment":10,"round":2,"ties":[]}"#,
+];
 
 /// X between two other bidders.
 const V_X_AND_W: &str =
@@ -130,29 +128,26 @@ const V_X_AND_W: &str =
 {"name":"W","token":"WWWWWWWWWWWWWWWW","eligibility":5}"#;
 
 /// W instead of Y: a sheet of two blocks first, and at the end one that is over the cap.
-const BY_W: &str = r#"PUT /v1/me/bids|W|{"bids":[{"price":100,"product":0,"quantity":2}],"round":1}
+const BY_W: &[&str] = &[
+    r#"PUT /v1/me/bids|W|{"bids":[{"price":100,"product":0,"quantity":2}],"round":1}
 PUT /v1/me/bids|W|{"bids":[{"price":100,"product":0,"quantity":1}],"round":1}
-PUT /v1/me/bids|W|{"bids":[{"price":100,"product":0,"quantity":3}],"round":1}
-~
-POST /v1/close|O|{"increment":10,"round":1,"ties":[]}
-~
-PUT /v1/me/bids|W|{"bids":[{"price":110,"product":0,"quantity":1}],"round":2}
-~
-POST /v1/close|O|{"increment":10,"round":2,"ties":[]}"#;
+PUT /v1/me/bids|W|{"bids":[{"price":100,"product":0,"quantity":3}],"round":1}"#,
+    r#"POST /v1/close|O|{"increment":10,"round":1,"ties":[]}"#,
+    r#"PUT /v1/me/bids|W|{"bids":[{"price":110,"product":0,"quantity":1}],"round":2}"#,
+    r#"POST /v1/close|O|{"increment":10,"round":2,"ties":[]}"#,
+];
 
 /// The requests of Y, and three that are refused: a closing, a sheet without a valid token, and no
 /// head.
-const BY_Y_AND_STRANGERS: &str =
+const BY_Y_AND_STRANGERS: &[&str] = &[
     r#"PUT /v1/me/bids|Y|{"bids":[{"price":100,"product":0,"quantity":1}],"round":1}
-POST /v1/close|O|{"increment":0,"round":1,"ties":[]}
-~
-PUT /v1/me/bids|N|{"bids":[{"price":100,"product":0,"quantity":1}],"round":1}
-POST /v1/close|O|{"increment":10,"round":1,"ties":[]}
-~
-GET  /v1/status|N|
-PUT /v1/me/bids|Y|{"bids":[{"price":110,"product":0,"quantity":1}],"round":2}
-~
-POST /v1/close|O|{"increment":10,"round":2,"ties":[]}"#;
+POST /v1/close|O|{"increment":0,"round":1,"ties":[]}"#,
+    r#"PUT /v1/me/bids|N|{"bids":[{"price":100,"product":0,"quantity":1}],"round":1}
+POST /v1/close|O|{"increment":10,"round":1,"ties":[]}"#,
+    r#"GET  /v1/status|N|
+PUT /v1/me/bids|Y|{"bids":[{"price":110,"product":0,"quantity":1}],"round":2}"#,
+    r#"POST /v1/close|O|{"increment":10,"round":2,"ties":[]}"#,
+];
 
 /// The public set-up in version 2.
 const PUBLIC_2: &str = r#""version":2,"limit":125,"requirement":95,"operator":"OPERATOROPERATOR",
@@ -160,25 +155,21 @@ const PUBLIC_2: &str = r#""version":2,"limit":125,"requirement":95,"operator":"O
 
 /// The requests of Y and the operator in version 2, in which a closing has an increment for each
 /// product.
-const BY_Y_2: &str =
-    r#"PUT /v1/me/bids|Y|{"bids":[{"price":100,"product":0,"quantity":1}],"round":1}
-~
-POST /v1/close|O|{"increments":[10],"round":1,"ties":[]}
-~
-PUT /v1/me/bids|Y|{"bids":[{"price":110,"product":0,"quantity":1}],"round":2}
-~
-POST /v1/close|O|{"increments":[10],"round":2,"ties":[]}"#;
+const BY_Y_2: &[&str] = &[
+    r#"PUT /v1/me/bids|Y|{"bids":[{"price":100,"product":0,"quantity":1}],"round":1}"#,
+    r#"POST /v1/close|O|{"increments":[10],"round":1,"ties":[]}"#,
+    r#"PUT /v1/me/bids|Y|{"bids":[{"price":110,"product":0,"quantity":1}],"round":2}"#,
+    r#"POST /v1/close|O|{"increments":[10],"round":2,"ties":[]}"#,
+];
 
-const BY_W_2: &str =
+const BY_W_2: &[&str] = &[
     r#"PUT /v1/me/bids|W|{"bids":[{"price":100,"product":0,"quantity":2}],"round":1}
 PUT /v1/me/bids|W|{"bids":[{"price":100,"product":0,"quantity":1}],"round":1}
-PUT /v1/me/bids|W|{"bids":[{"price":100,"product":0,"quantity":3}],"round":1}
-~
-POST /v1/close|O|{"increments":[10],"round":1,"ties":[]}
-~
-PUT /v1/me/bids|W|{"bids":[{"price":110,"product":0,"quantity":1}],"round":2}
-~
-POST /v1/close|O|{"increments":[10],"round":2,"ties":[]}"#;
+PUT /v1/me/bids|W|{"bids":[{"price":100,"product":0,"quantity":3}],"round":1}"#,
+    r#"POST /v1/close|O|{"increments":[10],"round":1,"ties":[]}"#,
+    r#"PUT /v1/me/bids|W|{"bids":[{"price":110,"product":0,"quantity":1}],"round":2}"#,
+    r#"POST /v1/close|O|{"increments":[10],"round":2,"ties":[]}"#,
+];
 
 /// The bidders of [`X_AND_Y`] in another order.
 const Y_AND_X: &str =
@@ -186,37 +177,34 @@ const Y_AND_X: &str =
 
 /// Y's sheets with faults and the operator's refused closings, in another order in each turn, and
 /// tie-breaking numbers for the other order of bidders.
-const BY_Y_WITH_FAULTS: &str = r#"POST /v1/close|O|{"increment":51,"round":1,"ties":[]}
+const BY_Y_WITH_FAULTS: &[&str] = &[
+    r#"POST /v1/close|O|{"increment":51,"round":1,"ties":[]}
 PUT /v1/me/bids|Y|{"bids":[{"price":101,"product":0,"quantity":1}],"round":1}
-PUT /v1/me/bids|Y|{"bids":[{"price":100,"product":0,"quantity":1}],"round":1}
-~
-PUT /v1/me/bids|Y|{"bids":[],"round":2}
+PUT /v1/me/bids|Y|{"bids":[{"price":100,"product":0,"quantity":1}],"round":1}"#,
+    r#"PUT /v1/me/bids|Y|{"bids":[],"round":2}
 POST /v1/close|O|{"increment":10,"round":2,"ties":[]}
-POST /v1/close|O|{"increment":10,"round":1,"ties":[[0,0,7],[1,0,3]]}
-~
-PUT /v1/me/bids|Y|{"bids":[{"price":110,"product":0,"quantity":1}],"round":2}
+POST /v1/close|O|{"increment":10,"round":1,"ties":[[0,0,7],[1,0,3]]}"#,
+    r#"PUT /v1/me/bids|Y|{"bids":[{"price":110,"product":0,"quantity":1}],"round":2}
 POST /v1/close|O|{"increments":[10],"round":2,"ties":[]}
-PUT /v1/me/bids|Y|{"bids":[{"price":110,"product":0,"quantity":1}]}
-~
-POST /v1/close|O|{"increment":10,"round":2,"ties":[[1,0,1],[1,0,1]]}
-POST /v1/close|O|{"increment":10,"round":2,"ties":[[1,0,2]]}"#;
+PUT /v1/me/bids|Y|{"bids":[{"price":110,"product":0,"quantity":1}]}"#,
+    r#"POST /v1/close|O|{"increment":10,"round":2,"ties":[[1,0,1],[1,0,1]]}
+POST /v1/close|O|{"increment":10,"round":2,"ties":[[1,0,2]]}"#,
+];
 
 /// Y's requests and the operator's with other faults.
-const BY_Y_WITH_OTHER_FAULTS: &str =
+const BY_Y_WITH_OTHER_FAULTS: &[&str] = &[
     r#"PUT /v1/me/bids|Y|{"bids":[{"price":100,"product":0,"quantity":1}],"round":1}
 PUT /v1/me/bids|Y|{"bids":[{"price":100,"product":1,"quantity":1}],"round":1}
-POST /v1/close|O|{"increment":10,"round":1,"ties":[[2,0,1]]}
-~
-POST /v1/close|Y|{"increment":10,"round":1,"ties":[]}
+POST /v1/close|O|{"increment":10,"round":1,"ties":[[2,0,1]]}"#,
+    r#"POST /v1/close|Y|{"increment":10,"round":1,"ties":[]}
 POST /v1/close|O|{"increment":10,"round":1,"ties":[]}
-PUT /v1/me/bids|Y|{"bids":[],"round":1}
-~
-POST /v1/close|O|{"increment":10,"round":1,"ties":[]}
+PUT /v1/me/bids|Y|{"bids":[],"round":1}"#,
+    r#"POST /v1/close|O|{"increment":10,"round":1,"ties":[]}
 PUT /v1/me/bids|Y|{"bids":[{"price":105,"product":0,"quantity":2}],"round":2}
-PUT /v1/me/bids|Y|{"bids":[{"price":110,"product":0,"quantity":1}],"round":2}
-~
-PUT /v1/me/bids|Y|{"bids":[{"price":111,"product":0,"quantity":1}],"round":2}
-POST /v1/close|O|{"increment":10,"round":2,"ties":[[0,0,8]]}"#;
+PUT /v1/me/bids|Y|{"bids":[{"price":110,"product":0,"quantity":1}],"round":2}"#,
+    r#"PUT /v1/me/bids|Y|{"bids":[{"price":111,"product":0,"quantity":1}],"round":2}
+POST /v1/close|O|{"increment":10,"round":2,"ties":[[0,0,8]]}"#,
+];
 
 /// What X's replies hide, the public set-up, and two runs that differ only in it.
 type Hidden<'a> = (&'a str, &'a str, Run<'a>, Run<'a>);
@@ -246,23 +234,21 @@ const RUNS: &[Hidden<'static>] = &[
 
 /// Asserts X's replies in the second run, with its pages among them. A failure names what the runs
 /// hide.
-fn is_reported(rt: &impl Abort, alloc: Global, row: &Hidden<'_>, expected: &str) -> Option<()> {
-    let reported = reported_x(alloc, row.1, &row.3)?;
+fn is_reported(rt: &impl Abort, alloc: Global, row: &Hidden<'_>, expected: &str) {
+    let reported = reported_x(rt, alloc, row.1, &row.3);
     let is_whole = has_pages(reported.as_str());
     assert_is_at(rt, row.0, (reported.as_str(), is_whole), (expected, true));
-    Some(())
 }
 
 /// Asserts that X's replies in both runs are equal.
-fn is_reported_alike(rt: &impl Abort, alloc: Global, row: &Hidden<'_>) -> Option<()> {
-    let reported = reported_x(alloc, row.1, &row.2)?;
-    is_reported(rt, alloc, row, reported.as_str())
+fn is_reported_alike(rt: &impl Abort, alloc: Global, row: &Hidden<'_>) {
+    let reported = reported_x(rt, alloc, row.1, &row.2);
+    is_reported(rt, alloc, row, reported.as_str());
 }
 
 #[test]
 fn what_a_bidder_may_not_see_shows_in_no_reply(rt: HostRuntime) {
     for row in RUNS {
-        let done = is_reported_alike(&rt, rt.alloc(), row);
-        assert_is_at(&rt, row.0, done, Some(()));
+        is_reported_alike(&rt, rt.alloc(), row);
     }
 }

@@ -3,7 +3,7 @@ use super::events::{connected, piece, push_byte};
 use super::hubs;
 use super::hubs::{fed, finished, on_hub};
 use super::requests::setup_of;
-use crate::comparing::{assert_is, assert_is_at, assert_reads_at};
+use crate::comparing::{assert_is, assert_is_at, assert_reads_at, made_at};
 use clock_device::Text;
 use clock_fixtures::{
     ACCEPTED, BIDS_OF_Y, CUT_SHORT, FIRST_ROUND, NO_BIDS, ONE_PRODUCT, PUT, STATUS,
@@ -75,19 +75,17 @@ fn are_reported(rt: &impl Abort, replies: &[EventReply], expected: &[(u64, &str)
 }
 
 /// Asserts that the three connections get their replies in the order of completion.
-fn are_reported_in_order(rt: &impl Abort, alloc: Global) -> Option<()> {
-    let events = in_single_bytes(alloc)?;
-    let replies = replies_to(alloc, events.as_slice());
+fn are_reported_in_order(rt: &impl Abort, alloc: Global) {
+    let events = made_at(rt, "events", in_single_bytes(alloc));
+    let replies = made_at(rt, "replies", replies_to(alloc, events.as_slice()));
     drop(events);
-    let replies = replies?;
     are_reported(rt, replies.as_slice(), IN_ORDER_OF_COMPLETION);
     drop(replies);
-    Some(())
 }
 
 #[test]
 fn three_connections_in_single_bytes(rt: HostRuntime) {
-    assert_is(&rt, are_reported_in_order(&rt, rt.alloc()), Some(()));
+    are_reported_in_order(&rt, rt.alloc());
 }
 
 /// Opens `count` connections more.
@@ -99,16 +97,14 @@ fn connect_all(hub: &mut Hub<Plain>, count: usize) -> Result<(), HubFault> {
 }
 
 /// Asserts that `count` connections can be open, and no further one.
-fn is_full_at(rt: &impl Abort, hub: &mut Hub<Plain>, count: usize) -> Option<()> {
+fn is_full_at(rt: &impl Abort, hub: &mut Hub<Plain>, count: usize) {
     assert_is(rt, connect_all(hub, count), Ok(()));
     assert_is(rt, hubs::connected(hub), Err(HubFault::Full));
-    Some(())
 }
 
 #[test]
 fn no_more_than_256_stand(rt: HostRuntime) {
-    let done = on_hub(rt.alloc(), |hub| is_full_at(&rt, hub, 256));
-    assert_is(&rt, done, Some(()));
+    on_hub(&rt, rt.alloc(), |hub| is_full_at(&rt, hub, 256));
 }
 
 /// The words of a fault for a connection that does not exist.
@@ -172,10 +168,9 @@ fn is_reported(
     conn: Conn,
     text: &str,
     expected: &str,
-) -> Option<()> {
-    let reported = reported(alloc, hub, conn, text)?;
+) {
+    let reported = made_at(rt, text, reported(alloc, hub, conn, text));
     assert_reads_at(rt, text, reported.as_slice(), expected);
-    Some(())
 }
 
 /// Runs a step.
@@ -185,25 +180,25 @@ fn take_step(
     hub: &mut Hub<Plain>,
     conns: &mut Vec<Conn>,
     step: &Step<'_>,
-) -> Option<()> {
+) {
     match conns.as_slice().get(step.0) {
-        None => conns.push(hubs::connected(hub).ok()?).ok(),
+        None => {
+            let conn = made_at(rt, step, hubs::connected(hub).ok());
+            made_at(rt, step, conns.push(conn).ok());
+        }
         Some(conn) => is_reported(rt, alloc, hub, *conn, step.1, step.2),
     }
 }
 
 /// Runs all steps.
-fn take_steps(rt: &impl Abort, alloc: Global, hub: &mut Hub<Plain>) -> Option<()> {
+fn take_steps(rt: &impl Abort, alloc: Global, hub: &mut Hub<Plain>) {
     let mut conns = Vec::new(alloc);
     for step in STEPS {
-        let done = take_step(rt, alloc, hub, &mut conns, step);
-        assert_is_at(rt, step, done, Some(()));
+        take_step(rt, alloc, hub, &mut conns, step);
     }
-    Some(())
 }
 
 #[test]
 fn a_connection_is_gone_with_its_reply(rt: HostRuntime) {
-    let done = on_hub(rt.alloc(), |hub| take_steps(&rt, rt.alloc(), hub));
-    assert_is(&rt, done, Some(()));
+    on_hub(&rt, rt.alloc(), |hub| take_steps(&rt, rt.alloc(), hub));
 }

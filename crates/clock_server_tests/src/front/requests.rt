@@ -8,7 +8,7 @@
 //! ```text
 //! GET /v1/me/bids|Y|>200 OK|{"bids":null,"round":1}
 //! ```
-use crate::comparing::assert_is_at;
+use crate::comparing::{assert_is_at, made_at};
 use clock_front::Front;
 use clock_processor::Plain;
 use clock_setup::{Setup, read_setup};
@@ -86,9 +86,8 @@ pub(super) fn compare(
     row: &str,
     text: &str,
     reported: Reported<'_>,
-) -> Option<()> {
-    let reply = reply_of(alloc, front, text)?;
-    let expected = reply_with(alloc, reported.0, reported.1)?;
+) {
+    let reply = made_at(rt, row, reply_of(alloc, front, text));
+    let expected = made_at(rt, row, reply_with(alloc, reported.0, reported.1));
     assert_is_at(rt, row, reply.as_str(), expected.as_str());
-    Some(())
 }

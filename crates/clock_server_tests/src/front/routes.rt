@@ -1,5 +1,5 @@
 //! The page of a path.
-use crate::comparing::assert_is_at;
+use crate::comparing::{assert_is_at, made_at};
 use crate::front::example::on_one_product;
 use clock_http::Code;
 use std::alloc::Global;
@@ -32,17 +32,18 @@ const NO_PAGES: &[&str] = &[
 ];
 
 /// The code of the reply to a request for a path without a token.
-fn code_of(alloc: Global, path: &str) -> Option<Code> {
-    let text = format!(in alloc; "GET {path} HTTP/1.1\r\n\r\n").ok()?;
-    on_one_product(alloc, |front| {
-        Some(front.answer(text.as_str().as_bytes()).code())
+fn code_of(rt: &impl Abort, alloc: Global, path: &str) -> Code {
+    let text = format!(in alloc; "GET {path} HTTP/1.1\r\n\r\n").ok();
+    let text = made_at(rt, path, text);
+    on_one_product(rt, alloc, |front| {
+        front.answer(text.as_str().as_bytes()).code()
     })
 }
 
 /// Asserts the code of the replies to requests for these paths.
 fn are_answered(rt: &impl Abort, alloc: Global, paths: &[&str], code: Code) {
     for path in paths {
-        assert_is_at(rt, *path, code_of(alloc, path), Some(code));
+        assert_is_at(rt, *path, code_of(rt, alloc, path), code);
     }
 }
 

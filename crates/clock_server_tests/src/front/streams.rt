@@ -2,9 +2,9 @@
 ghost use Rattle.std.specs.Prelude.{◌≤◌};
 
 use super::requests::reply_of;
-use crate::comparing::assert_is_at;
+use crate::comparing::{assert_is_at, made_at};
 use crate::front::example::on_one_product;
-use clock_device::{ListSink, ListSource, NoMemory, Stop, Text};
+use clock_device::{ListSink, ListSource, Stop};
 use clock_fixtures::{ACCEPTED, BIDS_OF_X, NO_SHEET, PUT, SHEET};
 use clock_front::{Front, StreamFault, serve_stream};
 use clock_http::Code;
@@ -26,26 +26,6 @@ struct Row<'a> {
     ghost some: { 1 ≤ piece },
 }
 
-/// Serves a text by reads and writes of at most `piece` bytes, one of which may stop. Returns the
-/// answer and what is written.
-pub(super) fn serve(
-    alloc: Global,
-    front: &mut Front<Plain>,
-    text: &[u8],
-    piece: usize,
-    read: Option<(u64, Stop)>,
-    write: Option<u64>,
-) -> Result<(Result<Code, StreamFault>, Text), NoMemory>
-    requires { 1 ≤ piece }
-{
-    let mut source = ListSource::new(text, piece, read);
-    let mut sink = ListSink::new(alloc, 1024, piece, write)?;
-    let answer = serve_stream(alloc, front, &mut source, &mut sink);
-    let written = Text::from_slice(alloc, sink.bytes());
-    drop(sink);
-    Ok((answer, written?))
-}
-
 /// Whether X's sheet is in force, by the page of its bids, which shows this sheet or none.
 fn has_sheet(alloc: Global, front: &mut Front<Plain>) -> Option<bool> {
     let reply = reply_of(alloc, front, BIDS_OF_X)?;
@@ -58,30 +38,20 @@ fn has_sheet(alloc: Global, front: &mut Front<Plain>) -> Option<bool> {
 }
 
 /// Serves the text of a row and compares the result.
-fn served_as(
-    rt: &impl Abort,
-    alloc: Global,
-    front: &mut Front<Plain>,
-    row: &Row<'_>,
-) -> Option<()> {
-    let (answer, written) = serve(alloc, front, row.text, row.piece, row.read, row.write).ok()?;
+fn served_as(rt: &impl Abort, alloc: Global, front: &mut Front<Plain>, row: &Row<'_>) {
     let at = (row.piece, row.read, row.write);
-    assert_is_at(
-        rt,
-        at,
-        (answer, written.as_slice()),
-        (row.answer, row.written),
-    );
-    drop(written);
+    let mut source = ListSource::new(row.text, row.piece, row.read);
+    let sink = ListSink::new(alloc, 1024, row.piece, row.write);
+    let mut sink = made_at(rt, at, sink.ok());
+    let answer = serve_stream(alloc, front, &mut source, &mut sink);
+    assert_is_at(rt, at, (answer, sink.bytes()), (row.answer, row.written));
+    drop(sink);
     assert_is_at(rt, at, has_sheet(alloc, front), Some(row.has_sheet));
-    Some(())
 }
 
 /// Serves the text of a row by a front made for it, and compares the result.
 fn compare(rt: &impl Abort, alloc: Global, row: &Row<'_>) {
-    let done = on_one_product(alloc, |front| served_as(rt, alloc, front, row));
-    let at = (row.piece, row.read, row.write);
-    assert_is_at(rt, at, done, Some(()));
+    on_one_product(rt, alloc, |front| served_as(rt, alloc, front, row));
 }
 
 /// The row of a sheet that is accepted, by reads of at most `piece` bytes.

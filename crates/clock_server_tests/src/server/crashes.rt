@@ -5,7 +5,7 @@ ghost use Rattle.clock_front.specs.Fronts.{StandsForTexts};
 
 use super::crash_disk::{CrashDisk, Passed};
 use super::loops::{Sent, assert_written, clients};
-use crate::comparing::{assert_is, assert_is_at};
+use crate::comparing::{assert_is, assert_is_at, made_at};
 use crate::memory_acceptor::MemoryAcceptor;
 use clock_fixtures::{ACCEPTED, BIDS_OF_X, FIRST_ROUND, NO_BIDS, ONE_PRODUCT, PUT, STATUS};
 use clock_front::Front;
@@ -106,8 +106,7 @@ fn assert_left(rt: &impl Abort, moments: &[Passed], run: &Run<'_>) {
     }
 }
 
-/// Runs a server for these clients on a file. Compares how it ends, and what it writes. Returns
-/// `None` if memory runs out.
+/// Runs a server for these clients on a file. Compares how it ends, and what it writes.
 fn serve<R: Abort>(
     rt: &R,
     alloc: Global,
@@ -115,16 +114,15 @@ fn serve<R: Abort>(
     file: &[u8],
     sent: &[Sent<'_>],
     run: &Run<'_>,
-) -> Option<()>
+)
     requires { journal.old.has_failed ≡ false }
 {
-    let clients = clients(alloc, sent)?;
-    let mut listed = MemoryAcceptor::new(alloc, clients.as_slice()).ok()?;
+    let clients = made_at(rt, run.0, clients(alloc, sent));
+    let mut listed = MemoryAcceptor::new(alloc, clients.as_slice()).expect(rt, "connections");
     let ended = generation(alloc, journal, file, &mut listed, sent.len() as u64);
     assert_is_at(rt, run.0, ended, Some(run.1));
     assert_written(rt, listed.closed(), run.2);
     drop(listed);
-    Some(())
 }
 
 /// Runs a server for these clients on a file, and a disk of which only the first `calls` calls
@@ -136,14 +134,13 @@ fn run_server<R: Abort>(
     calls: u64,
     sent: &[Sent<'_>],
     run: &Run<'_>,
-) -> Option<Vec<u8>> {
+) -> Vec<u8> {
     let mut journal = Journal::new(CrashDisk::new(rt, alloc, file, calls), DIGEST);
-    let done = serve(rt, alloc, &mut journal, file, sent, run);
-    assert_is_at(rt, run.0, done, Some(()));
+    serve(rt, alloc, &mut journal, file, sent, run);
     assert_left(rt, journal.disk().moments(), run);
     let bytes = journal.disk().bytes().to_vec(alloc).ok();
     drop(journal);
-    bytes
+    made_at(rt, run.0, bytes)
 }
 
 /// The file's length up to the end of its texts, the replies of a server that starts on them, and
@@ -169,13 +166,13 @@ const AFTER_RESTART: &[Sent<'static>] = &[
 
 /// Starts a server on the first bytes of a file, which a crash may have left. Compares what it
 /// replies and logs, and what crashes during its start leave.
-fn restart<R: Abort>(rt: &R, alloc: Global, file: &[u8], length: usize) -> Option<()> {
+fn restart<R: Abort>(rt: &R, alloc: Global, file: &[u8], length: usize) {
     let (end, replies, then) = restart_of(length);
-    let file = file.get(..length)?;
-    let run: Run<'_> = (length, SERVED, replies, file.get(..end)?, b"");
-    let bytes = run_server(rt, alloc, file, 100, AFTER_RESTART, &run)?;
+    let file = made_at(rt, length, file.get(..length));
+    let texts = made_at(rt, length, file.get(..end));
+    let run: Run<'_> = (length, SERVED, replies, texts, b"");
+    let bytes = run_server(rt, alloc, file, 100, AFTER_RESTART, &run);
     assert_is_at(rt, length, bytes.len(), then);
-    Some(())
 }
 
 /// How a server ends on an empty file if this number of calls of its disk succeed, and what it
@@ -194,7 +191,7 @@ const FIRST: &[Sent<'static>] = &[(PUT, None, None), (CLOSE, None, None)];
 
 /// Runs a server until a call of its disk fails. Compares how it ends and what it writes, and
 /// asserts that a crash at each moment leaves a prefix of `whole`. Returns the file.
-fn crash_at<R: Abort>(rt: &R, alloc: Global, calls: u64, whole: &[u8]) -> Option<Vec<u8>> {
+fn crash_at<R: Abort>(rt: &R, alloc: Global, calls: u64, whole: &[u8]) -> Vec<u8> {
     let (ended, replies) = first_run(calls);
     let run: Run<'_> = (calls as usize, ended, replies, b"", whole);
     run_server(rt, alloc, b"", calls, FIRST, &run)
@@ -203,8 +200,7 @@ fn crash_at<R: Abort>(rt: &R, alloc: Global, calls: u64, whole: &[u8]) -> Option
 /// Runs a server until each call of its disk in turn is the first to fail.
 fn crash_at_each_call<R: Abort>(rt: &R, alloc: Global, whole: &[u8]) {
     for calls in 0..11 {
-        let done = crash_at(rt, alloc, calls, whole).is_some();
-        assert_is_at(rt, calls, done, true);
+        drop(crash_at(rt, alloc, calls, whole));
     }
 }
 
@@ -212,23 +208,20 @@ fn crash_at_each_call<R: Abort>(rt: &R, alloc: Global, whole: &[u8]) {
 /// left.
 fn restart_on_each_prefix<R: Abort>(rt: &R, alloc: Global, file: &[u8]) {
     for length in 0..407 {
-        let done = restart(rt, alloc, file, length);
-        assert_is_at(rt, length, done, Some(()));
+        restart(rt, alloc, file, length);
     }
 }
 
 /// Runs a server that crashes, and then others on what is left.
-fn crash_and_restart<R: Abort>(rt: &R, alloc: Global) -> Option<()> {
-    let file = crash_at(rt, alloc, 100, b"")?;
+fn crash_and_restart<R: Abort>(rt: &R, alloc: Global) {
+    let file = crash_at(rt, alloc, 100, b"");
     assert_is(rt, file.len(), 406);
     crash_at_each_call(rt, alloc, file.as_slice());
     restart_on_each_prefix(rt, alloc, file.as_slice());
-    Some(())
 }
 
 #[test]
 fn a_server_resumes_after_a_crash_at_each_call(rt: HostRuntime) {
     assert_is(&rt, (PUT.len(), CLOSE.len()), (147, 123));
-    let done = crash_and_restart(&rt, rt.alloc());
-    assert_is(&rt, done, Some(()));
+    crash_and_restart(&rt, rt.alloc());
 }

@@ -42,11 +42,11 @@ fn assert_hears(rt: &(impl Abort + Alloc<A = Global>), mut stream: TcpStream, re
 
 /// Serves three connections by an auction of one product, and closes the port.
 fn serve_three(rt: &(impl Abort + Alloc<A = Global>), listener: TcpListener) {
-    let is_served = on_one_product(rt.alloc(), |front| {
-        Some(serve_on(rt.alloc(), front, &listener, 3).is_ok())
+    let is_served = on_one_product(rt, rt.alloc(), |front| {
+        serve_on(rt.alloc(), front, &listener, 3).is_ok()
     });
     drop(listener);
-    assert_is(rt, is_served, Some(true));
+    assert_is(rt, is_served, true);
 }
 
 #[test]

@@ -2,7 +2,7 @@
 //! request can't be logged.
 ghost use Rattle.std.specs.Prelude.{◌≡◌, false};
 
-use crate::comparing::{assert_is, assert_is_at, assert_reads_at};
+use crate::comparing::{assert_is, assert_is_at, assert_reads_at, made_at};
 use crate::front::example::on_one_product;
 use crate::memory_acceptor::{Client, Closed, MemoryAcceptor};
 use clock_device::Stop;
@@ -73,15 +73,14 @@ fn compare<K: RequestLog>(
     log: &mut K,
     clients: &[Client<'_>],
     row: &Loop<'_>,
-) -> Option<()>
+)
     requires { (K.journal log.old).has_failed ≡ false }
 {
-    let mut listed = MemoryAcceptor::new(alloc, clients).ok()?;
+    let mut listed = MemoryAcceptor::new(alloc, clients).expect(rt, "connections");
     let end = serve_all(alloc, front, log, &mut listed, 5);
     assert_is_at(rt, row.0, end, row.1);
     assert_written(rt, listed.closed(), row.2);
     drop(listed);
-    Some(())
 }
 
 /// Compares like [`compare`], with a journal of which only the first `syncs` syncs succeed.
@@ -92,27 +91,20 @@ fn compare_logged(
     syncs: u64,
     clients: &[Client<'_>],
     row: &Loop<'_>,
-) -> Option<()> {
+) {
     let mut journal = Journal::new(MemoryDisk::new(alloc, 4096, syncs), [7; 32]);
-    let compared = if journal.begin().is_ok() {
-        compare(rt, alloc, front, &mut journal, clients, row)
-    } else {
-        None
-    };
+    let has_begun = journal.begin().is_ok();
+    if has_begun {
+        compare(rt, alloc, front, &mut journal, clients, row);
+    }
     let length = journal.disk().bytes().len();
     drop(journal);
-    assert_is(rt, length, 56 + 40 + PUT.len());
-    compared
+    assert_is_at(rt, row.0, (has_begun, length), (true, 56 + 40 + PUT.len()));
 }
 
 /// Compares like [`compare`], without a journal if the row has no syncs.
-fn compare_either(
-    rt: &impl Abort,
-    alloc: Global,
-    front: &mut Front<Plain>,
-    row: &Loop<'_>,
-) -> Option<()> {
-    let clients = clients(alloc, FIVE)?;
+fn compare_either(rt: &impl Abort, alloc: Global, front: &mut Front<Plain>, row: &Loop<'_>) {
+    let clients = made_at(rt, row.0, clients(alloc, FIVE));
     let clients = clients.as_slice();
     match row.0 {
         None => compare(rt, alloc, front, &mut NoLog, clients, row),
@@ -134,9 +126,8 @@ const LOOPS: &[Loop<'static>] = &[
 #[test]
 fn each_connection_gets_its_own_reply_once_it_is_logged(rt: HostRuntime) {
     for row in LOOPS {
-        let done = on_one_product(rt.alloc(), |front| {
+        on_one_product(&rt, rt.alloc(), |front| {
             compare_either(&rt, rt.alloc(), front, row)
         });
-        assert_is_at(&rt, row.0, done, Some(()));
     }
 }

@@ -3,7 +3,7 @@
 use super::{
     BY_W, BY_Y, PUBLIC, Run, Sent, V_X_AND_W, X_AND_Y, document_of, reported_x, requests_of,
 };
-use crate::comparing::{assert_is, assert_is_at};
+use crate::comparing::{assert_is_at, made_at};
 use crate::front::events::{connected, piece};
 use crate::front::requests::{request_of, setup_of};
 use clock_front::{Event, EventReplies, EventReply, Reply, run_events};
@@ -130,17 +130,6 @@ fn replies_to(alloc: Global, bidders: &str, events: &[Event]) -> Option<EventRep
     run_events(alloc, setup, Plain, events).ok()
 }
 
-/// The replies to requests whose bytes come in this order.
-fn replies_in(
-    alloc: Global,
-    bidders: &str,
-    requests: &[Sent],
-    way: Way<'_>,
-) -> Option<EventReplies> {
-    let events = events_of(alloc, requests, way)?;
-    replies_to(alloc, bidders, events.as_slice())
-}
-
 /// Adds a reply to a text.
 fn push_reply(alloc: Global, reported: &mut String, reply: &Reply) -> Option<()> {
     let reply = String::from_utf8_lossy(alloc, reply.bytes()).ok()?;
@@ -158,48 +147,35 @@ fn own_replies(alloc: Global, requests: &[Sent], replies: &[EventReply]) -> Opti
     Some(reported)
 }
 
-/// X's replies if the bytes of requests come in this order.
-fn reported_in(alloc: Global, bidders: &str, requests: &[Sent], way: Way<'_>) -> Option<String> {
-    let replies = replies_in(alloc, bidders, requests, way)?;
-    let reported = own_replies(alloc, requests, replies.as_slice());
-    drop(replies);
-    reported
-}
-
 /// X's replies in a run whose bytes come in this order.
-fn reported_x_in_pieces(alloc: Global, run: &Run<'_>, way: Way<'_>) -> Option<String> {
-    let requests = requests_of(alloc, run.1)?;
-    let reported = reported_in(alloc, run.0, requests.as_slice(), way);
-    drop(requests);
-    reported
+fn reported_in_pieces(rt: &impl Abort, alloc: Global, run: &Run<'_>, way: Way<'_>) -> String {
+    let at = (run.0, way);
+    let requests = made_at(rt, at, requests_of(alloc, run.1));
+    let events = made_at(rt, at, events_of(alloc, requests.as_slice(), way));
+    let replies = made_at(rt, at, replies_to(alloc, run.0, events.as_slice()));
+    drop(events);
+    let reported = own_replies(alloc, requests.as_slice(), replies.as_slice());
+    drop(replies);
+    made_at(rt, at, reported)
 }
 
-/// Runs in which X sees the same, and the order of their bytes.
-const RUNS: &[(Run<'static>, Way<'static>)] = &[
-    ((X_AND_Y, BY_Y), APART),
-    ((V_X_AND_W, BY_W), APART),
-    ((X_AND_Y, BY_Y), IN_TURN),
-    ((V_X_AND_W, BY_W), LAST_FIRST),
-    ((X_AND_Y, BY_Y), LAST_FIRST),
-    ((V_X_AND_W, BY_W), IN_TURN),
-];
+/// Runs in which X sees the same. The bytes of each come in each order.
+const RUNS: &[Run<'static>] = &[(X_AND_Y, BY_Y), (V_X_AND_W, BY_W)];
+
+const WAYS: &[Way<'static>] = &[APART, IN_TURN, LAST_FIRST];
 
 /// Asserts that X's replies are those to whole requests, in whatever order the bytes come.
-fn is_reported_as_whole(rt: &impl Abort, alloc: Global, whole: &str) -> Option<()> {
-    for row in RUNS {
-        let reported = reported_x_in_pieces(alloc, &row.0, row.1)?;
-        assert_is_at(rt, row, reported.as_str(), whole);
+fn is_reported_as_whole(rt: &impl Abort, alloc: Global, run: &Run<'_>, whole: &str) {
+    for way in WAYS {
+        let reported = reported_in_pieces(rt, alloc, run, way);
+        assert_is_at(rt, (run.0, *way), reported.as_str(), whole);
     }
-    Some(())
-}
-
-/// Asserts [`is_reported_as_whole`] for X's replies to whole requests.
-fn are_reported_alike(rt: &impl Abort, alloc: Global) -> Option<()> {
-    let whole = reported_x(alloc, PUBLIC, &(X_AND_Y, BY_Y))?;
-    is_reported_as_whole(rt, alloc, whole.as_str())
 }
 
 #[test]
 fn rivals_show_in_no_reply_to_pieces(rt: HostRuntime) {
-    assert_is(&rt, are_reported_alike(&rt, rt.alloc()), Some(()));
+    let whole = reported_x(&rt, rt.alloc(), PUBLIC, &(X_AND_Y, BY_Y));
+    for run in RUNS {
+        is_reported_as_whole(&rt, rt.alloc(), run, whole.as_str());
+    }
 }
