@@ -50,7 +50,9 @@ pub fn text_with_room(alloc: Global, head: &[u8], page: u128) -> Result<Bounded<
     let Ok(bytes) = usize::try_from(page.saturating_add(head.len() as u128)) else {
         return Err(NoRoom { page });
     };
-    let mut text = Text::with_capacity(alloc, bytes).or(Err(NoRoom { page }))?;
+    let Ok(mut text) = Text::with_capacity(alloc, bytes) else {
+        return Err(NoRoom { page });
+    };
     text.extend_from_slice(head);
     Ok(text)
 }

@@ -4,7 +4,6 @@ ghost use Rattle.clock_http.specs.Routes as spec;
 ghost use Rattle.clock_http.specs.inside.Routing as routing;
 
 use clock_device::NoMemory;
-use http::Method;
 use matchit::Router;
 use memchr::memrchr;
 use std::alloc::Global;
@@ -57,10 +56,10 @@ fn add_routes(router: &mut Router<Page>) -> Result<(), NoMemory>
 }
 
 /// Returns whether `method` is `wanted`. Methods are case-sensitive.
-fn is_method(method: &[u8], wanted: Method) -> bool
-    ensures { result ≡ same_bytes wanted method.now }
+fn is_method(method: &[u8], wanted: &[u8]) -> bool
+    ensures { result ≡ same_bytes wanted.now method.now }
 {
-    method == wanted.as_str().as_bytes()
+    method == wanted
 }
 
 impl Page {
@@ -69,9 +68,9 @@ impl Page {
         ensures { result ≡ spec.has_method self method.now }
     {
         match self {
-            Page::Bids => is_method(method, Method::GET) || is_method(method, Method::PUT),
-            Page::Close => is_method(method, Method::POST),
-            _ => is_method(method, Method::GET),
+            Page::Bids => is_method(method, b"GET") || is_method(method, b"PUT"),
+            Page::Close => is_method(method, b"POST"),
+            _ => is_method(method, b"GET"),
         }
     }
 }

@@ -1,16 +1,18 @@
 //! The pages that everyone may see, which depend only on the public part of a set-up, the pages of
 //! a bidder, and those of the operator.
 
-ghost use Rattle.std.specs.Prelude.{◌≡◌, ◌<◌, length, option_copied, IfOk};
+ghost use Rattle.std.specs.Prelude.{◌≡◌, ◌<◌, ◌≤◌, ◌+◌, length, option_copied, IfOk};
 ghost use Rattle.clock_terms.specs.Limits.{IsName, IsRow, public_setup};
 ghost use Rattle.clock_house.specs.History.{bidder_at};
 ghost use Rattle.clock_views.specs.PublicPages.{status_value, status_bytes, sheet_value};
-ghost use Rattle.clock_views.specs.PublicPages.{products_value};
+ghost use Rattle.clock_views.specs.PublicPages.{products_value, product_value, line_value};
 ghost use Rattle.clock_views.specs.PublicPages.{from_version_2 as number_from_version_2};
 ghost use Rattle.clock_views.specs.BidderPages.{account_value, bids_value, accepted_value};
 ghost use Rattle.clock_views.specs.BidderPages.{accepted_bytes, slip_value};
 ghost use Rattle.clock_views.specs.OperatorPages.{closed_value, closed_bytes, results_value};
 ghost use Rattle.clock_views.specs.{Rooms.{IsHeaded, most_text}, Values.{IsPage}};
+ghost use Rattle.clock_views.specs.inside.Rooms.{room_of_line, room_of_product};
+ghost use Rattle.clock_views.specs.inside.Values.{Adds, item_text};
 
 use crate::capacities::{
     ACCEPTED, ACCOUNT, BID, BIDS, CLOSED, DEMAND, LINE, NO_BIDS, PRODUCT, PRODUCTS, RESULT,
@@ -22,11 +24,11 @@ use crate::pieces::{
 };
 use clock_bids::{Own, Sheet};
 use clock_closing::Slip;
-use clock_device::{NoMemory, Text};
+use clock_device::{Bounded, NoMemory, Text};
 use clock_house::House;
 use clock_http::text_with_room;
-use clock_posting::RoundSheet;
-use clock_terms::{Setup, units_held};
+use clock_posting::{Line, RoundSheet};
+use clock_terms::{Product, Setup, units_held};
 use std::alloc::Global;
 
 /// Writes the status: the current round, and whether the auction has ended.
@@ -54,6 +56,25 @@ pub fn headed_status(alloc: Global, head: &[u8], setup: &Setup, round: u64, ende
     Ok(text.into_items())
 }
 
+/// Appends a product of a set-up of `version`, after a comma if it is not the first.
+fn push_product(text: &mut Bounded<u8>, later: bool, version: u64, product: &Product)
+    requires name { IsName product.now.name }
+    requires room { room_of_product ≤ text.old.room }
+    ensures adds { Adds
+        (item_text later (product_value version product.now)) text.old.items text.new.items }
+    ensures room { text.old.room ≤ text.new.room + room_of_product }
+{
+    let granule = from_version_2(version, product.granule);
+    push_comma_if(text, later);
+    push_number(text, b"{\"cap\":", product.cap);
+    push_number_if(text, b",\"granule\":", granule);
+    push_name(text, b",\"name\":", product.name.as_slice());
+    push_number(text, b",\"opening\":", product.opening.get());
+    push_number(text, b",\"supply\":", product.supply);
+    push_number(text, b",\"units\":", product.units);
+    text.extend_from_slice(b"}");
+}
+
 /// Writes the products in order of the set-up, and the activity requirement. From version 2 of the
 /// set-up document on, the page also has the activity limit and the granules.
 ///
@@ -71,20 +92,30 @@ pub fn products_page(alloc: Global, setup: &Setup) -> Result<Text, NoMemory>
     push_comma_if(&mut text, limit.is_some());
     text.extend_from_slice(b"\"products\":[");
     for (i, product) in products.iter().enumerate() {
-        let granule = from_version_2(setup.version, product.granule);
-        push_comma_if(&mut text, i > 0);
-        push_number(&mut text, b"{\"cap\":", product.cap);
-        push_number_if(&mut text, b",\"granule\":", granule);
-        push_name(&mut text, b",\"name\":", product.name.as_slice());
-        push_number(&mut text, b",\"opening\":", product.opening.get());
-        push_number(&mut text, b",\"supply\":", product.supply);
-        push_number(&mut text, b",\"units\":", product.units);
-        text.extend_from_slice(b"}");
+        push_product(&mut text, i > 0, setup.version, product);
     }
     push_number(&mut text, b"],\"requirement\":", setup.requirement);
     push_number(&mut text, b",\"version\":", setup.version);
     text.extend_from_slice(b"}");
     Ok(text.into_items())
+}
+
+/// Appends the results of a round for one product, after a comma if it is not the first.
+fn push_line(text: &mut Bounded<u8>, later: bool, product: &Product, line: &Line)
+    requires name { IsName product.now.name }
+    requires room { room_of_line ≤ text.old.room }
+    ensures adds { Adds
+        (item_text later (line_value product.now line.now)) text.old.items text.new.items }
+    ensures room { text.old.room ≤ text.new.room + room_of_line }
+{
+    push_comma_if(text, later);
+    push_number(text, b"{\"clock\":", line.clock.get());
+    push_number_or_null(text, b",\"demand\":", line.demand);
+    push_name(text, b",\"name\":", product.name.as_slice());
+    push_number_or_null(text, b",\"next\":", line.next);
+    push_number(text, b",\"posted\":", line.posted.get());
+    push_number(text, b",\"start\":", line.start.get());
+    text.extend_from_slice(b"}");
 }
 
 /// Writes the results of a closed round by product. Requires a line for each product of the set-up.
@@ -109,14 +140,7 @@ pub fn headed_sheet(alloc: Global, head: &[u8], setup: &Setup, sheet: &RoundShee
     text.extend_from_slice(b",\"products\":[");
     for (i, line) in sheet.lines.iter().enumerate() {
         let product = &setup.products[i];
-        push_comma_if(&mut text, i > 0);
-        push_number(&mut text, b"{\"clock\":", line.clock.get());
-        push_number_or_null(&mut text, b",\"demand\":", line.demand);
-        push_name(&mut text, b",\"name\":", product.name.as_slice());
-        push_number_or_null(&mut text, b",\"next\":", line.next);
-        push_number(&mut text, b",\"posted\":", line.posted.get());
-        push_number(&mut text, b",\"start\":", line.start.get());
-        text.extend_from_slice(b"}");
+        push_line(&mut text, i > 0, product, line);
     }
     push_number(&mut text, b"],\"round\":", sheet.round);
     text.extend_from_slice(b"}");

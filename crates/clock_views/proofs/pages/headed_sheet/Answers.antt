@@ -7,7 +7,7 @@ use Rattle.clock_views.specs.PublicPages.{line_value}
 use Rattle.clock_views.specs.inside.Values.{rest_text}
 use Rattle.clock_views.proofs.Lists.{array_between, row_more}
 use Rattle.clock_views.proofs.Pushes.{added, before, headed, refused, together}
-use Rattle.clock_views.proofs.Texts.{line_in_pieces, sheet_in_pieces}
+use Rattle.clock_views.proofs.Texts.{sheet_in_pieces}
 use Rattle.clock_views.proofs.Rooms.{sheet_most}
 use Rattle.clock_terms.specs.Limits.{public_setup}
 use Rattle.clock_views.proofs.pages.headed_sheet.Goals as goal
@@ -19,33 +19,13 @@ loop-i-preserved c =
     let product = c.index-deref-i.result in
     let line = c.line-item.result in
     let within : i < length lines = omega (arith, c.loop-i-test.true, ap length c.deref-line-items.ensures) in
-    let added =
-    before c.push_comma_if.ensures.adds
-    (together (line_in_pieces product line)
-    (before (rw c.get.ensures.value at c.push_number.ensures.adds)
-    (before c.push_number_or_null.ensures.adds
-    (before (rw c.as_slice.ensures at c.push_name.ensures.adds)
-    (before c.push_number_or_null-in-loop-i.ensures.adds
-    (before (rw c.get-in-loop-i.ensures.value at c.push_number-in-loop-i.ensures.adds)
-    (before (rw c.get-in-loop-i-2.ensures.value at c.push_number-in-loop-i-2.ensures.adds)
-    (added c.extend_from_slice-in-loop-i.ensures.items)))))))) in
     record {
       adds = row_more (λ row. line_value row.0 row.1) _ _ c.args.setup.now.products lines i product line
           (omega (arith, within, c.requires)) within (c.index-deref-i.is ∙ ap (λ list. get_or list i product)
           (c.deref.ensures ∙ ap (λ (setup : SetupFields). setup.products) c.setup.view_is))
-          (c.line-item.is ∙ ap (λ list. get_or list i line) c.deref-line-items.ensures) added ∙ c.loop-i.invariant.adds;
-      room = omega (
-        arith,
-        c.loop-i.invariant.room,
-        c.push_comma_if.ensures.room,
-        c.push_number.ensures.room,
-        c.push_number_or_null.ensures.room,
-        c.push_name.ensures.room,
-        c.push_number_or_null-in-loop-i.ensures.room,
-        c.push_number-in-loop-i.ensures.room,
-        c.push_number-in-loop-i-2.ensures.room,
-        c.extend_from_slice-in-loop-i.ensures.room,
-      );
+          (c.line-item.is ∙ ap (λ list. get_or list i line) c.deref-line-items.ensures) c.push_line.ensures.adds
+          ∙ c.loop-i.invariant.adds;
+      room = omega (arith, c.loop-i.invariant.room, c.push_line.ensures.room);
     }
 
 pub returns : goal.returns
@@ -69,7 +49,7 @@ returns c =
     (subst (λ (setup : SetupFields). text ++ 93 ∷ []
     ≡ opened ++ rest_text (λ row. line_value row.0 row.1) false (zip setup.products sheet.lines))
     (sym c.setup.view_is) all)
-    (before c.push_number-2.ensures.adds (added c.extend_from_slice-2.ensures.items))))))
+    (before c.push_number.ensures.adds (added c.extend_from_slice-2.ensures.items))))))
 
 pub returns-in_err-text : goal.returns-in_err-text
 returns-in_err-text c =

@@ -5,7 +5,7 @@ use Rattle.clock_views.specs.PublicPages.{product_value}
 use Rattle.clock_views.specs.inside.Values.{rest_text}
 use Rattle.clock_views.proofs.Lists.{array_between, item_more, items_end}
 use Rattle.clock_views.proofs.Pushes.{added, before, headed, together}
-use Rattle.clock_views.proofs.Texts.{product_in_pieces, products_in_pieces}
+use Rattle.clock_views.proofs.Texts.{products_in_pieces}
 use Rattle.clock_views.proofs.pages.products_page.Goals as goal
 
 pub loop-i-preserved : goal.loop-i-preserved
@@ -15,7 +15,7 @@ loop-i-preserved c =
     let product = c.index-products-i.result in
     let i = c.loop-i.i in
     let text = c.loop-i.text.items in
-    let next = c.extend_from_slice-in-loop-i.new.self.items in
+    let next = c.push_product.new.text.items in
     let opened = c.extend_from_slice-2.new.self.items in
     let items : text ++ rest_text value (nat_lt 0 i) (drop i inside.products)
     ≡ opened ++ rest_text value false inside.products = subst (λ (setup : SetupFields). text
@@ -23,32 +23,12 @@ loop-i-preserved c =
     ++ rest_text (product_value setup.version) false setup.products) (sym c.setup.view_is) c.loop-i.invariant.adds in
     let within : i < length inside.products =
     omega (arith, c.loop-i-test.true, ap length c.as_slice-products.ensures) in
-    let one =
-    before c.push_comma_if-in-loop-i.ensures.adds
-    (together (product_in_pieces inside.version product)
-    (before c.push_number.ensures.adds
-    (before (rw c.from_version_2-granule.ensures at c.push_number_if-in-loop-i.ensures.adds)
-    (before (rw c.as_slice.ensures at c.push_name.ensures.adds)
-    (before (rw c.get.ensures.value at c.push_number-in-loop-i.ensures.adds)
-    (before c.push_number-in-loop-i-2.ensures.adds
-    (before c.push_number-in-loop-i-3.ensures.adds (added c.extend_from_slice-in-loop-i.ensures.items)))))))) in
     record {
       adds = subst (λ (setup : SetupFields). next ++ rest_text (product_value setup.version) (nat_lt 0 (i + 1))
           (drop (i + 1) setup.products) ≡ opened ++ rest_text (product_value setup.version) false setup.products)
-          c.setup.view_is (item_more value _ _ inside.products i product product within
-          (c.index-products-i.is ∙ ap (λ list. get_or list i product) c.as_slice-products.ensures) one ∙ items);
-      room = omega (
-        arith,
-        c.loop-i.invariant.room,
-        c.push_comma_if-in-loop-i.ensures.room,
-        c.push_number.ensures.room,
-        c.push_number_if-in-loop-i.ensures.room,
-        c.push_name.ensures.room,
-        c.push_number-in-loop-i.ensures.room,
-        c.push_number-in-loop-i-2.ensures.room,
-        c.push_number-in-loop-i-3.ensures.room,
-        c.extend_from_slice-in-loop-i.ensures.room,
-      );
+          c.setup.view_is (item_more value _ _ inside.products i product product within (c.index-products-i.is
+          ∙ ap (λ list. get_or list i product) c.as_slice-products.ensures) c.push_product.ensures.adds ∙ items);
+      room = omega (arith, c.loop-i.invariant.room, c.push_product.ensures.room);
     }
 
 pub returns : goal.returns
@@ -71,5 +51,5 @@ returns c =
     (before (rw (c.is_some.ensures, c.from_version_2-limit.ensures) at c.push_comma_if.ensures.adds)
     (array_between value inside.products (codes "\"products\":") refl refl (added c.extend_from_slice-2.ensures.items)
     (items_end value text _ (nat_lt 0 c.loop-i.i) inside.products c.loop-i.i done items)
-    (before c.push_number-2.ensures.adds
-    (before c.push_number-3.ensures.adds (added c.extend_from_slice-3.ensures.items)))))))))
+    (before c.push_number.ensures.adds
+    (before c.push_number-2.ensures.adds (added c.extend_from_slice-3.ensures.items)))))))))
