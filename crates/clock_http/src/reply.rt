@@ -129,7 +129,8 @@ fn put_before(text: &mut Text, end: usize, piece: &[u8]) -> usize
 }
 
 /// Writes the last lines of a head, those about the page, before the page. Returns the index at
-/// which they begin.
+/// which they begin. A head is written from its end to its start, since its length is only known at
+/// the end.
 fn put_page_lines(text: &mut Text, code: Code) -> usize
     requires { MOST_HEAD ≤ length text.old }
     ensures room { MOST_HEAD ≤ result + 120 }
