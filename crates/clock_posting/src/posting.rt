@@ -221,7 +221,10 @@ fn note(posted: &mut Items<Price>, prices: &[PricePair], change: &Change, left: 
 fn is_applied(change: &Change, left: u64) -> bool
     ensures { result ≡ (is_reduction change.now.kind && nat_lt left change.now.amount) }
 {
-    change.kind == Kind::Reduction && left < change.amount
+    match change.kind {
+        Kind::Reduction => left < change.amount,
+        Kind::Increase => false,
+    }
 }
 
 /// The input of a posting.
