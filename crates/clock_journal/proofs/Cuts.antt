@@ -1,23 +1,20 @@
 -- What a crash leaves while a torn record is cut off: a prefix of the file that still has all whole records.
-use Rattle.std.proofs.Common.{◌≡◌, ◌≤◌, ◌+◌, ◌-◌, ◌<◌, ◌⊎◌, inl, inr, ℕ, Bool, true, false, List, ◌++◌, length, take}
+use Rattle.std.proofs.Common.{◌≡◌, ◌≤◌, ◌+◌, ◌-◌, ◌<◌, ◌⊎◌, inl, inr, ℕ, Bool, true, false, List, length, take}
 use Rattle.std.proofs.Common.{drop, nat_lt, nat_le, ◌&&◌, ◌==◌, bytes_eq, refl, sym, ap, ◌∙◌, subst, arith, Some}
 use Rattle.std.specs.Prelude.{if◌then◌else◌}
 use Rattle.std.specs.Int.{w32, from_be_bytes}
-use Rattle.std.proofs.lemmas.List.{append_assoc, take_all, take-append-drop, take-take, drop-take, length-take-le}
-use Rattle.std.proofs.lemmas.List.{length-take, take_at, drop_at}
-use Rattle.std.proofs.Math.Seq.{take-append-add}
+use Rattle.std.proofs.lemmas.List.{take_all, take-take, drop-take, length-take-le}
 use Rattle.std.proofs.lemmas.Bool.{cases_lt}
-use Rattle.clock_journal.specs.Format.{before_text, mark_length, head, link, records, last_link, most_text}
+use Rattle.clock_journal.specs.Format.{before_text, mark_length, link, last_link, most_text}
 use Rattle.clock_journal.specs.Logged.{file_of}
-use Rattle.clock_journal.specs.Reading.{Next, ended, torn, damaged, whole, marked_length, is_marked, next, ReadsTexts}
-use Rattle.clock_journal.specs.Reading.{Ends}
-use Rattle.clock_journal.specs.Crash.{ReadsSome, LeavesTexts}
+use Rattle.clock_journal.specs.Reading.{Next, ended, torn, damaged, whole, marked_length, is_marked, next}
+use Rattle.clock_journal.specs.Crash.{IsEnd, IsFile, LeavesTexts}
 use Rattle.clock_journal.specs.Disks.{MayBeLeft}
-use Rattle.clock_journal.specs.Recovering.{BeginsWithHead, IsPlaced}
+use Rattle.clock_journal.specs.Recovering.{IsPlaced}
 use Rattle.clock_journal.specs.declared.recovery.Recovered.{Recovered}
 use Rattle.clock_journal.proofs.Records.{next_none, next_short, next_cut}
-use Rattle.clock_journal.proofs.Fronts.{reads_once, reads_records, ends_stop}
-use Rattle.clock_journal.proofs.Moments.{length-head}
+use Rattle.clock_journal.proofs.Files.{long_file, same_texts, shorter}
+use Rattle.clock_journal.proofs.Fronts.{end_is_none}
 use Rattle.clock_journal.proofs.Tested.{less_where, lt_false, eq_where, eq_false}
 
 abbrev sieve : Bool → Bool → Bool → Bool → Bool → Bool → List ℕ → Next
@@ -101,7 +98,8 @@ front_behind_lengths chain rest n is less many =
     ∙ parts.0) (let most = parts.1 in omega (arith, size, less, count, most))
 
 -- a prefix of a torn record is torn or empty
-front_of_torn : (chain rest : List ℕ) (n : ℕ) → next chain rest ≡ torn → n < length rest → Ends chain (take n rest)
+front_of_torn : (chain rest : List ℕ) (n : ℕ) → next chain rest ≡ torn → n < length rest
+    → IsEnd (next chain (take n rest))
 front_of_torn chain rest n is less =
     let size = length-take-le n rest (omega (arith, less)) in
     elim (cases_lt 0 n) [
@@ -112,75 +110,55 @@ front_of_torn chain rest n is less =
       | inr none ↦ inl (next_none chain (take n rest) (omega (arith, size, none)))
     ]
 
-front_less : (chain rest : List ℕ) (n : ℕ) → Ends chain rest → n < length rest → Ends chain (take n rest)
+front_less : (chain rest : List ℕ) (n : ℕ) → IsEnd (next chain rest) → n < length rest
+    → IsEnd (next chain (take n rest))
 front_less chain rest n (inl is) less = absurd (some_left chain rest is (omega (arith, less)))
 front_less chain rest n (inr is) less = front_of_torn chain rest n is less
 
-front_of_ends : (chain rest : List ℕ) (n : ℕ) → Ends chain rest → Ends chain (take n rest)
-front_of_ends chain rest n ends =
+front_of_end : (chain rest : List ℕ) (n : ℕ) → IsEnd (next chain rest) → IsEnd (next chain (take n rest))
+front_of_end chain rest n ends =
     elim (cases_lt n (length rest)) [
       | inl less ↦ front_less chain rest n ends less
-      | inr all ↦ subst (λ (bytes : List ℕ). Ends chain bytes) (sym (take_all n rest all)) ends
+      | inr all ↦ subst (λ (bytes : List ℕ). IsEnd (next chain bytes)) (sym (take_all n rest all)) ends
     ]
 
 -- ---- the file up to its last whole record, and then a torn one
 
-leaves_front : (digest bytes : List ℕ) (texts read : List (List ℕ)) (least : ℕ) (recovered : Recovered) (left : List ℕ)
-    (count : ℕ) → LeavesTexts digest bytes texts least → BeginsWithHead digest bytes read recovered
-    → recovered.end ≤ count → left ≡ take count bytes → LeavesTexts digest left texts least
-leaves_front digest bytes texts read least recovered left count leaves headed enough is =
-    let all : bytes ≡ file_of digest read ++ drop recovered.end bytes =
-    sym (take-append-drop recovered.end bytes) ∙ ap (λ (b : List ℕ). b ++ drop recovered.end bytes) headed.file in
-    let at : length (file_of digest read) ≡ recovered.end =
-    sym (ap length headed.file) ∙ length-take-le recovered.end bytes headed.within in
-    let e : count ≡ length (file_of digest read) + (count - recovered.end) = omega (arith, enough, at) in
-    let front : left ≡ file_of digest read ++ take (count - recovered.end) (drop recovered.end bytes) =
-    is ∙ (ap (take count) all ∙ (ap (λ (n : ℕ). take n (file_of digest read ++ drop recovered.end bytes)) e
-    ∙ take-append-add (file_of digest read) (drop recovered.end bytes) (count - recovered.end))) in
-    let parts : left ≡ head digest ++ (records digest read ++ take (count - recovered.end) (drop recovered.end bytes)) =
-    front
-    ∙ append_assoc (head digest) (records digest read) (take (count - recovered.end) (drop recovered.end bytes)) in
-    let behind : drop (length (head digest)) bytes ≡ records digest read ++ drop recovered.end bytes =
-    ap (drop (length (head digest))) (all ∙ append_assoc (head digest) (records digest read) (drop recovered.end bytes))
-    ∙ drop_at (head digest) (records digest read ++ drop recovered.end bytes) (length (head digest)) refl in
-    let some = leaves.reads in
-    let same = reads_once digest (records digest read ++ drop recovered.end bytes)
-    (take some.count texts) read some.rest (drop recovered.end bytes) (subst
-    (λ (b : List ℕ). ReadsTexts digest b (take some.count texts) some.rest) behind some.reads) (ends_stop _ _ some.ends)
-    (reads_records digest read (drop recovered.end bytes) headed.fit) (ends_stop _ _ headed.ends) in
-    let some_front : ReadsSome digest
-    (records digest read ++ take (count - recovered.end) (drop recovered.end bytes)) texts least = record {
-      count = some.count;
-      rest = take (count - recovered.end) (drop recovered.end bytes);
-      enough = some.enough;
-      most = some.most;
-      reads = subst (λ (ts : List (List ℕ)). ReadsTexts digest (records digest read ++ take (count - recovered.end)
-          (drop recovered.end bytes)) ts (take (count - recovered.end) (drop recovered.end bytes))) same.0
-          (reads_records digest read (take (count - recovered.end) (drop recovered.end bytes)) headed.fit);
-      ends = subst (λ (ts : List (List ℕ)). Ends (last_link digest ts)
-          (take (count - recovered.end) (drop recovered.end bytes))) same.0
-          (front_of_ends (last_link digest read) (drop recovered.end bytes) (count - recovered.end) headed.ends);
-    } in
+leaves_front : (digest bytes : List ℕ) (texts read : List (List ℕ)) (least : ℕ) (left : List ℕ) (count : ℕ)
+    → LeavesTexts digest bytes texts least → IsFile digest bytes read IsEnd → length (file_of digest read) ≤ count
+    → left ≡ take count bytes → LeavesTexts digest left texts least
+leaves_front digest bytes texts read least left count leaves file enough is =
+    let same = same_texts digest bytes (take leaves.count texts) read IsEnd IsEnd leaves.first file
+    (end_is_none _ leaves.first.comes) (end_is_none _ file.comes) in
     record {
-      headed = ap (take (length (head digest))) parts ∙ take_at (head digest)
-          (records digest read ++ take (count - recovered.end) (drop recovered.end bytes)) (length (head digest)) refl;
-      reads = subst (λ (b : List ℕ). ReadsSome digest b texts least)
-          (sym (ap (drop (length (head digest))) parts ∙ drop_at (head digest) (records digest read
-          ++ take (count - recovered.end) (drop recovered.end bytes)) (length (head digest)) refl)) some_front;
+      count = leaves.count;
+      enough = leaves.enough;
+      most = leaves.most;
+      first = subst (λ (some : List (List ℕ)). IsFile digest left some IsEnd) same.0
+          (shorter digest bytes read IsEnd file left count IsEnd enough is
+          (λ n. front_of_end (last_link digest read) file.rest n file.comes));
     }
+
+-- what is left of a file has all that was on the disk
+pub cut_within : (bytes left : List ℕ) (end place : ℕ) → MayBeLeft (Some (take end bytes)) (Some bytes) left
+    → place ≤ length bytes → end ≡ place → (count : ℕ) × (place ≤ count) × (left ≡ take count bytes)
+cut_within bytes left end place may within is =
+    let size = length-take-le end bytes (omega (arith, within, is)) in
+    let enough = may.1 in
+    (may.0, omega (arith, size, enough, is), may.2)
 
 -- if what a crash left is synced and truncated after its last whole record, a crash during that leaves all of its texts
 pub cut_leaves : (digest bytes : List ℕ) (texts read : List (List ℕ)) (least : ℕ) (recovered : Recovered)
     (left : List ℕ) → length digest ≡ 32 → LeavesTexts digest bytes texts least
     → IsPlaced digest bytes read recovered → MayBeLeft (Some (take recovered.end bytes)) (Some bytes) left
     → LeavesTexts digest left texts least
-cut_leaves digest bytes texts read least recovered left long leaves (inl headed) may =
-    let enough = may.1 in
-    let size = length-take-le recovered.end bytes headed.within in
-    leaves_front digest bytes texts read least recovered left may.0 leaves headed (omega (arith, enough, size)) may.2
-cut_leaves digest bytes texts read least recovered left long leaves (inr begun) may =
-    let size = ap length leaves.headed in
-    let before = length-head digest long in
-    let part = length-take (length (head digest)) bytes in
-    let short = begun.0.short in
-    absurd (omega (arith, size, before, part, short))
+cut_leaves digest bytes texts read least recovered left long leaves placed may =
+    elim placed.end_is [
+      | inl here ↦ (let part = cut_within bytes left recovered.end (length (file_of digest read)) may
+          (long_file digest bytes read IsEnd here.0 long).1 here.1 in
+          leaves_front digest bytes texts read least left part.0 leaves here.0 part.1 part.2)
+      | inr begun ↦ (let whole_head =
+          long_file digest bytes (take leaves.count texts) IsEnd leaves.first long in
+          let short = begun.0.short in
+          absurd (omega (arith, whole_head.0, whole_head.1, short)))
+    ]

@@ -7,7 +7,7 @@ pub mod Chains
 pub mod Whole
 pub mod Cuts
 pub mod Placed
-pub mod Tails
+pub mod Files
 pub mod Passing
 pub mod Starting
 pub mod EntryLaws

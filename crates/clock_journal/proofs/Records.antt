@@ -7,7 +7,8 @@ use Rattle.std.proofs.lemmas.Bool.{cases_lt}
 use Rattle.std.proofs.lemmas.Nat.{from_be_bytes-to_be_bytes_4}
 use Rattle.sha2.proofs.Facts256.{length-sha256}
 use Rattle.clock_journal.specs.Format.{before_text, mark_length, link, mark, record_of, most_text, Fits}
-use Rattle.clock_journal.specs.Reading.{ended, torn, whole, marked_length, is_marked, checked_text, next, Ends}
+use Rattle.clock_journal.specs.Reading.{ended, torn, whole, marked_length, is_marked, checked_text, next}
+use Rattle.clock_journal.specs.Crash.{IsEnd}
 use Rattle.clock_journal.proofs.Tested.{bytes_eq_same, lt_true, lt_false, le_true, eq_false}
 
 pub length-link : (chain text : List ℕ) → length (link chain text) ≡ 32
@@ -147,7 +148,7 @@ cut_behind_mark chain text n fits short =
 
 -- a proper prefix of a record is torn or empty
 pub next_front : (chain text : List ℕ) (n : ℕ) → Fits text → n < before_text + length text
-    → Ends chain (take n (record_of chain text))
+    → IsEnd (next chain (take n (record_of chain text)))
 next_front chain text n fits short =
     let size = length-take-le n (record_of chain text) (omega (arith, length-record chain text)) in
     elim (cases_lt 0 n) [

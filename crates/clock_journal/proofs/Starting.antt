@@ -1,23 +1,22 @@
 -- What a crash leaves while a journal is begun, or resumed from a file: by cases on the moments of the calls.
-use Rattle.std.proofs.Common.{◌≡◌, ◌≤◌, ◌<◌, ◌+◌, inl, inr, ◌++◌, ℕ, List, [], Option, Some, None, length, take, drop}
+use Rattle.std.proofs.Common.{◌≡◌, ◌≤◌, ◌<◌, ◌+◌, inl, inr, ◌++◌, ℕ, List, [], Option, Some, None, length, take}
 use Rattle.std.proofs.Common.{refl, sym, ap, ◌∙◌, subst, arith, length-append}
 use Rattle.std.specs.Prelude.{option_map}
-use Rattle.std.proofs.lemmas.List.{append_assoc, append-nil, take_all, take-take, length-take, length-take-le}
-use Rattle.std.proofs.lemmas.List.{take-append-drop, drop_at}
+use Rattle.std.proofs.lemmas.List.{append-nil, take_all, length-take, length-take-le}
 use Rattle.std.proofs.lemmas.Bool.{cases_lt}
 use Rattle.clock_device.specs.Streams.{HasWrittenFront}
 use Rattle.clock_journal.specs.Disks.{LeaveOnly, MayBeLeft, Moment, Passes}
-use Rattle.clock_journal.specs.Format.{head, file_head_length, records, last_link}
+use Rattle.clock_journal.specs.Format.{head, file_head_length}
 use Rattle.clock_journal.specs.Logged.{file_of}
-use Rattle.clock_journal.specs.Reading.{Ends, ReadsTexts}
-use Rattle.clock_journal.specs.Crash.{BeginsWithTexts, IsPartOfHead, LeavesJournal, LeavesTexts}
-use Rattle.clock_journal.specs.Recovering.{IsPlaced, BeginsWithHead}
+use Rattle.clock_journal.specs.Reading.{Next}
+use Rattle.clock_journal.specs.Crash.{BeginsWithTexts, IsEnd, IsFile, IsPartOfHead, LeavesJournal, LeavesTexts}
+use Rattle.clock_journal.specs.Recovering.{IsPlaced}
 use Rattle.clock_journal.specs.declared.recovery.Recovered.{Recovered}
-use Rattle.clock_journal.proofs.Cuts.{cut_leaves}
-use Rattle.clock_journal.proofs.Fronts.{ends_stop, reads_first, reads_records, take_none}
-use Rattle.clock_journal.proofs.Moments.{every_front, length-head, take_of_take}
+use Rattle.clock_journal.proofs.Cuts.{cut_leaves, cut_within}
+use Rattle.clock_journal.proofs.Files.{length-head, long_file, shorter, texts_first}
+use Rattle.clock_journal.proofs.Fronts.{end_is_none, take_none}
+use Rattle.clock_journal.proofs.Moments.{every_front, take_of_take}
 use Rattle.clock_journal.proofs.Passing.{leave_one, leave_then}
-use Rattle.clock_journal.proofs.Tails.{long_front, parts_of, records-append}
 
 -- ---- the head
 
@@ -95,25 +94,12 @@ now_left synced written on_disk bytes same is =
     (subst (λ (w : Option (List ℕ)). MayBeLeft (Some on_disk) w bytes) (sym is)
     (length on_disk + length bytes, omega arith, sym (take_all (length on_disk + length bytes) bytes (omega arith))))
 
-long_file : (digest bytes : List ℕ) (read : List (List ℕ)) (recovered : Recovered) → length digest ≡ 32
-    → BeginsWithHead digest bytes read recovered → (length (file_of digest read) ≡ recovered.end)
-    × (file_head_length ≤ recovered.end) × (recovered.end ≤ length bytes)
-long_file digest bytes read recovered size headed =
-    let same = sym (ap length headed.file) ∙ length-take-le recovered.end bytes headed.within in
-    let parts = length-append (head digest) (records digest read) in
-    let before = length-head digest size in
-    (same, omega (arith, same, parts, before), headed.within)
-
 pub crash_cut : (digest bytes : List ℕ) (texts read : List (List ℕ)) (least : ℕ) (recovered : Recovered) (left : List ℕ)
     → length digest ≡ 32 → LeavesJournal digest bytes texts least → IsPlaced digest bytes read recovered
     → MayBeLeft (Some (take recovered.end bytes)) (Some bytes) left → LeavesJournal digest left texts least
 crash_cut digest bytes texts read least recovered left size (inl leaves) placed may =
     inl (cut_leaves digest bytes texts read least recovered left size leaves placed may)
-crash_cut digest bytes texts read least recovered left size (inr part) (inl headed) may =
-    let long = long_file digest bytes read recovered size headed in
-    let short = part.1.short in
-    absurd (omega (arith, long.1, long.2, short))
-crash_cut digest bytes texts read least recovered left size (inr part) (inr begun) may =
+crash_cut digest bytes texts read least recovered left size (inr part) placed may =
     let front = take_of_take may.0 (length bytes) (head digest) in
     let shorter = ap length may.2 ∙ length-take may.0 bytes in
     let short = part.1.short in
@@ -123,102 +109,65 @@ crash_cut digest bytes texts read least recovered left size (inr part) (inr begu
           (omega (arith, shorter, short)),
     )
 
--- the first texts of a file end within its recovered part
-first_before : (digest bytes : List ℕ) (texts read : List (List ℕ)) (recovered : Recovered) → length digest ≡ 32
-    → BeginsWithTexts digest bytes texts → BeginsWithHead digest bytes read recovered
-    → length (file_of digest texts) ≤ recovered.end
-first_before digest bytes texts read recovered size begins headed =
-    let more = drop (length (file_of digest texts)) bytes in
-    let rest = drop recovered.end bytes in
-    let before = length-head digest size in
-    let all : bytes ≡ head digest ++ (records digest read ++ rest) =
-    sym (take-append-drop recovered.end bytes) ∙ (ap (λ (b : List ℕ). b ++ rest) headed.file
-    ∙ append_assoc (head digest) (records digest read) rest) in
-    let one : drop file_head_length bytes ≡ records digest texts ++ more =
-    ap (drop file_head_length) (parts_of digest bytes texts begins)
-    ∙ drop_at (head digest) (records digest texts ++ more) file_head_length before in
-    let other : drop file_head_length bytes ≡ records digest read ++ rest =
-    ap (drop file_head_length) all ∙ drop_at (head digest) (records digest read ++ rest) file_head_length before in
-    let first = reads_first digest texts more read rest begins.fit (subst (λ (b : List ℕ). ReadsTexts digest b read
-    rest) (sym other ∙ one) (reads_records digest read rest headed.fit)) (ends_stop _ _ headed.ends) in
-    let longer : length (records digest read) ≡ length (records digest texts) + length (records
-    (last_link digest texts) first.0) = ap length (ap (records digest) first.1 ∙ records-append digest texts first.0)
-    ∙ length-append (records digest texts) (records (last_link digest texts) first.0) in
-    let file = length-append (head digest) (records digest texts) in
-    let whole = length-append (head digest) (records digest read) in
-    let long = long_file digest bytes read recovered size headed in
-    omega (arith, longer, file, whole, long.0)
-
 pub tail_cut : (digest bytes : List ℕ) (texts read : List (List ℕ)) (recovered : Recovered) (left : List ℕ)
     → length digest ≡ 32 → BeginsWithTexts digest bytes texts → IsPlaced digest bytes read recovered
     → MayBeLeft (Some (take recovered.end bytes)) (Some bytes) left → BeginsWithTexts digest left texts
-tail_cut digest bytes texts read recovered left size begins (inl headed) may =
-    let enough = first_before digest bytes texts read recovered size begins headed in
-    let most = length-take-le recovered.end bytes headed.within in
-    let count = may.1 in
-    record {
-      front = ap (take (length (file_of digest texts))) may.2
-          ∙ (take-take (length (file_of digest texts)) may.0 bytes (omega (arith, enough, most, count)) ∙ begins.front);
-      fit = begins.fit;
-    }
-tail_cut digest bytes texts read recovered left size begins (inr begun) may =
-    let long = long_front digest bytes texts size begins in
-    let short = begun.0.short in
-    absurd (omega (arith, long, short))
+tail_cut digest bytes texts read recovered left size begins placed may =
+    elim placed.end_is [
+      | inl here ↦ (let part = cut_within bytes left recovered.end (length (file_of digest read)) may
+          (long_file digest bytes read IsEnd here.0 size).1 here.1 in
+          let first = texts_first digest bytes texts read IsEnd begins here.0 (end_is_none _ here.0.comes) in
+          shorter digest bytes texts (λ (found : Next). Unit {0}) begins left part.0 (λ (found : Next). Unit {0})
+          (omega (arith, first.1, part.1)) part.2 (λ n. tt))
+      | inr begun ↦ (let long = long_file digest bytes texts (λ (found : Next). Unit {0}) begins size in
+          let short = begun.0.short in
+          absurd (omega (arith, long.0, long.1, short)))
+    ]
 
 -- ---- a journal that begins again
 
 nothing_reported : (digest bytes : List ℕ) (texts : List (List ℕ)) (least : ℕ) → length digest ≡ 32
     → LeavesJournal digest bytes texts least → length bytes < file_head_length → least ≡ 0
 nothing_reported digest bytes texts least size (inl leaves) short =
-    let same = ap length leaves.headed in
-    let before = length-head digest size in
-    let part = length-take (length (head digest)) bytes in
-    absurd (omega (arith, same, before, part, short))
+    let long = long_file digest bytes (take leaves.count texts) IsEnd leaves.first size in
+    absurd (omega (arith, long.0, long.1, short))
 nothing_reported digest bytes texts least size (inr part) short = part.0
 
 begun_anew : (digest bytes : List ℕ) (read : List (List ℕ)) (recovered : Recovered) → length digest ≡ 32
     → recovered.end ≡ 0 → IsPlaced digest bytes read recovered → length bytes < file_head_length
-begun_anew digest bytes read recovered size nowhere (inl headed) =
-    let long = long_file digest bytes read recovered size headed in
-    absurd (omega (arith, long.1, nowhere))
-begun_anew digest bytes read recovered size nowhere (inr begun) = begun.0.short
+begun_anew digest bytes read recovered size nowhere placed =
+    elim placed.end_is [
+      | inl here ↦ (let long = long_file digest bytes read IsEnd here.0 size in
+          absurd (omega (arith, long.0, here.1, nowhere)))
+      | inr begun ↦ begun.0.short
+    ]
 
 none_of_any : (digest left : List ℕ) (texts : List (List ℕ)) → LeavesTexts digest left [] 0
     → LeavesTexts digest left texts 0
-none_of_any digest left texts leaves =
-    let some = leaves.reads in
-    record {
-      headed = leaves.headed;
-      reads = record {
-        count = 0;
-        rest = some.rest;
-        enough = omega arith;
-        most = omega arith;
-        reads = subst (λ (ts : List (List ℕ)). ReadsTexts digest (drop (length (head digest)) left) ts some.rest)
-            (take_none some.count) some.reads;
-        ends = subst (λ (ts : List (List ℕ)). Ends (last_link digest ts) some.rest) (take_none some.count) some.ends;
-      };
-    }
+none_of_any digest left texts leaves = record {
+  count = 0;
+  enough = omega arith;
+  most = omega arith;
+  first =
+      subst (λ (none : List (List ℕ)). IsFile digest left none IsEnd) (take_none leaves.count) leaves.first;
+}
 
 -- so none of its texts had a reply: what a crash leaves of an empty journal, it may leave of these texts
 pub anew_leaves : (digest bytes : List ℕ) (texts read : List (List ℕ)) (least : ℕ) (recovered : Recovered)
     (left : List ℕ) → length digest ≡ 32 → recovered.end ≡ 0 → LeavesJournal digest bytes texts least
     → IsPlaced digest bytes read recovered → LeavesJournal digest left [] 0 → LeavesJournal digest left texts least
-anew_leaves digest bytes texts read least recovered left size nowhere leaves placed (inl now) =
+anew_leaves digest bytes texts read least recovered left size nowhere leaves placed now =
     let none = nothing_reported digest bytes texts least size leaves
     (begun_anew digest bytes read recovered size nowhere placed) in
-    inl (subst (λ (n : ℕ). LeavesTexts digest left texts n) (sym none) (none_of_any digest left texts now))
-anew_leaves digest bytes texts read least recovered left size nowhere leaves placed (inr now) =
-    inr (
-      nothing_reported digest bytes texts least size leaves
-          (begun_anew digest bytes read recovered size nowhere placed),
-      now.1,
-    )
+    elim now [
+      | inl some ↦
+          inl (subst (λ (n : ℕ). LeavesTexts digest left texts n) (sym none) (none_of_any digest left texts some))
+      | inr part ↦ inr (none, part.1)
+    ]
 
 pub none_first : (digest bytes : List ℕ) (texts read : List (List ℕ)) (recovered : Recovered) → length digest ≡ 32
     → recovered.end ≡ 0 → BeginsWithTexts digest bytes texts → IsPlaced digest bytes read recovered → ⊥
 none_first digest bytes texts read recovered size nowhere begins placed =
-    let long = long_front digest bytes texts size begins in
+    let long = long_file digest bytes texts (λ (found : Next). Unit {0}) begins size in
     let short = begun_anew digest bytes read recovered size nowhere placed in
-    omega (arith, long, short)
+    omega (arith, long.0, long.1, short)

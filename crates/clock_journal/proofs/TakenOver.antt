@@ -1,152 +1,127 @@
 -- What is replayed from a file, and what from a file that a crash left.
-use Rattle.std.proofs.Common.{◌≡◌, ◌≤◌, ◌<◌, ◌+◌, ◌++◌, ℕ, Bool, true, false, List, [], length, get_or, take, drop}
-use Rattle.std.proofs.Common.{bytes_eq, refl, sym, ap, ◌∙◌, subst, arith, length-append, inl, inr}
-use Rattle.std.proofs.lemmas.List.{length-take, append_assoc, take-append-drop, take_at, drop_at, get_or-drop}
-use Rattle.std.proofs.lemmas.List.{take-take}
+use Rattle.std.proofs.Common.{◌≡◌, ◌≤◌, ◌<◌, ◌++◌, ℕ, true, false, List, [], length, take}
+use Rattle.std.proofs.Common.{bytes_eq, refl, sym, ap, ◌∙◌, subst, arith, inl, inr}
+use Rattle.std.proofs.lemmas.List.{append_assoc, take_all, take_at, take-take}
 use Rattle.clock_journal.specs.Format.{file_head_length, head, kind, records, last_link}
-use Rattle.clock_journal.specs.Reading.{ReadsTexts, Ends, next, damaged}
-use Rattle.clock_journal.specs.Entries.{Entry}
-use Rattle.clock_journal.specs.Headings.{Heading, begun, headed, of_another, unknown, heading}
+use Rattle.clock_journal.specs.Reading.{Next, next, damaged}
 use Rattle.clock_journal.specs.Logged.{file_of}
-use Rattle.clock_journal.specs.Crash.{IsPartOfHead, LeavesJournal, LeavesTexts, ReadsSome}
-use Rattle.clock_journal.specs.inside.Replays.{IsReplayed}
-use Rattle.clock_journal.specs.Recovering.{IsFoundAt, BeginsWithHead}
+use Rattle.clock_journal.specs.Crash.{BeginsWithTexts, IsEnd, IsFile, LeavesJournal}
+use Rattle.clock_journal.specs.Recovering.{AreTextsOf, HasHead}
 use Rattle.clock_journal.specs.declared.recovery.Recovered.{Recovered}
-use Rattle.clock_journal.proofs.Whole.{read_back}
-use Rattle.clock_journal.proofs.Fronts.{reads_once, ends_stop, damage_stops, ends_undamaged}
-use Rattle.clock_journal.proofs.Moments.{length-head}
-use Rattle.clock_journal.proofs.Tested.{bytes_eq_same, same_where, lt_true, lt_false}
+use Rattle.clock_journal.proofs.Files.{length-head, long_file, same_texts, texts_first}
+use Rattle.clock_journal.proofs.Fronts.{damage_is_none, end_is_none, end_undamaged}
+use Rattle.clock_journal.proofs.Tested.{bytes_eq_same}
 
 -- ---- how a file begins, by what is compared
 
-pub short_unknown : (digest bytes : List ℕ) → length bytes < file_head_length
-    → bytes_eq bytes (take (length bytes) (head digest)) ≡ false → heading digest bytes ≡ unknown
-unfolding heading
-short_unknown digest bytes short other = rw (lt_true (length bytes) file_head_length short, other) refl
+pub not_same : (xs ys : List ℕ) → bytes_eq xs ys ≡ false → xs ≡ ys → ⊥
+not_same xs ys other same = let twice : false ≡ true = sym other ∙ bytes_eq_same xs ys same in cc
 
-pub headed_is : (digest bytes : List ℕ) → file_head_length ≤ length bytes → bytes_eq (take file_head_length bytes)
-    (head digest) ≡ true → heading digest bytes ≡ headed (drop file_head_length bytes)
-unfolding heading
-headed_is digest bytes long same = rw (lt_false (length bytes) file_head_length long, same) refl
+pub short_headless : (digest bytes : List ℕ) → length bytes < file_head_length
+    → bytes_eq bytes (take (length bytes) (head digest)) ≡ false → HasHead digest bytes → ⊥
+short_headless digest bytes short other has = not_same bytes (take (length bytes) (head digest)) other
+    (sym (take_all file_head_length bytes (omega (arith, short))) ∙ has)
 
-pub another_is : (digest bytes : List ℕ) → file_head_length ≤ length bytes → bytes_eq (take (length kind) bytes) kind
-    ≡ true → bytes_eq (take file_head_length bytes) (head digest) ≡ false → heading digest bytes ≡ of_another
-unfolding heading
-another_is digest bytes long same other = rw (lt_false (length bytes) file_head_length long, other, same) refl
+-- a file that is not shorter than a head
+pub long_head : (digest bytes : List ℕ) → length digest ≡ 32 → file_head_length ≤ length bytes
+    → HasHead digest bytes → take file_head_length bytes ≡ head digest
+long_head digest bytes size long has =
+    has ∙ take_all (length bytes) (head digest) (omega (arith, length-head digest size, long))
 
 -- a head begins with its kind
-kind_of_head : (digest bytes : List ℕ) → take file_head_length bytes ≡ head digest → take (length kind) bytes ≡ kind
+pub kind_of_head : (digest bytes : List ℕ) → take file_head_length bytes ≡ head digest
+    → take (length kind) bytes ≡ kind
 unfolding head kind
 kind_of_head digest bytes same = sym (take-take (length kind) file_head_length bytes (omega arith))
     ∙ ap (take (length kind)) same ∙ take_at kind digest (length kind) refl
 
-not_headed : (digest bytes : List ℕ) (right : Bool) → bytes_eq (take file_head_length bytes) (head digest) ≡ right
-    → bytes_eq (take (length kind) bytes) kind ≡ false → right ≡ false
-not_headed digest bytes true is other =
-    let same =
-    bytes_eq_same (take (length kind) bytes) kind (kind_of_head digest bytes (same_where _ _ is)) in sym same ∙ other
-not_headed digest bytes false is other = refl
+-- ---- what a crash left, and what begins with a journal, has its head
 
-pub kind_unknown : (digest bytes : List ℕ) → file_head_length ≤ length bytes
-    → bytes_eq (take (length kind) bytes) kind ≡ false → heading digest bytes ≡ unknown
-unfolding heading
-kind_unknown digest bytes long other =
-    rw (lt_false (length bytes) file_head_length long, not_headed digest bytes _ refl other, other) refl
+pub file_headed : (digest bytes : List ℕ) (texts : List (List ℕ)) (Comes : Next → Type 0) → length digest ≡ 32
+    → IsFile digest bytes texts Comes → HasHead digest bytes
+file_headed digest bytes texts Comes size file =
+    let long = long_file digest bytes texts Comes file size in
+    let before = length-head digest size in
+    ap (take file_head_length) (file.file ∙ append_assoc (head digest) (records digest texts) file.rest)
+    ∙ take_at (head digest) (records digest texts ++ file.rest) file_head_length before
+    ∙ sym (take_all (length bytes) (head digest) (omega (arith, before, long.0, long.1)))
 
--- the head is found
-pub heading_of_left : (digest left : List ℕ) (texts : List (List ℕ)) (least : ℕ) → length digest ≡ 32
-    → LeavesTexts digest left texts least → heading digest left ≡ headed (drop file_head_length left)
-heading_of_left digest left texts least size leaves =
-    let e = length-head digest size in
-    let same : take file_head_length left ≡ head digest = ap (λ (n : ℕ). take n left) (sym e) ∙ leaves.headed in
-    headed_is digest left (omega (arith, ap length same, length-take file_head_length left, e))
-    (bytes_eq_same (take file_head_length left) (head digest) same)
+pub left_headed : (digest bytes : List ℕ) (all : List (List ℕ)) (least : ℕ) → length digest ≡ 32
+    → LeavesJournal digest bytes all least → HasHead digest bytes
+left_headed digest bytes all least size (inl leaves) =
+    file_headed digest bytes (take leaves.count all) IsEnd size leaves.first
+left_headed digest bytes all least size (inr part) =
+    let short = part.1.short in
+    take_all file_head_length bytes (omega (arith, short)) ∙ part.1.front
 
--- so no other heading is found
-pub reported_of_left : (digest left : List ℕ) (texts : List (List ℕ)) (least : ℕ) (reported : Heading)
-    → length digest ≡ 32 → LeavesTexts digest left texts least → reported ≡ heading digest left
-    → reported ≡ headed (drop file_head_length left)
-reported_of_left digest left texts least reported size leaves is =
-    is ∙ heading_of_left digest left texts least size leaves
-
--- up to the end of its last whole record, the file is the journal of its texts
-pub headed_at : (old new : List Entry → Type 0) (digest bytes : List ℕ) (recovered : Recovered)
-    → ((place : ℕ) → get_or bytes place 0 < 256) → file_head_length ≤ length bytes → take file_head_length bytes
-    ≡ head digest → (done : IsReplayed old new digest (drop file_head_length bytes) (length bytes) recovered)
-    → BeginsWithHead digest bytes done.texts recovered
-headed_at old new digest bytes recovered small long same done =
-    let back = read_back digest (drop file_head_length bytes) done.texts done.rest (λ place. subst (λ (n : ℕ). n < 256)
-    (sym (get_or-drop file_head_length bytes place 0)) (small (file_head_length + place))) done.reads in
-    let all : bytes ≡ file_of digest done.texts ++ done.rest = sym (take-append-drop file_head_length bytes)
-    ∙ (ap (λ (b : List ℕ). b ++ drop file_head_length bytes) same ∙ (ap (λ (b : List ℕ). head digest ++ b) back.0
-    ∙ sym (append_assoc (head digest) (records digest done.texts) done.rest))) in
-    let size = ap length all ∙ length-append (file_of digest done.texts) done.rest in
-    let at : length (file_of digest done.texts) ≡ recovered.end = omega (arith, done.end_is) in
-    record {
-      file = ap (take recovered.end) all ∙ take_at (file_of digest done.texts) done.rest recovered.end at;
-      within = omega (arith, done.end_is);
-      fit = back.1;
-      chain_is = done.chain_is;
-      count_is = done.count_is;
-      ends = subst (λ (b : List ℕ). Ends (last_link digest done.texts) b) (sym (ap (drop recovered.end) all
-          ∙ drop_at (file_of digest done.texts) done.rest recovered.end at)) done.ends;
-    }
+-- ---- the texts of a file
 
 -- what is read of what a crash left is a prefix of the texts, at least `least` of them
-pub left_first : (digest left : List ℕ) (texts : List (List ℕ)) (least : ℕ) (read : List (List ℕ)) (rest : List ℕ)
-    → length digest ≡ 32 → LeavesTexts digest left texts least
-    → ReadsTexts digest (drop file_head_length left) read rest → Ends (last_link digest read) rest
-    → (count : ℕ) × (least ≤ count) × (count ≤ length texts) × (read ≡ take count texts)
-left_first digest left texts least read rest size leaves reads ends =
-    let some = subst (λ (n : ℕ). ReadsSome digest (drop n left) texts least) (length-head digest size) leaves.reads in
-    let same = reads_once digest (drop file_head_length left) (take some.count texts) read some.rest rest
-    some.reads (ends_stop _ _ some.ends) reads (ends_stop _ _ ends) in
-    (some.count, some.enough, some.most, same.0)
+left_first : (digest bytes : List ℕ) (texts all : List (List ℕ)) (least : ℕ) → length digest ≡ 32
+    → IsFile digest bytes texts IsEnd → LeavesJournal digest bytes all least
+    → (count : ℕ) × (least ≤ count) × (count ≤ length all) × (texts ≡ take count all)
+left_first digest bytes texts all least size file (inl leaves) =
+    let same = same_texts digest bytes (take leaves.count all) texts IsEnd IsEnd leaves.first file
+    (end_is_none _ leaves.first.comes) (end_is_none _ file.comes) in
+    (leaves.count, leaves.enough, leaves.most, same.0)
+left_first digest bytes texts all least size file (inr part) =
+    let long = long_file digest bytes texts IsEnd file size in
+    let short = part.1.short in
+    absurd (omega (arith, long.0, long.1, short))
 
--- of less than a head, nothing is read
-pub left_none : (digest left : List ℕ) (texts read : List (List ℕ)) (least : ℕ) → length digest ≡ 32
-    → LeavesJournal digest left texts least → length left < file_head_length → read ≡ []
-    → (count : ℕ) × (least ≤ count) × (count ≤ length texts) × (read ≡ take count texts)
-left_none digest left texts read least size (inl leaves) short none =
-    let e = ap length leaves.headed in
-    let before = length-head digest size in
-    let part = length-take (length (head digest)) left in
-    absurd (omega (arith, e, before, part, short))
-left_none digest left texts read least size (inr part) short none = (0, omega (arith, part.0), omega arith, none)
+pub headed_texts : (digest bytes : List ℕ) (texts : List (List ℕ)) (recovered : Recovered) → length digest ≡ 32
+    → IsFile digest bytes texts IsEnd → recovered.chain ≡ last_link digest texts → recovered.texts ≡ length texts
+    → recovered.end ≡ length (file_of digest texts) → AreTextsOf digest bytes texts recovered
+headed_texts digest bytes texts recovered size file chain_is count_is end_is = record {
+  placed = record { chain_is = chain_is; count_is = count_is; end_is = inl (file, end_is) };
+  crash = λ all least leaves. left_first digest bytes texts all least size file leaves;
+  any_tail = λ first begins. (texts_first digest bytes first texts IsEnd begins file (end_is_none _ file.comes)).0;
+}
 
--- its heading is `begun`
-begun_is : (digest left : List ℕ) → IsPartOfHead digest left → heading digest left ≡ begun
-unfolding heading
-begun_is digest left part =
-    rw (
-      lt_true (length left) file_head_length part.short,
-      bytes_eq_same left (take (length left) (head digest)) part.front,
-    )
-    refl
+-- none, if it is less than a head
+left_none : (digest bytes : List ℕ) (all : List (List ℕ)) (least : ℕ) → length digest ≡ 32
+    → length bytes < file_head_length → LeavesJournal digest bytes all least
+    → (count : ℕ) × (least ≤ count) × (count ≤ length all) × ([] ≡ take count all)
+left_none digest bytes all least size short (inl leaves) =
+    let long = long_file digest bytes (take leaves.count all) IsEnd leaves.first size in
+    absurd (omega (arith, long.0, long.1, short))
+left_none digest bytes all least size short (inr part) = (0, omega (arith, part.0), omega arith, refl)
 
-pub none_unknown : (digest left : List ℕ) (texts : List (List ℕ)) (least : ℕ) → length digest ≡ 32
-    → LeavesJournal digest left texts least → length left < file_head_length → heading digest left ≡ unknown → ⊥
-none_unknown digest left texts least size (inl leaves) short is =
-    let e = ap length leaves.headed in
-    let before = length-head digest size in
-    let part = length-take (length (head digest)) left in
-    omega (arith, e, before, part, short)
-none_unknown digest left texts least size (inr part) short is =
-    let both : begun ≡ unknown = sym (begun_is digest left part.1) ∙ is in cc
+pub begun_texts : (digest bytes : List ℕ) → length digest ≡ 32 → length bytes < file_head_length
+    → bytes ≡ take (length bytes) (head digest)
+    → AreTextsOf digest bytes [] (record { chain = digest; end = 0; texts = 0 })
+begun_texts digest bytes size short front = record {
+  placed = record {
+    chain_is = refl;
+    count_is = refl;
+    end_is = inr (record { short = short; front = front }, refl, refl);
+  };
+  crash = λ all least leaves. left_none digest bytes all least size short leaves;
+  any_tail = λ first begins.
+      let long = long_file digest bytes first (λ (found : Next). Unit {0}) begins size in
+      absurd (omega (arith, long.0, long.1, short));
+}
 
--- a longer file has its head
-pub texts_left : (digest left : List ℕ) (texts : List (List ℕ)) (least : ℕ) → LeavesJournal digest left texts least
-    → file_head_length ≤ length left → LeavesTexts digest left texts least
-texts_left digest left texts least (inl leaves) long = leaves
-texts_left digest left texts least (inr part) long = let short = part.1.short in absurd (omega (arith, short, long))
+-- ---- a damaged record
 
--- nothing is damaged
-pub is_undamaged : (digest left : List ℕ) (texts : List (List ℕ)) (least place : ℕ) → length digest ≡ 32
-    → LeavesTexts digest left texts least → IsFoundAt digest left place damaged → ⊥
-is_undamaged digest left texts least place long leaves found =
-    let some = subst (λ (n : ℕ). ReadsSome digest (drop n left) texts least) (length-head digest long) leaves.reads in
-    let same = reads_once digest (drop file_head_length left) (take some.count texts) found.texts some.rest found.rest
-    some.reads (ends_stop _ _ some.ends) found.reads (damage_stops _ _ found.found_is) in
-    ends_undamaged _ _ some.ends
-    (subst (λ (rest : List ℕ). next (last_link digest (take some.count texts)) rest ≡ damaged) same.1
-    (subst (λ (all : List (List ℕ)). next (last_link digest all) found.rest ≡ damaged) same.0 found.found_is))
+-- no crash leaves one
+pub is_undamaged : (digest bytes : List ℕ) (texts all : List (List ℕ)) (least : ℕ) → length digest ≡ 32
+    → IsFile digest bytes texts (λ found. found ≡ damaged) → LeavesJournal digest bytes all least → ⊥
+is_undamaged digest bytes texts all least size file (inl leaves) =
+    let same = same_texts digest bytes (take leaves.count all) texts IsEnd (λ found. found ≡ damaged) leaves.first file
+    (end_is_none _ leaves.first.comes) (damage_is_none _ file.comes) in
+    end_undamaged _ leaves.first.comes
+    (subst (λ (rest : List ℕ). next (last_link digest (take leaves.count all)) rest ≡ damaged) same.1
+    (subst (λ (some : List (List ℕ)). next (last_link digest some) file.rest ≡ damaged) same.0 file.comes))
+is_undamaged digest bytes texts all least size file (inr part) =
+    let long = long_file digest bytes texts (λ (found : Next). found ≡ damaged) file size in
+    let short = part.1.short in
+    omega (arith, long.0, long.1, short)
+
+-- nothing before the end of a journal is damaged
+pub damaged_behind : (digest bytes : List ℕ) (first texts : List (List ℕ)) → BeginsWithTexts digest bytes first
+    → IsFile digest bytes texts (λ found. found ≡ damaged)
+    → length (file_of digest first) ≤ length (file_of digest texts)
+damaged_behind digest bytes first texts begins file =
+    (texts_first digest bytes first texts (λ (found : Next). found ≡ damaged) begins file
+    (damage_is_none _ file.comes)).1

@@ -9,8 +9,7 @@
 use Rattle.std.specs.Prelude.{◌≡◌, ◌≤◌, ◌⊎◌, ◌++◌, ℕ, List, [], ◌∷◌, length, take, Option, Some}
 use Rattle.std.specs.Prelude.{None, Result, Ok, Err, option_map}
 
--- all synced bytes, and a prefix of the rest; this says nothing of a file whose bytes contracts do
--- not see
+-- all synced bytes, and a prefix of the rest, if contracts see the bytes
 abbrev pub MayBeLeft : Option (List ℕ) → Option (List ℕ) → List ℕ → Type 0
 MayBeLeft (Some synced) (Some written) left =
     (count : ℕ) × (length synced ≤ count) × (left ≡ take count written)

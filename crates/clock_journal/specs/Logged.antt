@@ -1,9 +1,7 @@
 -- What a journal has on the disk.
 --     file_of digest texts      the bytes of the journal of the texts
---     Keeps digest texts written synced chain      all of it is written and synced, and the chain
---         is at its end
 --     JournalState      what contracts see of a journal
---     HasTexts digest texts journal      this journal is written and synced so
+--     HasTexts digest texts journal      the journal of the texts is written and synced
 use Rattle.std.specs.Prelude.{◌≡◌, ◌++◌, ℕ, Bool, List, Option, Some}
 use Rattle.clock_journal.specs.Disks.{Moment}
 use Rattle.clock_journal.specs.Format.{head, records, last_link, AllFit}
@@ -11,14 +9,6 @@ use Rattle.clock_journal.specs.Format.{head, records, last_link, AllFit}
 -- the bytes of the journal of the texts, the oldest first, for the set-up document with this digest
 abbrev pub file_of : List ℕ → List (List ℕ) → List ℕ
 file_of digest texts = head digest ++ records digest texts
-
--- the file is the journal of the texts, all of it synced, and the chain is the last digest
-pub record Keeps (digest : List ℕ) (texts : List (List ℕ)) (written synced : Option (List ℕ))
-    (chain : List ℕ) : Type 0 where
-  pub file : written ≡ Some (file_of digest texts)
-  pub synced_is : synced ≡ written
-  pub chain_is : chain ≡ last_link digest texts
-  pub fit : AllFit texts
 
 -- in contracts, a journal: the moments are those that its disk has passed, the last one first
 pub record JournalState : Type 0 where
@@ -28,6 +18,7 @@ pub record JournalState : Type 0 where
   pub chain : List ℕ
   pub moments : Option (List Moment)
 
--- the journal has these texts, all of them on its disk
+-- the file is the journal of the texts, all of it synced, and the chain is the last digest
 abbrev pub HasTexts : List ℕ → List (List ℕ) → JournalState → Type 0
-HasTexts digest texts journal = Keeps digest texts journal.written journal.synced journal.chain
+HasTexts digest texts journal = (journal.written ≡ Some (file_of digest texts))
+    × (journal.synced ≡ journal.written) × (journal.chain ≡ last_link digest texts) × AllFit texts

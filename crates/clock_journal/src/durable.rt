@@ -62,10 +62,8 @@ impl<F: Write + OpenFile> FileDisk<F> {
     pub fn new(file: F) -> FileDisk<F>
         ensures { ⟦<FileDisk<F> as Durable>⟧.has_failed result ≡ false }
     {
-        FileDisk {
-            file,
-            has_failed: false,
-        }
+        let has_failed = false;
+        FileDisk { file, has_failed }
     }
 }
 

@@ -87,7 +87,9 @@ impl<D: Durable> Journal<D> {
     {
         // only synced bytes survive a crash during the truncation
         self.disk.sync()?;
-        self.disk.cut(recovered.end)?;
+        if let Err(uncut) = self.disk.cut(recovered.end) {
+            return Err(uncut);
+        }
         if recovered.end == 0 {
             return self.begin();
         }
@@ -114,7 +116,9 @@ impl<D: Durable> Journal<D> {
     {
         let digest = link_of(&self.chain, text);
         self.disk.append(&front_of(text.len(), &digest))?;
-        self.disk.append(text)?;
+        if let Err(failed) = self.disk.append(text) {
+            return Err(failed);
+        }
         self.chain = digest;
         self.disk.sync()
     }

@@ -1,21 +1,18 @@
 -- Texts that were accepted, and starts on what a crash left of them.
 use Rattle.std.proofs.Common.{◌≡◌, ◌+◌, ◌++◌, inl, inr, ℕ, zero, suc, Bool, true, false, List, [], ◌∷◌}
-use Rattle.std.proofs.Common.{length, take, drop, refl, sym, ap, ◌∙◌, subst}
-use Rattle.std.specs.Prelude.{bytes_eq, if◌then◌else◌, nat_lt}
-use Rattle.std.proofs.lemmas.List.{length-take-le}
+use Rattle.std.proofs.Common.{length, take, drop, refl, sym, ap, ◌∙◌, subst, arith, length-append}
+use Rattle.std.proofs.lemmas.List.{length-take}
 use Rattle.clock_terms.specs.Limits.{SetupFields}
 use Rattle.clock_house.specs.House.{HouseFields}
 use Rattle.clock_front.specs.Effects.{effect}
-use Rattle.clock_journal.specs.Format.{before_text, head, file_head_length, kind, last_link, link}
-use Rattle.clock_journal.specs.Entries.{Entry}
-use Rattle.clock_journal.specs.Headings.{begun, headed, heading, of_another, unknown}
-use Rattle.clock_journal.specs.Reading.{ReadsTexts, next, onto, whole}
-use Rattle.clock_journal.specs.Crash.{IsPartOfHead, LeavesJournal, LeavesTexts}
-use Rattle.clock_journal.specs.Recovering.{IsRefusedAt}
+use Rattle.clock_journal.specs.Crash.{IsEnd, IsFile, IsPartOfHead, LeavesJournal, LeavesTexts}
+use Rattle.clock_journal.specs.Format.{before_text, head, last_link, link, records}
+use Rattle.clock_journal.specs.Logged.{file_of}
+use Rattle.clock_journal.specs.Reading.{Next, ReadsTexts, ended, next, onto, whole}
 use Rattle.clock_journal.specs.declared.recovery.JournalFault.TheVariants as fault
-use Rattle.clock_journal.specs.Reading.{Stops}
-use Rattle.clock_journal.proofs.Fronts.{ends_stop}
-use Rattle.clock_journal.proofs.Tested.{bytes_eq_same, lt_true, not_less, same_where}
+use Rattle.clock_journal.proofs.Files.{reads_of}
+use Rattle.clock_journal.proofs.Fronts.{IsNoText, end_is_none}
+use Rattle.clock_journal.proofs.Records.{next_none}
 use Rattle.clock_server.specs.Accepted.{AreAccepted, IsNotRefused}
 use Rattle.clock_server.specs.Starts.{IsNotResumed}
 use Rattle.clock_server.specs.Keeping.{IsAccepted, IsRefused, is_change, logged_after}
@@ -59,8 +56,8 @@ accepted_after setup texts text accepted =
 -- ---- a start on a file that a crash left
 
 -- a text that is found after some texts of a file is one of the texts that the file reads as
-found_among : (chain bytes : List ℕ) (all before : List (List ℕ)) (rest other_rest text : List ℕ)
-    → ReadsTexts chain bytes all rest → Stops (last_link chain all) rest → ReadsTexts chain bytes before other_rest
+found_among : (chain bytes : List ℕ) (all before : List (List ℕ)) (rest other_rest text : List ℕ) → ReadsTexts chain
+    bytes all rest → IsNoText (next (last_link chain all) rest) → ReadsTexts chain bytes before other_rest
     → next (last_link chain before) other_rest ≡ whole text → (more : List (List ℕ)) × (all ≡ before ++ text ∷ more)
 found_among chain bytes [] [] rest other_rest text reads stops others is =
     absurd (stops text (ap (next chain) (reads ∙ sym others) ∙ is))
@@ -83,49 +80,30 @@ found_among chain bytes (first ∷ all) (one ∷ before) rest other_rest text re
 not_both : (changes : Bool) → changes ≡ true → changes ≡ false → ⊥
 not_both changes one other = let bad : true ≡ false = sym one ∙ other in cc
 
-headed_where : (short part same known : Bool) (rest found : List ℕ)
-    → (if short then (if part then begun else unknown)
-    else (if same then headed rest else (if known then of_another else unknown)))
-    ≡ headed found → (short ≡ false) × (same ≡ true)
-headed_where true true same known rest found is = cc
-headed_where true false same known rest found is = cc
-headed_where false part true known rest found is = (refl, refl)
-headed_where false part false true rest found is = cc
-headed_where false part false false rest found is = cc
-
--- a file that has its head has all of it
-whole_head : (digest bytes found : List ℕ) → heading digest bytes ≡ headed found
-    → length (head digest) ≡ file_head_length
-unfolding heading
-whole_head digest bytes found is =
-    let parts = headed_where (nat_lt (length bytes) file_head_length)
-    (bytes_eq bytes (take (length bytes) (head digest))) (bytes_eq (take file_head_length bytes) (head digest))
-    (bytes_eq (take (length kind) bytes) kind) (drop file_head_length bytes) found is in
-    sym (ap length (same_where (take file_head_length bytes) (head digest) parts.1))
-    ∙ length-take-le file_head_length bytes (not_less (length bytes) file_head_length parts.0)
-
-begun_is : (digest left : List ℕ) → IsPartOfHead digest left → heading digest left ≡ begun
-unfolding heading
-begun_is digest left part =
-    rw (
-      lt_true (length left) file_head_length part.short,
-      bytes_eq_same left (take (length left) (head digest)) part.front,
-    ) refl
-
 -- so no text of the file is refused
-none_refused : (setup : SetupFields) (digest bytes : List ℕ) (texts : List (List ℕ)) (least place : ℕ)
-    → length (head digest) ≡ file_head_length → AreAccepted setup [] texts → LeavesTexts digest bytes texts least
-    → IsRefusedAt (IsRefused setup) (λ (past : List Entry). past ≡ []) digest bytes place → ⊥
-none_refused setup digest bytes texts least place long accepted leaves refused =
-    let some = leaves.reads in
-    let found = refused.found in
-    let reads = subst (λ (n : ℕ). ReadsTexts digest (drop n bytes) (take some.count texts) some.rest) long some.reads in
-    let among = found_among digest (drop file_head_length bytes) (take some.count texts) found.texts some.rest
-    found.rest refused.text reads (ends_stop _ _ some.ends) found.reads found.found_is in
+none_refused : (setup : SetupFields) (digest bytes : List ℕ) (texts : List (List ℕ)) (least : ℕ)
+    (before : List (List ℕ)) (text : List ℕ) → AreAccepted setup [] texts → LeavesTexts digest bytes texts least
+    → IsFile digest bytes before (λ found. found ≡ whole text) → IsRefused setup (onto before []) text → ⊥
+none_refused setup digest bytes texts least before text accepted leaves file refused =
+    let some = take leaves.count texts in
+    let first = leaves.first in
+    let among = found_among digest (drop (length (head digest)) bytes) some before first.rest file.rest text
+    (reads_of digest bytes some IsEnd first) (end_is_none _ first.comes)
+    (reads_of digest bytes before (λ (found : Next). found ≡ whole text) file) file.comes in
     let all = subst (λ (list : List (List ℕ)). AreAccepted setup [] list) among.1
-    (accepted_take setup [] texts some.count accepted) in
-    not_both (is_change (effect setup (onto found.texts []) refused.text))
-    (accepted_at setup [] found.texts refused.text among.0 all) (refused.refused [] refl)
+    (accepted_take setup [] texts leaves.count accepted) in
+    not_both (is_change (effect setup (onto before []) text)) (accepted_at setup [] before text among.0 all) refused
+
+-- less than a head has no text
+no_text : (digest bytes : List ℕ) (before : List (List ℕ)) (text : List ℕ) → IsPartOfHead digest bytes
+    → IsFile digest bytes before (λ found. found ≡ whole text) → ⊥
+no_text digest bytes before text part file =
+    let all = ap length file.file ∙ length-append (file_of digest before) file.rest in
+    let headed = length-append (head digest) (records digest before) in
+    let front = ap length part.front ∙ length-take (length bytes) (head digest) in
+    let none = next_none (last_link digest before) file.rest (omega (arith, all, headed, front)) in
+    let both : ended ≡ whole text = sym none ∙ file.comes in
+    cc
 
 -- if a crash left the journal of accepted texts, each fault that a start may report is of memory or of the disk
 pub own_starts : (setup : SetupFields) (digest bytes : List ℕ) (texts : List (List ℕ)) (least : ℕ)
@@ -138,11 +116,10 @@ own_starts setup digest bytes texts least house (Refused fault.Setup) accepted l
 own_starts setup digest bytes texts least house (Refused (fault.Damaged place)) accepted leaves refused =
     absurd (refused.crash texts least leaves)
 own_starts setup digest bytes texts least house (Refused (fault.Refused place)) accepted (inl leaves) refused =
-    absurd (none_refused setup digest bytes texts least place
-    (whole_head digest bytes (drop file_head_length bytes) refused.found.found.is_headed) accepted leaves refused.found)
+    let found = refused.found in
+    absurd (none_refused setup digest bytes texts least found.0 found.1 accepted leaves found.2 (found.4 [] refl))
 own_starts setup digest bytes texts least house (Refused (fault.Refused place)) accepted (inr part) refused =
-    let both : begun ≡ headed (drop file_head_length bytes) =
-    sym (begun_is digest bytes part.1) ∙ refused.found.found.is_headed in
-    absurd (let no : ⊥ = cc in no)
+    let found = refused.found in
+    absurd (no_text digest bytes found.0 found.1 part.1 found.2)
 own_starts setup digest bytes texts least house (Refused fault.NoMemory) accepted leaves refused = tt
 own_starts setup digest bytes texts least house Failed accepted leaves refused = tt

@@ -4,7 +4,7 @@ use Rattle.std.proofs.Common.{subst, arith, length-append, append-nil}
 use Rattle.std.specs.Prelude.{◌||◌, Result, Ok, Err, false, is_err}
 use Rattle.std.proofs.Math.Seq.{take-append_seam}
 use Rattle.clock_device.specs.Streams.{WritesText}
-use Rattle.clock_device.specs.Reports.{IsUnused, Reading, SinkReport, Writing}
+use Rattle.clock_device.specs.Reports.{IsUnused, SinkReport, Writing}
 use Rattle.clock_device.specs.Writings.{WritesNothing}
 use Rattle.clock_device.proofs.Streams.{same_bytes}
 use Rattle.clock_terms.specs.Limits.{SetupFields, IsSetup}
@@ -30,7 +30,7 @@ use Rattle.clock_server.specs.Closings.{closed_by}
 use Rattle.clock_server.specs.Exchanges.{Exchange}
 use Rattle.clock_server.specs.Serving.{AreServed, LogsText, LoggedTexts, RepliesOver, RepliesTo, Walks}
 use Rattle.clock_server.specs.Serving.{WritesReply}
-use Rattle.clock_server.specs.inside.Served.{IsAnswered, IsServed, round_closed}
+use Rattle.clock_server.specs.inside.Served.{IsServed, round_closed}
 use Rattle.clock_front.proofs.AnswerLaws.{stands_still}
 use Rattle.clock_front.proofs.RunLaws.{right}
 use Rattle.clock_server.proofs.Walking.{logged_behind, walks_on}
@@ -50,26 +50,16 @@ pub nothing_written : (reported : SinkReport) → IsUnused reported
     → WritesNothing (record { before = reported; after = reported })
 nothing_written reported unused = record { unused = unused; bytes = same_bytes reported.taken }
 
--- what holds of a response holds of an equal one
-pub answered_as : (reading : Reading) (reported response : Response)
-    (journal_old journal_new journal_mid : JournalState) (old new mid : HouseFields) → response ≡ reported
-    → journal_mid ≡ journal_new → mid ≡ new → IsAnswered reading reported journal_old journal_new old new
-    → IsAnswered reading response journal_old journal_mid old mid
-answered_as reading reported response journal_old journal_new journal_mid old new mid is logged same answered =
-    subst (λ (one : Response). IsAnswered reading one journal_old journal_mid old mid) (sym is)
-    (subst (λ (journal : JournalState). IsAnswered reading reported journal_old journal old mid) (sym logged) (subst
-    (λ (house : HouseFields). IsAnswered reading reported journal_old journal_new old house) (sym same) answered))
-
 -- of a journal to which texts were appended, a crash leaves the texts before, and a prefix of the others
 pub left_since : (digest : List ℕ) (past more : List (List ℕ)) (journal_old journal_new : JournalState) (left : List ℕ)
     → HasTexts digest past journal_old → HasTexts digest (past ++ more) journal_new
     → MayBeLeft journal_old.synced journal_new.written left → LeavesTexts digest left (past ++ more) (length past)
 left_since digest past more journal_old journal_new left has_old has_new may =
     let known : MayBeLeft (Some (file_of digest past)) (Some (file_of digest (past ++ more))) left =
-    subst (λ (bytes : Option (List ℕ)). MayBeLeft bytes (Some (file_of digest (past ++ more))) left) (has_old.synced_is
-    ∙ has_old.file) (subst (λ (bytes : Option (List ℕ)). MayBeLeft journal_old.synced bytes left) has_new.file may) in
+    subst (λ (bytes : Option (List ℕ)). MayBeLeft bytes (Some (file_of digest (past ++ more))) left) (has_old.1
+    ∙ has_old.0) (subst (λ (bytes : Option (List ℕ)). MayBeLeft journal_old.synced bytes left) has_new.0 may) in
     subst (λ (bytes : List ℕ). LeavesTexts digest bytes (past ++ more) (length past)) (sym known.2)
-    (every_front digest (past ++ more) (length past) known.0 has_new.fit (omega (arith, length-append past more))
+    (every_front digest (past ++ more) (length past) known.0 has_new.3 (omega (arith, length-append past more))
     (subst (λ (all : List (List ℕ)). length (file_of digest all) ≤ known.0) (sym (take-append_seam past more)) known.1))
 
 -- what one connection made of the texts that a front stands for

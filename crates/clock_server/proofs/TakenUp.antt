@@ -1,5 +1,5 @@
 -- What a machine took is what the auction stands for.
-use Rattle.std.proofs.Common.{◌≡◌, List, [], ℕ, Result, Ok, Err, MatchResult, sym, subst}
+use Rattle.std.proofs.Common.{◌≡◌, List, [], ℕ, sym, subst}
 use Rattle.clock_house.specs.House.{HouseFields}
 use Rattle.clock_front.specs.Fronts.{StandsForTexts}
 use Rattle.clock_journal.specs.Entries.{Entry, texts_in}
@@ -27,11 +27,8 @@ module _ (old : List Entry → Type 0) (begun : old []) where
   found_first refuses digest bytes Unknown found = found
   found_first refuses digest bytes Setup found = found
   found_first refuses digest bytes (Damaged place) found = found
-  found_first refuses digest bytes (Refused place) found = record {
-    text = found.text;
-    found = found.found;
-    refused = λ past none. found.refused past (subst old (sym none) begun);
-  }
+  found_first refuses digest bytes (Refused place) found =
+      (found.0, found.1, found.2, found.3, λ past none. found.4 past (subst old (sym none) begun))
   found_first refuses digest bytes NoMemory found = tt
 
   -- a refused text, by whatever refuses it
@@ -44,26 +41,21 @@ module _ (old : List Entry → Type 0) (begun : old []) where
     any_tail = refusal.any_tail;
   }
 
-  -- for any file
-  pub taken_up : (refuses : List (List ℕ) → List ℕ → Type 0) (new : HouseFields) (digest bytes : List ℕ)
-      (result : Result Recovered JournalFault)
-      → MatchResult result (IsRecovered old (IsAt new) digest bytes) (IsJournalRefusal refuses old digest bytes)
-      → MatchResult result (HasReplayed digest bytes new)
-      (IsJournalRefusal refuses (λ (past : List Entry). past ≡ []) digest bytes)
-  taken_up refuses new digest bytes (Ok recovered) taken = record {
+module _ (old new : HouseFields) (chain digest bytes : List ℕ) (fresh : StandsForTexts [] old)
+    (same : chain ≡ digest) where
+  -- for the digest of a journal, and an auction without texts
+  pub replayed : (recovered : Recovered) → IsRecovered (IsAt old) (IsAt new) chain bytes recovered
+      → HasReplayed digest bytes new recovered
+  replayed recovered taken = record {
     texts = taken.texts;
-    are = taken.are;
-    stands = subst (λ (all : List (List ℕ)). StandsForTexts all new) (texts_in-onto digest [] taken.texts [])
-        (taken.stands [] begun);
+    are = subst (λ (at : List ℕ). AreTextsOf at bytes taken.texts recovered) same taken.are;
+    stands = subst (λ (all : List (List ℕ)). StandsForTexts all new) (texts_in-onto chain [] taken.texts [])
+        (taken.stands [] fresh);
   }
-  taken_up refuses new digest bytes (Err why) refusal = refused_first refuses digest bytes why refusal
 
--- for the digest of a journal, and an auction without texts
-pub replayed : (old new : HouseFields) (chain digest bytes : List ℕ) (result : Result Recovered JournalFault)
-    → StandsForTexts [] old → chain ≡ digest → MatchResult result (IsRecovered (IsAt old) (IsAt new) chain bytes)
-    (IsJournalRefusal (IsRefused old.setup) (IsAt old) chain bytes) → MatchResult result (HasReplayed digest bytes new)
-    (IsJournalRefusal (IsRefused old.setup) (λ (past : List Entry). past ≡ []) digest bytes)
-replayed old new chain digest bytes result fresh same read =
-    subst (λ (at : List ℕ). MatchResult result (HasReplayed at bytes new)
-    (IsJournalRefusal (IsRefused old.setup) (λ (past : List Entry). past ≡ []) at bytes)) same
-    (taken_up (IsAt old) fresh (IsRefused old.setup) new chain bytes result read)
+  -- a refused file
+  pub not_replayed : (why : JournalFault) → IsJournalRefusal (IsRefused old.setup) (IsAt old) chain bytes why
+      → IsJournalRefusal (IsRefused old.setup) (λ (past : List Entry). past ≡ []) digest bytes why
+  not_replayed why refusal = subst (λ (at : List ℕ). IsJournalRefusal (IsRefused old.setup)
+      (λ (past : List Entry). past ≡ []) at bytes why) same
+      (refused_first (IsAt old) fresh (IsRefused old.setup) chain bytes why refusal)

@@ -20,7 +20,7 @@ use Rattle.clock_front.specs.Fronts.{commands_of, house_after, text_command}
 use Rattle.clock_front.specs.declared.front.response.Effect.{Effect}
 use Rattle.clock_front.specs.declared.front.response.Effect.TheVariants.{Nothing, Sheet, Closing}
 use Rattle.clock_server.specs.Keeping.{GrowsBy}
-use Rattle.clock_server.specs.Closings.{ReportsClosings, closed_by, rounds_between}
+use Rattle.clock_server.specs.Closings.{ReportsClosings, closed_by}
 use Rattle.clock_server.specs.inside.Served.{round_closed}
 use Rattle.clock_server.proofs.Walking.{grown_more, grown_none}
 
@@ -79,6 +79,10 @@ range_suc first (suc count) =
     let same : (first + 1) + count ≡ first + suc count = omega arith in
     ap (λ (rest : List ℕ). first ∷ rest)
     (range_suc (first + 1) count ∙ ap (λ (last : ℕ). range_with_len (first + 1) count ++ last ∷ []) same)
+
+-- the rounds after number `before`, up to number `after`
+abbrev rounds_between : ℕ → ℕ → List ℕ
+rounds_between before after = range_with_len (before + 1) (after - before)
 
 rounds_same : (first before after : ℕ) → after ≡ before → rounds_between first before ++ [] ≡ rounds_between first after
 rounds_same first before after same =

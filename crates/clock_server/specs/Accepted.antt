@@ -16,15 +16,13 @@ use Rattle.clock_server.specs.Starts.{IsNotResumed}
 use Rattle.clock_server.specs.declared.taking.ResumeFault.{ResumeFault}
 use Rattle.clock_server.specs.declared.taking.ResumeFault.TheVariants.{Refused, Failed}
 
--- each of the texts, the oldest first, is accepted after `past`, the newest first, and the texts
--- before it
+-- each text, the oldest first, is accepted after `past`, the newest first, and those before it
 abbrev pub AreAccepted : SetupFields → List (List ℕ) → List (List ℕ) → Type 0
 AreAccepted setup past [] = Unit {0}
 AreAccepted setup past (text ∷ texts) =
     IsAccepted setup past text × AreAccepted setup (text ∷ past) texts
 
--- whatever a crash leaves of the file reads as a prefix of these accepted texts, at least `least`
--- of them
+-- a crash leaves the first of these accepted texts, at least `least` of them
 pub record IsOwnFile (setup : SetupFields) (digest : List ℕ) (texts : List (List ℕ)) (least : ℕ)
     (journal : JournalState) : Type 0 where
   pub accepted : AreAccepted setup [] texts
@@ -37,8 +35,7 @@ IsNotRefused (Refused NoMemory) = Unit {0}
 IsNotRefused (Refused fault) = ⊥
 IsNotRefused Failed = Unit {0}
 
--- if a crash left the journal of accepted texts, each fault that a start may report is of memory or
--- of the disk
+-- if a crash left the journal of accepted texts, a start fails only because of memory or the disk
 abbrev pub OwnStarts : Type 0
 OwnStarts = (setup : SetupFields) (digest bytes : List ℕ) (texts : List (List ℕ)) (least : ℕ)
     (house : HouseFields) (fault : ResumeFault) → AreAccepted setup [] texts

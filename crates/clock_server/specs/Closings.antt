@@ -1,6 +1,5 @@
 -- Which closed rounds the server reports, each by its number.
 --     closed_by setup texts      how many rounds these texts have closed
---     rounds_between before after      the rounds after number `before`, up to number `after`
 --     ReportsClosings setup past end rounds_old rounds_new      exactly the rounds closed since
 --         `past` were reported, in order
 use Rattle.std.specs.Prelude.{◌≤◌, ◌+◌, ◌-◌, ℕ, List, Option, length}
@@ -14,14 +13,10 @@ use Rattle.clock_server.specs.Keeping.{GrowsBy}
 abbrev pub closed_by : SetupFields → List (List ℕ) → ℕ
 closed_by setup texts = length (history setup (commands_of setup texts)).closed
 
--- rounds are numbered from 1
-abbrev pub rounds_between : ℕ → ℕ → List ℕ
-rounds_between before after = range_with_len (before + 1) (after - before)
-
 -- no closed round is open again; each round closed since then is appended to the reported ones,
--- once and in order
+-- once and in order. Rounds are numbered from 1
 pub record ReportsClosings (setup : SetupFields) (past end : List (List ℕ))
     (rounds_old rounds_new : Option (List ℕ)) : Type 0 where
   pub more : closed_by setup past ≤ closed_by setup end
-  pub reported : GrowsBy rounds_old rounds_new
-      (rounds_between (closed_by setup past) (closed_by setup end))
+  pub reported : GrowsBy rounds_old rounds_new (range_with_len (closed_by setup past + 1)
+      (closed_by setup end - closed_by setup past))

@@ -15,8 +15,7 @@ pub record Offer : Type 0 where
   pub source : SourceReport
   pub sink : SinkReport
 
--- all reads and writes on one connection, and the journal when the first byte was written, if
--- contracts see it
+-- all reads and writes, and the journal when the first byte was written, if contracts see it
 pub record Exchange : Type 0 where
   pub reading : Reading
   pub writing : Writing

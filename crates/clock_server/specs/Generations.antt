@@ -39,8 +39,7 @@ use Rattle.clock_server.specs.declared.generation.GenerationFault.{GenerationFau
 use Rattle.clock_server.specs.declared.generation.GenerationFault.TheVariants.{Start, Serve}
 use Rattle.clock_server.specs.declared.serving.ServeFault.TheVariants as fault
 
--- a start that failed with this fault, or a start and then these connections. The first journal is
--- the one before any call, the last one that at the end
+-- a failed start, or a start and then these connections, between the journals before and at the end
 pub data Generation : Type 0 where
   failed : JournalState → ResumeFault → JournalState → Generation
   served : JournalState → List Exchange → JournalState → Generation
@@ -88,8 +87,7 @@ abbrev pub found_by : Generation → JournalState
 found_by (failed found fault end) = found
 found_by (served found exchanges end) = found
 
--- each is a generation, and whatever a crash leaves of its file, a crash of the generation before
--- may have left
+-- each is a generation, and what a crash leaves of its file, one before it may have left
 abbrev pub AreRestarts : SetupFields → List ℕ → (List ℕ → Type 0) → List Generation → Type 0
 AreRestarts setup digest Leaves [] = Unit {0}
 AreRestarts setup digest Leaves (one ∷ others) =
@@ -98,8 +96,7 @@ AreRestarts setup digest Leaves (one ∷ others) =
     × ((left : List ℕ) → MayBeLeft (found_by one).synced (found_by one).written left → Leaves left)
     × AreRestarts setup digest (MayLeave one) others
 
--- each serves from the texts that the one before has left: all that were logged, and at most one
--- more
+-- each serves from what the one before has left: all texts that were logged, and at most one more
 abbrev pub ContinueFrom : SetupFields → List ℕ → List (List ℕ) → ℕ → List Generation → Type 0
 ContinueFrom setup digest texts least [] = Unit {0}
 ContinueFrom setup digest texts least (failed found fault end ∷ others) =

@@ -114,9 +114,8 @@ pub record IsUnlogged (one : Exchange) (journal_old journal_new : JournalState)
 
 -- a connection could not be accepted
 abbrev pub is_accept_fault : {U : Type 0} → Result U ServeFault → Bool
-is_accept_fault (Ok done) = false
 is_accept_fault (Err fault.Accept) = true
-is_accept_fault (Err fault.Journal) = false
+is_accept_fault result = false
 
 -- all were served; or those before one that could not be accepted; or those before the last one,
 -- whose text could not be logged, so that no round that it closed was reported

@@ -23,8 +23,7 @@ pub record IsResumed (digest bytes : List ℕ) (journal : JournalState) (house :
   pub are : AreTextsOf digest bytes texts recovered
   pub in_step : IsInStep digest texts journal house
 
--- the file has this fault or memory ran out; or the auction stands for all texts, and a call of the
--- disk failed
+-- the file has this fault; or the auction stands for all of its texts, and the disk failed
 abbrev pub IsNotResumed : SetupFields → List ℕ → List ℕ → HouseFields → ResumeFault → Type 0
 IsNotResumed setup digest bytes house (Refused fault) =
     IsJournalRefusal (IsRefused setup) (λ past. past ≡ []) digest bytes fault
@@ -32,8 +31,7 @@ IsNotResumed setup digest bytes house Failed =
     (recovered : Recovered) × (texts : List (List ℕ)) × AreTextsOf digest bytes texts recovered
     × StandsForTexts (onto texts []) house
 
--- no call was made on a refused file: neither its bytes nor its moments have changed. Otherwise a
--- call of the disk has failed
+-- a refused file is unchanged, and so are its moments; otherwise a call of the disk has failed
 abbrev pub IsLeftBy : JournalState → JournalState → ResumeFault → Type 0
 IsLeftBy old new (Refused fault) = new ≡ old
 IsLeftBy old new Failed = new.has_failed ≡ true

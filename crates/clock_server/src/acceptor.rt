@@ -121,10 +121,8 @@ impl Acceptor for PortAcceptor<'_> {
             return Err(Failed);
         };
         self.is_open = true;
-        Ok(Connection {
-            source: FromReader::new(reader),
-            sink: ToWriter::new(stream),
-        })
+        let (source, sink) = (FromReader::new(reader), ToWriter::new(stream));
+        Ok(Connection { source, sink })
     }
 
     fn close(&mut self, connection: Connection<FromReader<TcpStream>, ToWriter<TcpStream>>)

@@ -77,8 +77,10 @@ impl<D: Durable> RequestLog for Journal<D> {
         if text.len() > MOST_TEXT {
             return Err(Failed);
         }
-        self.append(text)?;
-        Ok(response)
+        match self.append(text) {
+            Ok(()) => Ok(response),
+            Err(Failed) => Err(Failed),
+        }
     }
 
     fn round_closed(&mut self, _round: u64) {}

@@ -1,8 +1,9 @@
 ghost use Rattle.std.specs.Prelude.{◌≡◌, List, OnOk, None, false};
 ghost use Rattle.clock_device.specs.Reports.{IsUnread, IsUnused};
 ghost use Rattle.clock_server.specs.Keeping.{GrowsBy, no_journal};
-ghost use Rattle.clock_server.specs.Exchanges.{Came, Exchange, bytes_given};
-ghost use Rattle.clock_server.specs.{Laws.{ReportedBytes}, Serving.{EndsServing, is_accept_fault}};
+ghost use Rattle.clock_server.specs.Exchanges.{Came, Exchange, IsShownJournal, bytes_given};
+ghost use Rattle.clock_server.specs.Laws.{ReportedBytes};
+ghost use Rattle.clock_server.specs.Serving.{EndsServing, WritesReply, is_accept_fault};
 ghost use Rattle.clock_server.specs.inside.Served.{EndsOne, EndsTaken, IsReportedAs};
 
 use crate::acceptor::{Acceptor, PortAcceptor};
@@ -50,17 +51,32 @@ fn serve_one<P: Processor, K: RequestLog, R: Source, W: Outlet>(
     ensures rounds { K.rounds log.new ≡ K.rounds log.old }
     ensures setup { front.new.setup ≡ front.old.setup }
 {
-    let response = match read_request(alloc, source) {
-        Ok(request) => log.answer(front, request.as_slice(), request.progress())?,
-        Err(RequestReadError::Memory) => Response {
-            reply: no_memory_reply(),
-            effect: Effect::Nothing,
+    match read_request(alloc, source) {
+        Ok(request) => match log.answer(front, request.as_slice(), request.progress()) {
+            Ok(response) => Ok(write_reply(log, sink, response)),
+            Err(Failed) => Err(Failed),
         },
-        Err(RequestReadError::Read) => return Ok(Effect::Nothing),
-    };
-    // a failed write ends only this connection: the front still has what its request changed
+        Err(RequestReadError::Memory) => {
+            let (reply, effect) = (no_memory_reply(), Effect::Nothing);
+            Ok(write_reply(log, sink, Response { reply, effect }))
+        }
+        Err(RequestReadError::Read) => Ok(Effect::Nothing),
+    }
+}
+
+/// Writes a reply, and returns what its request changed. A failed write ends only this connection:
+/// the front still has what the request changed.
+fn write_reply<K: RequestLog, W: Outlet>(log: &K, sink: &mut W, response: Response) -> Effect
+    requires { IsUnused (W.report sink.old) }
+    ensures written { WritesReply (record {
+      before = W.report sink.old;
+      after = W.report sink.new;
+    }) response.reply }
+    ensures logged { IsShownJournal (W.logged sink.new) (K.journal log.now) }
+    ensures effect { result ≡ response.effect }
+{
     let _fault = sink.reply(log, response.reply.bytes());
-    Ok(response.effect)
+    response.effect
 }
 
 /// Accepts the next connection, serves it, and closes it.

@@ -7,6 +7,7 @@ ghost use Rattle.clock_server.specs.{Accepted.{OwnStarts}, Keeping.{IsRefused}};
 ghost use Rattle.clock_server.specs.{Starts.{IsLeftBy, IsNotResumed}};
 ghost use Rattle.clock_server.specs.{Starts.{IsResumed}, inside.Taken.{taken_as}};
 
+use clock_device::Failed;
 use clock_front::{Effect, Front};
 use clock_http::{Code, frame};
 use clock_journal::{
@@ -110,10 +111,15 @@ pub fn resume_auction<P: Processor, D: Durable, F: FnOnce(Recovered)>(
     ensures setup { auction.new.front.setup ≡ auction.old.front.setup }
 {
     let digest = *journal.chain();
-    let recovered = recover(auction, &digest, bytes).map_err(ResumeFault::Refused)?;
+    let recovered = match recover(auction, &digest, bytes) {
+        Ok(recovered) => recovered,
+        Err(fault) => return Err(ResumeFault::Refused(fault)),
+    };
     tell(recovered);
-    journal.resume(recovered).or(Err(ResumeFault::Failed))?;
-    Ok(recovered)
+    match journal.resume(recovered) {
+        Ok(()) => Ok(recovered),
+        Err(Failed) => Err(ResumeFault::Failed),
+    }
 }
 
 /// A law, which does nothing when it runs: if each text of a journal was accepted when it was

@@ -1,9 +1,10 @@
 use Rattle.std.proofs.Common.{◌≡◌, ℕ, List, [], Option, Some, OnOk, length, take, sym, ap, ◌∙◌, subst, rules}
 use Rattle.clock_journal.specs.Crash.{BeginsWithTexts, LeavesJournal}
 use Rattle.clock_journal.specs.Disks.{LeaveOnly, MayBeLeft, Moment}
-use Rattle.clock_journal.specs.Logged.{HasTexts, JournalState, Keeps}
+use Rattle.clock_journal.specs.Logged.{HasTexts, JournalState}
 use Rattle.clock_journal.specs.Recovering.{IsPlaced}
 use Rattle.clock_journal.specs.declared.recovery.Recovered.{Recovered}
+use Rattle.clock_journal.proofs.Moments.{Keeps}
 use Rattle.clock_journal.proofs.Passing.{leave_more, leave_one, leave_then}
 use Rattle.clock_journal.proofs.Placed.{placed_empty, cut_is, logged_when_cut}
 use Rattle.clock_journal.proofs.Starting.{anew_leaves, crash_cut, none_first, now_left, tail_cut, through_cut}
@@ -26,6 +27,9 @@ Tail at recovered new = (bytes synced : List ℕ) (read texts : List (List ℕ))
     → ((left : List ℕ) → MayBeLeft at.synced at.written left → BeginsWithTexts at.chain left texts)
     → LeaveOnly at.moments new (λ left. BeginsWithTexts at.chain left texts)
 
+pub cut-requires : goal.cut-requires
+cut-requires g c = c.in_ok-sync.ensures.ok ∙ sym c.sync.ensures.written
+
 pub returns-in_err-sync-clause-crash : goal.returns-in_err-sync-clause-crash
 returns-in_err-sync-clause-crash g c =
     let disk = c.self.inside.disk in
@@ -42,8 +46,8 @@ returns-in_err-sync-clause-any_tail g c =
     (g.D.Durable.moments c.sync.new.self) (g.D.Durable.synced disk) (g.D.Durable.written disk)
     (λ left. BeginsWithTexts c.self.inside.chain left texts) c.sync.ensures.moments before)
 
-pub returns-in_err-cut-clause-crash : goal.returns-in_err-cut-clause-crash
-returns-in_err-cut-clause-crash g c =
+pub returns-in-Err-clause-crash : goal.returns-in-Err-clause-crash
+returns-in-Err-clause-crash g c =
     let disk = c.self.inside.disk in
     let chain = c.self.inside.chain in
     let passed = g.D.Durable.moments in
@@ -59,8 +63,8 @@ returns-in_err-cut-clause-crash g c =
     (λ left may. crash_cut chain bytes texts read least c.args.recovered left long
     (before bytes (now_left (on_disk disk) (reported disk) synced bytes same is)) placed may))
 
-pub returns-in_err-cut-clause-any_tail : goal.returns-in_err-cut-clause-any_tail
-returns-in_err-cut-clause-any_tail g c =
+pub returns-in-Err-clause-any_tail : goal.returns-in-Err-clause-any_tail
+returns-in-Err-clause-any_tail g c =
     let disk = c.self.inside.disk in
     let chain = c.self.inside.chain in
     let passed = g.D.Durable.moments in
@@ -123,7 +127,7 @@ returns-then-recovered-eq0-clause-crash g c =
     (λ bytes synced read texts least is same placed before.
     let now = before bytes (now_left (on_disk disk) (reported disk) synced bytes same is) in
     let cut = cut_is (reported disk) (reported c.sync.new.self) (reported c.cut.new.self) bytes c.args.recovered.end
-    c.sync.ensures.written is c.in_ok-cut.ensures.written in
+    c.sync.ensures.written is c.in_default.ensures.written in
     leave_then (passed disk) (passed c.cut.new.self) c.begin.new.self.moments (λ left. LeavesJournal chain left texts
     least) (through_cut (passed disk) (passed c.sync.new.self) (passed c.cut.new.self) (on_disk disk) (reported disk)
     (on_disk c.sync.new.self) (reported c.sync.new.self) bytes c.args.recovered.end (λ left. LeavesJournal chain left
@@ -161,7 +165,7 @@ returns-then-recovered-eq0-clause-logged g c =
     (HasTexts chain texts c.begin.new.self))) c.self.view_is (λ bytes texts is placed.
     let none = placed_empty chain bytes texts c.args.recovered long nowhere placed in
     let cut = cut_is (reported disk) (reported c.sync.new.self) (reported c.cut.new.self) bytes c.args.recovered.end
-    c.sync.ensures.written is c.in_ok-cut.ensures.written in
+    c.sync.ensures.written is c.in_default.ensures.written in
     subst (λ (all : List (List ℕ)). OnOk c.begin.result (HasTexts chain all c.begin.new.self)) (sym none)
     (c.begin.ensures.logged (cut ∙ ap (λ (n : ℕ). Some (take n bytes)) nowhere)))
 
@@ -177,4 +181,4 @@ returns-clause-logged g c =
     (on_disk c.cut.new.self) c.args.recovered.chain)) c.self.view_is (λ bytes texts is placed. logged_when_cut chain
     bytes texts c.args.recovered (reported c.cut.new.self) (on_disk c.cut.new.self) c.if-recovered-eq0.false placed
     (cut_is (reported disk) (reported c.sync.new.self) (reported c.cut.new.self) bytes c.args.recovered.end
-    c.sync.ensures.written is c.in_ok-cut.ensures.written) c.in_ok-cut.ensures.synced)
+    c.sync.ensures.written is c.in_default.ensures.written) c.in_default.ensures.synced)
