@@ -72,29 +72,14 @@ pub fn with_sheet_lines(mut text: Text, setup: &Setup, sheet: &RoundSheet) -> Re
     requires { length sheet.now.lines ≡ length setup.now.products }
     ensures { IfOk result (λ lines. lines ≡ text ++ sheet_text setup.now.products sheet.now) }
 {
-    match push_lines(&mut text, setup, sheet) {
-        Ok(()) => Ok(text),
-        // `drop` here keeps the proof small: with `?`, each field would be proved
-        Err(none) => {
-            drop(text);
-            Err(none)
-        }
-    }
-}
-
-/// Appends the lines of [`sheet_lines`]. After `NoMemory`, the text may have a part of them.
-fn push_lines(text: &mut Text, setup: &Setup, sheet: &RoundSheet) -> Result<(), NoMemory>
-    requires { length sheet.now.lines ≡ length setup.now.products }
-    ensures { OnOk result (text.new ≡ text.old ++ sheet_text setup.now.products sheet.now) }
-{
     let products = setup.products.as_slice();
     text.extend_from_slice(b"round ")?;
     text.push_number(sheet.round)?;
     text.push(b'\n')?;
     for (i, line) in sheet.lines.iter().enumerate() {
-        push_line(text, &products[i], line)?;
+        push_line(&mut text, &products[i], line)?;
     }
-    Ok(())
+    Ok(text)
 }
 
 /// The most bytes that the numbers of a line take: five numbers of 20 digits, each after a space,

@@ -1,6 +1,6 @@
 use Rattle.std.proofs.Common.{◌≡◌, ◌++◌, drop}
 use Rattle.clock_posting.specs.SheetText.{lines_text}
-use Rattle.clock_posting.proofs.sheet.push_lines.Given as goal
+use Rattle.clock_posting.proofs.sheet.with_sheet_lines.Given as goal
 
 -- With the lines of the products still to come, this is the whole text.
 abbrev pub invariant-loop-i : goal.invariant-loop-i
