@@ -1,11 +1,13 @@
 -- The last bid for a product among the first bids of a sheet, as the pass that checks a sheet finds it. Either there is
 -- none, or it is the bid directly before, or a table has its index.
-use Rattle.std.proofs.Common.{◌≡◌, ℕ, ◌+◌, ◌<◌, ◌≤◌, List, [], ◌==◌, false, map, length, replicate, take, inl, inr, ap}
-use Rattle.std.proofs.Common.{ap₂, sym, subst, ◌∙◌, arith, get_or, set, All}
-use Rattle.std.specs.Prelude.{Option, Some, None}
-use Rattle.std.proofs.lemmas.Bool.{cases_lt, ne_eqb}
+use Rattle.std.proofs.Common.{◌≡◌, ℕ, zero, suc, ◌+◌, ◌-◌, ◌<◌, ◌≤◌, List, [], ◌==◌, true, false, cond, map, length}
+use Rattle.std.proofs.Common.{replicate, take, inl, inr, refl, ap, ap₂, sym, subst, ◌∙◌, arith, get_or, set, All, Bor}
+use Rattle.std.specs.Prelude.{Option, Some, None, IfSome, nat_lt, slice_get}
+use Rattle.std.specs.Option.{is_some, option_copied}
+use Rattle.std.proofs.lemmas.Bool.{cases_lt, ltb-true, ltb-false, ne_eqb}
+use Rattle.std.proofs.lemmas.Option.{slice_get-get_or, slice_get_past}
 use Rattle.std.proofs.lemmas.List.{get_or-set_same, get_or-take, get_or_past, length-take-le, take_more}
-use Rattle.std.proofs.lemmas.List.{length-replicate, length-set, map-set}
+use Rattle.std.proofs.lemmas.List.{get_or-map, length-map, length-replicate, length-set, map-set}
 use Rattle.std.proofs.lemmas.List.Elements.{All-push, All-weaker}
 use Rattle.std.proofs.lemmas.List.FromFn.{get_or-map-range_with_len, length-map-range_with_len}
 use Rattle.clock_terms.specs.declared.setup.Product.{Product}
@@ -102,3 +104,41 @@ last_before products product place i bids before from within is same all =
     ∙ sym (ap (λ entries. get_or entries bid.product None) (last_bids-more products bids i within known)
     ∙ get_or-set_same earlier bid.product (Some bid) None (omega (arith, known, each)))
     ∙ ap₂ (λ (n p : ℕ). get_or (last_bids products (take n bids)) p None) (sym from) here
+
+-- the bid whose index a table has for a product
+module _ (bids : List Bid) (places : List ℕ) (product : ℕ) where
+  pub past_table : false ≡ nat_lt product (length places) → None ≡ get_or (map (bid_at bids) places) product None
+  past_table past = sym (get_or_past (map (bid_at bids) places) product None
+      (omega (arith, ltb-false product (length places) (sym past), length-map places (bid_at bids))))
+
+  in_table : (place : ℕ) → true ≡ nat_lt product (length places) → place ≡ get_or places product place
+      → get_or (map (bid_at bids) places) product None ≡ bid_at bids place
+  in_table place within is =
+      get_or-map (bid_at bids) places product place None (ltb-true product (length places) (sym within))
+      ∙ ap (bid_at bids) (sym is)
+
+  none_at_0 : (place : ℕ) → (1 ≤ place → ⊥) → bid_at bids place ≡ None
+  none_at_0 zero none = refl
+  none_at_0 (suc n) none = absurd (none (omega arith))
+
+  pub no_place : (place : ℕ) → true ≡ nat_lt product (length places) → place ≡ get_or places product place
+      → (1 ≤ place → ⊥) → None ≡ get_or (map (bid_at bids) places) product None
+  no_place place within is none = sym (in_table place within is ∙ none_at_0 place none)
+
+  copied : (found : Option (Bor Bid)) (i : ℕ) → is_some found ≡ nat_lt i (length bids)
+      → IfSome found (λ bid. bid.now ≡ get_or bids i bid.now) → option_copied found ≡ slice_get bids i
+  copied None i none is = sym (slice_get_past bids i (ltb-false i (length bids) (sym none)))
+  copied (Some bid) i some is =
+      ap Some is ∙ sym (slice_get-get_or bids i bid.now (ltb-true i (length bids) (sym some)))
+
+  at_place : (place i : ℕ) → 1 ≤ place → i ≡ place - 1 → bid_at bids place ≡ slice_get bids i
+  at_place place i some is =
+      ap (λ none. cond none None (slice_get bids (place - 1))) (ne_eqb place 0 (λ e. omega (arith, e, some)))
+      ∙ ap (slice_get bids) (sym is)
+
+  pub some_place : (place i : ℕ) (found : Option (Bor Bid)) → true ≡ nat_lt product (length places)
+      → place ≡ get_or places product place → 1 ≤ place → i ≡ place - 1 → is_some found ≡ nat_lt i (length bids)
+      → IfSome found (λ bid. bid.now ≡ get_or bids i bid.now)
+      → option_copied found ≡ get_or (map (bid_at bids) places) product None
+  some_place place i found within is some before lookup same =
+      copied found i lookup same ∙ sym (at_place place i some before) ∙ sym (in_table place within is)
