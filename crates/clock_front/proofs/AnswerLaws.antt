@@ -1,5 +1,5 @@
 -- Moves what is promised of an answer from the commands that a house stands for to lists of requests.
-use Rattle.std.proofs.Common.{◌≡◌, ℕ, List, ◌∷◌, inl, inr, sym, subst}
+use Rattle.std.proofs.Common.{ℕ, List, ◌∷◌, inl, inr, sym, subst}
 use Rattle.clock_terms.specs.Limits.{SetupFields}
 use Rattle.clock_house.specs.House.{HouseFields, IsFollowedBy, StandsFor, StandsForTheSame}
 use Rattle.clock_http.specs.Replies.{Answer}

@@ -1,6 +1,9 @@
 -- Proves which change a request asks for, by the page that its path names.
-use Rattle.std.proofs.Common.{◌≡◌, ℕ, List, Bool, true, false, ◌||◌, Option, Some, None, refl, sym, ◌∙◌, subst}
+use Rattle.std.proofs.Common.{◌≡◌, ℕ, List, Bool, true, false, ◌||◌, Option, Some, None, Result, refl, sym, ap, ◌∙◌}
+use Rattle.std.proofs.Common.{subst}
 use Rattle.std.specs.Prelude.{if◌then◌else◌, codes}
+use Rattle.clock_house.specs.House.{HouseFields}
+use Rattle.clock_http.specs.Replies.{Answer}
 use Rattle.clock_http.specs.Heads.{same_bytes}
 use Rattle.clock_http.specs.Framing.{Head}
 use Rattle.clock_http.specs.Routes.{has_method}
@@ -15,6 +18,7 @@ use Rattle.clock_front.specs.declared.front.answering.Change.TheVariants.{Nothin
 use Rattle.clock_front.specs.Requests.{Ask, ask_by_route, ask_of_page, bids, close, no_method, put}
 use Rattle.clock_front.specs.Rooms.{asks_for_page}
 use Rattle.clock_front.specs.inside.Changes.{IsChangeFor, change_asked}
+use Rattle.clock_front.specs.inside.Replies.{IsReplyOrFailure}
 
 -- Of two requests for pages each is one.
 either_page : (who : Caller) (test : Bool) (one other : Ask) → asks_for_page who one ≡ true
@@ -47,6 +51,15 @@ change_is (Some pages.Bids) who head body = either_page who (has_method pages.Bi
 change_is (Some pages.Close) Operator head body = close_change (has_method pages.Close head.method) body
 change_is (Some one) who head body =
     either_page who (has_method one head.method) (ask_of_page one head body) (no_method one) refl refl
+
+-- The reply for the page that a path names, if the page has the request's method.
+pub for_page : (named : Option Page) (found one : Page) (who : Caller) (head : Head) (body : List ℕ)
+    (house : HouseFields) (result : Result Answer ℕ) → named ≡ Some found → has_method found head.method ≡ true
+    → found ≡ one → IsReplyOrFailure house who (ask_of_page one head body) result
+    → IsReplyOrFailure house who (ask_by_route named head body) result
+for_page named found one who head body house result is has same holds = subst (λ (ask : Ask). IsReplyOrFailure house who
+    ask result) (sym (ap (λ (n : Option Page). ask_by_route n head body) is ∙ ap (λ (b : Bool). if b then ask_of_page
+    found head body else no_method found) has ∙ ap (λ (page : Page). ask_of_page page head body) same)) holds
 
 -- A fact about a sender and what it asks for, moved to equal ones.
 pub as_asked : (P : Caller → Ask → Type 0) (who one : Caller) (ask other : Ask) → who ≡ one → ask ≡ other

@@ -1,5 +1,9 @@
 -- Proves what a hub does with a piece from its two steps: the piece is appended, and then the request is answered.
-use Rattle.std.proofs.Common.{◌≡◌, true, List, ℕ, Option, Some, None, is_some, refl, sym, ◌∙◌, true≢false}
+use Rattle.std.proofs.Common.{◌≡◌, true, List, ℕ, Option, Some, None, is_some, refl, sym, ◌∙◌, true≢false, Result, Ok}
+use Rattle.std.proofs.Common.{Err, subst}
+use Rattle.std.specs.Prelude.{IfErr, IsSome}
+use Rattle.clock_connections.specs.declared.connections.HubFault.{HubFault}
+use Rattle.clock_connections.specs.declared.connections.HubFault.TheVariants.{NoMemory}
 use Rattle.clock_house.specs.House.{HouseFields}
 use Rattle.clock_http.specs.Replies.{Answer}
 use Rattle.clock_connections.specs.declared.connections.Conn.{Conn}
@@ -8,7 +12,7 @@ use Rattle.clock_connections.specs.inside.Waiting.{AllNeedMore}
 use Rattle.clock_connections.proofs.WaitingLaws.{keeps_waiting, waits_with, waits_no_more}
 use Rattle.clock_front.specs.declared.hub.Fed.{Fed}
 use Rattle.clock_front.specs.declared.hub.Fed.TheVariants.{More, Reply}
-use Rattle.clock_front.specs.Hubs.{HubFields, IsAnswered, IsFed}
+use Rattle.clock_front.specs.Hubs.{HubFields, IsAnswered, IsFed, IsFeedFault}
 use Rattle.clock_front.specs.inside.Hubs.{hub_of}
 
 -- An option that is some has a value.
@@ -38,3 +42,9 @@ fed_keeps old new conn text More before is = keeps_waiting old.connections new.c
     (waits_with new.connections conn text is.1.stands is.0)
 fed_keeps old new conn text (Reply reply) before is = keeps_waiting old.connections new.connections conn before
     is.1.gone.others (waits_no_more new.connections conn is.1.gone.gone)
+
+-- A piece of an open connection is refused only if memory ran out.
+pub feed_fault : {T : Type 0} (reported : Result T HubFault) (known : Option (List ℕ)) → IsSome known
+    → IfErr reported (λ fault. fault ≡ NoMemory) → IfErr reported (IsFeedFault known)
+feed_fault (Ok fed) known stood is = tt
+feed_fault (Err fault) known stood is = subst (IsFeedFault known) (sym is) stood

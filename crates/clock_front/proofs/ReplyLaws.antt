@@ -10,7 +10,7 @@ use Rattle.clock_closing.specs.declared.fault.CloseFault.{CloseFault}
 use Rattle.clock_house.specs.declared.fault.PutFault.{PutFault}
 use Rattle.clock_house.specs.House.{HouseFields, IsFollowedBy, StandsForTheSame, put_fault_in, closing_in}
 use Rattle.clock_http.specs.Replies.{Answer}
-use Rattle.clock_views.specs.Refusals.{bare}
+use Rattle.clock_views.specs.Refusals.{Shown, bare, shown_close, shown_put}
 use Rattle.clock_bodies.specs.CloseBodies.{in_version}
 use Rattle.clock_bodies.specs.declared.put_body.PutBody.{PutBody}
 use Rattle.clock_bodies.specs.declared.close_body.CloseBody.{CloseBody}
@@ -71,6 +71,10 @@ pub right_reply : {N : Type 0} (reported : Result Response N) (old new : HouseFi
 right_reply (Ok response) old new who ask is = is.reply
 right_reply (Err why) old new who ask is = tt
 
+-- The response that refuses a request for this, and changes nothing.
+abbrev pub IsRefusal : Shown → Response → Type 0
+IsRefusal shown response = response ≡ record { reply = answer_of (refused shown); effect = Nothing }
+
 -- ---- sheets
 
 -- The response to a sheet that could be read, and became the sheet in force; below, to one that was refused.
@@ -87,19 +91,22 @@ sheet_put old new bidder sent sheet reply is reported none followed =
       still = λ (nothing : Sheet ≡ Nothing). cc;
     })
 
-pub sheet_refused : (house : HouseFields) (bidder : ℕ) (sent : Result PutBody BodyFault) (sheet : PutBody)
-    (fault : PutFault) (response : Response) → sent ≡ Ok sheet
-    → response.reply ≡ answer_of (put_outcome sheet (Some fault)) → response.effect ≡ Nothing
-    → put_fault_in house bidder sheet.round sheet.bids ≡ Some fault → IsFollowedBy
-    (command.put bidder sheet.round sheet.bids) house house → IsRightFor (Bidder bidder) (put sent) house house response
-sheet_refused house bidder sent sheet fault response is reported nothing faulty followed =
+pub sheet_refused : {N : Type 0} (reported : Result Response N) (house : HouseFields) (bidder : ℕ)
+    (sent : Result PutBody BodyFault) (sheet : PutBody) (fault : PutFault) → sent ≡ Ok sheet → (shown : Shown)
+    → shown ≡ shown_put fault → IfOk reported (IsRefusal shown)
+    → put_fault_in house bidder sheet.round sheet.bids ≡ Some fault
+    → IsFollowedBy (command.put bidder sheet.round sheet.bids) house house
+    → IfOk reported (IsRightFor (Bidder bidder) (put sent) house house)
+sheet_refused (Ok response) house bidder sent sheet fault is shown named refusal faulty followed =
     subst (λ body. IsRightFor (Bidder bidder) (put body) house house response) (sym is)
     (record {
-      reply = reported ∙ ap (λ (first : Option PutFault). answer_of (put_outcome sheet first)) (sym faulty);
-      effect = nothing ∙ ap put_effect (sym faulty);
+      reply = ap (λ (one : Response). one.reply) refusal ∙ ap (λ (s : Shown). answer_of (refused s)) named
+          ∙ ap (λ (first : Option PutFault). answer_of (put_outcome sheet first)) (sym faulty);
+      effect = ap (λ (one : Response). one.effect) refusal ∙ ap put_effect (sym faulty);
       followed = followed;
       still = λ changed. same_stands house;
     })
+sheet_refused (Err why) house bidder sent sheet fault is shown named refusal faulty followed = tt
 
 -- The response to a body that is not a sheet.
 refused_body : (who : Caller) (ask : Ask) (house : HouseFields) (response : Response) (answer : Answer)
@@ -107,6 +114,14 @@ refused_body : (who : Caller) (ask : Ask) (house : HouseFields) (response : Resp
     → command_of house.setup who ask ≡ command.other → IsRightFor who ask house house response
 refused_body who ask house response answer is right none = unchanged_right who ask house response
     (ap (λ (one : Response). one.reply) is ∙ right) (ap (λ (one : Response). one.effect) is) none
+
+pub refusal_right : {N : Type 0} (reported : Result Response N) (who : Caller) (ask : Ask) (house : HouseFields)
+    (shown : Shown) → IfOk reported (IsRefusal shown)
+    → answer_of (refused shown) ≡ answer_of (outcome house who ask) → command_of house.setup who ask ≡ command.other
+    → IfOk reported (IsRightFor who ask house house)
+refusal_right (Ok response) who ask house shown is right none =
+    refused_body who ask house response (answer_of (refused shown)) is right none
+refusal_right (Err why) who ask house shown is right none = tt
 
 pub refused_put : {N : Type 0} (reported : Result Response N) (house : HouseFields) (bidder : ℕ)
     (sent : Result PutBody BodyFault) (fault : BodyFault) → (fault ≢ NoMemory → sent ≡ Err fault)
@@ -150,21 +165,24 @@ closing_made old new sent closing closed reply is made reported followed =
       still = λ (nothing : Closing closing.round ≡ Nothing). cc;
     }))
 
-pub closing_refused : (old new : HouseFields) (sent : Result CloseBody BodyFault) (closing : CloseBody)
-    (fault : CloseFault) (response : Response) → in_version old.setup.version sent ≡ Ok closing
-    → closing_in old closing.round closing.increments closing.ties ≡ Err fault → response.reply
-    ≡ answer_of (close_outcome closing.round (closing_in old closing.round closing.increments closing.ties))
-    → response.effect ≡ Nothing → IsFollowedBy (command.close closing.round closing.increments closing.ties) old new
-    → StandsForTheSame old new → IsRightFor Operator (close sent) old new response
-closing_refused old new sent closing fault response is faulty reported nothing followed still =
+pub closing_refused : {N : Type 0} (reported : Result Response N) (old new : HouseFields)
+    (sent : Result CloseBody BodyFault) (closing : CloseBody) (fault : CloseFault)
+    → in_version old.setup.version sent ≡ Ok closing
+    → closing_in old closing.round closing.increments closing.ties ≡ Err fault → (shown : Shown)
+    → shown ≡ shown_close fault → IfOk reported (IsRefusal shown)
+    → IsFollowedBy (command.close closing.round closing.increments closing.ties) old new → StandsForTheSame old new
+    → IfOk reported (IsRightFor Operator (close sent) old new)
+closing_refused (Ok response) old new sent closing fault is faulty shown named refusal followed still =
     closing_response old new response sent
     (subst (IsClosingResponse old new response) (sym is)
     (record {
-      reply = reported;
-      effect = nothing ∙ ap (close_effect closing.round) (sym faulty);
+      reply = ap (λ (one : Response). one.reply) refusal ∙ ap (λ (s : Shown). answer_of (refused s)) named
+          ∙ ap (λ made. answer_of (close_outcome closing.round made)) (sym faulty);
+      effect = ap (λ (one : Response). one.effect) refusal ∙ ap (close_effect closing.round) (sym faulty);
       followed = followed;
       still = λ changed. still;
     }))
+closing_refused (Err why) old new sent closing fault is faulty shown named refusal followed still = tt
 
 -- The response to a body that is not a closing.
 pub refused_close : {N : Type 0} (reported : Result Response N) (house : HouseFields)

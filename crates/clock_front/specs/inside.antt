@@ -10,5 +10,6 @@ pub mod NumberedHubs
 pub mod FixedPage
 pub mod Isolation
 pub mod Roomless
+pub mod Streamed
 pub mod Replies
 pub mod Knowledge

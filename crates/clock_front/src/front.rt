@@ -14,9 +14,9 @@ mod callers;
 mod replies;
 mod response;
 
-use crate::front::answering::answer_request;
+use crate::front::answering::{answer_request, refusing};
 use crate::front::callers::{Tokens, caller_of, tokens_of};
-use crate::front::replies::{fixed_reply, refusal};
+use crate::front::replies::fixed_reply;
 use crate::front::response::unchanged;
 use clock_device::{NoMemory, Text};
 use clock_house::House;
@@ -106,10 +106,7 @@ impl<P: Processor> Front<P> {
     {
         self.house.law_of_house();
         match framing {
-            Framing::NeedMore => {
-                let reply = refusal(self.alloc, Refusal::bare(Code::CutShort), None)?;
-                Ok(unchanged(reply))
-            }
+            Framing::NeedMore => refusing(self.alloc, Refusal::bare(Code::CutShort)),
             Framing::Refused(code) => Ok(unchanged(fixed_reply(code))),
             Framing::Whole { head, body } => {
                 let caller = caller_of(&self.base.tokens, head.token);

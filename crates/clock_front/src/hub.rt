@@ -4,12 +4,12 @@ ghost use Rattle.clock_front.specs.Hubs.{HubFields, IsFedBy, IsFeedFault, IsAnsw
 ghost use Rattle.clock_front.specs.Hubs.{IsFinishFault};
 ghost use Rattle.clock_front.specs.inside.Hubs.{hub_of};
 ghost use Rattle.clock_http.specs.Framing.{needs_more};
+ghost use Rattle.clock_connections.specs.declared.connections.HubFault.TheVariants as faults;
 ghost use Rattle.clock_connections.specs.inside.Waiting.{AllNeedMore};
 ghost use Rattle.clock_connections.specs.Connections.{open_text, IsConnected, IsConnectFault};
 
 use crate::front::Front;
 use clock_connections::{Conn, Connections, HubFault};
-use clock_device::NoMemory;
 use clock_http::Reply;
 use clock_processor::Processor;
 use std::alloc::Global;
@@ -81,11 +81,12 @@ impl<P: Processor> Hub<P> {
     }
 
     /// Appends a piece to the request of a connection, and answers it if it is now complete.
-    /// Requires an open connection. After an error nothing has changed.
+    /// Requires an open connection. Errors: `NoMemory`, and then nothing has changed.
     #[inline(always)]
-    fn feed_on(&mut self, conn: Conn, piece: &[u8]) -> Result<Fed, NoMemory>
+    fn feed_on(&mut self, conn: Conn, piece: &[u8]) -> Result<Fed, HubFault>
         requires { IsSome (open_text self.old.connections conn) }
         ensures fed { IfOk result (IsFedBy self.old self.new conn piece.now) }
+        ensures fault { IfErr result (λ fault. fault ≡ faults.NoMemory) }
         ensures still { OnErr result (self.new ≡ self.old) }
     {
         if self.connections.take(conn, piece)? {
@@ -98,9 +99,10 @@ impl<P: Processor> Hub<P> {
     /// piece has the whole body, the request is answered without a copy of the piece. This is a
     /// function of its own so that [`Hub::feed`] stays cheap for single bytes.
     #[inline(never)]
-    fn feed_piece(&mut self, conn: Conn, piece: &[u8]) -> Result<Fed, NoMemory>
+    fn feed_piece(&mut self, conn: Conn, piece: &[u8]) -> Result<Fed, HubFault>
         requires { IsSome (open_text self.old.connections conn) }
         ensures fed { IfOk result (IsFedBy self.old self.new conn piece.now) }
+        ensures fault { IfErr result (λ fault. fault ≡ faults.NoMemory) }
         ensures still { OnErr result (self.new ≡ self.old) }
     {
         if let Some(framing) = self.connections.framing_with(conn, piece) {
@@ -126,10 +128,10 @@ impl<P: Processor> Hub<P> {
         if !self.connections.stands(conn) {
             return Err(HubFault::Unknown);
         }
-        Ok(match piece {
-            [_] => self.feed_on(conn, piece)?,
-            _ => self.feed_piece(conn, piece)?,
-        })
+        match piece {
+            [_] => self.feed_on(conn, piece),
+            _ => self.feed_piece(conn, piece),
+        }
     }
 
     /// Ends the input of a connection, and returns the reply: its request was cut short, or it

@@ -1,9 +1,10 @@
 ghost use Rattle.std.specs.Prelude.{[], ◌≡◌, ◌<◌, IfOk, length, Some, None, OnOk};
+ghost use Rattle.clock_connections.specs.declared.connections.Event.TheVariants as events;
 ghost use Rattle.clock_connections.specs.inside.Numbers.{AreNumbered, conn_at};
 ghost use Rattle.clock_connections.specs.Pieces.{Numbered, completed, after};
 ghost use Rattle.clock_connections.specs.Connections.{most_serials};
 ghost use Rattle.clock_front.specs.{Fronts.{StandsForTexts}, Headline.{IsRun, IsEventRun}};
-ghost use Rattle.clock_front.specs.inside.NumberedHubs.{HasCompleted};
+ghost use Rattle.clock_front.specs.inside.NumberedHubs.{HasTaken};
 
 use crate::front::Front;
 use crate::hub::{Fed, Hub};
@@ -127,53 +128,72 @@ impl<P: Processor> NumberedHub<P> {
         *self.conns.as_slice().get(number as usize)?
     }
 
+    /// Opens a connection with the next number. If no more may be open, the number has none.
+    fn take_connect(&mut self) -> Result<(), NoMemory>
+        requires { length self.old.conns < most_serials }
+        ensures { (numbered : Numbered)
+            → AreNumbered numbered self.old.hub.connections self.old.conns → OnOk result
+            (HasTaken (after numbered events.Connect) (completed numbered events.Connect)
+            self.old.hub self.new.hub self.new.conns None) }
+    {
+        match self.hub.connect() {
+            Ok(conn) => self.conns.push(Some(conn)),
+            Err(HubFault::Full) => self.conns.push(None),
+            Err(_) => Err(NoMemory),
+        }
+    }
+
+    /// Takes a piece of a request, and returns the reply if the request is now complete.
+    fn take_piece(&mut self, number: u64, piece: &[u8]) -> Result<Option<EventReply>, NoMemory>
+        ensures { (numbered : Numbered)
+            → AreNumbered numbered self.old.hub.connections self.old.conns → IfOk result
+            (HasTaken (after numbered (events.Piece number piece.now))
+            (completed numbered (events.Piece number piece.now))
+            self.old.hub self.new.hub self.new.conns) }
+    {
+        let Some(conn) = self.conn(number) else {
+            return Ok(None);
+        };
+        match self.hub.feed(conn, piece) {
+            Ok(Fed::More) => Ok(None),
+            Ok(Fed::Reply(reply)) => Ok(Some(EventReply { number, reply })),
+            Err(HubFault::Unknown) => Ok(None),
+            Err(_) => Err(NoMemory),
+        }
+    }
+
+    /// Ends the input of a connection, and returns the reply if the connection was open.
+    fn take_finish(&mut self, number: u64) -> Option<EventReply>
+        ensures { (numbered : Numbered)
+            → AreNumbered numbered self.old.hub.connections self.old.conns
+            → HasTaken (after numbered (events.Finish number))
+            (completed numbered (events.Finish number))
+            self.old.hub self.new.hub self.new.conns result }
+    {
+        let Some(conn) = self.conn(number) else {
+            return None;
+        };
+        match self.hub.finish(conn) {
+            Ok(reply) => Some(EventReply { number, reply }),
+            Err(_) => None,
+        }
+    }
+
     /// Takes an event, and returns the reply to the request that it completes, if any.
     fn take_event(&mut self, event: &Event) -> Result<Option<EventReply>, NoMemory>
         requires { length self.old.conns < most_serials }
-        ensures stands { (numbered : Numbered)
-            → AreNumbered numbered self.old.hub.connections self.old.conns → OnOk result
-            (AreNumbered (after numbered event.now) self.new.hub.connections self.new.conns) }
-        ensures reported { (numbered : Numbered)
+        ensures { (numbered : Numbered)
             → AreNumbered numbered self.old.hub.connections self.old.conns → IfOk result
-            (HasCompleted (completed numbered event.now) self.old.hub.house self.new.hub.house) }
+            (HasTaken (after numbered event.now) (completed numbered event.now)
+            self.old.hub self.new.hub self.new.conns) }
     {
         match event {
             Event::Connect => {
-                let conn = match self.hub.connect() {
-                    Ok(conn) => Some(conn),
-                    Err(HubFault::Full) => None,
-                    Err(HubFault::Unknown) => None,
-                    Err(HubFault::NoMemory) => return Err(NoMemory),
-                };
-                self.conns.push(conn)?;
+                self.take_connect()?;
                 Ok(None)
             }
-            Event::Piece(number, piece) => {
-                let Some(conn) = self.conn(*number) else {
-                    return Ok(None);
-                };
-                match self.hub.feed(conn, piece.as_slice()) {
-                    Ok(Fed::More) => Ok(None),
-                    Ok(Fed::Reply(reply)) => Ok(Some(EventReply {
-                        number: *number,
-                        reply,
-                    })),
-                    Err(HubFault::NoMemory) => Err(NoMemory),
-                    Err(_) => Ok(None),
-                }
-            }
-            Event::Finish(number) => {
-                let Some(conn) = self.conn(*number) else {
-                    return Ok(None);
-                };
-                match self.hub.finish(conn) {
-                    Ok(reply) => Ok(Some(EventReply {
-                        number: *number,
-                        reply,
-                    })),
-                    Err(_) => Ok(None),
-                }
-            }
+            Event::Piece(number, piece) => self.take_piece(*number, piece.as_slice()),
+            Event::Finish(number) => Ok(self.take_finish(*number)),
         }
     }
 }

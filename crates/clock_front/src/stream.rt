@@ -2,11 +2,12 @@ ghost use Rattle.std.specs.Prelude.{◌≡◌, ◌≤◌, ℕ, List};
 ghost use Rattle.clock_device.specs.Reports.{IsUnread, IsUnused};
 ghost use Rattle.clock_connections.specs.Arrivals.{most_request_reads};
 ghost use Rattle.clock_front.specs.{Fronts.{StandsForTexts}, Streamed.{HasServed, IsServed}};
+ghost use Rattle.clock_front.specs.inside.Streamed.{IsNextAnswer};
 
 use crate::front::{Front, no_memory_reply};
 use clock_connections::{RequestReadError, read_request};
 use clock_device::{Sink, Source, write_all};
-use clock_http::Code;
+use clock_http::{Code, Reply};
 use clock_processor::Processor;
 use std::alloc::Global;
 use thiserror::Error;
@@ -24,6 +25,26 @@ pub enum StreamFault {
     Read,
     #[error("the reply could not be written")]
     Write(Code),
+}
+
+/// Reads one request and answers it. `None` if it could not be read, and then nothing has changed.
+fn answer_next<P: Processor, R: Source>(
+    alloc: Global,
+    front: &mut Front<P>,
+    source: &mut R,
+) -> Option<Reply>
+    requires { IsUnread (R.report source.old) }
+    ensures answer { IsNextAnswer
+        (record { before = R.report source.old; after = R.report source.new })
+        front.old front.new result }
+    ensures calls { (R.report source.new).calls ≤ most_request_reads }
+    ensures setup { front.new.setup ≡ front.old.setup }
+{
+    match read_request(alloc, source) {
+        Ok(request) => Some(front.answer_framed(request.framing())),
+        Err(RequestReadError::Memory) => Some(no_memory_reply()),
+        Err(RequestReadError::Read) => None,
+    }
 }
 
 /// Reads one request, answers it, and writes the reply. The code says what the request did.
@@ -47,14 +68,16 @@ pub fn serve_stream<P: Processor, R: Source, W: Sink>(
     ensures calls { (R.report source.new).calls ≤ most_request_reads }
     ensures setup { front.new.setup ≡ front.old.setup }
 {
-    let reply = match read_request(alloc, source) {
-        Ok(request) => front.answer_framed(request.framing()),
-        Err(RequestReadError::Memory) => no_memory_reply(),
-        Err(RequestReadError::Read) => return Err(StreamFault::Read),
-    };
-    let code = reply.code();
-    match write_all(sink, reply.bytes()) {
-        Ok(()) => Ok(code),
-        Err(_) => Err(StreamFault::Write(code)),
+    match answer_next(alloc, front, source) {
+        Some(reply) => {
+            let code = reply.code();
+            let written = write_all(sink, reply.bytes());
+            drop(reply);
+            match written {
+                Ok(()) => Ok(code),
+                Err(_) => Err(StreamFault::Write(code)),
+            }
+        }
+        None => Err(StreamFault::Read),
     }
 }

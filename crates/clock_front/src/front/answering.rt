@@ -19,7 +19,8 @@ ghost use Rattle.clock_front.specs.inside.Changes.{change_asked};
 use crate::front::FixedParts;
 use crate::front::callers::Caller;
 use crate::front::replies::{
-    AnswerError, accepted, account, bids, closed, products, refusal, results, sheet, slip, status,
+    AnswerError, accepted, account, bids, closed, products, refusal, refused, results, sheet, slip,
+    status,
 };
 use crate::front::response::{Effect, Response, unchanged};
 use clock_bodies::{BodyFault, CloseBody, is_of_version, read_close, read_put};
@@ -30,6 +31,20 @@ use clock_processor::Processor;
 use clock_terms::Setup;
 use clock_views::Refusal;
 use std::alloc::Global;
+
+/// Refuses a request. The refusal fails only if its page could not be allocated.
+pub(crate) fn refusing(alloc: Global, why: Refusal) -> Result<Response, AnswerError>
+    ensures response { IfOk result (λ response. response ≡ record {
+      reply = answer_of (refused why);
+      effect = Effect.Nothing;
+    }) }
+    ensures wanted { IfErr result (λ error. error ≡ unanswered.Room refusal_room) }
+{
+    match refusal(alloc, why, None) {
+        Ok(reply) => Ok(unchanged(reply)),
+        Err(room) => Err(AnswerError::Room(room)),
+    }
+}
 
 /// Refuses a body for its fault. If the fault is `NoMemory`, this is an error. For any other fault,
 /// the refusal fails only if its page could not be allocated.
@@ -43,8 +58,8 @@ fn refused_body(alloc: Global, fault: BodyFault) -> Result<Response, AnswerError
         → IfErr result (λ why. why ≡ unanswered.Room refusal_room) }
 {
     match fault {
-        BodyFault::NotJson => Ok(unchanged(refusal(alloc, Refusal::bare(Code::BadJson), None)?)),
-        BodyFault::Shape => Ok(unchanged(refusal(alloc, Refusal::bare(Code::Shape), None)?)),
+        BodyFault::NotJson => refusing(alloc, Refusal::bare(Code::BadJson)),
+        BodyFault::Shape => refusing(alloc, Refusal::bare(Code::Shape)),
         BodyFault::NoMemory => Err(AnswerError::Change),
     }
 }
@@ -81,7 +96,7 @@ fn put_sheet<P: Processor>(
             }
         },
         Err(PutFault::NoMemory) => Err(AnswerError::Change),
-        Err(fault) => Ok(unchanged(refusal(alloc, Refusal::from(fault), None)?)),
+        Err(fault) => refusing(alloc, Refusal::from(fault)),
     }
 }
 
@@ -133,7 +148,7 @@ fn close_round<P: Processor>(
             }
         },
         Err(CloseFault::NoMemory) => Err(AnswerError::Change),
-        Err(why) => Ok(unchanged(refusal(alloc, Refusal::from(why), None)?)),
+        Err(why) => refusing(alloc, Refusal::from(why)),
     }
 }
 
@@ -174,7 +189,7 @@ fn reply_without_change<P>(
         (asked.ask_by_route page (shown_head head.now) body) house.now result }
 {
     let Some(page) = page else {
-        return refusal(alloc, Refusal::bare(Code::NoPage), None);
+        return refused(alloc, Code::NoPage);
     };
     if !page.has_method(head.method) {
         return refusal(alloc, Refusal::bare(Code::Method), Some(page));
@@ -189,8 +204,8 @@ fn reply_without_change<P>(
             slip(alloc, house, bidder, last_segment(head.path))
         }
         (Page::Results, Caller::Operator) => results(alloc, house),
-        (_, Caller::Nobody) => refusal(alloc, Refusal::bare(Code::Token), None),
-        (_, _) => refusal(alloc, Refusal::bare(Code::Role), None),
+        (_, Caller::Nobody) => refused(alloc, Code::Token),
+        (_, _) => refused(alloc, Code::Role),
     }
 }
 

@@ -2,18 +2,21 @@
 //! got no other reply than out of memory.
 
 ghost use Rattle.std.specs.Prelude.{◌≡◌, ◌<◌, length, IfOk, IfErr, IsTrue};
+ghost use Rattle.serde_json.specs.Data.{Data};
 ghost use Rattle.clock_terms.specs.Limits.{SetupFields, public_setup};
 ghost use Rattle.clock_views.specs.{PublicPages.{products_value}, RefusalPage.{refusal_value}};
+ghost use Rattle.clock_views.specs.Rooms.{most_text};
 ghost use Rattle.clock_views.specs.{BidderPages.{accepted_value}, OperatorPages.{closed_value}};
 ghost use Rattle.clock_front.specs.declared.front.callers.Caller.TheVariants as who;
 ghost use Rattle.clock_front.specs.declared.front.replies.AnswerError.TheVariants as unanswered;
 ghost use Rattle.clock_front.specs.FixedReplies.{no_memory};
 ghost use Rattle.clock_front.specs.{Outcomes.{answer_of, done, with_page}, Rooms.{refusal_room}};
-ghost use Rattle.clock_front.specs.inside.FixedReplies.{is_fixed, refusal_of};
-ghost use Rattle.clock_front.specs.inside.FixedPage.{IsProductsPage};
+ghost use Rattle.clock_front.specs.inside.FixedReplies.{is_bare, is_fixed, refusal_of};
+ghost use Rattle.clock_front.specs.inside.FixedPage.{IsProductsPage, IsWritten};
 ghost use Rattle.clock_front.specs.inside.Replies.{IsPageIn, IsReplyOrFailure};
 ghost use Rattle.clock_front.specs.Requests as asked;
 
+use clock_device::Text;
 use clock_house::House;
 use clock_http::{Code, HEADROOM, NoRoom, Page, Reply, plain_number, text_with_room};
 use clock_views::{
@@ -77,12 +80,32 @@ pub(crate) fn refusal(alloc: Global, why: Refusal, page: Option<Page>) -> Result
     Ok(Reply::written(why.code, page, text))
 }
 
+/// Refuses a request with a code that shows no index and no round.
+pub(crate) fn refused(alloc: Global, code: Code) -> Result<Reply, NoRoom>
+    requires { IsTrue (is_bare code) }
+    ensures { IsPageIn (refusal_of code) refusal_room result }
+{
+    refusal(alloc, Refusal::bare(code), None)
+}
+
+/// The reply with a page that was written after space for its head, or the failed allocation of
+/// this page.
+fn page_reply(page: Result<Text, NoRoom>) -> Result<Reply, NoRoom>
+    requires { (value : Data) × IsWritten value page }
+    ensures { (value : Data) → IsWritten value page
+        → IsPageIn (answer_of (done value)) (most_text value) result }
+{
+    match page {
+        Ok(text) => Ok(Reply::written(Code::Done, None, text)),
+        Err(room) => Err(room),
+    }
+}
+
 /// The page of the auction's status, for everyone.
 pub(crate) fn status<P>(alloc: Global, house: &House<P>) -> Result<Reply, NoRoom>
     ensures { IsReplyOrFailure house.now who.Nobody asked.status result }
 {
-    let text = headed_status(alloc, HEADROOM, house.setup(), house.round(), house.ended())?;
-    Ok(Reply::written(Code::Done, None, text))
+    page_reply(headed_status(alloc, HEADROOM, house.setup(), house.round(), house.ended()))
 }
 
 /// The page of products, for everyone, copied from `page`: it never changes.
@@ -102,13 +125,12 @@ pub(crate) fn sheet<P>(alloc: Global, house: &House<P>, segment: &[u8]) -> Resul
     ensures { IsReplyOrFailure house.now who.Nobody (asked.sheet segment.now) result }
 {
     let Some(round) = plain_number(segment) else {
-        return refusal(alloc, Refusal::bare(Code::NoRound), None);
+        return refused(alloc, Code::NoRound);
     };
     let Some(sheet) = house.sheet(round) else {
-        return refusal(alloc, Refusal::bare(Code::NoRound), None);
+        return refused(alloc, Code::NoRound);
     };
-    let text = headed_sheet(alloc, HEADROOM, house.setup(), sheet)?;
-    Ok(Reply::written(Code::Done, None, text))
+    page_reply(headed_sheet(alloc, HEADROOM, house.setup(), sheet))
 }
 
 /// A bidder's account. Requires a bidder of the set-up.
@@ -117,8 +139,7 @@ pub(crate) fn account<P>(alloc: Global, house: &House<P>, bidder: u32) -> Result
     ensures { IsReplyOrFailure house.now (who.Bidder bidder) asked.account result }
 {
     let own = house.own(bidder);
-    let text = headed_account(alloc, HEADROOM, house.setup(), bidder, own, house.ended())?;
-    Ok(Reply::written(Code::Done, None, text))
+    page_reply(headed_account(alloc, HEADROOM, house.setup(), bidder, own, house.ended()))
 }
 
 /// A bidder's sheet in force. Requires a bidder of the set-up.
@@ -126,16 +147,14 @@ pub(crate) fn bids<P>(alloc: Global, house: &House<P>, bidder: u32) -> Result<Re
     requires { bidder < length house.now.setup.bidders }
     ensures { IsReplyOrFailure house.now (who.Bidder bidder) asked.bids result }
 {
-    let text = headed_bids(alloc, HEADROOM, house.round(), house.bids(bidder))?;
-    Ok(Reply::written(Code::Done, None, text))
+    page_reply(headed_bids(alloc, HEADROOM, house.round(), house.bids(bidder)))
 }
 
 /// The page of an accepted sheet of this round with this number of bids.
 pub(crate) fn accepted(alloc: Global, round: u64, bids: u64) -> Result<Reply, NoRoom>
     ensures { IfOk result (λ reply. reply ≡ answer_of (done (accepted_value round bids))) }
 {
-    let text = headed_accepted(alloc, HEADROOM, round, bids)?;
-    Ok(Reply::written(Code::Done, None, text))
+    page_reply(headed_accepted(alloc, HEADROOM, round, bids))
 }
 
 /// A bidder's results of the round whose number `segment` is. If it is not closed, a refusal.
@@ -150,28 +169,24 @@ pub(crate) fn slip<P>(
     ensures { IsReplyOrFailure house.now (who.Bidder bidder) (asked.slip segment.now) result }
 {
     let Some(round) = plain_number(segment) else {
-        return refusal(alloc, Refusal::bare(Code::NoRound), None);
+        return refused(alloc, Code::NoRound);
     };
     let Some(slip) = house.slip(bidder, round) else {
-        return refusal(alloc, Refusal::bare(Code::NoRound), None);
+        return refused(alloc, Code::NoRound);
     };
-    let text = headed_slip(alloc, HEADROOM, slip)?;
-    Ok(Reply::written(Code::Done, None, text))
+    page_reply(headed_slip(alloc, HEADROOM, slip))
 }
 
 /// Each bidder's eligibility and processed demands, for the operator.
-#[tactic(auto, unfolding(clock_views::specs::OperatorPages::results_value))]
 pub(crate) fn results<P>(alloc: Global, house: &House<P>) -> Result<Reply, NoRoom>
     ensures { IsReplyOrFailure house.now who.Operator asked.results result }
 {
-    let text = headed_results(alloc, HEADROOM, house)?;
-    Ok(Reply::written(Code::Done, None, text))
+    page_reply(headed_results(alloc, HEADROOM, house))
 }
 
 /// The page of a closed round of this number, and of whether the auction ended with it.
 pub(crate) fn closed(alloc: Global, round: u64, ended: bool) -> Result<Reply, NoRoom>
     ensures { IfOk result (λ reply. reply ≡ answer_of (done (closed_value round ended))) }
 {
-    let text = headed_closed(alloc, HEADROOM, round, ended)?;
-    Ok(Reply::written(Code::Done, None, text))
+    page_reply(headed_closed(alloc, HEADROOM, round, ended))
 }

@@ -24,11 +24,10 @@ loop-event-preserved g c =
     (ap (λ (house : HouseFields). house.setup) (c.house.ensures ∙ c.front.ensures)) c.law_of_house.ensures.limits in
     let hub = c.loop-event.hub in
     let next = c.take_event.new.self in
-    let reported = c.in_ok-reply.ensures in
+    let taken = c.in_ok-reply.ensures before.numbered before.stands in
     let way = goes_on setup limits c.args.events.now c.loop-event.event-index c.loop-event.replies hub.hub.connections
     next.hub.connections hub.conns next.conns hub.hub.house next.hub.house c.event-item.result c.in_ok-reply.field-0
-    before c.loop-event-test.true c.event-item.is (reported.stands before.numbered before.stands)
-    (reported.reported before.numbered before.stands) in
+    before c.loop-event-test.true c.event-item.is taken.stands taken.reported in
     let replies : c.match-branch-2.replies ≡ kept c.loop-event.replies c.in_ok-reply.field-0 =
     elim c.match-branch-2.branch [
       | in-Some+in_ok-push w ↦

@@ -33,14 +33,14 @@ returns-in-Ok-closed-clause-done g c =
     closing.increments closing.ties asked.0 asked.1
     (asked.2 ∙ c.as_slice.ensures) made.stands c.commit.ensures.followed)
 
-pub returns-in_ok-refusal-in-Err-settled-clause-done : goal.returns-in_ok-refusal-in-Err-settled-clause-done
-returns-in_ok-refusal-in-Err-settled-clause-done g c =
+pub returns-in-Err-settled-clause-done : goal.returns-in-Err-settled-clause-done
+returns-in-Err-settled-clause-done g c =
     let house = c.args.house.now in
     let closing = c.in-Ok.closing in
     let judged = c.in-Err-settled.ensures in
     let faulty : closing_in house closing.round closing.increments closing.ties ≡ Err c.in-Err-settled.why =
     ap (closing_in house closing.round closing.increments) (sym c.as_slice.ensures) ∙ judged.answer (search rules) in
-    closing_refused house c.prepare-settled.new.self
-    (close_body c.args.body.now) closing c.in-Err-settled.why c.unchanged.result (subst (λ (setup : SetupFields).
-    in_version setup.version (close_body c.args.body.now) ≡ Ok closing) c.setup.ensures c.in-Ok.ensures.ok) faulty
-    (rw faulty (search rules)) (search rules) (rw (← c.as_slice.ensures) (judged.followed (search rules))) judged.stands
+    closing_refused c.refusing.result house c.prepare-settled.new.self (close_body c.args.body.now) closing
+    c.in-Err-settled.why (subst (λ (setup : SetupFields). in_version setup.version (close_body c.args.body.now)
+    ≡ Ok closing) c.setup.ensures c.in-Ok.ensures.ok) faulty c.from.result c.from.ensures c.refusing.ensures.response
+    (rw (← c.as_slice.ensures) (judged.followed (search rules))) judged.stands

@@ -26,10 +26,9 @@ returns-in-Ok-accepted-clause-done g c =
 pub returns-in-Err-accepted-clause-still : goal.returns-in-Err-accepted-clause-still
 returns-in-Err-accepted-clause-still g c = same_stands c.args.house.now
 
-pub returns-in_ok-refusal-in-Err-prepare_sheet-clause-done : goal.returns-in_ok-refusal-in-Err-prepare_sheet-clause-done
-returns-in_ok-refusal-in-Err-prepare_sheet-clause-done g c =
-    let sheet = c.in-Ok.sheet in
+pub returns-in-Err-prepare_sheet-clause-done : goal.returns-in-Err-prepare_sheet-clause-done
+returns-in-Err-prepare_sheet-clause-done g c =
     let judged = c.in-Err-prepare_sheet.ensures in
-    sheet_refused c.args.house.now c.args.bidder
-    (put_body c.args.body.now) sheet c.in-Err-prepare_sheet.fault c.unchanged.result c.in-Ok.ensures.ok (search rules)
-    (search rules) (judged.answer (search rules)) (judged.followed (search rules))
+    sheet_refused c.refusing.result c.args.house.now c.args.bidder (put_body c.args.body.now) c.in-Ok.sheet
+    c.in-Err-prepare_sheet.fault c.in-Ok.ensures.ok c.from.result c.from.ensures c.refusing.ensures.response
+    (judged.answer (search rules)) (judged.followed (search rules))

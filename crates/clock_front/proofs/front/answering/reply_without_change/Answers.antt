@@ -1,0 +1,68 @@
+-- Proves the reply to a request that asks for no change, by the page that its path names.
+use Rattle.std.proofs.Common.{List, ℕ, Option, length, sym, subst, ◌∙◌}
+use Rattle.clock_http.specs.Routes.{last_segment}
+use Rattle.clock_http.specs.Shown.{shown_head}
+use Rattle.clock_http.specs.declared.routes.Page.{Page}
+use Rattle.clock_http.specs.declared.routes.Page.TheVariants as pages
+use Rattle.clock_front.specs.Requests as asked
+use Rattle.clock_front.specs.declared.front.callers.Caller.{Caller}
+use Rattle.clock_front.specs.declared.front.callers.Caller.TheVariants.{Nobody, Bidder}
+use Rattle.clock_front.specs.inside.Callers.{IsKnown}
+use Rattle.clock_front.specs.inside.Replies.{IsReplyOrFailure}
+use Rattle.clock_front.proofs.AskLaws.{for_page}
+use Rattle.clock_front.proofs.front.answering.reply_without_change.Goals as goal
+
+pub returns-in_default : goal.returns-in_default
+returns-in_default g c =
+    λ body asks. subst (λ (page : Option Page). IsReplyOrFailure c.args.house.now c.args.caller (asked.ask_by_route page
+    (shown_head c.args.head.now) body) c.refused.result) (sym c.in_default.is) c.refused.ensures
+
+pub returns-in-Status-default : goal.returns-in-Status-default
+returns-in-Status-default g c = λ body asks.
+    let house = c.args.house.now in
+    for_page c.args.page c.in-Some.page pages.Status c.args.caller (shown_head c.args.head.now) body house
+    c.status.result c.in-Some.is (sym c.has_method.ensures ∙ c.if-not-has_method.false) c.in-Status-default.is-0
+    c.status.ensures
+
+pub returns-in-Sheet-default : goal.returns-in-Sheet-default
+returns-in-Sheet-default g c = λ body asks.
+    let house = c.args.house.now in
+    for_page c.args.page c.in-Some.page pages.Sheet c.args.caller (shown_head c.args.head.now) body house
+    c.sheet.result c.in-Some.is (sym c.has_method.ensures ∙ c.if-not-has_method.false) c.in-Sheet-default.is-0
+    (subst (λ (segment : List ℕ). IsReplyOrFailure house Nobody (asked.sheet segment) c.sheet.result)
+    c.last_segment.ensures c.sheet.ensures)
+
+pub returns-in-Account-Bidder : goal.returns-in-Account-Bidder
+returns-in-Account-Bidder g c = λ body asks.
+    let house = c.args.house.now in
+    for_page c.args.page c.in-Some.page pages.Account c.args.caller (shown_head c.args.head.now) body house
+    c.account.result c.in-Some.is (sym c.has_method.ensures ∙ c.if-not-has_method.false) c.in-Account-Bidder.is-0
+    (subst (λ (who : Caller). IsReplyOrFailure house who asked.account c.account.result)
+    (sym c.in-Account-Bidder.is-1) c.account.ensures)
+
+pub returns-in-Slip-Bidder : goal.returns-in-Slip-Bidder
+returns-in-Slip-Bidder g c = λ body asks.
+    let house = c.args.house.now in
+    for_page c.args.page c.in-Some.page pages.Slip c.args.caller (shown_head c.args.head.now) body house
+    c.slip.result c.in-Some.is (sym c.has_method.ensures ∙ c.if-not-has_method.false) c.in-Slip-Bidder.is-0
+    (subst (λ (who : Caller). IsReplyOrFailure house who (asked.slip (last_segment c.args.head.now.path.now))
+    c.slip.result) (sym c.in-Slip-Bidder.is-1) (subst (λ (segment : List ℕ). IsReplyOrFailure house
+    (Bidder c.in-Slip-Bidder.bidder) (asked.slip segment) c.slip.result) c.last_segment-in-Slip-Bidder.ensures
+    c.slip.ensures))
+
+pub returns-in-Results-Operator : goal.returns-in-Results-Operator
+returns-in-Results-Operator g c = λ body asks.
+    let house = c.args.house.now in
+    for_page c.args.page c.in-Some.page pages.Results c.args.caller (shown_head c.args.head.now) body house
+    c.results.result c.in-Some.is (sym c.has_method.ensures ∙ c.if-not-has_method.false) c.in-Results-Operator.is-0
+    (subst (λ (who : Caller). IsReplyOrFailure house who asked.results c.results.result)
+    (sym c.in-Results-Operator.is-1) c.results.ensures)
+
+pub account-requires : goal.account-requires
+account-requires g c = subst (IsKnown (length c.args.house.now.setup.bidders)) c.in-Account-Bidder.is-1 c.requires.known
+
+pub bids-requires : goal.bids-requires
+bids-requires g c = subst (IsKnown (length c.args.house.now.setup.bidders)) c.in-Bids-Bidder.is-1 c.requires.known
+
+pub slip-requires : goal.slip-requires
+slip-requires g c = subst (IsKnown (length c.args.house.now.setup.bidders)) c.in-Slip-Bidder.is-1 c.requires.known
