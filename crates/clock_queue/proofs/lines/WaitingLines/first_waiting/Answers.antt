@@ -1,5 +1,6 @@
 -- The search is in the line at the position. A line without a position is empty.
-use Rattle.std.proofs.Common.{◌≡◌, ◌<◌, List, ap, sym, subst, ◌∙◌, arith, set, get_or, IfNone, IfSome, All}
+use Rattle.std.proofs.Common.{◌≡◌, ◌<◌, List, ap, sym, subst, ◌∙◌, arith, set, get_or, IfNone, IfSome, All, refl}
+use Rattle.std.proofs.Common.{length, inl}
 use Rattle.std.proofs.lemmas.List.{get_or-set_same, set-get_or}
 use Rattle.std.proofs.lemmas.List.Elements.{All-nil}
 use Rattle.clock_queue.specs.inside.Lines.{LineFields, IsFirstWaiting, IsSpent, empty_line, lines_of}
@@ -21,6 +22,14 @@ written c = shown_written c.self.inside.index.items c.self.inside.lists.items c.
 held : (c : After-first_waiting) → get_or (searched c) c.args.line empty_line ≡ c.first_waiting.new.self
 held c = ap (λ (lines : List LineFields). get_or lines c.args.line empty_line) (written c)
     ∙ get_or-set_same c.args.self.now c.args.line c.first_waiting.new.self empty_line c.requires.line
+
+pub first_waiting-requires-clause-places : goal.first_waiting-requires-clause-places
+first_waiting-requires-clause-places c =
+    subst (λ (line : LineFields). All (λ place. place < length c.args.left.now) line.places)
+    (sym (shown_list c.self.inside.index.items c.self.inside.lists.items c.args.self.now c.self.invariant
+    c.self.view_is c.args.line c.index-at.result.now _ c.requires.line c.index-at.ensures c.index_mut.result.now
+    c.index_mut.result.now (omega (arith, c.if-at-len.true, c.len.ensures)) c.index_mut.ensures.value))
+    c.requires.places
 
 pub returns-then-at-len-clause-others : goal.returns-then-at-len-clause-others
 returns-then-at-len-clause-others c =
@@ -49,6 +58,9 @@ returns-then-at-len-clause-none c =
 
 pub returns-clause-others : goal.returns-clause-others
 returns-clause-others c = sym (set-get_or c.args.self.now c.args.line empty_line)
+
+pub returns-clause-spent : goal.returns-clause-spent
+returns-clause-spent c = record { places = refl; costs = refl; spent = λ at within. inl refl }
 
 pub returns-clause-none : goal.returns-clause-none
 returns-clause-none c = subst (λ (line : LineFields). All (λ cost. c.args.limit < cost) line.costs)
