@@ -1,10 +1,10 @@
 //! Runs of the program on bytes in memory. The gate compares the output for each kind of document
 //! and arguments on the built program.
-use crate::comparing::{assert_is_at, assert_reads_at};
-use crate::documents::{ONE, Piece, repeated};
+use crate::comparing::{assert_is_at, assert_reads_at, made_at};
+use crate::documents::repeated;
 use crate::played::REPORT;
 use clock_commands::command;
-use clock_device::{ListSink, ListSource, Stop};
+use clock_device::{ListSink, ListSource, Stop, Text};
 use clock_fixtures::ONE_PRODUCT;
 use std::alloc::Global;
 use std::process::Abort;
@@ -44,22 +44,20 @@ type Reported<'a> = (u8, &'a str, &'a str);
 /// A run: its arguments, its document or what is special in it, its streams, and its end.
 type Run<'a> = (&'a [&'a str], &'a str, Streams, Reported<'a>);
 
-/// Asserts the end of a run on a document.
-fn ends(rt: &impl Abort, alloc: Global, row: &Run<'_>, document: &[u8]) -> Option<()> {
-    let run = run(alloc, row.0, document, &row.2)?;
-    let at = (row.0, row.1, row.2);
+/// Asserts the end of a run on a document. A failure names the run, and what else is special in it.
+fn ends(rt: &impl Abort, alloc: Global, row: &Run<'_>, closings: &str, document: &[u8]) {
+    let at = (row.0, row.1, closings, row.2);
+    let run = made_at(rt, at, run(alloc, row.0, document, &row.2));
     assert_is_at(rt, at, run.status, row.3.0);
     assert_reads_at(rt, at, run.output.bytes(), row.3.1);
     assert_reads_at(rt, at, run.faults.bytes(), row.3.2);
     drop(run);
-    Some(())
 }
 
 /// Asserts the ends of runs.
 fn all_end(rt: &impl Abort, alloc: Global, runs: &[Run<'_>]) {
     for row in runs {
-        let done = ends(rt, alloc, row, row.1.as_bytes());
-        assert_is_at(rt, (row.0, row.1), done, Some(()));
+        ends(rt, alloc, row, "", row.1.as_bytes());
     }
 }
 
@@ -120,162 +118,78 @@ fn words_ask_for_the_lines_of_a_document(rt: HostRuntime) {
 }
 
 /// Scripts by which X leaves two blocks at 120 and 115, and Y one at 130.
-const SINCERE: Piece<'static> = (
-    r#"{"kind":"sincere","limits":[[120,115]]},{"kind":"sincere","limits":[[130]]}"#,
-    1,
-);
+const SINCERE: &str =
+    r#"{"kind":"sincere","limits":[[120,115]]},{"kind":"sincere","limits":[[130]]}"#;
 
 /// Three closings, which these scripts need to end.
-const CLOSINGS: Piece<'static> = (
-    r#"{"increment":10,"ties":[]},{"increment":10,"ties":[]},{"increment":10,"ties":[]}"#,
-    1,
-);
+const CLOSINGS: &str =
+    r#"{"increment":10,"ties":[]},{"increment":10,"ties":[]},{"increment":10,"ties":[]}"#;
 
-/// What comes before the set-up, before the scripts, before the closings, and after them.
-const SETUP: Piece<'static> = ("{\"setup\":", 1);
-
-const SCRIPTS: Piece<'static> = (",\"scripts\":[", 1);
-
-const BEFORE_CLOSINGS: Piece<'static> = ("],\"closings\":[", 1);
-
-const END: Piece<'static> = ("]}", 1);
-
-/// The name of a replay, the pieces of its document, and its end.
-type Replayed<'a> = (&'a str, &'a [Piece<'a>], Reported<'a>);
+/// The scripts and the closings of a replay, and its end.
+type Replayed<'a> = (&'a str, &'a str, Reported<'a>);
 
 const REPLAYS: &[Replayed<'static>] = &[
+    (SINCERE, CLOSINGS, (0, REPORT, "")),
+    ("{", CLOSINGS, (1, "", "fault: not_json\n")),
+    ("1", CLOSINGS, (1, "", "fault: shape\n")),
     (
-        "sincere",
-        &[SETUP, ONE, SCRIPTS, SINCERE, BEFORE_CLOSINGS, CLOSINGS, END],
-        (0, REPORT, ""),
-    ),
-    (
-        "no JSON",
-        &[
-            SETUP,
-            ONE,
-            SCRIPTS,
-            ("{", 1),
-            BEFORE_CLOSINGS,
-            CLOSINGS,
-            END,
-        ],
-        (1, "", "fault: not_json\n"),
-    ),
-    (
-        "a number",
-        &[
-            SETUP,
-            ONE,
-            SCRIPTS,
-            ("1", 1),
-            BEFORE_CLOSINGS,
-            CLOSINGS,
-            END,
-        ],
-        (1, "", "fault: shape\n"),
-    ),
-    (
-        "one script",
-        &[
-            SETUP,
-            ONE,
-            SCRIPTS,
-            (r#"{"kind":"literal","sheets":[]}"#, 1),
-            BEFORE_CLOSINGS,
-            CLOSINGS,
-            END,
-        ],
+        r#"{"kind":"literal","sheets":[]}"#,
+        CLOSINGS,
         (1, "", "fault: scripts\n"),
     ),
     (
-        "rising limits",
-        &[
-            SETUP,
-            ONE,
-            SCRIPTS,
-            (
-                r#"{"kind":"sincere","limits":[[115,120]]},{"kind":"literal","sheets":[]}"#,
-                1,
-            ),
-            BEFORE_CLOSINGS,
-            CLOSINGS,
-            END,
-        ],
+        r#"{"kind":"sincere","limits":[[115,120]]},{"kind":"literal","sheets":[]}"#,
+        CLOSINGS,
         (1, "", "fault: limits 0 0\n"),
     ),
     (
-        "over the cap",
-        &[
-            SETUP,
-            ONE,
-            SCRIPTS,
-            (
-                r#"{"kind":"literal","sheets":[[{"price":100,"product":0,"quantity":3}]]},{"kind":"literal","sheets":[]}"#,
-                1,
-            ),
-            BEFORE_CLOSINGS,
-            CLOSINGS,
-            END,
-        ],
+        r#"{"kind":"literal","sheets":[[{"price":100,"product":0,"quantity":3}]]},{"kind":"literal","sheets":[]}"#,
+        CLOSINGS,
         (1, "", "fault: refused 0 1 over_cap\n"),
     ),
     (
-        "a steep closing",
-        &[
-            SETUP,
-            ONE,
-            SCRIPTS,
-            SINCERE,
-            BEFORE_CLOSINGS,
-            (r#"{"increment":51,"ties":[]}"#, 1),
-            END,
-        ],
+        SINCERE,
+        r#"{"increment":51,"ties":[]}"#,
         (1, "", "fault: closing 1 increment\n"),
     ),
     (
-        "two closings",
-        &[
-            SETUP,
-            ONE,
-            SCRIPTS,
-            SINCERE,
-            BEFORE_CLOSINGS,
-            (
-                r#"{"increment":10,"ties":[]},{"increment":10,"ties":[]}"#,
-                1,
-            ),
-            END,
-        ],
+        SINCERE,
+        r#"{"increment":10,"ties":[]},{"increment":10,"ties":[]}"#,
         (1, "", "fault: closings_spent\n"),
     ),
     (
-        "an increment for each product",
-        &[
-            SETUP,
-            ONE,
-            SCRIPTS,
-            SINCERE,
-            BEFORE_CLOSINGS,
-            (r#"{"increments":[10],"ties":[]}"#, 1),
-            END,
-        ],
+        SINCERE,
+        r#"{"increments":[10],"ties":[]}"#,
         (1, "", "fault: shape\n"),
     ),
 ];
 
+/// A replay of the set-up of one product with these scripts and closings.
+fn replay_document<'a>(alloc: Global, scripts: &'a str, closings: &'a str) -> Option<Text> {
+    let pieces = [
+        ("{\"setup\":", 1),
+        (ONE_PRODUCT, 1),
+        (",\"scripts\":[", 1),
+        (scripts, 1),
+        ("],\"closings\":[", 1),
+        (closings, 1),
+        ("]}", 1),
+    ];
+    repeated(alloc, &pieces)
+}
+
 /// Asserts the end of a replay.
-fn replay_ends(rt: &impl Abort, alloc: Global, row: &Replayed<'_>) -> Option<()> {
-    let document = repeated(alloc, row.1)?;
+fn replay_ends(rt: &impl Abort, alloc: Global, row: &Replayed<'_>) {
+    let document = replay_document(alloc, row.0, row.1);
+    let document = made_at(rt, (row.0, row.1), document);
     let run: Run<'_> = (REPLAY, row.0, SOUND_STREAMS, row.2);
-    ends(rt, alloc, &run, document.as_slice())
+    ends(rt, alloc, &run, row.1, document.as_slice());
 }
 
 #[test]
 fn a_replay_has_a_report_or_a_fault(rt: HostRuntime) {
     for row in REPLAYS {
-        let done = replay_ends(&rt, rt.alloc(), row);
-        assert_is_at(&rt, row.0, done, Some(()));
+        replay_ends(&rt, rt.alloc(), row);
     }
 }
 

@@ -17,10 +17,22 @@ pub fn assert_is_at<T: Copy + PartialEq + Debug, R: Copy + Debug>(
     value: T,
     expected: T,
 ) {
-    assert_eq!(rt; value, expected, "in row {row:?}");
+    assert!(rt;
+        value == expected,
+        "in row {row:?}: {value:?} is not {expected:?}"
+    );
 }
 
 /// Like [`assert_is_at`], for bytes that are text, which a failure shows as text.
 pub fn assert_reads_at<R: Copy + Debug>(rt: &impl Abort, row: R, bytes: &[u8], expected: &str) {
     assert_is_at(rt, row, std::str::from_utf8(bytes).ok(), Some(expected));
+}
+
+/// Returns a value that a row of a table needs. If there is none, the failure names the row. A `?`
+/// in its place takes more proof: each value that its function owns is freed there too.
+pub fn made_at<T: Drop, R: Copy + Debug>(rt: &impl Abort, row: R, value: Option<T>) -> T {
+    match value {
+        Some(value) => value,
+        None => panic!(rt; "in row {row:?}: no value"),
+    }
 }

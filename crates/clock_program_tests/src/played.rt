@@ -1,8 +1,9 @@
 //! Replays, and their report or first fault.
 
-use crate::comparing::{assert_is_at, assert_reads_at};
-use crate::documents::{CLOSINGS, END, ONE, Piece, SCRIPTS, SETUP, repeated};
+use crate::comparing::{assert_is_at, made_at};
+use crate::documents::{Piece, document, repeated};
 use clock_device::Text;
+use clock_fixtures::ONE_PRODUCT;
 use clock_http::Code;
 use clock_processor::Plain;
 use clock_sim::{
@@ -12,27 +13,18 @@ use std::alloc::Global;
 use std::process::Abort;
 
 /// X's limits fall, or it bids for more than the cap. Y wants one block up to 130.
-const FALLING_LIMITS: Piece<'static> = (
-    r#"[{"kind":"sincere","limits":[[120,115]]},{"kind":"sincere","limits":[[130]]}]"#,
-    1,
-);
+const FALLING_LIMITS: &str =
+    r#"[{"kind":"sincere","limits":[[120,115]]},{"kind":"sincere","limits":[[130]]}]"#;
 
-const OVER_CAP: Piece<'static> = (
-    r#"[{"kind":"literal","sheets":[[{"price":100,"product":0,"quantity":3}]]},{"kind":"sincere","limits":[[130]]}]"#,
-    1,
-);
+const OVER_CAP: &str =
+    r#"[{"kind":"literal","sheets":[[{"price":100,"product":0,"quantity":3}]]},{"kind":"sincere","limits":[[130]]}]"#;
 
-const TWO_CLOSINGS: Piece<'static> = (
-    r#"[{"increment":10,"ties":[]},{"increment":10,"ties":[]}]"#,
-    1,
-);
+const TWO_CLOSINGS: &str = r#"[{"increment":10,"ties":[]},{"increment":10,"ties":[]}]"#;
 
-const THREE_CLOSINGS: Piece<'static> = (
-    r#"[{"increment":10,"ties":[]},{"increment":10,"ties":[]},{"increment":10,"ties":[]}]"#,
-    1,
-);
+const THREE_CLOSINGS: &str =
+    r#"[{"increment":10,"ties":[]},{"increment":10,"ties":[]},{"increment":10,"ties":[]}]"#;
 
-const STEEP_CLOSING: Piece<'static> = (r#"[{"increment":51,"ties":[]}]"#, 1);
+const STEEP_CLOSING: &str = r#"[{"increment":51,"ties":[]}]"#;
 
 /// The report if X leaves its two blocks at 120 and 115.
 pub const REPORT: &str =
@@ -92,49 +84,21 @@ fn outcome(alloc: Global, document: &[u8], settled: Settled<'_>) -> Result<Text,
     }
 }
 
-/// The pieces of a document, and its report or its fault.
-type Played<'a> = (&'a [Piece<'a>], Result<&'a str, SimFault>);
+/// The closings and the scripts of a document, and its report or its fault.
+type Played<'a> = (&'a str, &'a str, Result<&'a str, SimFault>);
 
 /// Sincere bidders leave at their limits.
 const PLAYED: &[Played<'static>] = &[
+    (THREE_CLOSINGS, FALLING_LIMITS, Ok(REPORT)),
+    (TWO_CLOSINGS, FALLING_LIMITS, Err(SimFault::ClosingsSpent)),
     (
-        &[
-            CLOSINGS,
-            THREE_CLOSINGS,
-            SCRIPTS,
-            FALLING_LIMITS,
-            SETUP,
-            ONE,
-            END,
-        ],
-        Ok(REPORT),
-    ),
-    (
-        &[
-            CLOSINGS,
-            TWO_CLOSINGS,
-            SCRIPTS,
-            FALLING_LIMITS,
-            SETUP,
-            ONE,
-            END,
-        ],
-        Err(SimFault::ClosingsSpent),
-    ),
-    (
-        &[CLOSINGS, THREE_CLOSINGS, SCRIPTS, OVER_CAP, SETUP, ONE, END],
+        THREE_CLOSINGS,
+        OVER_CAP,
         Err(SimFault::Refused(0, 1, Code::OverCap)),
     ),
     (
-        &[
-            CLOSINGS,
-            STEEP_CLOSING,
-            SCRIPTS,
-            FALLING_LIMITS,
-            SETUP,
-            ONE,
-            END,
-        ],
+        STEEP_CLOSING,
+        FALLING_LIMITS,
         Err(SimFault::Closing(1, Code::Increment)),
     ),
 ];
@@ -146,42 +110,41 @@ fn comes_to(
     settled: Settled<'_>,
     reported: Result<Text, SimFault>,
 ) {
+    let at = (row.0, row.1, settled);
     match reported {
-        Ok(text) => assert_is_at(
-            rt,
-            (row.0, settled),
-            Ok(std::str::from_utf8(text.as_slice()).unwrap_or("no text")),
-            row.1,
-        ),
-        Err(fault) => assert_is_at(rt, (row.0, settled), Err(fault), row.1),
+        Ok(text) => {
+            let text = std::str::from_utf8(text.as_slice()).unwrap_or("no text");
+            assert_is_at(rt, at, Ok(text), row.2);
+        }
+        Err(fault) => assert_is_at(rt, at, Err(fault), row.2),
     }
 }
 
 /// Asserts the report or the fault of a document, in each way.
-fn script_comes_to(rt: &impl Abort, alloc: Global, row: &Played<'_>) -> Option<()> {
-    let document = repeated(alloc, row.0)?;
+fn script_comes_to(rt: &impl Abort, alloc: Global, row: &Played<'_>) {
+    let at = (row.0, row.1);
+    let document = made_at(rt, at, document(alloc, row.0, row.1, ONE_PRODUCT));
     for settled in ALL_WAYS {
         let reported = outcome(alloc, document.as_slice(), settled);
         comes_to(rt, row, settled, reported);
     }
-    Some(())
 }
 
 #[test]
 fn a_report_or_the_first_fault_is_reported(rt: HostRuntime) {
     for row in PLAYED {
-        let done = script_comes_to(&rt, rt.alloc(), row);
-        assert_is_at(&rt, row.0, done, Some(()));
+        script_comes_to(&rt, rt.alloc(), row);
     }
 }
 
 /// The pieces of a document, and its first fault.
 type Faulty<'a> = (&'a [Piece<'a>], Option<SimFault>);
 
-/// The first fault of a document, or `None`. Returns `None` too if it could not be allocated.
-fn fault_in(alloc: Global, document: Option<Text>) -> Option<Option<SimFault>> {
-    let document = document?;
-    Some(outcome(alloc, document.as_slice(), WOKEN).err())
+/// Asserts the first fault of the document of a row.
+fn has_fault(rt: &impl Abort, alloc: Global, row: &Faulty<'_>, document: Option<Text>) {
+    let document = made_at(rt, row.0, document);
+    let reported = outcome(alloc, document.as_slice(), WOKEN).err();
+    assert_is_at(rt, row.0, reported, row.1);
 }
 
 /// What comes before the scripts of 130 bidders, with a closing.
@@ -207,10 +170,8 @@ const ONE_MORE: &str = r#",{"kind":"literal","sheets":[[{"price":100,"product":0
 const TWO_MORE: &str = r#",{"kind":"literal","sheets":[[{"price":100,"product":0,"quantity":2}]]}"#;
 
 /// What comes after the scripts, up to the first bidder.
-const BEFORE_BIDDERS: Piece<'static> = (
-    r#"],"setup":{"version":1,"requirement":95,"operator":"OPERATOROPERATOR","products":[{"name":"A","units":1,"supply":200,"cap":1,"opening":100}],"bidders":[{"eligibility":1,"name":"B0","token":"TOKENTOKENTOKENS0"}"#,
-    1,
-);
+const BEFORE_BIDDERS: &str =
+    r#"],"setup":{"version":1,"requirement":95,"operator":"OPERATOROPERATOR","products":[{"name":"A","units":1,"supply":200,"cap":1,"opening":100}],"bidders":[{"eligibility":1,"name":"B0","token":"TOKENTOKENTOKENS0"}"#;
 
 /// Adds a bidder with this number.
 fn push_bidder(alloc: Global, text: &mut Text, number: u64) -> Option<()> {
@@ -221,15 +182,16 @@ fn push_bidder(alloc: Global, text: &mut Text, number: u64) -> Option<()> {
         .ok()
 }
 
-/// Adds all bidders except the first, and the end of the document.
+/// Adds the set-up of 130 bidders, and the end of the document.
 fn push_bidders(alloc: Global, text: &mut Text) -> Option<()> {
+    text.extend_from_slice(BEFORE_BIDDERS.as_bytes()).ok()?;
     for number in 1..130 {
         push_bidder(alloc, text, number)?;
     }
     text.extend_from_slice(b"]}}").ok()
 }
 
-/// Makes a document of a round, from the pieces before its second bidder.
+/// Makes a document of a round, from the pieces up to its last script.
 fn many_sheets(alloc: Global, pieces: &[Piece<'_>]) -> Option<Text> {
     let mut text = repeated(alloc, pieces)?;
     push_bidders(alloc, &mut text)?;
@@ -241,54 +203,32 @@ fn many_sheets(alloc: Global, pieces: &[Piece<'_>]) -> Option<Text> {
 /// script that submits a block too many.
 const GROUPS: &[Faulty<'static>] = &[
     (
-        &[BEFORE_SCRIPTS, FIRST_TWO, (TWO_MORE, 129), BEFORE_BIDDERS],
+        &[BEFORE_SCRIPTS, FIRST_TWO, (TWO_MORE, 129)],
         Some(SimFault::Refused(0, 1, Code::OverCap)),
     ),
     (
-        &[BEFORE_SCRIPTS, FIRST_ONE, (TWO_MORE, 129), BEFORE_BIDDERS],
+        &[BEFORE_SCRIPTS, FIRST_ONE, (TWO_MORE, 129)],
         Some(SimFault::Refused(1, 1, Code::OverCap)),
     ),
     (
-        &[
-            BEFORE_SCRIPTS,
-            FIRST_ONE,
-            (ONE_MORE, 62),
-            (TWO_MORE, 67),
-            BEFORE_BIDDERS,
-        ],
+        &[BEFORE_SCRIPTS, FIRST_ONE, (ONE_MORE, 62), (TWO_MORE, 67)],
         Some(SimFault::Refused(63, 1, Code::OverCap)),
     ),
     (
-        &[
-            BEFORE_SCRIPTS,
-            FIRST_ONE,
-            (ONE_MORE, 63),
-            (TWO_MORE, 66),
-            BEFORE_BIDDERS,
-        ],
+        &[BEFORE_SCRIPTS, FIRST_ONE, (ONE_MORE, 63), (TWO_MORE, 66)],
         Some(SimFault::Refused(64, 1, Code::OverCap)),
     ),
     (
-        &[
-            BEFORE_SCRIPTS,
-            FIRST_ONE,
-            (ONE_MORE, 128),
-            (TWO_MORE, 1),
-            BEFORE_BIDDERS,
-        ],
+        &[BEFORE_SCRIPTS, FIRST_ONE, (ONE_MORE, 128), (TWO_MORE, 1)],
         Some(SimFault::Refused(129, 1, Code::OverCap)),
     ),
-    (
-        &[BEFORE_SCRIPTS, FIRST_ONE, (ONE_MORE, 129), BEFORE_BIDDERS],
-        None,
-    ),
+    (&[BEFORE_SCRIPTS, FIRST_ONE, (ONE_MORE, 129)], None),
 ];
 
 #[test]
 fn groups_are_answered_in_the_order_of_the_bidders(rt: HostRuntime) {
     for row in GROUPS {
-        let reported = fault_in(rt.alloc(), many_sheets(rt.alloc(), row.0));
-        assert_is_at(&rt, row.0, reported, Some(row.1));
+        has_fault(&rt, rt.alloc(), row, many_sheets(rt.alloc(), row.0));
     }
 }
 
@@ -312,7 +252,12 @@ const LONG: Piece<'static> = (
 /// More bids, enough for a body that is too long.
 const MORE: Piece<'static> = (r#",{"price":100,"product":0,"quantity":1}"#, 28_000);
 
+/// What comes after the sheet, up to the set-up.
 const AFTER: Piece<'static> = (r#"]]}],"setup":"#, 1);
+
+const ONE: Piece<'static> = (ONE_PRODUCT, 1);
+
+const END: Piece<'static> = ("}", 1);
 
 /// A script of X, with a sheet of Y that is too long, and the fault.
 const BEFORE: &[Faulty<'static>] = &[
@@ -329,7 +274,6 @@ const BEFORE: &[Faulty<'static>] = &[
 #[test]
 fn a_sheet_that_is_too_long_waits_for_those_before_it(rt: HostRuntime) {
     for row in BEFORE {
-        let reported = fault_in(rt.alloc(), repeated(rt.alloc(), row.0));
-        assert_is_at(&rt, row.0, reported, Some(row.1));
+        has_fault(&rt, rt.alloc(), row, repeated(rt.alloc(), row.0));
     }
 }

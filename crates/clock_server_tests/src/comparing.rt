@@ -19,7 +19,10 @@ pub fn assert_is_at<T: Copy + PartialEq + Debug, R: Copy + Debug>(
     value: T,
     expected: T,
 ) {
-    assert_eq!(rt; value, expected, "in row {row:?}");
+    assert!(rt;
+        value == expected,
+        "in row {row:?}: {value:?} is not {expected:?}"
+    );
 }
 
 /// Like [`assert_is_at`], for bytes that are text, which a failure shows as text.
