@@ -1,4 +1,5 @@
-ghost use Rattle.std.specs.Prelude.{◌≤◌};
+ghost use Rattle.std.specs.Prelude.{◌≡◌, ◌≤◌};
+ghost use Rattle.clock_money.specs.Point.{fraction_cmp};
 
 use clock_money::Point;
 use std::cmp::Ordering;
@@ -25,6 +26,15 @@ pub struct OrderKey {
     pub ghost denominator: { 1 ≤ point.span },
 }
 
+impl OrderKey {
+    /// Compares the price points of two keys by value.
+    fn by_point(&self, other: &OrderKey) -> Ordering
+        ensures { result ≡ fraction_cmp self.now.point other.now.point }
+    {
+        self.point.compare(&other.point)
+    }
+}
+
 impl Ord for OrderKey {
     ghost use Rattle.std.proofs.Common.{rules};
     ghost use Rattle.std.specs.Cmp.Rules.{comparing};
@@ -40,7 +50,7 @@ impl Ord for OrderKey {
     ghost matches_eq = { order_key_equal };
 
     fn cmp(&self, other: &OrderKey) -> Ordering {
-        let by_point = self.point.compare(&other.point);
+        let by_point = self.by_point(other);
         if by_point != Ordering::Equal {
             return by_point;
         }
