@@ -277,27 +277,34 @@ fn a_reader_is_interrupted_or_fails(rt: HostRuntime) {
     gives(&rt, &mut FromReader::new(counting(true)), FLAKY);
 }
 
-/// The number of bytes that each call of the writer takes, and the byte that a call of the reader
-/// gives.
-const CALLS: &[(usize, &[u8])] = &[
-    (1, b"\x01---"),
-    (2, b"\x02---"),
-    (3, b"\x03---"),
-    (4, b"\x04---"),
-    (5, b"\x05---"),
-    (6, b"\x06---"),
-    (7, b"\x07---"),
-    (8, b"\x08---"),
+/// Reads of the reader, each of which is one call.
+const EACH_READ: &[Given<'static>] = &[
+    (1, Ok(1), b"\x01---"),
+    (1, Ok(1), b"\x02---"),
+    (1, Ok(1), b"\x03---"),
+    (1, Ok(1), b"\x04---"),
+    (1, Ok(1), b"\x05---"),
+    (1, Ok(1), b"\x06---"),
+    (1, Ok(1), b"\x07---"),
+    (1, Ok(1), b"\x08---"),
+];
+
+/// Writes to the writer, each of which is one call.
+const EACH_WRITE: &[Taken<'static>] = &[
+    (b"12345678", Ok(1)),
+    (b"12345678", Ok(2)),
+    (b"12345678", Ok(3)),
+    (b"12345678", Ok(4)),
+    (b"12345678", Ok(5)),
+    (b"12345678", Ok(6)),
+    (b"12345678", Ok(7)),
+    (b"12345678", Ok(8)),
 ];
 
 #[test]
 fn each_call_is_one_call_of_the_reader_or_writer_below(rt: HostRuntime) {
-    let mut source = FromReader::new(counting(false));
-    let mut sink = ToWriter::new(counting(false));
-    for row in CALLS {
-        gives(&rt, &mut source, &[(1, Ok(1), row.1)]);
-        takes(&rt, &mut sink, &[(b"12345678", Ok(row.0))]);
-    }
+    gives(&rt, &mut FromReader::new(counting(false)), EACH_READ);
+    takes(&rt, &mut ToWriter::new(counting(false)), EACH_WRITE);
 }
 
 /// Reads of `hi`.

@@ -8,7 +8,7 @@ use clock_processor::Plain;
 use clock_queue::Woken;
 use clock_setup::Setup;
 use clock_terms::Kind;
-use std::alloc::{AllocError, Global};
+use std::alloc::Global;
 use std::process::Abort;
 
 /// X asks for two of B, Y for two of A, and Z for one of B.
@@ -98,24 +98,29 @@ const FIRST_BIDDER: &str =
 const A_HUNDRED_BLOCKS: &str =
     r#"],"operator":"OPERATOROPERATOR","products":[{"cap":1,"name":"A","opening":100,"supply":100,"units":1}],"requirement":100,"version":1}"#;
 
-/// Adds a bidder with eligibility 1 to a list.
-fn push_bidder(alloc: Global, text: &mut String, number: u32) -> Result<(), AllocError> {
+/// Adds a bidder with eligibility 1 to a list. Returns whether it did.
+fn push_bidder(alloc: Global, text: &mut String, number: u32) -> bool {
     let entry = format!(in alloc;
         r#",{{"eligibility":1,"name":"B{number}","token":"TOKENTOKENTOK{number}"}}"#
-    )?;
-    text.push_str(entry.as_str())
+    );
+    match entry {
+        Ok(entry) => text.push_str(entry.as_str()).is_ok(),
+        Err(_) => false,
+    }
 }
 
-/// A set-up document with a product of a hundred blocks and a hundred bidders, each with a cap of
-/// one block.
-fn document_of_a_hundred(alloc: Global) -> Result<String, AllocError> {
-    let mut text = String::new(alloc);
-    text.push_str(FIRST_BIDDER)?;
-    for number in 101..200 {
-        push_bidder(alloc, &mut text, number)?;
+/// Writes a set-up document with a product of a hundred blocks and a hundred bidders, each with a
+/// cap of one block. Returns whether it did.
+fn push_a_hundred(alloc: Global, text: &mut String) -> bool {
+    if text.push_str(FIRST_BIDDER).is_err() {
+        return false;
     }
-    text.push_str(A_HUNDRED_BLOCKS)?;
-    Ok(text)
+    for number in 101..200 {
+        if !push_bidder(alloc, text, number) {
+            return false;
+        }
+    }
+    text.push_str(A_HUNDRED_BLOCKS).is_ok()
 }
 
 /// A request of each of a hundred bidders for one block at 100.
@@ -147,10 +152,12 @@ fn each_keeps_a_block(rt: &impl Abort, alloc: Global, document: &str) -> Option<
 
 /// The result of [`each_keeps_a_block`] in an auction of a hundred.
 fn each_of_a_hundred_keeps_a_block(rt: &impl Abort, alloc: Global) -> Option<bool> {
-    let Ok(document) = document_of_a_hundred(alloc) else {
-        return None;
+    let mut document = String::new(alloc);
+    let settled = if push_a_hundred(alloc, &mut document) {
+        each_keeps_a_block(rt, alloc, document.as_str())
+    } else {
+        None
     };
-    let settled = each_keeps_a_block(rt, alloc, document.as_str());
     drop(document);
     settled
 }
