@@ -6,10 +6,10 @@ ghost use Rattle.clock_server.specs.Keeping.{IsRefused};
 ghost use Rattle.clock_files.specs.Audits.{IsAuditOf, IsRecounted, IsAuditFault, audited};
 ghost use Rattle.clock_files.specs.Audits.{with_digest};
 
-use crate::files::{digits_of, file_bytes, journal_bytes, tell_journal};
+use crate::files::{digits_of, file_bytes, journal_bytes, tell_all};
 use crate::serving::front_in;
 use clock_answers::Fault;
-use clock_device::{NoMemory, Sink, Text, write_all};
+use clock_device::{NoMemory, Sink, Text};
 use clock_front::{Effect, Front};
 use clock_journal::{Link, Machine, Record, Recovered, TakeError, digest_of, recover};
 use clock_queue::Woken;
@@ -37,8 +37,7 @@ where
     // `drop` here keeps the proof small: at the end of the scope, each field is proved
     drop(recount);
     let (text, recovered) = made?;
-    write_all(out, text.as_slice()).or(Err(Fault::Output))?;
-    tell_journal(rt, recovered)
+    tell_all(rt, out, text, recovered)
 }
 
 /// An auction that takes the texts of a journal, and the digest of each closing.
@@ -107,5 +106,8 @@ fn rounds_of(alloc: Global, recount: &Recount) -> Result<Text, NoMemory>
         return Ok(Text::new(alloc));
     }
     let report = report_so_far(alloc, house)?;
-    audit_text(alloc, &report, recount.digests.as_slice())
+    let text = audit_text(alloc, &report, recount.digests.as_slice());
+    // like the `drop` in `tell_audit`
+    drop(report);
+    text
 }

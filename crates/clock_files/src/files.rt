@@ -3,7 +3,7 @@ ghost use Rattle.std.specs.Prelude.{◌≡◌};
 ghost use Rattle.hex.specs.Hex.{encode_lower};
 
 use clock_answers::{Fault, read_all};
-use clock_device::{FromReader, Text};
+use clock_device::{FromReader, Sink, Text, write_all};
 use clock_journal::{Link, Recovered};
 use clock_reports::Digits;
 use hex::encode_to_slice;
@@ -67,6 +67,18 @@ fn bytes_of(alloc: Global, file: &File) -> Result<Vec<u8>, Fault> {
         Err(error) if error.kind() == io::ErrorKind::OutOfMemory => Err(Fault::Memory),
         Err(_) => Err(Fault::Journal),
     }
+}
+
+/// Prints a text that was made of a journal, and then the line of the journal.
+pub fn tell_all<R: Print>(
+    rt: &R,
+    out: &mut impl Sink,
+    text: Text,
+    recovered: Recovered,
+) -> Result<(), Fault> {
+    write_all(out, text.as_slice()).or(Err(Fault::Output))?;
+    drop(text);
+    tell_journal(rt, recovered)
 }
 
 /// Prints the number of texts in a journal, and the digest of the last.

@@ -3,9 +3,9 @@ ghost use Rattle.std.specs.Prelude.{◌≡◌, ◌++◌, List, ℕ, IfErr, IfOk,
 ghost use Rattle.clock_files.specs.Listings.{IsListingOf, IsListFault, digest_line, listing_text};
 ghost use Rattle.clock_files.specs.Listings.{spaced, text_listed};
 
-use crate::files::{digits_of, file_bytes, journal_bytes, tell_journal};
+use crate::files::{digits_of, file_bytes, journal_bytes, tell_all};
 use clock_answers::Fault;
-use clock_device::{NoMemory, Sink, Text, write_all};
+use clock_device::{NoMemory, Sink, Text};
 use clock_journal::{Link, Machine, Record, Recovered, TakeError, digest_of, recover};
 use clock_words::NamedFiles;
 use std::alloc::Global;
@@ -22,8 +22,8 @@ where
     drop(document);
     let bytes = journal_bytes(rt, named.journal)?;
     let (text, recovered) = listing_of(rt.alloc(), first, bytes.as_slice())?;
-    write_all(out, text.as_slice()).or(Err(Fault::Output))?;
-    tell_journal(rt, recovered)
+    drop(bytes);
+    tell_all(rt, out, text, recovered)
 }
 
 /// The lines of the texts so far.
