@@ -5,8 +5,7 @@ ghost use Rattle.clock_closing.specs.ReportedFaults.{fault_from_post, fault_from
 use clock_device::NoMemory;
 use clock_order::TieFault;
 use clock_posting::PostFault;
-use std::error::Error;
-use std::fmt::{self, Display, Formatter, Write};
+use thiserror::Error;
 
 /// Why a closing is refused: the first of these that applies. `NoMemory` may replace any of them.
 ///
@@ -18,30 +17,21 @@ use std::fmt::{self, Display, Formatter, Write};
 /// - `NoMemory`: out of memory.
 // The cases are described above the enum because `rt plant` takes a comment above a case for its
 // name.
-#[derive(Clone, Copy, Debug, PartialEq, Eq)]
+#[derive(Clone, Copy, Debug, PartialEq, Eq, Error)]
 pub enum CloseFault {
+    #[error("the auction has ended")]
     Ended,
+    #[error("not the current round")]
     WrongRound(u64),
+    #[error("increment out of range")]
     Increment,
+    #[error("the tie numbers have a fault")]
     Tie(TieFault),
+    #[error("a next clock price is too high")]
     PriceLimit(u64),
+    #[error("out of memory")]
     NoMemory,
 }
-
-impl Display for CloseFault {
-    fn fmt<W: Write>(&self, f: &mut Formatter<W>) -> fmt::Result {
-        f.write_str(match self {
-            CloseFault::Ended => "the auction has ended",
-            CloseFault::WrongRound(_) => "not the current round",
-            CloseFault::Increment => "increment out of range",
-            CloseFault::Tie(_) => "the tie numbers have a fault",
-            CloseFault::PriceLimit(_) => "a next clock price is too high",
-            CloseFault::NoMemory => "out of memory",
-        })
-    }
-}
-
-impl Error for CloseFault {}
 
 impl From<NoMemory> for CloseFault {
     ghost from_gives = { λ _ reported. reported ≡ close_faults.NoMemory };

@@ -4,8 +4,7 @@ ghost use Rattle.clock_house.specs.ReportedFaults.{fault_from_bid};
 
 use clock_bids::BidFault;
 use clock_device::NoMemory;
-use std::error::Error;
-use std::fmt::{self, Display, Formatter, Write};
+use thiserror::Error;
 
 /// Why a sheet is refused: the first of these that applies. `NoMemory` may replace any of them.
 ///
@@ -15,26 +14,17 @@ use std::fmt::{self, Display, Formatter, Write};
 /// - `NoMemory`: out of memory.
 // The cases are described above the enum because `rt plant` takes a comment above a case for its
 // name.
-#[derive(Clone, Copy, Debug, PartialEq, Eq)]
+#[derive(Clone, Copy, Debug, PartialEq, Eq, Error)]
 pub enum PutFault {
+    #[error("the auction has ended")]
     Ended,
+    #[error("not the current round")]
     WrongRound(u64),
+    #[error("the sheet has a fault")]
     Bid(BidFault),
+    #[error("out of memory")]
     NoMemory,
 }
-
-impl Display for PutFault {
-    fn fmt<W: Write>(&self, f: &mut Formatter<W>) -> fmt::Result {
-        f.write_str(match self {
-            PutFault::Ended => "the auction has ended",
-            PutFault::WrongRound(_) => "not the current round",
-            PutFault::Bid(_) => "the sheet has a fault",
-            PutFault::NoMemory => "out of memory",
-        })
-    }
-}
-
-impl Error for PutFault {}
 
 impl From<NoMemory> for PutFault {
     ghost from_gives = { λ _ reported. reported ≡ put_faults.NoMemory };
