@@ -2,8 +2,8 @@
 //! contracts see all bytes.
 #![tactic(auto)]
 
-// The public surface: names of another crate that callers of a command need.
-pub use clock_answers::{Fault, read_all, setup_in};
+// The public surface: a name of another crate that callers of a command need.
+pub use clock_answers::Fault;
 
 mod answer;
 mod run;

@@ -87,9 +87,7 @@ impl<D: Durable> Journal<D> {
     {
         // only synced bytes survive a crash during the truncation
         self.disk.sync()?;
-        if let Err(uncut) = self.disk.cut(recovered.end) {
-            return Err(uncut);
-        }
+        self.disk.cut(recovered.end)?;
         if recovered.end == 0 {
             return self.begin();
         }
@@ -116,9 +114,7 @@ impl<D: Durable> Journal<D> {
     {
         let digest = link_of(&self.chain, text);
         self.disk.append(&front_of(text.len(), &digest))?;
-        if let Err(failed) = self.disk.append(text) {
-            return Err(failed);
-        }
+        self.disk.append(text)?;
         self.chain = digest;
         self.disk.sync()
     }

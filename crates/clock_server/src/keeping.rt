@@ -77,10 +77,8 @@ impl<D: Durable> RequestLog for Journal<D> {
         if text.len() > MOST_TEXT {
             return Err(Failed);
         }
-        match self.append(text) {
-            Ok(()) => Ok(response),
-            Err(Failed) => Err(Failed),
-        }
+        self.append(text)?;
+        Ok(response)
     }
 
     fn round_closed(&mut self, _round: u64) {}

@@ -52,10 +52,10 @@ fn serve_one<P: Processor, K: RequestLog, R: Source, W: Outlet>(
     ensures setup { front.new.setup ≡ front.old.setup }
 {
     match read_request(alloc, source) {
-        Ok(request) => match log.answer(front, request.as_slice(), request.progress()) {
-            Ok(response) => Ok(write_reply(log, sink, response)),
-            Err(Failed) => Err(Failed),
-        },
+        Ok(request) => {
+            let response = log.answer(front, request.as_slice(), request.progress())?;
+            Ok(write_reply(log, sink, response))
+        }
         Err(RequestReadError::Memory) => {
             let (reply, effect) = (no_memory_reply(), Effect::Nothing);
             Ok(write_reply(log, sink, Response { reply, effect }))

@@ -1,4 +1,5 @@
 use Rattle.std.proofs.Common.{◌≡◌, ◌<◌, ◌⊎◌, Bool, List, ℕ, length, true, ap, arith, inl, inr, refl, sym, subst}
+use Rattle.std.proofs.lemmas.Result.{err_from_is_err_and}
 use Rattle.clock_device.specs.Reports.{Reading}
 use Rattle.clock_connections.specs.Arrivals.{HasArrived}
 use Rattle.clock_connections.proofs.LengthLaws.{short_arrived}
@@ -19,29 +20,30 @@ disk_failed : (reading : Reading) (text : List ℕ) (has_failed : Bool) → HasA
 disk_failed reading text has_failed has (inl failed) = failed
 disk_failed reading text has_failed has (inr long) = absurd (omega (arith, short_arrived reading text has))
 
-pub returns-in-Ok-clause-served : goal.returns-in-Ok-clause-served
-returns-in-Ok-clause-served g c =
+pub returns-in_err-response-in-Ok-clause-served : goal.returns-in_err-response-in-Ok-clause-served
+returns-in_err-response-in-Ok-clause-served g c =
+    let p = err_from_is_err_and c.from_residual.result c.from_residual.ensures.1 in
     let reading : Reading =
     record { before = g.R.Source.report c.args.source.now; after = g.R.Source.report c.read_request.new.source } in
     let has = arrived reading c.in-Ok.request c.as_slice.result.now c.as_slice.ensures c.in-Ok.ensures.arrival in
-    record {
+    rw p.1 (record {
       text = c.as_slice.result.now;
       arrived = has;
-      accepted = c.in-Err.ensures.accepted;
-      failed = disk_failed reading c.as_slice.result.now _ has c.in-Err.ensures.err;
+      accepted = c.in_err-response-in-Ok.ensures.accepted;
+      failed = disk_failed reading c.as_slice.result.now _ has c.in_err-response-in-Ok.ensures.err;
       silent = nothing_written _ c.requires.unused;
-      moments = c.in-Err.ensures.moments;
-      on_disk = c.in-Err.ensures.on_disk;
-    }
+      moments = c.in_err-response-in-Ok.ensures.moments;
+      on_disk = c.in_err-response-in-Ok.ensures.on_disk;
+    })
 
-pub returns-in-Ok-answer-clause-served : goal.returns-in-Ok-answer-clause-served
-returns-in-Ok-answer-clause-served g c = inl (
-  c.in-Ok-answer.response,
+pub returns-in_ok-response-in-Ok-clause-served : goal.returns-in_ok-response-in-Ok-clause-served
+returns-in_ok-response-in-Ok-clause-served g c = inl (
+  c.in_ok-response-in-Ok.response,
   inl (record {
     text = c.as_slice.result.now;
     arrived = arrived _ c.in-Ok.request c.as_slice.result.now c.as_slice.ensures c.in-Ok.ensures.arrival;
-    responds = c.in-Ok-answer.ensures.response;
-    logged = c.in-Ok-answer.ensures.logged;
+    responds = c.in_ok-response-in-Ok.ensures.response;
+    logged = c.in_ok-response-in-Ok.ensures.logged;
   }),
   c.write_reply.ensures.written,
   c.write_reply.ensures.effect,
@@ -63,8 +65,8 @@ returns-in-Err-Memory-clause-served g c = inl (
 )
 
 -- no request could be read, and nothing was written
-pub returns-clause-served : goal.returns-clause-served
-returns-clause-served g c = inr (
+pub returns-in-Err-Read-clause-served : goal.returns-in-Err-Read-clause-served
+returns-in-Err-Read-clause-served g c = inr (
   ((rw c.in-Err-Read.field-0-is at c.in-Err-Read.ensures.arrival, refl), refl),
   nothing_written _ c.requires.unused,
   refl,

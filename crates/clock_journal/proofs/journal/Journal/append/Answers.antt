@@ -23,10 +23,6 @@ returns-clause-link g c = subst (λ (at : JournalState). OnOk c.sync.result (c.l
     ≡ link at.chain c.args.text.now)) c.self.view_is (on_ok c.sync.result (c.link_of-digest.result
     ≡ link c.self.inside.chain c.args.text.now) c.link_of-digest.ensures)
 
-pub returns-in-Err-clause-on_disk : goal.returns-in-Err-clause-on_disk
-returns-in-Err-clause-on_disk g c = c.append-2.ensures.synced ∙ (c.append.ensures.synced
-    ∙ ap (λ (at : JournalState). at.synced) c.self.view_is)
-
 record_is : (chain text front digest : List ℕ) → front ≡ mark (length text) ++ digest → digest ≡ link chain text
     → front ++ text ≡ record_of chain text
 record_is chain text front digest front_is linked =
@@ -51,7 +47,7 @@ returns-clause-logged g c digest texts has =
     (g.D.Durable.synced c.sync.new.self) (subst (λ (journal : JournalState). HasTexts digest texts journal)
     (sym c.self.view_is) has) c.requires.fits c.link_of-digest.ensures (written _ (reported c.append.new.self) _
     journal.chain c.args.text.now c.front_of.result c.link_of-digest.result c.front_of.ensures c.link_of-digest.ensures
-    c.in_ok-append.ensures.written c.in_default.ensures.written) c.sync.ensures.written now_synced)
+    c.in_ok-append.ensures.written c.in_ok-append-2.ensures.written) c.sync.ensures.written now_synced)
 
 keeps_on : (digest : List ℕ) (texts : List (List ℕ)) (old synced same : Option (List ℕ)) (chain : List ℕ)
     → same ≡ synced → Keeps digest texts old synced chain → Keeps digest texts old same chain
@@ -96,8 +92,8 @@ returns-in_err-append-clause-moments g c = record {
       c.link_of-digest.ensures c.in_err-append.ensures.written) has c.append.ensures.moments);
 }
 
-pub returns-in-Err-clause-moments : goal.returns-in-Err-clause-moments
-returns-in-Err-clause-moments g c = record {
+pub returns-in_err-append-2-clause-moments : goal.returns-in_err-append-2-clause-moments
+returns-in_err-append-2-clause-moments g c = record {
   at_end = λ digest texts.
       let reported = g.D.Durable.written in
       let journal = c.self.inside in
@@ -107,7 +103,7 @@ returns-in-Err-clause-moments g c = record {
       (g.D.Durable.synced journal.disk) (reported c.append-2.new.self) c.requires.fits (subst (HasWrittenFront
       (reported journal.disk) (reported c.append-2.new.self)) (record_is journal.chain c.args.text.now c.front_of.result
       c.link_of-digest.result c.front_of.ensures c.link_of-digest.ensures) (front_beyond _ (reported c.append.new.self)
-      _ c.front_of.result c.args.text.now c.in_ok-append.ensures.written c.in-Err.ensures.written)));
+      _ c.front_of.result c.args.text.now c.in_ok-append.ensures.written c.in_err-append-2.ensures.written)));
   moments = λ digest texts.
       let reported = g.D.Durable.written in
       let passed = g.D.Durable.moments in
@@ -127,7 +123,7 @@ returns-in-Err-clause-moments g c = record {
       (subst (HasWrittenFront (reported journal.disk) (reported c.append-2.new.self)) (record_is journal.chain text
       c.front_of.result c.link_of-digest.result c.front_of.ensures c.link_of-digest.ensures)
       (front_beyond _ (reported c.append.new.self) _ c.front_of.result text c.in_ok-append.ensures.written
-      c.in-Err.ensures.written)) (keeps_on digest texts (reported journal.disk) (on_disk journal.disk)
+      c.in_err-append-2.ensures.written)) (keeps_on digest texts (reported journal.disk) (on_disk journal.disk)
       (on_disk c.append.new.self) journal.chain c.append.ensures.synced has) c.append-2.ensures.moments));
 }
 
@@ -143,7 +139,7 @@ returns-clause-moments g c = record {
       (reported c.sync.new.self) (record_of journal.chain c.args.text.now) (subst (λ (new : Option (List ℕ)).
       HasWritten (reported journal.disk) new (record_of journal.chain c.args.text.now)) (sym c.sync.ensures.written)
       (written _ (reported c.append.new.self) _ journal.chain c.args.text.now c.front_of.result c.link_of-digest.result
-      c.front_of.ensures c.link_of-digest.ensures c.in_ok-append.ensures.written c.in_default.ensures.written))));
+      c.front_of.ensures c.link_of-digest.ensures c.in_ok-append.ensures.written c.in_ok-append-2.ensures.written))));
   moments = λ digest texts.
       let reported = g.D.Durable.written in
       let passed = g.D.Durable.moments in
@@ -154,7 +150,7 @@ returns-clause-moments g c = record {
       (reported c.append.new.self) c.front_of.result c.in_ok-append.ensures.written in
       let all = all_is_front (reported journal.disk) (reported c.append-2.new.self) (record_of journal.chain text)
       (written _ (reported c.append.new.self) _ journal.chain text c.front_of.result c.link_of-digest.result
-      c.front_of.ensures c.link_of-digest.ensures c.in_ok-append.ensures.written c.in_default.ensures.written) in
+      c.front_of.ensures c.link_of-digest.ensures c.in_ok-append.ensures.written c.in_ok-append-2.ensures.written) in
       let Leaves = λ (left : List ℕ). LeavesTexts digest left (texts ++ text ∷ []) (length texts) in
       subst (λ (at : JournalState). HasTexts digest texts at → LeaveOnly at.moments (passed c.sync.new.self)
       (λ left. LeavesTexts digest left (texts ++ text ∷ []) (length texts))) c.self.view_is (λ has. leave_then

@@ -46,8 +46,8 @@ returns-in_err-sync-clause-any_tail g c =
     (g.D.Durable.moments c.sync.new.self) (g.D.Durable.synced disk) (g.D.Durable.written disk)
     (λ left. BeginsWithTexts c.self.inside.chain left texts) c.sync.ensures.moments before)
 
-pub returns-in-Err-clause-crash : goal.returns-in-Err-clause-crash
-returns-in-Err-clause-crash g c =
+pub returns-in_err-cut-clause-crash : goal.returns-in_err-cut-clause-crash
+returns-in_err-cut-clause-crash g c =
     let disk = c.self.inside.disk in
     let chain = c.self.inside.chain in
     let passed = g.D.Durable.moments in
@@ -63,8 +63,8 @@ returns-in-Err-clause-crash g c =
     (λ left may. crash_cut chain bytes texts read least c.args.recovered left long
     (before bytes (now_left (on_disk disk) (reported disk) synced bytes same is)) placed may))
 
-pub returns-in-Err-clause-any_tail : goal.returns-in-Err-clause-any_tail
-returns-in-Err-clause-any_tail g c =
+pub returns-in_err-cut-clause-any_tail : goal.returns-in_err-cut-clause-any_tail
+returns-in_err-cut-clause-any_tail g c =
     let disk = c.self.inside.disk in
     let chain = c.self.inside.chain in
     let passed = g.D.Durable.moments in
@@ -127,7 +127,7 @@ returns-then-recovered-eq0-clause-crash g c =
     (λ bytes synced read texts least is same placed before.
     let now = before bytes (now_left (on_disk disk) (reported disk) synced bytes same is) in
     let cut = cut_is (reported disk) (reported c.sync.new.self) (reported c.cut.new.self) bytes c.args.recovered.end
-    c.sync.ensures.written is c.in_default.ensures.written in
+    c.sync.ensures.written is c.in_ok-cut.ensures.written in
     leave_then (passed disk) (passed c.cut.new.self) c.begin.new.self.moments (λ left. LeavesJournal chain left texts
     least) (through_cut (passed disk) (passed c.sync.new.self) (passed c.cut.new.self) (on_disk disk) (reported disk)
     (on_disk c.sync.new.self) (reported c.sync.new.self) bytes c.args.recovered.end (λ left. LeavesJournal chain left
@@ -165,7 +165,7 @@ returns-then-recovered-eq0-clause-logged g c =
     (HasTexts chain texts c.begin.new.self))) c.self.view_is (λ bytes texts is placed.
     let none = placed_empty chain bytes texts c.args.recovered long nowhere placed in
     let cut = cut_is (reported disk) (reported c.sync.new.self) (reported c.cut.new.self) bytes c.args.recovered.end
-    c.sync.ensures.written is c.in_default.ensures.written in
+    c.sync.ensures.written is c.in_ok-cut.ensures.written in
     subst (λ (all : List (List ℕ)). OnOk c.begin.result (HasTexts chain all c.begin.new.self)) (sym none)
     (c.begin.ensures.logged (cut ∙ ap (λ (n : ℕ). Some (take n bytes)) nowhere)))
 
@@ -181,4 +181,4 @@ returns-clause-logged g c =
     (on_disk c.cut.new.self) c.args.recovered.chain)) c.self.view_is (λ bytes texts is placed. logged_when_cut chain
     bytes texts c.args.recovered (reported c.cut.new.self) (on_disk c.cut.new.self) c.if-recovered-eq0.false placed
     (cut_is (reported disk) (reported c.sync.new.self) (reported c.cut.new.self) bytes c.args.recovered.end
-    c.sync.ensures.written is c.in_default.ensures.written) c.in_default.ensures.synced)
+    c.sync.ensures.written is c.in_ok-cut.ensures.written) c.in_ok-cut.ensures.synced)

@@ -1,4 +1,5 @@
 use Rattle.std.proofs.Common.{arith, sym, ◌∙◌}
+use Rattle.std.proofs.lemmas.Result.{err_from_is_err_and}
 use Rattle.clock_server.proofs.EffectLaws.{accepted_where, some_bytes}
 use Rattle.clock_server.proofs.LoggedLaws.{logged, passed_over}
 use Rattle.clock_server.proofs.Untouched.{untouched}
@@ -33,26 +34,18 @@ append-requires-clause-fits g c = record {
   most = omega arith;
 }
 
--- after a failed append there is no reply
-pub returns-in-Err-clause-response : goal.returns-in-Err-clause-response
-returns-in-Err-clause-response g c = tt
+pub returns-in_err-append-clause-accepted : goal.returns-in_err-append-clause-accepted
+returns-in_err-append-clause-accepted g c texts stands =
+    let p = err_from_is_err_and c.from_residual.result c.from_residual.ensures.1 in
+    rw p.1 (accepted_where texts c.args.text.now c.respond-response.result c.args.front.now c.respond-response.new.self
+    stands (c.respond-response.ensures.response c.args.text.now c.framing.ensures)
+    (sym c.is_change.ensures ∙ c.if-not-is_change.false))
 
-pub returns-in-Err-clause-logged : goal.returns-in-Err-clause-logged
-returns-in-Err-clause-logged g c digest past in_step = tt
-
-pub returns-in-Err-clause-ok : goal.returns-in-Err-clause-ok
-returns-in-Err-clause-ok g c = tt
-
-pub returns-in-Err-clause-accepted : goal.returns-in-Err-clause-accepted
-returns-in-Err-clause-accepted g c texts stands = accepted_where texts c.args.text.now c.respond-response.result
-    c.args.front.now c.respond-response.new.self stands (c.respond-response.ensures.response c.args.text.now
-    c.framing.ensures) (sym c.is_change.ensures ∙ c.if-not-is_change.false)
-
-pub returns-in-Ok-clause-logged : goal.returns-in-Ok-clause-logged
-returns-in-Ok-clause-logged g c digest past in_step = logged digest past c.args.text.now c.respond-response.result
-    c.args.front.now c.respond-response.new.self _ _ (c.in-Ok.ensures.logged digest past in_step.has)
+pub returns-clause-logged : goal.returns-clause-logged
+returns-clause-logged g c digest past in_step = logged digest past c.args.text.now c.respond-response.result
+    c.args.front.now c.respond-response.new.self _ _ (c.in_ok-append.ensures.logged digest past in_step.has)
     in_step.stands (c.respond-response.ensures.response c.args.text.now c.framing.ensures) (sym c.is_change.ensures
-    ∙ c.if-not-is_change.false) (c.in-Ok.ensures.moments.moments digest past in_step.has)
+    ∙ c.if-not-is_change.false) (c.in_ok-append.ensures.moments.moments digest past in_step.has)
 
-pub returns-in-Ok-clause-accepted : goal.returns-in-Ok-clause-accepted
-returns-in-Ok-clause-accepted g c texts stands = tt
+pub returns-clause-accepted : goal.returns-clause-accepted
+returns-clause-accepted g c texts stands = tt
