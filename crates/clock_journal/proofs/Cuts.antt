@@ -3,18 +3,20 @@ use Rattle.std.proofs.Common.{◌≡◌, ◌≤◌, ◌+◌, ◌-◌, ◌<◌, �
 use Rattle.std.proofs.Common.{drop, nat_lt, nat_le, ◌&&◌, ◌==◌, bytes_eq, refl, sym, ap, ◌∙◌, subst, arith, Some}
 use Rattle.std.specs.Prelude.{if◌then◌else◌}
 use Rattle.std.specs.Int.{w32, from_be_bytes}
-use Rattle.std.proofs.lemmas.List.{take_all, take-take, drop-take, length-take-le}
+use Rattle.std.proofs.lemmas.List.{take_all, take-append-le, take-take, drop-take, length-take-le}
 use Rattle.std.proofs.lemmas.Bool.{cases_lt}
 use Rattle.clock_journal.specs.Format.{before_text, mark_length, link, last_link, most_text}
 use Rattle.clock_journal.specs.Logged.{file_of}
 use Rattle.clock_journal.specs.Reading.{Next, ended, torn, damaged, whole, marked_length, is_marked, next}
 use Rattle.clock_journal.specs.Crash.{IsEnd, IsFile, LeavesTexts}
 use Rattle.clock_journal.specs.Disks.{MayBeLeft}
-use Rattle.clock_journal.specs.Recovering.{IsPlaced}
+use Rattle.clock_journal.specs.Laws.{EveryFront}
+use Rattle.clock_journal.specs.Recovering.{AreTextsOf}
 use Rattle.clock_journal.specs.declared.recovery.Recovered.{Recovered}
 use Rattle.clock_journal.proofs.Records.{next_none, next_short, next_cut}
 use Rattle.clock_journal.proofs.Files.{long_file, same_texts, shorter}
 use Rattle.clock_journal.proofs.Fronts.{end_is_none}
+use Rattle.clock_journal.proofs.Moments.{front_leaves}
 use Rattle.clock_journal.proofs.Tested.{less_where, lt_false, eq_where, eq_false}
 
 abbrev sieve : Bool → Bool → Bool → Bool → Bool → Bool → List ℕ → Next
@@ -124,6 +126,26 @@ front_of_end chain rest n ends =
 
 -- ---- the file up to its last whole record, and then a torn one
 
+-- a prefix with all whole records has all texts, and one with less has some of them
+pub every_front : EveryFront
+every_front digest bytes texts least count file within enough =
+    elim (cases_lt count (length (file_of digest texts))) [
+      | inl less ↦ (let front : take count bytes ≡ take count (file_of digest texts) =
+          ap (take count) file.file
+          ∙ take-append-le count (file_of digest texts) file.rest (omega (arith, less)) in
+          subst (λ (left : List ℕ). LeavesTexts digest left texts least) (sym front)
+          (front_leaves digest texts least count file.fit within enough))
+      | inr all ↦ record {
+        count = length texts;
+        enough = within;
+        most = omega arith;
+        first = subst (λ (some : List (List ℕ)). IsFile digest (take count bytes) some IsEnd)
+            (sym (take_all (length texts) texts (omega arith))) (shorter digest bytes texts IsEnd file
+            (take count bytes) count IsEnd all refl
+            (λ n. front_of_end (last_link digest texts) file.rest n file.comes));
+      }
+    ]
+
 leaves_front : (digest bytes : List ℕ) (texts read : List (List ℕ)) (least : ℕ) (left : List ℕ) (count : ℕ)
     → LeavesTexts digest bytes texts least → IsFile digest bytes read IsEnd → length (file_of digest read) ≤ count
     → left ≡ take count bytes → LeavesTexts digest left texts least
@@ -150,7 +172,7 @@ cut_within bytes left end place may within is =
 -- if what a crash left is synced and truncated after its last whole record, a crash during that leaves all of its texts
 pub cut_leaves : (digest bytes : List ℕ) (texts read : List (List ℕ)) (least : ℕ) (recovered : Recovered)
     (left : List ℕ) → length digest ≡ 32 → LeavesTexts digest bytes texts least
-    → IsPlaced digest bytes read recovered → MayBeLeft (Some (take recovered.end bytes)) (Some bytes) left
+    → AreTextsOf digest bytes read recovered → MayBeLeft (Some (take recovered.end bytes)) (Some bytes) left
     → LeavesTexts digest left texts least
 cut_leaves digest bytes texts read least recovered left long leaves placed may =
     elim placed.end_is [

@@ -2,12 +2,15 @@
 use Rattle.std.proofs.Common.{◌≡◌, ◌≤◌, ◌-◌, ◌+◌, ◌++◌, ℕ, zero, suc, List, [], ◌∷◌, length, take, drop, refl, sym, ap}
 use Rattle.std.proofs.Common.{◌∙◌, subst, arith, length-append}
 use Rattle.std.proofs.lemmas.List.{append_assoc, drop_at}
+use Rattle.std.proofs.lemmas.List.Elements.{All-take}
+use Rattle.std.specs.Prelude.{All}
 use Rattle.std.proofs.Math.Seq.{take-append-add}
 use Rattle.clock_journal.specs.Crash.{BeginsWithTexts, IsFile, LeavesTexts}
-use Rattle.clock_journal.specs.Format.{file_head_length, head, kind, link, record_of, records, last_link, AllFit}
+use Rattle.clock_journal.specs.Format.{file_head_length, head, kind, link, record_of, records, last_link, Fits}
+use Rattle.clock_journal.specs.Laws.{WhateverFollows}
 use Rattle.clock_journal.specs.Logged.{file_of}
-use Rattle.clock_journal.specs.Reading.{Next, next, ReadsTexts}
-use Rattle.clock_journal.proofs.Fronts.{HasSome, IsNoText, reads_first, reads_once, reads_records}
+use Rattle.clock_journal.specs.Reading.{Next, next}
+use Rattle.clock_journal.proofs.Fronts.{HasSome, IsNoText, ReadsTexts, reads_first, reads_once, reads_records}
 
 pub length-head : (digest : List ℕ) → length digest ≡ 32 → length (head digest) ≡ file_head_length
 unfolding head kind
@@ -21,21 +24,15 @@ records-append chain (text ∷ texts) further =
     ∙ sym (append_assoc (record_of chain text) (records (link chain text) texts)
     (records (last_link (link chain text) texts) further))
 
-fit-take : (count : ℕ) (texts : List (List ℕ)) → AllFit texts → AllFit (take count texts)
-fit-take zero [] fit = tt
-fit-take zero (text ∷ texts) fit = tt
-fit-take (suc count) [] fit = tt
-fit-take (suc count) (text ∷ texts) fit = (fit.0, fit-take count texts fit.1)
-
 -- a head, and then some of the records
-pub some_left : (digest left bytes : List ℕ) (texts : List (List ℕ)) (least : ℕ) → AllFit texts
+pub some_left : (digest left bytes : List ℕ) (texts : List (List ℕ)) (least : ℕ) → All Fits texts
     → left ≡ head digest ++ bytes → HasSome digest bytes texts least → LeavesTexts digest left texts least
 some_left digest left bytes texts least fit is some = record {
   count = some.count;
   enough = some.enough;
   most = some.most;
   first = record {
-    fit = fit-take some.count texts fit;
+    fit = All-take Fits some.count texts fit;
     rest = some.rest;
     file = is ∙ (ap (λ (b : List ℕ). head digest ++ b) some.are
         ∙ sym (append_assoc (head digest) (records digest (take some.count texts)) some.rest));
@@ -106,3 +103,7 @@ texts_first digest bytes first read Comes begins file none =
         length-append (head digest) (records digest read),
       ),
     )
+
+pub begins_first : WhateverFollows
+begins_first digest bytes first texts begins file =
+    (texts_first digest bytes first texts IsNoText begins file file.comes).0

@@ -4,14 +4,14 @@ use Rattle.std.specs.Prelude.{option_map}
 use Rattle.std.proofs.lemmas.List.{take_at}
 use Rattle.clock_journal.specs.Crash.{IsEnd}
 use Rattle.clock_journal.specs.Logged.{file_of}
-use Rattle.clock_journal.specs.Recovering.{IsPlaced}
+use Rattle.clock_journal.specs.Recovering.{AreTextsOf}
 use Rattle.clock_journal.specs.declared.recovery.Recovered.{Recovered}
 use Rattle.clock_journal.proofs.Files.{long_file}
 use Rattle.clock_journal.proofs.Moments.{Keeps}
 
 -- a file that is truncated to nothing has no texts
 pub placed_empty : (digest bytes : List ℕ) (texts : List (List ℕ)) (recovered : Recovered) → length digest ≡ 32
-    → recovered.end ≡ 0 → IsPlaced digest bytes texts recovered → texts ≡ []
+    → recovered.end ≡ 0 → AreTextsOf digest bytes texts recovered → texts ≡ []
 placed_empty digest bytes texts recovered long nowhere placed =
     elim placed.end_is [
       | inl here ↦ (let whole_head = long_file digest bytes texts IsEnd here.0 long in
@@ -25,7 +25,7 @@ cut_is old mid new bytes place same is cut = cut ∙ ap (option_map (take place)
 
 -- after it is truncated to its whole records and synced, the file has these texts
 pub logged_when_cut : (digest bytes : List ℕ) (texts : List (List ℕ)) (recovered : Recovered)
-    (written synced : Option (List ℕ)) → recovered.end ≢ 0 → IsPlaced digest bytes texts recovered
+    (written synced : Option (List ℕ)) → recovered.end ≢ 0 → AreTextsOf digest bytes texts recovered
     → written ≡ Some (take recovered.end bytes) → synced ≡ written → Keeps digest texts written synced recovered.chain
 logged_when_cut digest bytes texts recovered written synced somewhere placed cut on_disk =
     elim placed.end_is [

@@ -4,18 +4,19 @@ use Rattle.std.proofs.Common.{refl, sym, ap, ◌∙◌, subst, arith, length-app
 use Rattle.std.specs.Prelude.{option_map}
 use Rattle.std.proofs.lemmas.List.{append-nil, take_all, length-take, length-take-le}
 use Rattle.std.proofs.lemmas.Bool.{cases_lt}
+use Rattle.std.proofs.lemmas.List.Elements.{All-nil}
 use Rattle.clock_device.specs.Streams.{HasWrittenFront}
 use Rattle.clock_journal.specs.Disks.{LeaveOnly, MayBeLeft, Moment, Passes}
-use Rattle.clock_journal.specs.Format.{head, file_head_length}
+use Rattle.clock_journal.specs.Format.{head, file_head_length, Fits}
 use Rattle.clock_journal.specs.Logged.{file_of}
 use Rattle.clock_journal.specs.Reading.{Next}
 use Rattle.clock_journal.specs.Crash.{BeginsWithTexts, IsEnd, IsFile, IsPartOfHead, LeavesJournal, LeavesTexts}
-use Rattle.clock_journal.specs.Recovering.{IsPlaced}
+use Rattle.clock_journal.specs.Recovering.{AreTextsOf}
 use Rattle.clock_journal.specs.declared.recovery.Recovered.{Recovered}
 use Rattle.clock_journal.proofs.Cuts.{cut_leaves, cut_within}
 use Rattle.clock_journal.proofs.Files.{length-head, long_file, shorter, texts_first}
 use Rattle.clock_journal.proofs.Fronts.{end_is_none, take_none}
-use Rattle.clock_journal.proofs.Moments.{every_front, take_of_take}
+use Rattle.clock_journal.proofs.Moments.{front_leaves, take_of_take}
 use Rattle.clock_journal.proofs.Passing.{leave_one, leave_then}
 
 -- ---- the head
@@ -41,7 +42,7 @@ front_of_head digest left n size is =
           let all = length-append (head digest) [] in
           let enough : length (head digest ++ []) ≤ n = omega (arith, count, all, before, long) in
           inl (subst (λ (b : List ℕ). LeavesTexts digest b [] 0) (sym (is
-          ∙ ap (take n) (sym (append-nil (head digest))))) (every_front digest [] 0 n tt (omega arith) enough)))
+          ∙ ap (take n) (sym (append-nil (head digest))))) (front_leaves digest [] 0 n (All-nil Fits) (omega arith) enough)))
     ]
 
 head_left : (digest written left : List ℕ) (synced : Option (List ℕ)) → length digest ≡ 32
@@ -95,7 +96,7 @@ now_left synced written on_disk bytes same is =
     (length on_disk + length bytes, omega arith, sym (take_all (length on_disk + length bytes) bytes (omega arith))))
 
 pub crash_cut : (digest bytes : List ℕ) (texts read : List (List ℕ)) (least : ℕ) (recovered : Recovered) (left : List ℕ)
-    → length digest ≡ 32 → LeavesJournal digest bytes texts least → IsPlaced digest bytes read recovered
+    → length digest ≡ 32 → LeavesJournal digest bytes texts least → AreTextsOf digest bytes read recovered
     → MayBeLeft (Some (take recovered.end bytes)) (Some bytes) left → LeavesJournal digest left texts least
 crash_cut digest bytes texts read least recovered left size (inl leaves) placed may =
     inl (cut_leaves digest bytes texts read least recovered left size leaves placed may)
@@ -110,7 +111,7 @@ crash_cut digest bytes texts read least recovered left size (inr part) placed ma
     )
 
 pub tail_cut : (digest bytes : List ℕ) (texts read : List (List ℕ)) (recovered : Recovered) (left : List ℕ)
-    → length digest ≡ 32 → BeginsWithTexts digest bytes texts → IsPlaced digest bytes read recovered
+    → length digest ≡ 32 → BeginsWithTexts digest bytes texts → AreTextsOf digest bytes read recovered
     → MayBeLeft (Some (take recovered.end bytes)) (Some bytes) left → BeginsWithTexts digest left texts
 tail_cut digest bytes texts read recovered left size begins placed may =
     elim placed.end_is [
@@ -134,7 +135,7 @@ nothing_reported digest bytes texts least size (inl leaves) short =
 nothing_reported digest bytes texts least size (inr part) short = part.0
 
 begun_anew : (digest bytes : List ℕ) (read : List (List ℕ)) (recovered : Recovered) → length digest ≡ 32
-    → recovered.end ≡ 0 → IsPlaced digest bytes read recovered → length bytes < file_head_length
+    → recovered.end ≡ 0 → AreTextsOf digest bytes read recovered → length bytes < file_head_length
 begun_anew digest bytes read recovered size nowhere placed =
     elim placed.end_is [
       | inl here ↦ (let long = long_file digest bytes read IsEnd here.0 size in
@@ -155,7 +156,7 @@ none_of_any digest left texts leaves = record {
 -- so none of its texts had a reply: what a crash leaves of an empty journal, it may leave of these texts
 pub anew_leaves : (digest bytes : List ℕ) (texts read : List (List ℕ)) (least : ℕ) (recovered : Recovered)
     (left : List ℕ) → length digest ≡ 32 → recovered.end ≡ 0 → LeavesJournal digest bytes texts least
-    → IsPlaced digest bytes read recovered → LeavesJournal digest left [] 0 → LeavesJournal digest left texts least
+    → AreTextsOf digest bytes read recovered → LeavesJournal digest left [] 0 → LeavesJournal digest left texts least
 anew_leaves digest bytes texts read least recovered left size nowhere leaves placed now =
     let none = nothing_reported digest bytes texts least size leaves
     (begun_anew digest bytes read recovered size nowhere placed) in
@@ -166,7 +167,7 @@ anew_leaves digest bytes texts read least recovered left size nowhere leaves pla
     ]
 
 pub none_first : (digest bytes : List ℕ) (texts read : List (List ℕ)) (recovered : Recovered) → length digest ≡ 32
-    → recovered.end ≡ 0 → BeginsWithTexts digest bytes texts → IsPlaced digest bytes read recovered → ⊥
+    → recovered.end ≡ 0 → BeginsWithTexts digest bytes texts → AreTextsOf digest bytes read recovered → ⊥
 none_first digest bytes texts read recovered size nowhere begins placed =
     let long = long_file digest bytes texts (λ (found : Next). Unit {0}) begins size in
     let short = begun_anew digest bytes read recovered size nowhere placed in

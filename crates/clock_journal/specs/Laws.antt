@@ -1,33 +1,31 @@
--- Laws of every journal, whatever a crash leaves of it.
---     WhateverFollows      a journal with anything after it reads as its texts first
---     CutLeaves      a crash while a torn record is cut off leaves all texts
---     ReadsBack      what reads as texts is the records of these texts, and the other way round
-use Rattle.std.specs.Prelude.{◌≡◌, ◌<◌, get_or, ◌++◌, ℕ, List, length, take, Some}
-use Rattle.clock_journal.specs.Format.{records, last_link, AllFit}
-use Rattle.clock_journal.specs.Reading.{ReadsTexts, next, whole}
-use Rattle.clock_journal.specs.Disks.{MayBeLeft}
-use Rattle.clock_journal.specs.Recovering.{IsPlaced}
-use Rattle.clock_journal.specs.declared.recovery.Recovered.{Recovered}
-use Rattle.clock_journal.specs.Crash.{LeavesTexts}
+-- Laws of every journal's file, whatever a crash leaves of it.
+--     EveryFront      a prefix of a file has the first of its texts
+--     WhateverFollows      a file that begins with a journal has its texts first
+--     ReadsBack      what reads as a text is its record, and the other way round
+use Rattle.std.specs.Prelude.{◌≡◌, ◌<◌, ◌≤◌, ◌++◌, ℕ, List, get_or, length, take}
+use Rattle.clock_journal.specs.Crash.{BeginsWithTexts, IsEnd, IsFile, LeavesTexts}
+use Rattle.clock_journal.specs.Format.{Fits, record_of}
+use Rattle.clock_journal.specs.Logged.{file_of}
+use Rattle.clock_journal.specs.Reading.{next, whole}
 
--- what is read of the records of some texts and any bytes after them begins with the texts
+-- a prefix with all bytes of the first `least` texts has these, and perhaps further ones in order
+abbrev pub EveryFront : Type 0
+EveryFront = (digest bytes : List ℕ) (texts : List (List ℕ)) (least count : ℕ)
+    → IsFile digest bytes texts IsEnd → least ≤ length texts
+    → length (file_of digest (take least texts)) ≤ count
+    → LeavesTexts digest (take count bytes) texts least
+
+-- what is read of a file, up to what is no whole record, begins with the texts of every journal
+-- that the file begins with. So a file is that of one list of texts only
 abbrev pub WhateverFollows : Type 0
-WhateverFollows = (digest : List ℕ) (texts : List (List ℕ)) (more : List ℕ) (read : List (List ℕ))
-    (rest : List ℕ) → AllFit texts → ReadsTexts digest (records digest texts ++ more) read rest
-    → ((text : List ℕ) → next (last_link digest read) rest ≡ whole text → ⊥)
-    → (further : List (List ℕ)) × (read ≡ texts ++ further)
+WhateverFollows = (digest bytes : List ℕ) (first texts : List (List ℕ))
+    → BeginsWithTexts digest bytes first
+    → IsFile digest bytes texts (λ found. (text : List ℕ) → found ≡ whole text → ⊥)
+    → (further : List (List ℕ)) × (texts ≡ first ++ further)
 
--- bytes read as texts if and only if they are their records, and what is left: in one encoding only
+-- bytes read as a text if and only if they begin with its record: it has one encoding only
 abbrev pub ReadsBack : Type 0
-ReadsBack = (chain bytes : List ℕ) (texts : List (List ℕ)) (rest : List ℕ)
-    → (((place : ℕ) → get_or bytes place 0 < 256) → ReadsTexts chain bytes texts rest
-    → (bytes ≡ records chain texts ++ rest) × AllFit texts)
-    × (AllFit texts → bytes ≡ records chain texts ++ rest → ReadsTexts chain bytes texts rest)
-
--- if what a crash left is synced and truncated after its last whole record, a crash during that
--- leaves all of its texts
-abbrev pub CutLeaves : Type 0
-CutLeaves = (digest bytes : List ℕ) (texts read : List (List ℕ)) (least : ℕ) (recovered : Recovered)
-    (left : List ℕ) → length digest ≡ 32 → LeavesTexts digest bytes texts least
-    → IsPlaced digest bytes read recovered → MayBeLeft (Some (take recovered.end bytes))
-    (Some bytes) left → LeavesTexts digest left texts least
+ReadsBack = (chain bytes text : List ℕ) → (((place : ℕ) → get_or bytes place 0 < 256)
+    → next chain bytes ≡ whole text
+    → Fits text × ((rest : List ℕ) × (bytes ≡ record_of chain text ++ rest)))
+    × ((rest : List ℕ) → Fits text → next chain (record_of chain text ++ rest) ≡ whole text)

@@ -1,10 +1,9 @@
-ghost use Rattle.std.specs.Prelude.{◌≡◌, ◌++◌, [], ◌∷◌, List, ℕ, OnOk, OnErr, Some, false, is_err};
+ghost use Rattle.std.specs.Prelude.{◌≡◌, [], List, ℕ, OnOk, OnErr, Some, false, is_err};
 ghost use Rattle.clock_journal.specs.{Disks.{LeaveOnly}, Format.{Fits, link}};
-ghost use Rattle.clock_journal.specs.{Logged.{HasTexts, JournalState}, Recovering.{IsPlaced}};
-ghost use Rattle.clock_journal.specs.Crash.{BeginsWithTexts, EveryFront, LeavesJournal};
-ghost use Rattle.clock_journal.specs.{Chain.{ChainBinds, JournalsBind}, Laws.{CutLeaves}};
-ghost use Rattle.clock_journal.specs.{Crash.{LeavesOneMore, StaysSo}, Laws.{ReadsBack}};
-ghost use Rattle.clock_journal.specs.Laws.{WhateverFollows};
+ghost use Rattle.clock_journal.specs.Logged.{HasTexts, IsAppended, JournalState};
+ghost use Rattle.clock_journal.specs.Crash.{BeginsWithTexts, LeavesJournal, LeavesOneMore, StaysSo};
+ghost use Rattle.clock_journal.specs.{Chain.{ChainBinds, JournalsBind}, Recovering.{AreTextsOf}};
+ghost use Rattle.clock_journal.specs.Laws.{EveryFront, ReadsBack, WhateverFollows};
 
 use crate::durable::Durable;
 use crate::format::{Link, front_of, head_of, link_of};
@@ -72,16 +71,16 @@ impl<D: Durable> Journal<D> {
     pub fn resume(&mut self, recovered: Recovered) -> Result<(), Failed>
         requires unfailed { self.old.has_failed ≡ false }
         ensures logged { (bytes : List ℕ) (texts : List (List ℕ))
-            → self.old.written ≡ Some bytes → IsPlaced self.old.chain bytes texts recovered
+            → self.old.written ≡ Some bytes → AreTextsOf self.old.chain bytes texts recovered
             → OnOk result (HasTexts self.old.chain texts self.new) }
         ensures crash { (bytes synced : List ℕ) (read texts : List (List ℕ)) (least : ℕ)
             → self.old.written ≡ Some bytes → self.old.synced ≡ Some synced
-            → IsPlaced self.old.chain bytes read recovered
+            → AreTextsOf self.old.chain bytes read recovered
             → StaysSo self.old self.new
             (λ left. LeavesJournal self.old.chain left texts least) }
         ensures any_tail { (bytes synced : List ℕ) (read texts : List (List ℕ))
             → self.old.written ≡ Some bytes → self.old.synced ≡ Some synced
-            → IsPlaced self.old.chain bytes read recovered
+            → AreTextsOf self.old.chain bytes read recovered
             → StaysSo self.old self.new (λ left. BeginsWithTexts self.old.chain left texts) }
         ensures failed { self.new.has_failed ≡ is_err result }
     {
@@ -105,8 +104,7 @@ impl<D: Durable> Journal<D> {
     pub fn append(&mut self, text: &[u8]) -> Result<(), Failed>
         requires fits { Fits text.now }
         requires unfailed { self.old.has_failed ≡ false }
-        ensures logged { (digest : List ℕ) (texts : List (List ℕ)) → HasTexts digest texts self.old
-            → OnOk result (HasTexts digest (texts ++ text.now ∷ []) self.new) }
+        ensures logged { OnOk result (IsAppended text.now self.old self.new) }
         ensures moments { LeavesOneMore text.now self.old self.new }
         ensures on_disk { OnErr result (self.new.synced ≡ self.old.synced) }
         ensures link { OnOk result (self.new.chain ≡ link self.old.chain text.now) }
@@ -141,12 +139,14 @@ impl<D: Durable> Journal<D> {
 /// `as_many`, `any`: two journals with the same last digest are the same, or two different messages
 /// that were hashed for them have the same digest. For journals of different lengths, `any` has a
 /// third case: the set-up document of the shorter one begins with 32 bytes that are a digest of the
-/// other journal. `every_front`: a prefix of a journal reads as the first of its texts.
+/// other journal.
+///
+/// `every_front`: a prefix of a file has the first of its texts. `whatever_follows`: what is read
+/// of a file begins with the texts of every journal that the file begins with.
 pub fn law_of_journals()
     ensures as_many { ChainBinds }
     ensures any { JournalsBind }
     ensures every_front { EveryFront }
     ensures whatever_follows { WhateverFollows }
     ensures read_back { ReadsBack }
-    ensures cut_leaves { CutLeaves }
 {}

@@ -2,7 +2,7 @@
 
 ghost use Rattle.std.specs.Prelude.{◌≡◌, ◌∷◌, List, ℕ, Err, MatchResult, OnOk};
 ghost use Rattle.clock_journal.specs.Entries.{Entry, texts_in};
-ghost use Rattle.clock_journal.specs.Recovering.{IsJournalRefusal, IsRecovered};
+ghost use Rattle.clock_journal.specs.Recovering.{IsFound, IsRecovered};
 
 use crate::format::{
     BEFORE_TEXT, HEAD_LENGTH, KIND, KIND_LENGTH, Link, Next, head_of, next_record,
@@ -82,8 +82,9 @@ pub enum JournalFault {
 
 /// Gives a machine all texts of a file, in order, each with its record. `digest` is that of the
 /// set-up document. If the file begins with the journal of some texts, the machine takes these
-/// first, and `Damaged` names no place before their end. What a crash left of a journal is not
-/// damaged, and the machine takes every text that was on the disk.
+/// first, and `Damaged` names no place before their end: by `whatever_follows` of
+/// [`law_of_journals`](crate::law_of_journals), a file has one list of texts only. So what a crash
+/// left of a journal is not damaged, and the machine takes every text that was on the disk.
 ///
 /// Errors, in this order: `Unknown`, `Setup`; then, of the first record that is not taken,
 /// `Damaged`, `Refused`, or `NoMemory`. Hashes each text once, and allocates nothing.
@@ -94,7 +95,7 @@ pub fn recover<M: Machine>(
 ) -> Result<Recovered, JournalFault>
     ensures read { MatchResult result
         (IsRecovered (M.stands_for machine.old) (M.stands_for machine.new) digest.now bytes.now)
-        (IsJournalRefusal (M.refuses (M.rules machine.old)) (M.stands_for machine.old) digest.now
+        (IsFound (M.refuses (M.rules machine.old)) (M.stands_for machine.old) digest.now
         bytes.now) }
     ensures rules { M.rules machine.new ≡ M.rules machine.old }
 {

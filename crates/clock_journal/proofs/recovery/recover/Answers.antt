@@ -1,9 +1,10 @@
 use Rattle.std.proofs.Common.{◌≡◌, ◌≤◌, ◌+◌, ◌-◌, ◌++◌, List, [], ◌∷◌, ℕ, length, take, drop, refl, sym, ap, ◌∙◌}
-use Rattle.std.proofs.Common.{subst, arith, length-append, get_or, ◌<◌, rules, Bool, true, false, bytes_eq, append-nil}
+use Rattle.std.proofs.Common.{inl, inr, subst, arith, length-append, get_or, ◌<◌, rules, Bool, true, false, bytes_eq, append-nil}
 use Rattle.std.specs.Prelude.{not}
+use Rattle.std.proofs.lemmas.List.Elements.{All-nil, All-push}
 use Rattle.std.proofs.lemmas.List.{append_assoc, drop_at, get_or-drop, take-append-drop, take_rest}
 use Rattle.clock_journal.specs.Entries.{Entry, entries_onto, entry_of, texts_in}
-use Rattle.clock_journal.specs.Format.{before_text, head, file_head_length, kind, link, last_link, record_of, records}
+use Rattle.clock_journal.specs.Format.{Fits, before_text, head, file_head_length, kind, link, last_link, record_of, records}
 use Rattle.clock_journal.specs.Crash.{IsEnd, IsFile}
 use Rattle.clock_journal.specs.Reading.{Next, next, onto, damaged, whole}
 use Rattle.clock_journal.specs.Recovering.{HasHead}
@@ -11,9 +12,8 @@ use Rattle.clock_journal.specs.inside.Replays.{IsOnWay}
 use Rattle.clock_journal.specs.Logged.{file_of}
 use Rattle.clock_journal.specs.declared.recovery.Record.{Record}
 use Rattle.clock_journal.proofs.EntryLaws.{entries-push, many_bytes, texts_in-onto}
-use Rattle.clock_journal.proofs.Moments.{file-push, fit-push, last_link-push}
-use Rattle.clock_journal.proofs.TakenOver.{begun_texts, damaged_behind, file_headed, headed_texts, is_undamaged}
-use Rattle.clock_journal.proofs.TakenOver.{kind_of_head, left_headed, long_head, not_same, short_headless}
+use Rattle.clock_journal.proofs.Moments.{file-push, last_link-push}
+use Rattle.clock_journal.proofs.TakenOver.{kind_of_head, long_head, not_same, short_headless}
 use Rattle.clock_journal.proofs.Tested.{same_where}
 use Rattle.clock_journal.proofs.Whole.{whole_fits, whole_record}
 use Rattle.clock_journal.proofs.recovery.recover.Goals as goal
@@ -83,7 +83,7 @@ module _ (old mid : List Entry → Type 0) (digest bytes chain : List ℕ) (coun
       ∙ ap (λ (before : List ℕ). record_of before text ++ left) way.chain_is in
       record {
         texts = way.texts ++ text ∷ [];
-        fit = fit-push way.texts text way.fit (whole_fits chain rest text is);
+        fit = All-push Fits way.texts text way.fit (whole_fits chain rest text is);
         file = way.file ∙ (ap (λ (b : List ℕ). file ++ b) rest_is ∙ (sym (append_assoc file one left)
             ∙ ap (λ (b : List ℕ). b ++ left) (sym (file-push digest way.texts text))));
         chain_is = linked ∙ (ap (λ (before : List ℕ). link before text) way.chain_is
@@ -111,7 +111,7 @@ loop-chain-init g c =
     let file = file_of c.args.digest.now [] in (
       record {
         texts = [];
-        fit = tt;
+        fit = All-nil Fits;
         file = sym (take-append-drop file_head_length bytes)
             ∙ (ap (λ (h : List ℕ). h ++ drop file_head_length bytes) (same ∙ sym (append-nil (head c.args.digest.now)))
             ∙ ap (λ (b : List ℕ). file ++ b) (sym (take_rest bytes file_head_length)));
@@ -165,9 +165,19 @@ overflow_sub-end g c =
 pub returns-then-eq-clause-read : goal.returns-then-eq-clause-read
 returns-then-eq-clause-read g c = record {
   texts = [];
-  are = begun_texts c.args.digest.now c.args.bytes.now (search rules) (omega (arith, c.if-bytes-lt-HEAD_LENGTH.true))
-      (same_where _ _ (subst (λ (h : List ℕ). bytes_eq c.args.bytes.now (take (length c.args.bytes.now) h) ≡ true)
-      c.head_of-head.ensures (sym c.eq.ensures ∙ c.if-eq.true)));
+  are = record {
+    chain_is = refl;
+    count_is = refl;
+    end_is = inr (
+      record {
+        short = omega (arith, c.if-bytes-lt-HEAD_LENGTH.true);
+        front = same_where _ _ (subst (λ (h : List ℕ). bytes_eq c.args.bytes.now (take (length c.args.bytes.now) h)
+            ≡ true) c.head_of-head.ensures (sym c.eq.ensures ∙ c.if-eq.true));
+      },
+      refl,
+      refl,
+    );
+  };
   stands = λ past was. was;
 }
 
@@ -179,11 +189,7 @@ returns-then-bytes-lt-HEAD_LENGTH-clause-read g c =
     let short : length bytes < file_head_length = omega (arith, c.if-bytes-lt-HEAD_LENGTH.true) in
     let none = short_headless digest bytes short (subst (λ (h : List ℕ). bytes_eq bytes (take (length bytes) h)
     ≡ false) c.head_of-head.ensures (sym c.eq.ensures ∙ c.if-eq.false)) in
-    record {
-      found = (none, λ kinded. let long = kinded.0 in omega (arith, long, short));
-      crash = λ all least leaves. none (left_headed digest bytes all least size leaves);
-      any_tail = λ first begins. none (file_headed digest bytes first (λ (found : Next). Unit {0}) size begins);
-    }
+    (none, λ kinded. let long = kinded.0 in omega (arith, long, short))
 
 -- ---- a file with another head
 
@@ -197,11 +203,7 @@ returns-then-ne-clause-read g c =
     let other = not_same (take (length kind) bytes) kind (was_false _ (sym c.ne.ensures ∙ c.if-ne.true)) in
     let none : HasHead digest bytes → ⊥ =
     λ has. other (kind_of_head digest bytes (long_head digest bytes size long has)) in
-    record {
-      found = (none, λ kinded. other kinded.1);
-      crash = λ all least leaves. none (left_headed digest bytes all least size leaves);
-      any_tail = λ first begins. none (file_headed digest bytes first (λ (found : Next). Unit {0}) size begins);
-    }
+    (none, λ kinded. other kinded.1)
 
 pub returns-then-ne-2-clause-read : goal.returns-then-ne-2-clause-read
 unfolding kind
@@ -214,11 +216,7 @@ returns-then-ne-2-clause-read g c =
     (take file_head_length bytes) h ≡ false) c.head_of-head.ensures
     (was_false _ (sym c.ne-2.ensures ∙ c.if-ne-2.true))) in
     let none : HasHead digest bytes → ⊥ = λ has. differ (long_head digest bytes size long has) in
-    record {
-      found = (none, (long, same_where _ _ (was_true _ (sym c.ne.ensures ∙ c.if-ne.false))));
-      crash = λ all least leaves. none (left_headed digest bytes all least size leaves);
-      any_tail = λ first begins. none (file_headed digest bytes first (λ (found : Next). Unit {0}) size begins);
-    }
+    (none, (long, same_where _ _ (was_true _ (sym c.ne.ensures ∙ c.if-ne.false))))
 
 -- ---- the texts after the head
 
@@ -233,9 +231,14 @@ returns-in-Ended-clause-read g c =
     let ends : IsEnd (next at.chain at.rest.now) = search rules in
     record {
       texts = way.texts;
-      are = headed_texts digest bytes way.texts _ (search rules)
-          (file_at old now digest bytes at.chain at.texts at.rest.now way IsEnd ends) way.chain_is way.count_is
-          (next_place old now digest bytes at.chain at.texts at.rest.now way);
+      are = record {
+        chain_is = way.chain_is;
+        count_is = way.count_is;
+        end_is = inl (
+          file_at old now digest bytes at.chain at.texts at.rest.now way IsEnd ends,
+          next_place old now digest bytes at.chain at.texts at.rest.now way,
+        );
+      };
       stands = way.stands;
     }
 
@@ -246,16 +249,12 @@ returns-in-Damaged-clause-read g c =
     let digest = c.args.digest.now in
     let bytes = c.args.bytes.now in
     let at = c.loop-chain in
-    let way = at.invariant.0 in
-    let place = next_place old now digest bytes at.chain at.texts at.rest.now way in
-    let file = file_at old now digest bytes at.chain at.texts at.rest.now way (λ (found : Next). found ≡ damaged)
-    (sym c.in-Damaged.ensures.next) in
-    record {
-      found = (way.texts, file, place);
-      crash = λ all least leaves. is_undamaged digest bytes way.texts all least (search rules) file leaves;
-      any_tail = λ first begins.
-          let behind = damaged_behind digest bytes first way.texts begins file in omega (arith, behind, place);
-    }
+    let way = at.invariant.0 in (
+      way.texts,
+      file_at old now digest bytes at.chain at.texts at.rest.now way (λ (found : Next). found ≡ damaged)
+          (sym c.in-Damaged.ensures.next),
+      next_place old now digest bytes at.chain at.texts at.rest.now way,
+    )
 
 pub returns-in-Err-Refused-clause-read : goal.returns-in-Err-Refused-clause-read
 returns-in-Err-Refused-clause-read g c =
@@ -265,23 +264,17 @@ returns-in-Err-Refused-clause-read g c =
     let bytes = c.args.bytes.now in
     let text = c.in-Whole.text.now in
     let at = c.loop-chain in
-    let way = at.invariant.0 in
-    record {
-      found = (
-        way.texts,
-        text,
-        file_at old now digest bytes at.chain at.texts at.rest.now way (λ (found : Next). found ≡ whole text)
-            (sym c.in-Whole.ensures.next),
-        next_place old now digest bytes at.chain at.texts at.rest.now way,
-        refused_after old now digest bytes at.chain at.texts at.rest.now way
-            (g.M.Machine.refuses (g.M.Machine.rules c.args.machine.now)) (g.M.Machine.refuses
-            (g.M.Machine.rules at.machine)) text (ap g.M.Machine.refuses at.invariant.1)
-            (λ entries. c.take.ensures.refused entries (search rules)),
-      );
-      crash = λ all least leaves. tt;
-      any_tail = λ first begins. tt;
-    }
+    let way = at.invariant.0 in (
+      way.texts,
+      text,
+      file_at old now digest bytes at.chain at.texts at.rest.now way (λ (found : Next). found ≡ whole text)
+          (sym c.in-Whole.ensures.next),
+      next_place old now digest bytes at.chain at.texts at.rest.now way,
+      refused_after old now digest bytes at.chain at.texts at.rest.now way
+          (g.M.Machine.refuses (g.M.Machine.rules c.args.machine.now)) (g.M.Machine.refuses
+          (g.M.Machine.rules at.machine)) text (ap g.M.Machine.refuses at.invariant.1)
+          (λ entries. c.take.ensures.refused entries (search rules)),
+    )
 
 pub returns-in-Err-NoMemory-clause-read : goal.returns-in-Err-NoMemory-clause-read
-returns-in-Err-NoMemory-clause-read g c =
-    record { found = tt; crash = λ all least leaves. tt; any_tail = λ first begins. tt }
+returns-in-Err-NoMemory-clause-read g c = tt

@@ -37,12 +37,11 @@ written old mid new chain text front digest front_is linked one other = subst (H
     (record_is chain text front digest front_is linked) (written_twice old mid new front text one other)
 
 pub returns-clause-logged : goal.returns-clause-logged
-returns-clause-logged g c digest texts has =
+returns-clause-logged g c =
     let reported = g.D.Durable.written in
     let journal = c.self.inside in
-    ok_then c.sync.result (g.D.Durable.synced c.sync.new.self ≡ reported c.append-2.new.self) (Keeps digest (texts
-    ++ c.args.text.now ∷ []) (reported c.sync.new.self) (g.D.Durable.synced c.sync.new.self) c.link_of-digest.result)
-    c.sync.ensures.ok (λ now_synced. keeps_more digest texts c.args.text.now journal.chain c.link_of-digest.result
+    ok_then c.sync.result (g.D.Durable.synced c.sync.new.self ≡ reported c.append-2.new.self) _ c.sync.ensures.ok
+    (λ now_synced digest texts has. keeps_more digest texts c.args.text.now journal.chain c.link_of-digest.result
     (reported journal.disk) (g.D.Durable.synced journal.disk) (reported c.append-2.new.self) (reported c.sync.new.self)
     (g.D.Durable.synced c.sync.new.self) (subst (λ (journal : JournalState). HasTexts digest texts journal)
     (sym c.self.view_is) has) c.requires.fits c.link_of-digest.ensures (written _ (reported c.append.new.self) _
@@ -69,8 +68,8 @@ early old new chain text front digest front_is linked some = subst (HasWrittenFr
     (record_is chain text front digest front_is linked) (front_written old new front text some)
 
 pub returns-in_err-append-clause-moments : goal.returns-in_err-append-clause-moments
-returns-in_err-append-clause-moments g c = record {
-  at_end = λ digest texts.
+returns-in_err-append-clause-moments g c digest texts has = record {
+  at_end = (
       let reported = g.D.Durable.written in
       let journal = c.self.inside in
       subst (λ (journal : JournalState). HasTexts digest texts journal → (left : List ℕ)
@@ -79,8 +78,9 @@ returns-in_err-append-clause-moments g c = record {
       (reported journal.disk) (g.D.Durable.synced journal.disk) (reported c.append.new.self) c.requires.fits
       (subst (HasWrittenFront (reported journal.disk) (reported c.append.new.self)) (record_is journal.chain
       c.args.text.now c.front_of.result c.link_of-digest.result c.front_of.ensures c.link_of-digest.ensures)
-      (front_written _ _ c.front_of.result c.args.text.now c.in_err-append.ensures.written)));
-  moments = λ digest texts.
+      (front_written _ _ c.front_of.result c.args.text.now c.in_err-append.ensures.written)))
+      ) has;
+  moments = (
       let reported = g.D.Durable.written in
       let passed = g.D.Durable.moments in
       let journal = c.self.inside in
@@ -89,12 +89,13 @@ returns-in_err-append-clause-moments g c = record {
       (λ has. passes (passed journal.disk) (passed c.append.new.self) digest texts c.args.text.now journal.chain
       (reported journal.disk) (g.D.Durable.synced journal.disk) (reported c.append.new.self) c.requires.fits
       (early _ _ journal.chain c.args.text.now c.front_of.result c.link_of-digest.result c.front_of.ensures
-      c.link_of-digest.ensures c.in_err-append.ensures.written) has c.append.ensures.moments);
+      c.link_of-digest.ensures c.in_err-append.ensures.written) has c.append.ensures.moments)
+      ) has;
 }
 
 pub returns-in_err-append-2-clause-moments : goal.returns-in_err-append-2-clause-moments
-returns-in_err-append-2-clause-moments g c = record {
-  at_end = λ digest texts.
+returns-in_err-append-2-clause-moments g c digest texts has = record {
+  at_end = (
       let reported = g.D.Durable.written in
       let journal = c.self.inside in
       subst (λ (journal : JournalState). HasTexts digest texts journal → (left : List ℕ) → MayBeLeft journal.synced
@@ -103,8 +104,9 @@ returns-in_err-append-2-clause-moments g c = record {
       (g.D.Durable.synced journal.disk) (reported c.append-2.new.self) c.requires.fits (subst (HasWrittenFront
       (reported journal.disk) (reported c.append-2.new.self)) (record_is journal.chain c.args.text.now c.front_of.result
       c.link_of-digest.result c.front_of.ensures c.link_of-digest.ensures) (front_beyond _ (reported c.append.new.self)
-      _ c.front_of.result c.args.text.now c.in_ok-append.ensures.written c.in_err-append-2.ensures.written)));
-  moments = λ digest texts.
+      _ c.front_of.result c.args.text.now c.in_ok-append.ensures.written c.in_err-append-2.ensures.written)))
+      ) has;
+  moments = (
       let reported = g.D.Durable.written in
       let passed = g.D.Durable.moments in
       let on_disk = g.D.Durable.synced in
@@ -124,12 +126,13 @@ returns-in_err-append-2-clause-moments g c = record {
       c.front_of.result c.link_of-digest.result c.front_of.ensures c.link_of-digest.ensures)
       (front_beyond _ (reported c.append.new.self) _ c.front_of.result text c.in_ok-append.ensures.written
       c.in_err-append-2.ensures.written)) (keeps_on digest texts (reported journal.disk) (on_disk journal.disk)
-      (on_disk c.append.new.self) journal.chain c.append.ensures.synced has) c.append-2.ensures.moments));
+      (on_disk c.append.new.self) journal.chain c.append.ensures.synced has) c.append-2.ensures.moments))
+      ) has;
 }
 
 pub returns-clause-moments : goal.returns-clause-moments
-returns-clause-moments g c = record {
-  at_end = λ digest texts.
+returns-clause-moments g c digest texts has = record {
+  at_end = (
       let reported = g.D.Durable.written in
       let journal = c.self.inside in
       subst (λ (journal : JournalState). HasTexts digest texts journal → (left : List ℕ) → MayBeLeft journal.synced
@@ -139,8 +142,9 @@ returns-clause-moments g c = record {
       (reported c.sync.new.self) (record_of journal.chain c.args.text.now) (subst (λ (new : Option (List ℕ)).
       HasWritten (reported journal.disk) new (record_of journal.chain c.args.text.now)) (sym c.sync.ensures.written)
       (written _ (reported c.append.new.self) _ journal.chain c.args.text.now c.front_of.result c.link_of-digest.result
-      c.front_of.ensures c.link_of-digest.ensures c.in_ok-append.ensures.written c.in_ok-append-2.ensures.written))));
-  moments = λ digest texts.
+      c.front_of.ensures c.link_of-digest.ensures c.in_ok-append.ensures.written c.in_ok-append-2.ensures.written))))
+      ) has;
+  moments = (
       let reported = g.D.Durable.written in
       let passed = g.D.Durable.moments in
       let on_disk = g.D.Durable.synced in
@@ -165,5 +169,6 @@ returns-clause-moments g c = record {
       has) c.append-2.ensures.moments) (passes (passed c.append-2.new.self) (passed c.sync.new.self) digest texts text
       journal.chain (reported journal.disk) (on_disk c.append-2.new.self) (reported c.append-2.new.self) c.requires.fits
       all (keeps_on digest texts (reported journal.disk) (on_disk journal.disk) (on_disk c.append-2.new.self)
-      journal.chain (c.append-2.ensures.synced ∙ c.append.ensures.synced) has) c.sync.ensures.moments)));
+      journal.chain (c.append-2.ensures.synced ∙ c.append.ensures.synced) has) c.sync.ensures.moments)))
+      ) has;
 }

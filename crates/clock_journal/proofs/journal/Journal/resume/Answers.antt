@@ -2,7 +2,7 @@ use Rattle.std.proofs.Common.{◌≡◌, ℕ, List, [], Option, Some, OnOk, leng
 use Rattle.clock_journal.specs.Crash.{BeginsWithTexts, LeavesJournal}
 use Rattle.clock_journal.specs.Disks.{LeaveOnly, MayBeLeft, Moment}
 use Rattle.clock_journal.specs.Logged.{HasTexts, JournalState}
-use Rattle.clock_journal.specs.Recovering.{IsPlaced}
+use Rattle.clock_journal.specs.Recovering.{AreTextsOf}
 use Rattle.clock_journal.specs.declared.recovery.Recovered.{Recovered}
 use Rattle.clock_journal.proofs.Moments.{Keeps}
 use Rattle.clock_journal.proofs.Passing.{leave_more, leave_one, leave_then}
@@ -13,17 +13,17 @@ use Rattle.clock_journal.proofs.journal.Journal.resume.Goals as goal
 -- what holds of a journal before the call, and of the moments of its disk
 abbrev Logged : JournalState → Recovered → (List ℕ → List (List ℕ) → Type 0) → Type 0
 Logged at recovered Has = (bytes : List ℕ) (texts : List (List ℕ)) → at.written ≡ Some bytes
-    → IsPlaced at.chain bytes texts recovered → Has at.chain texts
+    → AreTextsOf at.chain bytes texts recovered → Has at.chain texts
 
 abbrev Crash : JournalState → Recovered → Option (List Moment) → Type 0
 Crash at recovered new = (bytes synced : List ℕ) (read texts : List (List ℕ)) (least : ℕ)
-    → at.written ≡ Some bytes → at.synced ≡ Some synced → IsPlaced at.chain bytes read recovered
+    → at.written ≡ Some bytes → at.synced ≡ Some synced → AreTextsOf at.chain bytes read recovered
     → ((left : List ℕ) → MayBeLeft at.synced at.written left → LeavesJournal at.chain left texts least)
     → LeaveOnly at.moments new (λ left. LeavesJournal at.chain left texts least)
 
 abbrev Tail : JournalState → Recovered → Option (List Moment) → Type 0
 Tail at recovered new = (bytes synced : List ℕ) (read texts : List (List ℕ))
-    → at.written ≡ Some bytes → at.synced ≡ Some synced → IsPlaced at.chain bytes read recovered
+    → at.written ≡ Some bytes → at.synced ≡ Some synced → AreTextsOf at.chain bytes read recovered
     → ((left : List ℕ) → MayBeLeft at.synced at.written left → BeginsWithTexts at.chain left texts)
     → LeaveOnly at.moments new (λ left. BeginsWithTexts at.chain left texts)
 
