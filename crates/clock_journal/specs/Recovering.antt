@@ -33,7 +33,7 @@ pub record IsRecovered (old new : List Entry → Type 0) (digest bytes : List �
 
 -- the file begins with its head, or is a prefix of it
 abbrev pub HasHead : List ℕ → List ℕ → Type 0
-HasHead digest bytes = take file_head_length bytes ≡ take (length bytes) (head digest)
+HasHead digest bytes = take (length (head digest)) bytes ≡ take (length bytes) (head digest)
 
 -- the file begins with the head of some journal
 abbrev pub HasKind : List ℕ → Type 0

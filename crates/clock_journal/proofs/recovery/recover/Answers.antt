@@ -187,7 +187,7 @@ returns-then-bytes-lt-HEAD_LENGTH-clause-read g c =
     let bytes = c.args.bytes.now in
     let size : length digest ≡ 32 = search rules in
     let short : length bytes < file_head_length = omega (arith, c.if-bytes-lt-HEAD_LENGTH.true) in
-    let none = short_headless digest bytes short (subst (λ (h : List ℕ). bytes_eq bytes (take (length bytes) h)
+    let none = short_headless digest bytes size short (subst (λ (h : List ℕ). bytes_eq bytes (take (length bytes) h)
     ≡ false) c.head_of-head.ensures (sym c.eq.ensures ∙ c.if-eq.false)) in
     (none, λ kinded. let long = kinded.0 in omega (arith, long, short))
 
