@@ -21,7 +21,7 @@ use Rattle.clock_front.specs.declared.front.response.Effect.TheVariants.{Nothing
 use Rattle.clock_answers.specs.FaultLines.{of_journal}
 use Rattle.clock_answers.specs.declared.fault.Fault.{Fault}
 use Rattle.clock_journal.specs.Entries.{Entry, entries_onto, texts_in}
-use Rattle.clock_journal.specs.Recovering.{AreTextsOf, IsJournalRefusal}
+use Rattle.clock_journal.specs.Recovering.{AreTextsOf, IsFound}
 use Rattle.clock_journal.specs.declared.recovery.JournalFault.{JournalFault}
 use Rattle.clock_journal.specs.declared.recovery.Recovered.{Recovered}
 use Rattle.clock_server.specs.Keeping.{IsRefused}
@@ -53,7 +53,7 @@ pub record IsAuditFault (setup : SetupFields) (first bytes : List ℕ)
     (reported : Fault) : Type 0 where
   pub fault : JournalFault
   pub reported_is : reported ≡ of_journal fault
-  pub is : IsJournalRefusal (IsRefused setup) (λ past. past ≡ []) first bytes fault
+  pub is : IsFound (IsRefused setup) (λ past. past ≡ []) first bytes fault
 
 -- the lines of the closed rounds, each with its closing's digest, and what each bidder won if the
 -- auction has ended

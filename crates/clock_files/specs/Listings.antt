@@ -6,7 +6,7 @@
 use Rattle.std.specs.Prelude.{◌≡◌, ◌++◌, ℕ, List, [], ◌∷◌, codes, decimal, length}
 use Rattle.hex.specs.Hex.{encode_lower}
 use Rattle.clock_journal.specs.Entries.{Entry, entries_onto}
-use Rattle.clock_journal.specs.Recovering.{AreTextsOf, IsJournalRefusal}
+use Rattle.clock_journal.specs.Recovering.{AreTextsOf, IsFound}
 use Rattle.clock_journal.specs.declared.recovery.JournalFault.{JournalFault}
 use Rattle.clock_journal.specs.declared.recovery.Record.{Record}
 use Rattle.clock_journal.specs.declared.recovery.Recovered.{Recovered}
@@ -42,4 +42,4 @@ pub record IsListingOf (first bytes shown : List ℕ) (recovered : Recovered) : 
 pub record IsListFault (first bytes : List ℕ) (reported : Fault) : Type 0 where
   pub fault : JournalFault
   pub reported_is : reported ≡ of_journal fault
-  pub is : IsJournalRefusal (λ past text. ⊥) (λ past. past ≡ []) first bytes fault
+  pub is : IsFound (λ past text. ⊥) (λ past. past ≡ []) first bytes fault

@@ -8,11 +8,11 @@ use Rattle.clock_front.specs.Effects.{effect}
 use Rattle.clock_journal.specs.Crash.{IsEnd, IsFile, IsPartOfHead, LeavesJournal, LeavesTexts}
 use Rattle.clock_journal.specs.Format.{before_text, head, last_link, link, records}
 use Rattle.clock_journal.specs.Logged.{file_of}
-use Rattle.clock_journal.specs.Reading.{Next, ReadsTexts, ended, next, onto, whole}
+use Rattle.clock_journal.specs.Reading.{Next, ended, next, onto, whole}
 use Rattle.clock_journal.specs.declared.recovery.JournalFault.TheVariants as fault
 use Rattle.clock_journal.proofs.Files.{reads_of}
-use Rattle.clock_journal.proofs.Fronts.{IsNoText, end_is_none}
-use Rattle.clock_journal.proofs.Records.{next_none}
+use Rattle.clock_journal.proofs.Fronts.{IsNoText, ReadsTexts, end_is_none}
+use Rattle.clock_journal.proofs.TakenOver.{left_headed, left_undamaged, none_in_head}
 use Rattle.clock_server.specs.Accepted.{AreAccepted, IsNotRefused}
 use Rattle.clock_server.specs.Starts.{IsNotResumed}
 use Rattle.clock_server.specs.Keeping.{IsAccepted, IsRefused, is_change, logged_after}
@@ -98,28 +98,23 @@ none_refused setup digest bytes texts least before text accepted leaves file ref
 no_text : (digest bytes : List ℕ) (before : List (List ℕ)) (text : List ℕ) → IsPartOfHead digest bytes
     → IsFile digest bytes before (λ found. found ≡ whole text) → ⊥
 no_text digest bytes before text part file =
-    let all = ap length file.file ∙ length-append (file_of digest before) file.rest in
-    let headed = length-append (head digest) (records digest before) in
-    let front = ap length part.front ∙ length-take (length bytes) (head digest) in
-    let none = next_none (last_link digest before) file.rest (omega (arith, all, headed, front)) in
-    let both : ended ≡ whole text = sym none ∙ file.comes in
+    let none = none_in_head digest bytes before (λ (found : Next). found ≡ whole text) part file in
+    let both : ended ≡ whole text = sym none.1 ∙ file.comes in
     cc
 
 -- if a crash left the journal of accepted texts, each fault that a start may report is of memory or of the disk
 pub own_starts : (setup : SetupFields) (digest bytes : List ℕ) (texts : List (List ℕ)) (least : ℕ)
     (house : HouseFields) (why : ResumeFault) → AreAccepted setup [] texts → LeavesJournal digest bytes texts least
     → IsNotResumed setup digest bytes house why → IsNotRefused why
-own_starts setup digest bytes texts least house (Refused fault.Unknown) accepted leaves refused =
-    absurd (refused.crash texts least leaves)
-own_starts setup digest bytes texts least house (Refused fault.Setup) accepted leaves refused =
-    absurd (refused.crash texts least leaves)
-own_starts setup digest bytes texts least house (Refused (fault.Damaged place)) accepted leaves refused =
-    absurd (refused.crash texts least leaves)
-own_starts setup digest bytes texts least house (Refused (fault.Refused place)) accepted (inl leaves) refused =
-    let found = refused.found in
+own_starts setup digest bytes texts least house (Refused fault.Unknown) accepted leaves found =
+    absurd (found.0 (left_headed digest bytes texts least leaves))
+own_starts setup digest bytes texts least house (Refused fault.Setup) accepted leaves found =
+    absurd (found.0 (left_headed digest bytes texts least leaves))
+own_starts setup digest bytes texts least house (Refused (fault.Damaged place)) accepted leaves found =
+    absurd (left_undamaged digest bytes found.0 texts least found.1 leaves)
+own_starts setup digest bytes texts least house (Refused (fault.Refused place)) accepted (inl leaves) found =
     absurd (none_refused setup digest bytes texts least found.0 found.1 accepted leaves found.2 (found.4 [] refl))
-own_starts setup digest bytes texts least house (Refused (fault.Refused place)) accepted (inr part) refused =
-    let found = refused.found in
+own_starts setup digest bytes texts least house (Refused (fault.Refused place)) accepted (inr part) found =
     absurd (no_text digest bytes found.0 found.1 part.1 found.2)
-own_starts setup digest bytes texts least house (Refused fault.NoMemory) accepted leaves refused = tt
-own_starts setup digest bytes texts least house Failed accepted leaves refused = tt
+own_starts setup digest bytes texts least house (Refused fault.NoMemory) accepted leaves found = tt
+own_starts setup digest bytes texts least house Failed accepted leaves found = tt

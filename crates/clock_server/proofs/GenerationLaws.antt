@@ -8,6 +8,7 @@ use Rattle.clock_journal.specs.Crash.{LeavesJournal}
 use Rattle.clock_journal.specs.Disks.{CouldBeLeft, LeaveOnly, MayBeLeft, Moment}
 use Rattle.clock_journal.specs.Logged.{HasTexts, JournalState}
 use Rattle.clock_journal.proofs.Starting.{now_left}
+use Rattle.clock_journal.proofs.TakenOver.{left_first}
 use Rattle.clock_server.specs.Accepted.{AreAccepted, IsOwnFile}
 use Rattle.clock_journal.specs.Reading.{onto}
 use Rattle.clock_server.specs.Keeping.{IsAccepted, IsInStep}
@@ -58,7 +59,7 @@ pub has_resumed : (digest bytes : List ℕ) (journal : JournalState) (house : Ho
     (texts : List (List ℕ)) (least : ℕ) → IsResumed digest bytes journal house recovered
     → LeavesJournal digest bytes texts least → HasResumed digest texts least journal house
 has_resumed digest bytes journal house recovered texts least resumed leaves =
-    let first = resumed.are.crash texts least leaves in
+    let first = left_first digest bytes resumed.texts texts least recovered resumed.are leaves in
     record {
       count = first.0;
       enough = first.1;
@@ -120,7 +121,7 @@ module _ (digest : List ℕ) (texts : List (List ℕ)) (least : ℕ) (first last
               (subst (λ (setup : SetupFields). IsAccepted setup (onto logged.0 []) unlogged.text) same
               (unlogged.accepted (onto logged.0 []) logged.2.stands));
           leaves = λ left may.
-              inl (unlogged.moments.at_end digest logged.0 logged.2.has left
+              inl ((unlogged.moments digest logged.0 logged.2.has).at_end left
               (subst (λ (bytes : Option (List ℕ)). MayBeLeft bytes last.written left) unlogged.on_disk may));
         };
       }

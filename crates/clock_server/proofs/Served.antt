@@ -22,7 +22,7 @@ use Rattle.clock_journal.specs.Crash.{LeavesTexts}
 use Rattle.clock_journal.specs.Disks.{LeaveOnly, MayBeLeft}
 use Rattle.clock_journal.specs.Logged.{HasTexts, JournalState, file_of}
 use Rattle.clock_journal.specs.Reading.{onto}
-use Rattle.clock_journal.proofs.Moments.{every_front}
+use Rattle.clock_journal.proofs.Moments.{front_leaves}
 use Rattle.clock_journal.proofs.Passing.{leave_none}
 use Rattle.clock_server.specs.Keeping.{GrowsBy, IsInStep, IsLogged, RightOrNoMemory, logged_after}
 use Rattle.clock_server.proofs.EffectLaws.{right_after}
@@ -59,7 +59,7 @@ left_since digest past more journal_old journal_new left has_old has_new may =
     subst (λ (bytes : Option (List ℕ)). MayBeLeft bytes (Some (file_of digest (past ++ more))) left) (has_old.1
     ∙ has_old.0) (subst (λ (bytes : Option (List ℕ)). MayBeLeft journal_old.synced bytes left) has_new.0 may) in
     subst (λ (bytes : List ℕ). LeavesTexts digest bytes (past ++ more) (length past)) (sym known.2)
-    (every_front digest (past ++ more) (length past) known.0 has_new.3 (omega (arith, length-append past more))
+    (front_leaves digest (past ++ more) (length past) known.0 has_new.3 (omega (arith, length-append past more))
     (subst (λ (all : List (List ℕ)). length (file_of digest all) ≤ known.0) (sym (take-append_seam past more)) known.1))
 
 -- what one connection made of the texts that a front stands for

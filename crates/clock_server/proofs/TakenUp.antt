@@ -4,7 +4,7 @@ use Rattle.clock_house.specs.House.{HouseFields}
 use Rattle.clock_front.specs.Fronts.{StandsForTexts}
 use Rattle.clock_journal.specs.Entries.{Entry, texts_in}
 use Rattle.clock_journal.specs.Reading.{onto}
-use Rattle.clock_journal.specs.Recovering.{AreTextsOf, IsFound, IsJournalRefusal, IsRecovered}
+use Rattle.clock_journal.specs.Recovering.{AreTextsOf, IsFound, IsRecovered}
 use Rattle.clock_journal.specs.declared.recovery.JournalFault.{JournalFault}
 use Rattle.clock_journal.specs.declared.recovery.Recovered.{Recovered}
 use Rattle.clock_journal.specs.declared.recovery.JournalFault.TheVariants.{Unknown, Setup, Damaged, Refused, NoMemory}
@@ -21,8 +21,9 @@ pub record HasReplayed (digest bytes : List ℕ) (house : HouseFields) (recovere
 abbrev pub IsAt : HouseFields → List Entry → Type 0
 IsAt house entries = StandsForTexts (texts_in entries) house
 
+-- a fault that was found by a machine that began without texts
 module _ (old : List Entry → Type 0) (begun : old []) where
-  found_first : (refuses : List (List ℕ) → List ℕ → Type 0) (digest bytes : List ℕ) (why : JournalFault)
+  pub found_first : (refuses : List (List ℕ) → List ℕ → Type 0) (digest bytes : List ℕ) (why : JournalFault)
       → IsFound refuses old digest bytes why → IsFound refuses (λ (past : List Entry). past ≡ []) digest bytes why
   found_first refuses digest bytes Unknown found = found
   found_first refuses digest bytes Setup found = found
@@ -30,16 +31,6 @@ module _ (old : List Entry → Type 0) (begun : old []) where
   found_first refuses digest bytes (Refused place) found =
       (found.0, found.1, found.2, found.3, λ past none. found.4 past (subst old (sym none) begun))
   found_first refuses digest bytes NoMemory found = tt
-
-  -- a refused text, by whatever refuses it
-  pub refused_first : (refuses : List (List ℕ) → List ℕ → Type 0) (digest bytes : List ℕ) (why : JournalFault)
-      → IsJournalRefusal refuses old digest bytes why
-      → IsJournalRefusal refuses (λ (past : List Entry). past ≡ []) digest bytes why
-  refused_first refuses digest bytes why refusal = record {
-    found = found_first refuses digest bytes why refusal.found;
-    crash = refusal.crash;
-    any_tail = refusal.any_tail;
-  }
 
 module _ (old new : HouseFields) (chain digest bytes : List ℕ) (fresh : StandsForTexts [] old)
     (same : chain ≡ digest) where
@@ -54,8 +45,8 @@ module _ (old new : HouseFields) (chain digest bytes : List ℕ) (fresh : Stands
   }
 
   -- a refused file
-  pub not_replayed : (why : JournalFault) → IsJournalRefusal (IsRefused old.setup) (IsAt old) chain bytes why
-      → IsJournalRefusal (IsRefused old.setup) (λ (past : List Entry). past ≡ []) digest bytes why
-  not_replayed why refusal = subst (λ (at : List ℕ). IsJournalRefusal (IsRefused old.setup)
+  pub not_replayed : (why : JournalFault) → IsFound (IsRefused old.setup) (IsAt old) chain bytes why
+      → IsFound (IsRefused old.setup) (λ (past : List Entry). past ≡ []) digest bytes why
+  not_replayed why refusal = subst (λ (at : List ℕ). IsFound (IsRefused old.setup)
       (λ (past : List Entry). past ≡ []) at bytes why) same
-      (refused_first (IsAt old) fresh (IsRefused old.setup) chain bytes why refusal)
+      (found_first (IsAt old) fresh (IsRefused old.setup) chain bytes why refusal)

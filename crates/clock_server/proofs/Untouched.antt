@@ -5,7 +5,7 @@ use Rattle.std.proofs.lemmas.List.{take-append-le}
 use Rattle.clock_journal.specs.Crash.{IsEnd, IsFile, LeavesOneMore, LeavesTexts}
 use Rattle.clock_journal.specs.Disks.{MayBeLeft}
 use Rattle.clock_journal.specs.Logged.{JournalState, HasTexts, file_of}
-use Rattle.clock_journal.proofs.Moments.{every_front}
+use Rattle.clock_journal.proofs.Moments.{front_leaves}
 use Rattle.clock_journal.proofs.Passing.{leave_none}
 
 take_all : {A : Type 0} (xs : List A) → take (length xs) xs ≡ xs
@@ -28,7 +28,7 @@ left_of_file : (digest : List ℕ) (texts : List (List ℕ)) (journal : JournalS
     → LeavesTexts digest left texts (length texts)
 left_of_file digest texts journal left has (count, enough, is) =
     subst (λ (bytes : List ℕ). LeavesTexts digest bytes texts (length texts)) (sym is)
-    (every_front digest texts (length texts) count has.3 (omega arith)
+    (front_leaves digest texts (length texts) count has.3 (omega arith)
     (subst (λ (all : List (List ℕ)). length (file_of digest all) ≤ count) (sym (take_all texts)) enough))
 
 -- all of its texts
@@ -41,9 +41,8 @@ left_all digest texts journal left has may =
 
 -- which is no more than these and one further text
 pub untouched : (text : List ℕ) (journal : JournalState) → LeavesOneMore text journal journal
-untouched text journal = record {
-  at_end = λ digest texts has left may.
+untouched text journal digest texts has = record {
+  at_end = λ left may.
       wider digest left texts (text ∷ []) (length texts) (left_all digest texts journal left has may);
-  moments = λ digest texts has. leave_none journal.moments
-      (λ left. LeavesTexts digest left (texts ++ text ∷ []) (length texts));
+  moments = leave_none journal.moments (λ left. LeavesTexts digest left (texts ++ text ∷ []) (length texts));
 }

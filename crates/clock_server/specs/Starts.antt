@@ -10,7 +10,7 @@ use Rattle.clock_house.specs.House.{HouseFields}
 use Rattle.clock_front.specs.Fronts.{StandsForTexts}
 use Rattle.clock_journal.specs.Logged.{JournalState}
 use Rattle.clock_journal.specs.Reading.{onto}
-use Rattle.clock_journal.specs.Recovering.{AreTextsOf, IsJournalRefusal}
+use Rattle.clock_journal.specs.Recovering.{AreTextsOf, IsFound}
 use Rattle.clock_journal.specs.declared.recovery.Recovered.{Recovered}
 use Rattle.clock_server.specs.Keeping.{IsInStep, IsRefused}
 use Rattle.clock_server.specs.declared.taking.ResumeFault.{ResumeFault}
@@ -26,7 +26,7 @@ pub record IsResumed (digest bytes : List ℕ) (journal : JournalState) (house :
 -- the file has this fault; or the auction stands for all of its texts, and the disk failed
 abbrev pub IsNotResumed : SetupFields → List ℕ → List ℕ → HouseFields → ResumeFault → Type 0
 IsNotResumed setup digest bytes house (Refused fault) =
-    IsJournalRefusal (IsRefused setup) (λ past. past ≡ []) digest bytes fault
+    IsFound (IsRefused setup) (λ past. past ≡ []) digest bytes fault
 IsNotResumed setup digest bytes house Failed =
     (recovered : Recovered) × (texts : List (List ℕ)) × AreTextsOf digest bytes texts recovered
     × StandsForTexts (onto texts []) house

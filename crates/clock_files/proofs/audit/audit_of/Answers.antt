@@ -3,7 +3,7 @@ use Rattle.std.proofs.lemmas.Result.{err_from_is_err_and}
 use Rattle.clock_journal.specs.Entries.{Entry, entries_onto}
 use Rattle.clock_journal.specs.declared.recovery.JournalFault.TheVariants.{NoMemory}
 use Rattle.clock_server.specs.Keeping.{IsRefused}
-use Rattle.clock_server.proofs.TakenUp.{refused_first}
+use Rattle.clock_server.proofs.TakenUp.{found_first}
 use Rattle.clock_files.specs.Audits.{IsRecounted, IsAuditFault}
 use Rattle.clock_files.proofs.AuditLaws.{audit_is}
 use Rattle.clock_files.proofs.audit.audit_of.Goals as goal
@@ -17,7 +17,7 @@ returns-in_err-recovered-clause-err c =
     (λ (bytes : List ℕ). IsAuditFault was.front.setup c.args.first.now bytes p.0) c.as_slice.ensures.value (record {
       fault = refused.field-0.0;
       reported_is = p.2;
-      is = refused_first (λ (entries : List Entry). IsRecounted entries was.front was.digests.items) c.requires
+      is = found_first (λ (entries : List Entry). IsRecounted entries was.front was.digests.items) c.requires
           (IsRefused was.front.setup) c.args.first.now c.as_slice.result.now refused.field-0.0 refused.ensures.read;
     }))
 
@@ -32,7 +32,7 @@ returns-in_err-text-clause-err c =
     rw p.1 (record {
       fault = NoMemory;
       reported_is = p.2;
-      is = record { found = tt; crash = λ all least leaves. tt; any_tail = λ first begins. tt };
+      is = tt;
     })
 
 pub returns-clause-ok : goal.returns-clause-ok

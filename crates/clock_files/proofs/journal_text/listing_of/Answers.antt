@@ -1,26 +1,21 @@
 use Rattle.std.proofs.Common.{◌≡◌, List, [], ℕ, rules, subst}
 use Rattle.std.proofs.lemmas.Result.{err_from_is_err_and}
 use Rattle.clock_journal.specs.Entries.{Entry, entries_onto}
-use Rattle.clock_journal.specs.Recovering.{IsJournalRefusal}
 use Rattle.clock_journal.specs.declared.recovery.JournalFault.TheVariants.{NoMemory}
-use Rattle.clock_server.proofs.TakenUp.{refused_first}
+use Rattle.clock_server.proofs.TakenUp.{found_first}
 use Rattle.clock_files.specs.Listings.{listing_text}
 use Rattle.clock_files.proofs.journal_text.listing_of.Goals as goal
-
-no_memory : {refuses : List (List ℕ) → List ℕ → Type 0} {old : List Entry → Type 0} {first bytes : List ℕ}
-    → IsJournalRefusal refuses old first bytes NoMemory
-no_memory = record { found = tt; crash = λ all least leaves. tt; any_tail = λ first begins. tt }
 
 pub returns-in_err-extend_from_slice-clause-err : goal.returns-in_err-extend_from_slice-clause-err
 returns-in_err-extend_from_slice-clause-err c =
     let p = err_from_is_err_and c.from_residual.result c.from_residual.ensures.1 in
-    rw p.1 (record { fault = NoMemory; reported_is = p.2; is = no_memory })
+    rw p.1 (record { fault = NoMemory; reported_is = p.2; is = tt })
 
 pub returns-in_err-push_digits-clause-err : goal.returns-in_err-push_digits-clause-err
 returns-in_err-push_digits-clause-err c =
     let p =
     err_from_is_err_and c.from_residual-in_err-push_digits.result c.from_residual-in_err-push_digits.ensures.1 in
-    rw p.1 (record { fault = NoMemory; reported_is = p.2; is = no_memory })
+    rw p.1 (record { fault = NoMemory; reported_is = p.2; is = tt })
 
 pub returns-in_err-recovered-clause-err : goal.returns-in_err-recovered-clause-err
 returns-in_err-recovered-clause-err c =
@@ -30,7 +25,7 @@ returns-in_err-recovered-clause-err c =
     rw p.1 (record {
       fault = refused.field-0.0;
       reported_is = p.2;
-      is = refused_first (λ (entries : List Entry). shown ≡ listing_text c.args.first entries) (search rules)
+      is = found_first (λ (entries : List Entry). shown ≡ listing_text c.args.first entries) (search rules)
           (λ (past : List (List ℕ)) (text : List ℕ). ⊥) c.args.first c.args.bytes.now refused.field-0.0
           refused.ensures.read;
     })

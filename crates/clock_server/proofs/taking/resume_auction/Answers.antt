@@ -32,7 +32,7 @@ returns-in-Ok-resume-clause-in_step g c written =
       texts = up.texts;
       are = up.are;
       in_step = record {
-        has = c.in-Ok-resume.ensures.logged c.args.bytes.now up.texts written up.are.placed;
+        has = c.in-Ok-resume.ensures.logged c.args.bytes.now up.texts written up.are;
         stands = up.stands;
       };
     }
@@ -49,25 +49,25 @@ returns-in-Ok-resume-clause-crash g c synced texts least written on_disk =
     let up = replayed c.args.auction.now.front c.recover.new.machine.front c.chain.result.now
     c.args.journal.now.chain c.args.bytes.now c.requires.fresh c.chain.ensures c.in-Ok.recovered
     c.in-Ok.ensures.read in
-    c.resume.ensures.crash c.args.bytes.now synced up.texts texts least written on_disk up.are.placed
+    c.resume.ensures.crash c.args.bytes.now synced up.texts texts least written on_disk up.are
 
 pub returns-in-Ok-resume-clause-any_tail : goal.returns-in-Ok-resume-clause-any_tail
 returns-in-Ok-resume-clause-any_tail g c synced texts written on_disk =
     let up = replayed c.args.auction.now.front c.recover.new.machine.front c.chain.result.now
     c.args.journal.now.chain c.args.bytes.now c.requires.fresh c.chain.ensures c.in-Ok.recovered
     c.in-Ok.ensures.read in
-    c.resume.ensures.any_tail c.args.bytes.now synced up.texts texts written on_disk up.are.placed
+    c.resume.ensures.any_tail c.args.bytes.now synced up.texts texts written on_disk up.are
 
 pub returns-in-Err-resume-clause-crash : goal.returns-in-Err-resume-clause-crash
 returns-in-Err-resume-clause-crash g c synced texts least written on_disk =
     let up = replayed c.args.auction.now.front c.recover.new.machine.front c.chain.result.now
     c.args.journal.now.chain c.args.bytes.now c.requires.fresh c.chain.ensures c.in-Ok.recovered
     c.in-Ok.ensures.read in
-    c.resume.ensures.crash c.args.bytes.now synced up.texts texts least written on_disk up.are.placed
+    c.resume.ensures.crash c.args.bytes.now synced up.texts texts least written on_disk up.are
 
 pub returns-in-Err-resume-clause-any_tail : goal.returns-in-Err-resume-clause-any_tail
 returns-in-Err-resume-clause-any_tail g c synced texts written on_disk =
     let up = replayed c.args.auction.now.front c.recover.new.machine.front c.chain.result.now
     c.args.journal.now.chain c.args.bytes.now c.requires.fresh c.chain.ensures c.in-Ok.recovered
     c.in-Ok.ensures.read in
-    c.resume.ensures.any_tail c.args.bytes.now synced up.texts texts written on_disk up.are.placed
+    c.resume.ensures.any_tail c.args.bytes.now synced up.texts texts written on_disk up.are

@@ -45,7 +45,7 @@ pub returns-clause-logged : goal.returns-clause-logged
 returns-clause-logged g c digest past in_step = logged digest past c.args.text.now c.respond-response.result
     c.args.front.now c.respond-response.new.self _ _ (c.in_ok-append.ensures.logged digest past in_step.has)
     in_step.stands (c.respond-response.ensures.response c.args.text.now c.framing.ensures) (sym c.is_change.ensures
-    ∙ c.if-not-is_change.false) (c.in_ok-append.ensures.moments.moments digest past in_step.has)
+    ∙ c.if-not-is_change.false) (c.in_ok-append.ensures.moments digest past in_step.has).moments
 
 pub returns-clause-accepted : goal.returns-clause-accepted
 returns-clause-accepted g c texts stands = tt
