@@ -75,10 +75,11 @@ pub enum ResumeFault {
 /// Replays all bytes of a journal's disk, and continues the journal there. The journal was made for
 /// the digest of a set-up document. Calls `tell` before the disk is changed.
 ///
-/// `in_step`: of a file that a crash left, the auction takes every text that was on the disk, and
-/// at most the one that was being appended. If the file begins with a journal, it takes the texts
-/// of that first. `err`: what a crash left of this auction's journal is never reported as unknown,
-/// as of another set-up, or as damaged.
+/// A file has one list of texts only, by [`law_of_journals`](clock_journal::law_of_journals). So of
+/// a file that a crash left, the auction takes every text that was on the disk, and at most the one
+/// that was being appended. If the file begins with a journal, it takes the texts of that first.
+/// What a crash left of this auction's journal is never reported as unknown, as of another set-up,
+/// or as damaged.
 ///
 /// `refused`: a refused file is not changed, and `Failed` means that a call of the disk failed.
 /// `crash`, `any_tail`: if a crash before this call leaves these texts, so does a crash at any
