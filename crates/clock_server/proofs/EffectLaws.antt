@@ -21,7 +21,9 @@ use Rattle.clock_front.specs.declared.front.response.Effect.TheVariants.{Nothing
 use Rattle.clock_front.specs.declared.front.response.Response.{Response}
 use Rattle.clock_front.proofs.AnswerLaws.{stands_after}
 use Rattle.clock_front.proofs.FrontLaws.{away_command, needs_by_test}
-use Rattle.clock_server.specs.Keeping.{IsAccepted, is_change}
+use Rattle.clock_journal.specs.Logged.{JournalState}
+use Rattle.clock_journal.specs.Reading.{onto}
+use Rattle.clock_server.specs.Keeping.{IsAccepted, IsAppended, LogsChange, is_change}
 
 -- a command changes the same in a house and after the commands that the house stands for
 effect_after : (house : HouseFields) (commands : List Command) (command : Command) → StandsFor commands house
@@ -53,14 +55,25 @@ right_after texts text response old new stands right = record {
 
 -- ---- what changes the auction
 
--- the logged texts, the oldest first, after a text that changes the auction or not
+-- the accepted texts, the oldest first, after a text that changes the auction or not
 abbrev pub logged_when : Bool → List (List ℕ) → List ℕ → List (List ℕ)
 logged_when changes past text = if changes then past ++ text ∷ [] else past
+
+pub onto-push : (texts : List (List ℕ)) (text : List ℕ) (past : List (List ℕ))
+    → onto (texts ++ text ∷ []) past ≡ text ∷ onto texts past
+onto-push [] text past = refl
+onto-push (one ∷ texts) text past = onto-push texts text (one ∷ past)
 
 pub nothing_where : (one : Effect) → is_change one ≡ false → one ≡ Nothing
 nothing_where Nothing is = refl
 nothing_where Sheet is = absurd (let no : ⊥ = cc in no)
 nothing_where (Closing round) is = absurd (let no : ⊥ = cc in no)
+
+pub logs_where : (one : Effect) (text : List ℕ) (old new : JournalState) → is_change one ≡ true
+    → IsAppended text old new → LogsChange one text old new
+logs_where Nothing text old new is appended = absurd (let no : ⊥ = cc in no)
+logs_where Sheet text old new is appended = appended
+logs_where (Closing round) text old new is appended = appended
 
 -- a response that changed something is not out of memory
 pub right_where : (text : List ℕ) (response : Response) (old new : HouseFields) → RespondsTo text response old new

@@ -4,13 +4,14 @@ use Rattle.std.proofs.Common.{refl, sym, ap, ◌∙◌, subst, arith, length-app
 use Rattle.std.proofs.lemmas.List.{take_at}
 use Rattle.clock_terms.specs.Limits.{SetupFields}
 use Rattle.clock_house.specs.House.{HouseFields}
-use Rattle.clock_journal.specs.Crash.{LeavesJournal}
+use Rattle.clock_front.specs.Fronts.{StandsForTexts}
+use Rattle.clock_journal.specs.Crash.{LeavesJournal, LeavesTexts}
 use Rattle.clock_journal.specs.Disks.{CouldBeLeft, LeaveOnly, MayBeLeft, Moment}
 use Rattle.clock_journal.specs.Logged.{HasTexts, JournalState}
 use Rattle.clock_journal.proofs.Starting.{now_left}
 use Rattle.clock_server.specs.Accepted.{AreAccepted, IsOwnFile}
 use Rattle.clock_journal.specs.Reading.{onto}
-use Rattle.clock_server.specs.Keeping.{IsAccepted, IsInStep}
+use Rattle.clock_server.specs.Keeping.{IsAccepted}
 use Rattle.clock_server.specs.Starts.{IsResumed}
 use Rattle.clock_journal.specs.declared.recovery.Recovered.{Recovered}
 use Rattle.clock_server.proofs.AcceptedLaws.{accepted_after, accepted_push, accepted_take}
@@ -20,29 +21,21 @@ use Rattle.clock_server.specs.Generations.{IsGeneration, LeftSince, MayLeave, Se
 use Rattle.clock_server.specs.declared.generation.GenerationFault.TheVariants.{Serve}
 use Rattle.clock_server.specs.declared.serving.ServeFault.{ServeFault}
 use Rattle.clock_server.specs.declared.serving.ServeFault.TheVariants as fault
-use Rattle.clock_server.specs.Serving.{AreServed, EndsServing, IsUnlogged, LogsText, LoggedTexts, RepliesOver, Walks}
-use Rattle.clock_server.proofs.Served.{left_since}
+use Rattle.clock_server.specs.Serving.{AcceptedTexts, AreServed, EndsServing, IsUnlogged, LogsText, Walks}
+use Rattle.clock_server.proofs.Served.{state}
+use Rattle.clock_server.proofs.Untouched.{left_all}
+use Rattle.clock_server.proofs.Walking.{walks_preserve}
 
 -- ---- logged texts were accepted
 
-accepted_step : (setup : SetupFields) (before : LoggedTexts) (one : Exchange) (after : LoggedTexts)
-    → RepliesOver setup before one after → AreAccepted setup [] before.texts → AreAccepted setup [] after.texts
-accepted_step setup before one after (inl (text, answer, replied, inl (right, is), seen)) accepted =
-    subst (λ (texts : List (List ℕ)). AreAccepted setup [] texts) (sym is)
-    (accepted_after setup before.texts text accepted)
-accepted_step setup before one after (inl (text, answer, replied, inr (left_out, is), seen)) accepted =
-    subst (λ (texts : List (List ℕ)). AreAccepted setup [] texts) (sym is) accepted
-accepted_step setup before one after (inr (alone, is)) accepted =
-    subst (λ (logged : LoggedTexts). AreAccepted setup [] logged.texts) (sym is) accepted
-
-accepted_walk : (digest : List ℕ) (setup : SetupFields) (first : LoggedTexts) (exchanges : List Exchange)
-    (last : LoggedTexts) → Walks (LogsText digest setup) first exchanges last → AreAccepted setup [] first.texts
-    → AreAccepted setup [] last.texts
-accepted_walk digest setup first [] last walks accepted =
-    subst (λ (logged : LoggedTexts). AreAccepted setup [] logged.texts) (sym walks) accepted
-accepted_walk digest setup first (one ∷ others) last walks accepted =
-    accepted_walk digest setup walks.0 others last walks.2
-    (accepted_step setup first one walks.0 walks.1.replies accepted)
+accepted_step : (setup : SetupFields) (before : AcceptedTexts) (one : Exchange) (after : AcceptedTexts)
+    → LogsText setup before one after → AreAccepted setup [] before.texts → AreAccepted setup [] after.texts
+accepted_step setup before one after logs accepted = elim logs.replies [
+  | inl (text, answer, replied, shown, inl (right, is)) ↦ subst (AreAccepted setup []) (sym is)
+      (accepted_after setup before.texts text accepted)
+  | inl (text, answer, replied, shown, inr (left_out, is)) ↦ subst (AreAccepted setup []) (sym is) accepted
+  | inr (none, is) ↦ subst (λ (now : AcceptedTexts). AreAccepted setup [] now.texts) (sym is) accepted
+]
 
 -- ---- one generation
 
@@ -52,7 +45,8 @@ pub record HasResumed (digest : List ℕ) (texts : List (List ℕ)) (least : ℕ
   pub count : ℕ
   pub enough : least ≤ count
   pub most : count ≤ length texts
-  pub in_step : IsInStep digest (take count texts) journal house
+  pub has : HasTexts digest (take count texts) journal
+  pub stands : StandsForTexts (onto (take count texts) []) house
 
 pub has_resumed : (digest bytes : List ℕ) (journal : JournalState) (house : HouseFields) (recovered : Recovered)
     (texts : List (List ℕ)) (least : ℕ) → IsResumed digest bytes journal house recovered
@@ -63,38 +57,50 @@ has_resumed digest bytes journal house recovered texts least resumed leaves =
       count = first.0;
       enough = first.1;
       most = first.2;
-      in_step = subst (λ (all : List (List ℕ)). IsInStep digest all journal house) first.3 resumed.in_step;
+      has = subst (λ (all : List (List ℕ)). HasTexts digest all journal) first.3 resumed.has;
+      stands = subst (λ (all : List (List ℕ)). StandsForTexts (onto all []) house) first.3 resumed.stands;
     }
 
 module _ (digest : List ℕ) (texts : List (List ℕ)) (least : ℕ) (first last : JournalState) (old : HouseFields)
     (accepted : AreAccepted old.setup [] texts) (resumed : HasResumed digest texts least first old) where
-  accepted_end : (exchanges : List Exchange) (end : LoggedTexts)
-      → Walks (LogsText digest old.setup) (record { texts = take resumed.count texts; journal = first }) exchanges end
+  accepted_end : (exchanges : List Exchange) (end : AcceptedTexts)
+      → Walks (LogsText old.setup) (state (take resumed.count texts) first) exchanges end
       → AreAccepted old.setup [] end.texts
   accepted_end exchanges end walks =
-      accepted_walk digest old.setup (record { texts = take resumed.count texts; journal = first }) exchanges end walks
+      walks_preserve (LogsText old.setup) (λ (at : AcceptedTexts). AreAccepted old.setup [] at.texts)
+      (accepted_step old.setup) (state (take resumed.count texts) first) exchanges end walks
       (accepted_take old.setup [] texts resumed.count accepted)
+
+  has_end : (exchanges : List Exchange) (end : AcceptedTexts)
+      → Walks (LogsText old.setup) (state (take resumed.count texts) first) exchanges end
+      → HasTexts digest end.texts end.journal
+  has_end exchanges end walks =
+      walks_preserve (LogsText old.setup) (λ (at : AcceptedTexts). HasTexts digest at.texts at.journal)
+      (λ before one after logs has. (logs.logs digest has).has)
+      (state (take resumed.count texts) first) exchanges end walks resumed.has
 
   -- all connections were served
   pub serves_all : (exchanges : List Exchange) (rounds_old rounds_new : Option (List ℕ)) (new : HouseFields)
       → AreServed exchanges rounds_old rounds_new first last old new
       → ServesFrom old.setup digest texts least exchanges last
   serves_all exchanges rounds_old rounds_new new are =
-      let logged = are.logged digest (take resumed.count texts) resumed.in_step in
-      let has = subst (λ (all : List (List ℕ)). HasTexts digest all last) (sym (append-nil logged.0)) logged.2.has in
+      let ends = are (take resumed.count texts) resumed.stands in
+      let end = state ends.0 last in
+      let all = sym (append-nil ends.0) in
       record {
         count = resumed.count;
         enough = resumed.enough;
         most = resumed.most;
         resumed = first;
-        last = record { texts = logged.0; journal = last };
-        walks = logged.1;
+        has = resumed.has;
+        last = end;
+        walks = ends.1;
         more = [];
         few = omega arith;
         own = record {
-          accepted = subst (λ (all : List (List ℕ)). AreAccepted old.setup [] all) (sym (append-nil logged.0))
-              (accepted_end exchanges (record { texts = logged.0; journal = last }) logged.1);
-          leaves = λ left may. inl (left_since digest logged.0 [] last last left logged.2.has has may);
+          accepted = subst (AreAccepted old.setup []) all (accepted_end exchanges end ends.1);
+          leaves = λ left may. inl (subst (λ (some : List (List ℕ)). LeavesTexts digest left some (length ends.0)) all
+              (left_all digest ends.0 last left (has_end exchanges end ends.1) may));
         };
       }
 
@@ -104,23 +110,24 @@ module _ (digest : List ℕ) (texts : List (List ℕ)) (least : ℕ) (first last
       → house.setup ≡ old.setup → IsUnlogged last_one before last house
       → ServesFrom old.setup digest texts least some last
   serves_but some last_one rounds_old rounds_new before house are same unlogged =
-      let logged = are.logged digest (take resumed.count texts) resumed.in_step in
+      let ends = are (take resumed.count texts) resumed.stands in
+      let end = state ends.0 before in
       record {
         count = resumed.count;
         enough = resumed.enough;
         most = resumed.most;
         resumed = first;
-        last = record { texts = logged.0; journal = before };
-        walks = logged.1;
+        has = resumed.has;
+        last = end;
+        walks = ends.1;
         more = unlogged.text ∷ [];
         few = omega arith;
         own = record {
-          accepted = accepted_push old.setup [] logged.0 unlogged.text
-              (accepted_end some (record { texts = logged.0; journal = before }) logged.1)
-              (subst (λ (setup : SetupFields). IsAccepted setup (onto logged.0 []) unlogged.text) same
-              (unlogged.accepted (onto logged.0 []) logged.2.stands));
+          accepted = accepted_push old.setup [] ends.0 unlogged.text (accepted_end some end ends.1)
+              (subst (λ (setup : SetupFields). IsAccepted setup (onto ends.0 []) unlogged.text) same
+              (unlogged.accepted (onto ends.0 []) ends.2));
           leaves = λ left may.
-              inl (unlogged.moments.at_end digest logged.0 logged.2.has left
+              inl (unlogged.moments.at_end digest ends.0 (has_end some end ends.1) left
               (subst (λ (bytes : Option (List ℕ)). MayBeLeft bytes last.written left) unlogged.on_disk may));
         };
       }

@@ -1,15 +1,11 @@
 -- Lists that grow by one connection at a time.
-use Rattle.std.proofs.Common.{◌≡◌, inl, inr, ℕ, Bool, true, false, List, [], ◌∷◌, ◌++◌, map, Option, Some, None}
+use Rattle.std.proofs.Common.{◌≡◌, ℕ, List, [], ◌∷◌, ◌++◌, map, Option, Some, None}
 use Rattle.std.proofs.Common.{refl, sym, ap, ◌∙◌, subst, append_assoc, append-nil}
-use Rattle.clock_terms.specs.Limits.{SetupFields}
 use Rattle.clock_device.specs.Reports.{SinkReport, SourceReport}
 use Rattle.std.proofs.lemmas.List.{map-append}
-use Rattle.clock_front.specs.Effects.{effect}
-use Rattle.clock_journal.specs.Reading.{onto}
-use Rattle.clock_server.proofs.EffectLaws.{logged_when}
-use Rattle.clock_server.specs.Keeping.{GrowsBy, is_change}
+use Rattle.clock_server.specs.Keeping.{GrowsBy}
 use Rattle.clock_server.specs.Exchanges.{Came, Exchange, Offer, bytes_given}
-use Rattle.clock_server.specs.Serving.{LoggedTexts, RepliesOver, Walks}
+use Rattle.clock_server.specs.Serving.{Walks}
 
 -- nothing was appended
 pub grown_none : {A : Type 0} (list : Option (List A)) → GrowsBy list list []
@@ -64,22 +60,13 @@ walks_on {A = A} step past [] end one next walks steps =
 walks_on step past (first ∷ others) end one next walks steps =
     (walks.0, walks.1, walks_on step walks.0 others end one next walks.2 steps)
 
--- the logged texts are unchanged, and more come after them
-logged_if_behind : (changes : Bool) (past : List (List ℕ)) (text : List ℕ)
-    → (more : List (List ℕ)) × (logged_when changes past text ≡ past ++ more)
-logged_if_behind true past text = (text ∷ [], refl)
-logged_if_behind false past text = ([], sym (append-nil past))
-
-pub logged_behind : (digest : List ℕ) (setup : SetupFields) (before : LoggedTexts) (one : Exchange)
-    (after : LoggedTexts) → RepliesOver setup before one after
-    → (more : List (List ℕ)) × (after.texts ≡ before.texts ++ more)
-logged_behind digest setup before one after (inl (text, answer, replied, inl (right, is), seen)) =
-    let behind = logged_if_behind (is_change (effect setup (onto before.texts []) text)) before.texts text in
-    (behind.0, is ∙ behind.1)
-logged_behind digest setup before one after (inl (text, answer, replied, inr (left_out, is), seen)) =
-    ([], is ∙ sym (append-nil before.texts))
-logged_behind digest setup before one after (inr (alone, is)) =
-    ([], ap (λ (logged : LoggedTexts). logged.texts) is ∙ sym (append-nil before.texts))
+-- what each step preserves
+pub walks_preserve : {A : Type 0} (step : A → Exchange → A → Type 0) (Holds : A → Type 0)
+    → ((past : A) (one : Exchange) (next : A) → step past one next → Holds past → Holds next)
+    → (past : A) (exchanges : List Exchange) (end : A) → Walks step past exchanges end → Holds past → Holds end
+walks_preserve step Holds preserves past [] end walks holds = subst Holds (sym walks) holds
+walks_preserve step Holds preserves past (one ∷ others) end walks holds =
+    walks_preserve step Holds preserves walks.0 others end walks.2 (preserves past one walks.0 walks.1 holds)
 
 -- the open connection was closed
 pub closed_one : (first mid last : Option (List Exchange)) (offer : Offer) (one : Exchange) → mid ≡ first
