@@ -60,14 +60,6 @@ walks_on {A = A} step past [] end one next walks steps =
 walks_on step past (first ∷ others) end one next walks steps =
     (walks.0, walks.1, walks_on step walks.0 others end one next walks.2 steps)
 
--- what each step preserves
-pub walks_preserve : {A : Type 0} (step : A → Exchange → A → Type 0) (Holds : A → Type 0)
-    → ((past : A) (one : Exchange) (next : A) → step past one next → Holds past → Holds next)
-    → (past : A) (exchanges : List Exchange) (end : A) → Walks step past exchanges end → Holds past → Holds end
-walks_preserve step Holds preserves past [] end walks holds = subst Holds (sym walks) holds
-walks_preserve step Holds preserves past (one ∷ others) end walks holds =
-    walks_preserve step Holds preserves walks.0 others end walks.2 (preserves past one walks.0 walks.1 holds)
-
 -- the open connection was closed
 pub closed_one : (first mid last : Option (List Exchange)) (offer : Offer) (one : Exchange) → mid ≡ first
     → offer.source ≡ one.reading.before → offer.sink ≡ one.writing.before → GrowsBy mid last (record {

@@ -1,6 +1,9 @@
-use Rattle.std.proofs.Common.{[], refl}
+use Rattle.std.proofs.Common.{◌≡◌, [], Some, Err, refl, subst}
+use Rattle.clock_terms.specs.Limits.{SetupFields}
+use Rattle.clock_server.specs.Generations.{EndsGeneration, IsGeneration, served}
+use Rattle.clock_server.specs.declared.generation.GenerationFault.TheVariants.{Serve}
 use Rattle.clock_server.proofs.AcceptedLaws.{own_starts}
-use Rattle.clock_server.proofs.GenerationLaws.{ends_by_fault, has_resumed, own_left, served_all}
+use Rattle.clock_server.proofs.GenerationLaws.{ends_by_fault, own_left, served_all}
 use Rattle.clock_server.proofs.Walking.{came_none, grown_none}
 use Rattle.clock_server.proofs.generation.serve_from.Goals as goal
 
@@ -27,34 +30,34 @@ returns-in-Err-clause-generation g c =
 
 pub returns-in-Ok-clause-generation : goal.returns-in-Ok-clause-generation
 returns-in-Ok-clause-generation g c =
-    let started = c.in_default.ensures in
     let found = c.args.journal.now in
-    let first = c.resume_auction.new.journal in
-    let house = c.resume_auction.new.auction.front in
+    let last = c.serve_all.new.log in
+    let started = c.in_default.ensures in
     let ends = c.in-Ok.ensures.served in (
       ends.0,
       ends.1,
       ends.2,
       (
         ends.3.0,
-        served_all c.args.auction.now.front.setup found first c.serve_all.new.log c.args.bytes.now house started.setup
-            (λ texts least written leaves. has_resumed found.chain c.args.bytes.now first house _ texts least
-            (started.in_step written) leaves) ends.0 _ _ c.serve_all.new.front ends.3.1,
+        subst (λ (setup : SetupFields). found.written ≡ Some c.args.bytes.now
+            → IsGeneration setup found.chain (served found ends.0 last)) started.setup
+            (served_all found c.resume_auction.new.journal c.args.bytes.now c.resume_auction.new.auction.front _
+            started.in_step ends.0 _ _ last c.serve_all.new.front ends.3.1),
       ),
     )
 
 pub returns-in-Err-serve_all-clause-generation : goal.returns-in-Err-serve_all-clause-generation
 returns-in-Err-serve_all-clause-generation g c =
-    let started = c.in_default.ensures in
     let found = c.args.journal.now in
-    let first = c.resume_auction.new.journal in
-    let house = c.resume_auction.new.auction.front in
+    let last = c.serve_all.new.log in
+    let started = c.in_default.ensures in
     let ends = c.in-Err-serve_all.ensures.served in (
       ends.0,
       ends.1,
       ends.2,
-      ends_by_fault c.args.auction.now.front.setup found first c.serve_all.new.log c.args.bytes.now house started.setup
-          (λ texts least written leaves. has_resumed found.chain c.args.bytes.now first house _ texts least
-          (started.in_step written) leaves) (Unit {0}) c.args.count ends.0 _ _ c.serve_all.new.front
-          c.in-Err-serve_all.fault ends.3,
+      subst (λ (setup : SetupFields). EndsGeneration {U = Unit {0}} setup c.args.count ends.0 c.args.bytes.now found
+          last (Err (Serve c.in-Err-serve_all.fault))) started.setup
+          (ends_by_fault found c.resume_auction.new.journal c.args.bytes.now c.resume_auction.new.auction.front _
+          started.in_step (Unit {0}) c.args.count ends.0 _ _ last c.serve_all.new.front c.in-Err-serve_all.fault
+          ends.3),
     )
