@@ -7,9 +7,10 @@ use Rattle.clock_device.specs.Writings.{WritesNothing}
 use Rattle.clock_device.proofs.Streams.{same_bytes}
 use Rattle.clock_terms.specs.Limits.{SetupFields, IsSetup}
 use Rattle.clock_house.specs.House.{HouseFields}
+use Rattle.clock_house.specs.History.{history}
 use Rattle.clock_http.specs.Replies.{Answer}
 use Rattle.clock_front.specs.Effects.{IsRightResponse, RespondsTo}
-use Rattle.clock_front.specs.Fronts.{StandsForTexts}
+use Rattle.clock_front.specs.Fronts.{StandsForTexts, commands_of}
 use Rattle.clock_front.specs.declared.front.response.Effect.{Effect}
 use Rattle.clock_front.specs.declared.front.response.Effect.TheVariants.{Nothing, Sheet, Closing}
 use Rattle.clock_front.specs.declared.front.response.Response.{Response}
@@ -52,7 +53,7 @@ pub record HasNext (setup : SetupFields) (past : List (List ℕ)) (one : Exchang
   pub next : List (List ℕ)
   pub logs : LogsText setup (state past journal_old) one (state next journal_new)
   pub stands : StandsForTexts (onto next []) new
-  pub counts : CountsOn changed (closed_by setup (onto past [])) (closed_by setup (onto next []))
+  pub counts : CountsOn changed (closed_by setup past) (closed_by setup next)
 
 module _ (one : Exchange) (journal_old journal_new : JournalState) (old new : HouseFields) (limits : IsSetup old.setup)
     (past : List (List ℕ)) (stands : StandsForTexts (onto past []) old) where
@@ -77,8 +78,8 @@ module _ (one : Exchange) (journal_old journal_new : JournalState) (old new : Ho
           (state past journal)) (sym same) (still_logged digest has);
     };
     stands = stands_now;
-    counts = subst (λ (e : Effect). CountsOn e (closed_by old.setup (onto past [])) (closed_by old.setup
-        (onto past []))) (sym nothing) refl;
+    counts = subst (λ (e : Effect). CountsOn e (closed_by old.setup past) (closed_by old.setup past))
+        (sym nothing) refl;
   }
 
   module _ (response : Response) (reported : IsAnswered one response journal_old journal_new old new)
@@ -110,9 +111,10 @@ module _ (one : Exchange) (journal_old journal_new : JournalState) (old new : Ho
             };
           };
           stands = subst (λ (texts : List (List ℕ)). StandsForTexts texts new) push after.stands;
-          counts = subst (λ (texts : List (List ℕ)). CountsOn changed (closed_by old.setup (onto past []))
-              (closed_by old.setup texts)) push (subst (λ (e : Effect). CountsOn e (closed_by old.setup (onto past []))
-              (closed_by old.setup (reported.text ∷ onto past []))) (sym after.changed ∙ is)
+          counts = subst (λ (texts : List (List ℕ)). CountsOn changed (closed_by old.setup past)
+              (length (history old.setup (commands_of old.setup texts)).closed)) push (subst (λ (e : Effect).
+              CountsOn e (closed_by old.setup past) (length (history old.setup (commands_of old.setup
+              (reported.text ∷ onto past []))).closed)) (sym after.changed ∙ is)
               (counts_text old.setup (onto past []) reported.text));
         }
 
@@ -147,7 +149,7 @@ module _ (one : Exchange) (journal_old journal_new : JournalState) (old new : Ho
 -- no connection was served yet
 pub served_none : (reported : Option (List ℕ)) (journal : JournalState) (house : HouseFields)
     → AreServed [] reported reported journal journal house house
-served_none reported journal house past stands = (past, refl, stands, tells_none house.setup (onto past []) reported)
+served_none reported journal house past stands = (past, refl, stands, tells_none house.setup past reported)
 
 -- one more was served
 pub served_more : (exchanges : List Exchange) (one : Exchange) (changed : Effect)
@@ -166,6 +168,5 @@ served_more exchanges one changed rounds_old rounds_mid rounds_new journal_old j
       walks_on (LogsText old.setup) (state past journal_old) exchanges (state so_far.0 journal_mid) one
           (state next.next journal_new) so_far.1 next.logs,
       next.stands,
-      tells_on old.setup (onto past []) (onto so_far.0 []) (onto next.next []) changed rounds_old rounds_mid
-          rounds_new so_far.3 next.counts tells,
+      tells_on old.setup past so_far.0 next.next changed rounds_old rounds_mid rounds_new so_far.3 next.counts tells,
     )

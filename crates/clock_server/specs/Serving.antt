@@ -6,7 +6,7 @@
 --         connection
 --     AcceptedTexts      the accepted texts, and the journal
 --     RepliesTo setup before one after      the reply is the right one after the texts before it
---     IsLogged digest before after      all accepted texts are on the disk
+--     IsLogged digest before after      all accepted texts are still on the disk
 --     LogsText setup before one after      the reply is right, and a text that changes the auction
 --         is on the disk when the first byte of its reply is written
 --     AreServed exchanges ..      all of these connections were served
@@ -60,9 +60,10 @@ pub record AcceptedTexts : Type 0 where
   pub texts : List (List ℕ)
   pub journal : JournalState
 
--- the request that was read got the right reply, or the out-of-memory reply, and joins the others
--- if it was accepted. When the first byte was written, this was the journal. Or none could be read,
--- and nothing changed. Refused texts are left out of the past: they change nothing
+-- the request that was read got the right reply, and joins the texts if it is accepted; or the
+-- out-of-memory reply. When the first byte was written, this was the journal. Or none could be
+-- read, and nothing changed. Refused texts are left out, since they change nothing: so each reply
+-- is still the right one after all requests before it
 abbrev pub RepliesTo : SetupFields → AcceptedTexts → Exchange → AcceptedTexts → Type 0
 RepliesTo setup before one after =
     ((text : List ℕ) × (answer : Answer) × IsReplied one text answer
@@ -72,8 +73,8 @@ RepliesTo setup before one after =
     ⊎ (IsOutOfMemoryReply text answer × (after.texts ≡ before.texts))))
     ⊎ (EndsUnanswered one × (after ≡ before))
 
--- all texts after are on the disk. A crash at any moment since leaves the texts before, and at most
--- the one logged now
+-- all texts are on the disk. A crash at any moment since leaves the texts before, and at most the
+-- one logged now
 pub record IsLogged (digest : List ℕ) (before after : AcceptedTexts) : Type 0 where
   pub has : HasTexts digest after.texts after.journal
   pub at_end : (left : List ℕ) → MayBeLeft before.journal.synced after.journal.written left
@@ -81,21 +82,22 @@ pub record IsLogged (digest : List ℕ) (before after : AcceptedTexts) : Type 0 
   pub moments : LeaveOnly before.journal.moments after.journal.moments
       (λ left. LeavesTexts digest left after.texts (length before.texts))
 
--- the reply is right. If a journal had all texts before on its disk, it has all texts then
+-- the reply is right; and if the journal had all texts on its disk, it still has
 pub record LogsText (setup : SetupFields) (before : AcceptedTexts) (one : Exchange)
     (after : AcceptedTexts) : Type 0 where
   pub replies : RepliesTo setup before one after
   pub logs : (digest : List ℕ) → HasTexts digest before.texts before.journal
       → IsLogged digest before after
 
--- these connections were served in order, and each round that was closed was reported
+-- from any texts that the front stood for, these connections lead to texts that it stands for now.
+-- They were served in order, and each round that was closed was reported
 abbrev pub AreServed : List Exchange → Option (List ℕ) → Option (List ℕ) → JournalState
     → JournalState → HouseFields → HouseFields → Type 0
 AreServed exchanges rounds_old rounds_new journal_old journal_new old new =
     (past : List (List ℕ)) → StandsForTexts (onto past []) old → (end : List (List ℕ))
     × Walks (LogsText old.setup) (record { texts = past; journal = journal_old }) exchanges
     (record { texts = end; journal = journal_new }) × StandsForTexts (onto end []) new
-    × ReportsClosings old.setup (onto past []) (onto end []) rounds_old rounds_new
+    × ReportsClosings old.setup past end rounds_old rounds_new
 
 -- an accepted text could not be logged, since a call of the disk has failed. It got no reply. A
 -- crash leaves the texts before, and at most this one more

@@ -2,9 +2,9 @@
 --     IsAnswered one response ..      the text is answered, and logged if it changes the auction
 --     IsServed one effect ..      one connection was served, with this effect
 --     EndsTaken one .. result      how serving an accepted connection ends
---     EndsOne coming_old coming_new .. result      how accepting and serving one ends
---     IsReportedAs old new served result      the closed round, if any, was reported
 --     round_closed effect      the closed round, if any
+--     IsReportedAs old new served result      the closed round, if any, was reported
+--     EndsOne coming_old coming_new .. result      how accepting and serving one ends
 use Rattle.std.specs.Prelude.{◌≡◌, ◌⊎◌, ℕ, List, [], ◌∷◌, Option, Result, Ok, Err}
 use Rattle.clock_house.specs.House.{HouseFields}
 use Rattle.clock_front.specs.Effects.{RespondsTo}
@@ -44,26 +44,19 @@ EndsTaken one journal_old journal_new old new (Ok effect) =
 EndsTaken one journal_old journal_new old new (Err failed) =
     IsUnlogged one journal_old journal_new old
 
--- the closed round, if any, was reported
-abbrev pub IsReported : Option (List ℕ) → Option (List ℕ) → Effect → Type 0
-IsReported rounds_old rounds_new Nothing = rounds_new ≡ rounds_old
-IsReported rounds_old rounds_new Sheet = rounds_new ≡ rounds_old
-IsReported rounds_old rounds_new (Closing round) = GrowsBy rounds_old rounds_new (round ∷ [])
-
--- this; or the text could not be logged, and the fault says so
-abbrev pub IsReportedAs : {U E : Type 0} → Option (List ℕ) → Option (List ℕ) → Result Effect E
-    → Result U ServeFault → Type 0
-IsReportedAs rounds_old rounds_new (Ok effect) (Ok done) = IsReported rounds_old rounds_new effect
-IsReportedAs rounds_old rounds_new (Err failed) (Err fault.Journal) = rounds_new ≡ rounds_old
-IsReportedAs rounds_old rounds_new (Ok effect) (Err fault) = ⊥
-IsReportedAs rounds_old rounds_new (Err failed) (Ok done) = ⊥
-IsReportedAs rounds_old rounds_new (Err failed) (Err fault.Accept) = ⊥
-
 -- the closed round, if any
 abbrev pub round_closed : Effect → List ℕ
 round_closed Nothing = []
 round_closed Sheet = []
 round_closed (Closing round) = round ∷ []
+
+-- it was reported; or the text could not be logged, and the fault says so
+abbrev pub IsReportedAs : {U E : Type 0} → Option (List ℕ) → Option (List ℕ) → Result Effect E
+    → Result U ServeFault → Type 0
+IsReportedAs rounds_old rounds_new (Ok effect) (Ok done) =
+    GrowsBy rounds_old rounds_new (round_closed effect)
+IsReportedAs rounds_old rounds_new (Err failed) (Err fault.Journal) = rounds_new ≡ rounds_old
+IsReportedAs rounds_old rounds_new served result = ⊥
 
 -- how serving one connection ends: it was served, and its closing reported; or it could not be
 -- accepted, and nothing changed; or its text could not be logged
