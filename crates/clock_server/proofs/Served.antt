@@ -5,7 +5,7 @@ use Rattle.clock_device.specs.Streams.{WritesText}
 use Rattle.clock_device.specs.Reports.{IsUnused, SinkReport, Writing}
 use Rattle.clock_device.specs.Writings.{WritesNothing}
 use Rattle.clock_device.proofs.Streams.{same_bytes}
-use Rattle.clock_terms.specs.Limits.{SetupFields, IsSetup}
+use Rattle.clock_terms.specs.Limits.{SetupFields}
 use Rattle.clock_house.specs.House.{HouseFields}
 use Rattle.clock_house.specs.History.{history}
 use Rattle.clock_http.specs.Replies.{Answer}
@@ -15,7 +15,6 @@ use Rattle.clock_front.specs.declared.front.response.Effect.{Effect}
 use Rattle.clock_front.specs.declared.front.response.Effect.TheVariants.{Nothing, Sheet, Closing}
 use Rattle.clock_front.specs.declared.front.response.Response.{Response}
 use Rattle.clock_front.proofs.AnswerLaws.{stands_still}
-use Rattle.clock_front.proofs.RunLaws.{right}
 use Rattle.clock_journal.specs.Crash.{LeavesTexts}
 use Rattle.clock_journal.specs.Logged.{HasTexts, JournalState}
 use Rattle.clock_journal.specs.Reading.{onto}
@@ -55,8 +54,8 @@ pub record HasNext (setup : SetupFields) (past : List (List ℕ)) (one : Exchang
   pub stands : StandsForTexts (onto next []) new
   pub counts : CountsOn changed (closed_by setup past) (closed_by setup next)
 
-module _ (one : Exchange) (journal_old journal_new : JournalState) (old new : HouseFields) (limits : IsSetup old.setup)
-    (past : List (List ℕ)) (stands : StandsForTexts (onto past []) old) where
+module _ (one : Exchange) (journal_old journal_new : JournalState) (old new : HouseFields) (past : List (List ℕ))
+    (stands : StandsForTexts (onto past []) old) where
   -- nothing was appended
   still_logged : (digest : List ℕ) → HasTexts digest past journal_old
       → IsLogged digest (state past journal_old) (state past journal_old)
@@ -89,7 +88,7 @@ module _ (one : Exchange) (journal_old journal_new : JournalState) (old new : Ho
     right_reply changed is =
         let after = right_after (onto past []) reported.text response old new stands fits in
         inl (reported.text, response.reply, reported.replied, reported.shown, inl (
-          right old.setup limits (onto past []) reported.text response.reply after.replied,
+          fits.answer.after (onto past []) stands,
           ap (λ (e : Effect). logged_when (is_change e) past reported.text) (sym is ∙ after.changed),
         ))
 
@@ -154,16 +153,15 @@ served_none reported journal house past stands = (past, refl, stands, tells_none
 -- one more was served
 pub served_more : (exchanges : List Exchange) (one : Exchange) (changed : Effect)
     (rounds_old rounds_mid rounds_new : Option (List ℕ)) (journal_old journal_mid journal_new : JournalState)
-    (old mid new : HouseFields) → IsSetup old.setup → mid.setup ≡ old.setup
+    (old mid new : HouseFields) → mid.setup ≡ old.setup
     → AreServed exchanges rounds_old rounds_mid journal_old journal_mid old mid
     → IsServed one changed journal_mid journal_new mid new → GrowsBy rounds_mid rounds_new (round_closed changed)
     → AreServed (exchanges ++ one ∷ []) rounds_old rounds_new journal_old journal_new old new
 served_more exchanges one changed rounds_old rounds_mid rounds_new journal_old journal_mid journal_new old mid new
-    limits same before served tells past stands =
+    same before served tells past stands =
     let so_far = before past stands in
     let next = subst (λ (setup : SetupFields). HasNext setup so_far.0 one changed journal_mid journal_new new) same
-    (served_one one journal_mid journal_new mid new (subst IsSetup (sym same) limits) so_far.0 so_far.2 changed
-    served) in (
+    (served_one one journal_mid journal_new mid new so_far.0 so_far.2 changed served) in (
       next.next,
       walks_on (LogsText old.setup) (state past journal_old) exchanges (state so_far.0 journal_mid) one
           (state next.next journal_new) so_far.1 next.logs,
