@@ -87,10 +87,16 @@ module _ (one : Exchange) (journal_old journal_new : JournalState) (old new : Ho
         (state (logged_when (is_change changed) past reported.text) journal_new)
     right_reply changed is =
         let after = right_after (onto past []) reported.text response old new stands fits in
-        inl (reported.text, response.reply, reported.replied, reported.shown, inl (
-          fits.answer.after (onto past []) stands,
-          ap (λ (e : Effect). logged_when (is_change e) past reported.text) (sym is ∙ after.changed),
-        ))
+        inl (
+          reported.text,
+          response.reply,
+          reported.replied,
+          reported.shown,
+          inl (
+            fits.answer.after (onto past []) stands,
+            ap (λ (e : Effect). logged_when (is_change e) past reported.text) (sym is ∙ after.changed),
+          ),
+        )
 
     -- its text was accepted and logged
     appended : (changed : Effect) → response.effect ≡ changed → IsAppended reported.text journal_old journal_new

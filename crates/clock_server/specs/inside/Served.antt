@@ -20,8 +20,8 @@ use Rattle.clock_server.specs.declared.serving.ServeFault.{ServeFault}
 use Rattle.clock_server.specs.declared.serving.ServeFault.TheVariants as fault
 
 -- the text that was read got this response, and is logged if it changes the auction
-pub record IsAnswered (one : Exchange) (response : Response) (journal_old journal_new : JournalState)
-    (old new : HouseFields) : Type 0 where
+pub record IsAnswered (one : Exchange) (response : Response)
+    (journal_old journal_new : JournalState) (old new : HouseFields) : Type 0 where
   pub text : List ℕ
   pub replied : IsReplied one text response.reply
   pub shown : IsShownJournal one.logged journal_new

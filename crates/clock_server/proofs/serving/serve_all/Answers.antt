@@ -33,8 +33,8 @@ returns-in_err-serve_next-clause-served g c =
     (coming c.serve_next.new.connections) (closed c.args.connections.now) (closed loop.connections)
     (closed c.serve_next.new.connections) (rounds c.args.log.now) (rounds loop.log) (rounds c.serve_next.new.log)
     (journal c.args.log.now) (journal loop.log) (journal c.serve_next.new.log) c.args.front.now loop.front
-    c.serve_next.new.front loop.invariant.setup loop.invariant.served c.serve_next.result c.args.count c.in_err-serve_next.field-0.0
-    c.loop-connection-test.true c.in_err-serve_next.ensures.ends)
+    c.serve_next.new.front loop.invariant.setup loop.invariant.served c.serve_next.result c.args.count
+    c.in_err-serve_next.field-0.0 c.loop-connection-test.true c.in_err-serve_next.ensures.ends)
 
 pub loop-connection-preserved : goal.loop-connection-preserved
 loop-connection-preserved g c =
