@@ -21,7 +21,7 @@ use Rattle.clock_server.specs.Generations.{IsGeneration, LeftSince, MayLeave, fa
 use Rattle.clock_server.specs.declared.generation.GenerationFault.TheVariants.{Serve}
 use Rattle.clock_server.specs.declared.serving.ServeFault.{ServeFault}
 use Rattle.clock_server.specs.declared.serving.ServeFault.TheVariants as fault
-use Rattle.clock_server.specs.Serving.{AcceptedTexts, AreServed, EndsServing, IsUnlogged, LogsText, RepliesTo}
+use Rattle.clock_server.specs.Serving.{AcceptedTexts, AreServed, EndsServing, IsUnlogged, RepliesTo}
 use Rattle.clock_server.specs.Serving.{Walks}
 use Rattle.clock_server.proofs.Served.{state}
 use Rattle.clock_server.proofs.Untouched.{left_all}
@@ -41,7 +41,7 @@ accepted_step setup before one after (inr (unanswered, is)) accepted =
     subst (λ (now : AcceptedTexts). AreAccepted setup [] now.texts) (sym is) accepted
 
 accepted_walk : (setup : SetupFields) (digest : List ℕ) (first : AcceptedTexts) (exchanges : List Exchange)
-    (last : AcceptedTexts) → Walks (LogsText setup) first exchanges last → HasAccepted setup digest first
+    (last : AcceptedTexts) → Walks setup first exchanges last → HasAccepted setup digest first
     → HasAccepted setup digest last
 accepted_walk setup digest first [] last walks has = subst (HasAccepted setup digest) (sym walks) has
 accepted_walk setup digest first (one ∷ others) last (next, step, walks) has =

@@ -169,7 +169,7 @@ served_more exchanges one changed rounds_old rounds_mid rounds_new journal_old j
     let next = subst (λ (setup : SetupFields). HasNext setup so_far.0 one changed journal_mid journal_new new) same
     (served_one one journal_mid journal_new mid new so_far.0 so_far.2 changed served) in (
       next.next,
-      walks_on (LogsText old.setup) (state past journal_old) exchanges (state so_far.0 journal_mid) one
+      walks_on old.setup (state past journal_old) exchanges (state so_far.0 journal_mid) one
           (state next.next journal_new) so_far.1 next.logs,
       next.stands,
       tells_on old.setup past so_far.0 next.next changed rounds_old rounds_mid rounds_new so_far.3 next.counts tells,

@@ -34,7 +34,7 @@ use Rattle.clock_server.specs.Accepted.{IsNotRefused, IsOwnFile}
 use Rattle.clock_server.specs.Starts.{IsLeftBy}
 use Rattle.clock_server.specs.declared.taking.ResumeFault.{ResumeFault}
 use Rattle.clock_server.specs.Exchanges.{Exchange}
-use Rattle.clock_server.specs.Serving.{AcceptedTexts, LogsText, Walks}
+use Rattle.clock_server.specs.Serving.{AcceptedTexts, Walks}
 use Rattle.clock_server.specs.declared.generation.GenerationFault.{GenerationFault}
 use Rattle.clock_server.specs.declared.generation.GenerationFault.TheVariants.{Start, Serve}
 use Rattle.clock_server.specs.declared.serving.ServeFault.TheVariants as fault
@@ -54,8 +54,8 @@ pub record ServesFrom (setup : SetupFields) (digest : List ℕ) (texts : List (L
   pub resumed : JournalState
   pub has : HasTexts digest (take count texts) resumed
   pub last : AcceptedTexts
-  pub walks : Walks (LogsText setup)
-      (record { texts = take count texts; journal = resumed }) exchanges last
+  pub walks :
+      Walks setup (record { texts = take count texts; journal = resumed }) exchanges last
   pub more : List (List ℕ)
   pub few : length more ≤ 1
   pub own : IsOwnFile setup digest (last.texts ++ more) (length last.texts) end

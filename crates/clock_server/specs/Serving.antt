@@ -2,13 +2,12 @@
 --     WritesReply writing answer      the reply was written, or a prefix of it if a write failed
 --     IsReplied one text answer      the text was read, and the reply was written
 --     EndsUnanswered one      no text was read that could be answered
---     Walks step past exchanges end      the step leads from `past` to `end`, connection by
---         connection
 --     AcceptedTexts      the accepted texts, and the journal
 --     RepliesTo setup before one after      the reply is the right one after the texts before it
 --     IsLogged digest before after      all accepted texts are still on the disk
 --     LogsText setup before one after      the reply is right, and a text that changes the auction
 --         is on the disk when the first byte of its reply is written
+--     Walks setup before exchanges after      so do these connections, one after the other
 --     AreServed exchanges ..      all of these connections were served
 --     IsUnlogged one ..      the text of a connection could not be logged
 --     is_accept_fault result      a connection could not be accepted
@@ -49,12 +48,6 @@ EndsUnanswered one =
     (HasNoMemory one.reading × WritesReply one.writing no_memory)
     ⊎ (IsNotRead one.reading × WritesNothing one.writing)
 
--- the step leads from `past` to `end`, connection by connection, in order
-abbrev pub Walks : {A : Type 0} → (A → Exchange → A → Type 0) → A → List Exchange → A → Type 0
-Walks step past [] end = end ≡ past
-Walks {A = A} step past (one ∷ others) end =
-    (next : A) × step past one next × Walks step next others end
-
 -- the texts that were accepted, the oldest first, and the journal
 pub record AcceptedTexts : Type 0 where
   pub texts : List (List ℕ)
@@ -89,13 +82,19 @@ pub record LogsText (setup : SetupFields) (before : AcceptedTexts) (one : Exchan
   pub logs : (digest : List ℕ) → HasTexts digest before.texts before.journal
       → IsLogged digest before after
 
+-- each connection leads from the texts and the journal before it to those after it, in order
+abbrev pub Walks : SetupFields → AcceptedTexts → List Exchange → AcceptedTexts → Type 0
+Walks setup before [] after = after ≡ before
+Walks setup before (one ∷ others) after =
+    (next : AcceptedTexts) × LogsText setup before one next × Walks setup next others after
+
 -- from any texts that the front stood for, these connections lead to texts that it stands for now.
 -- They were served in order, and each round that was closed was reported
 abbrev pub AreServed : List Exchange → Option (List ℕ) → Option (List ℕ) → JournalState
     → JournalState → HouseFields → HouseFields → Type 0
 AreServed exchanges rounds_old rounds_new journal_old journal_new old new =
     (past : List (List ℕ)) → StandsForTexts (onto past []) old → (end : List (List ℕ))
-    × Walks (LogsText old.setup) (record { texts = past; journal = journal_old }) exchanges
+    × Walks old.setup (record { texts = past; journal = journal_old }) exchanges
     (record { texts = end; journal = journal_new }) × StandsForTexts (onto end []) new
     × ReportsClosings old.setup past end rounds_old rounds_new
 
