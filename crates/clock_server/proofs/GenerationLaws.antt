@@ -90,21 +90,24 @@ pub own_left : (setup : SetupFields) (digest : List ℕ) (texts : List (List ℕ
 own_left setup digest texts least journal synced bytes is written own =
     own.leaves bytes (now_left journal.synced journal.written synced bytes is written)
 
-module _ (found first : JournalState) (bytes : List ℕ) (old : HouseFields) (recovered : Recovered)
-    (resumes : found.written ≡ Some bytes → IsResumed found.chain bytes first old recovered) where
+module _ (setup : SetupFields) (found first : JournalState) (bytes : List ℕ) (old : HouseFields) (same : old.setup
+    ≡ setup) (recovered : Recovered) (resumes : found.written ≡ Some bytes → IsResumed found.chain bytes first old
+    recovered) where
   serves : (exchanges : List Exchange) (rounds_old rounds_new : Option (List ℕ)) (before last : JournalState)
       (house : HouseFields) → AreServed exchanges rounds_old rounds_new first before old house
-      → EndsWith old.setup found.chain before house last
-      → found.written ≡ Some bytes → IsGeneration old.setup found.chain (served found exchanges last)
+      → EndsWith setup found.chain before house last
+      → found.written ≡ Some bytes → IsGeneration setup found.chain (served found exchanges last)
   serves exchanges rounds_old rounds_new before last house are ends_with written texts least synced is own =
       let resumed = resumes written in
       let those = resumed.are.crash texts least
-      (own_left old.setup found.chain texts least found synced bytes is written own) in
+      (own_left setup found.chain texts least found synced bytes is written own) in
       let has = subst (λ (all : List (List ℕ)). HasTexts found.chain all first) those.3 resumed.has in
       let ends = are (take those.0 texts)
       (subst (λ (all : List (List ℕ)). StandsForTexts (onto all []) old) those.3 resumed.stands) in
-      let own_end = ends_with ends.0 (accepted_walk old.setup found.chain (state (take those.0 texts) first) exchanges
-      (state ends.0 before) ends.1 (accepted_take old.setup [] texts those.0 own.accepted, has)) ends.2 in
+      let walks = subst (λ (of_setup : SetupFields). Walks of_setup (state (take those.0 texts) first) exchanges
+      (state ends.0 before)) same ends.1 in
+      let own_end = ends_with ends.0 (accepted_walk setup found.chain (state (take those.0 texts) first) exchanges
+      (state ends.0 before) walks (accepted_take setup [] texts those.0 own.accepted, has)) ends.2 in
       record {
         count = those.0;
         enough = those.1;
@@ -112,7 +115,7 @@ module _ (found first : JournalState) (bytes : List ℕ) (old : HouseFields) (re
         resumed = first;
         has = has;
         last = state ends.0 before;
-        walks = ends.1;
+        walks = walks;
         more = own_end.0;
         few = own_end.1;
         own = own_end.2;
@@ -120,14 +123,14 @@ module _ (found first : JournalState) (bytes : List ℕ) (old : HouseFields) (re
 
   pub served_all : (exchanges : List Exchange) (rounds_old rounds_new : Option (List ℕ)) (last : JournalState)
       (new : HouseFields) → AreServed exchanges rounds_old rounds_new first last old new
-      → found.written ≡ Some bytes → IsGeneration old.setup found.chain (served found exchanges last)
+      → found.written ≡ Some bytes → IsGeneration setup found.chain (served found exchanges last)
   served_all exchanges rounds_old rounds_new last new are =
-      serves exchanges rounds_old rounds_new last last new are (all_logged old.setup found.chain last new)
+      serves exchanges rounds_old rounds_new last last new are (all_logged setup found.chain last new)
 
   pub ends_by_fault : (U : Type 0) (count : ℕ) (exchanges : List Exchange) (rounds_old rounds_new : Option (List ℕ))
       (last : JournalState) (new : HouseFields) (why : ServeFault)
       → EndsServing {U = U} count exchanges rounds_old rounds_new first last old new (Err why)
-      → EndsGeneration {U = U} old.setup count exchanges bytes found last (Err (Serve why))
+      → EndsGeneration {U = U} setup count exchanges bytes found last (Err (Serve why))
   ends_by_fault U count exchanges rounds_old rounds_new last new fault.Accept ends =
       (ends.0, served_all exchanges rounds_old rounds_new last new ends.1)
   ends_by_fault U count exchanges rounds_old rounds_new last new fault.Journal ends = (
@@ -137,7 +140,7 @@ module _ (found first : JournalState) (bytes : List ℕ) (old : HouseFields) (re
     ends.3,
     ends.8.silent,
     serves ends.0 rounds_old rounds_new ends.4 last ends.5 ends.6
-        (one_unlogged old.setup found.chain ends.4 last ends.5 ends.1 ends.7 ends.8),
+        (one_unlogged setup found.chain ends.4 last ends.5 ends.1 (ends.7 ∙ same) ends.8),
   )
 
 -- ---- generations

@@ -1,7 +1,4 @@
-use Rattle.std.proofs.Common.{◌≡◌, [], Some, Err, refl, subst}
-use Rattle.clock_terms.specs.Limits.{SetupFields}
-use Rattle.clock_server.specs.Generations.{EndsGeneration, IsGeneration, served}
-use Rattle.clock_server.specs.declared.generation.GenerationFault.TheVariants.{Serve}
+use Rattle.std.proofs.Common.{[], refl}
 use Rattle.clock_server.proofs.AcceptedLaws.{own_starts}
 use Rattle.clock_server.proofs.GenerationLaws.{ends_by_fault, own_left, served_all}
 use Rattle.clock_server.proofs.Walking.{came_none, grown_none}
@@ -30,8 +27,6 @@ returns-in-Err-clause-generation g c =
 
 pub returns-in-Ok-clause-generation : goal.returns-in-Ok-clause-generation
 returns-in-Ok-clause-generation g c =
-    let found = c.args.journal.now in
-    let last = c.serve_all.new.log in
     let started = c.in_default.ensures in
     let ends = c.in-Ok.ensures.served in (
       ends.0,
@@ -39,25 +34,20 @@ returns-in-Ok-clause-generation g c =
       ends.2,
       (
         ends.3.0,
-        subst (λ (setup : SetupFields). found.written ≡ Some c.args.bytes.now
-            → IsGeneration setup found.chain (served found ends.0 last)) started.setup
-            (served_all found c.resume_auction.new.journal c.args.bytes.now c.resume_auction.new.auction.front _
-            started.in_step ends.0 _ _ last c.serve_all.new.front ends.3.1),
+        served_all c.args.auction.now.front.setup c.args.journal.now c.resume_auction.new.journal c.args.bytes.now
+            c.resume_auction.new.auction.front started.setup _ started.in_step ends.0 _ _ c.serve_all.new.log
+            c.serve_all.new.front ends.3.1,
       ),
     )
 
 pub returns-in-Err-serve_all-clause-generation : goal.returns-in-Err-serve_all-clause-generation
 returns-in-Err-serve_all-clause-generation g c =
-    let found = c.args.journal.now in
-    let last = c.serve_all.new.log in
     let started = c.in_default.ensures in
     let ends = c.in-Err-serve_all.ensures.served in (
       ends.0,
       ends.1,
       ends.2,
-      subst (λ (setup : SetupFields). EndsGeneration {U = Unit {0}} setup c.args.count ends.0 c.args.bytes.now found
-          last (Err (Serve c.in-Err-serve_all.fault))) started.setup
-          (ends_by_fault found c.resume_auction.new.journal c.args.bytes.now c.resume_auction.new.auction.front _
-          started.in_step (Unit {0}) c.args.count ends.0 _ _ last c.serve_all.new.front c.in-Err-serve_all.fault
-          ends.3),
+      ends_by_fault c.args.auction.now.front.setup c.args.journal.now c.resume_auction.new.journal c.args.bytes.now
+          c.resume_auction.new.auction.front started.setup _ started.in_step (Unit {0}) c.args.count ends.0 _ _
+          c.serve_all.new.log c.serve_all.new.front c.in-Err-serve_all.fault ends.3,
     )
