@@ -14,7 +14,7 @@ use Rattle.clock_http.specs.declared.code.Code.TheVariants.{CutShort}
 use Rattle.clock_http.specs.Framing.{framing, incomplete, needs_more}
 use Rattle.clock_front.specs.Callers.{caller}
 use Rattle.clock_front.specs.Effects.{IsRightResponse, RespondsTo, close_effect, effect, effect_in, put_effect}
-use Rattle.clock_front.specs.Fronts.{StandsForTexts, commands_of, house_after, reply, text_command}
+use Rattle.clock_front.specs.Fronts.{StandsForTexts, commands_of, house_after, text_command}
 use Rattle.clock_front.specs.Requests.{request_of}
 use Rattle.clock_front.specs.declared.front.response.Effect.{Effect}
 use Rattle.clock_front.specs.declared.front.response.Effect.TheVariants.{Nothing, Sheet, Closing}
@@ -38,17 +38,15 @@ effect_after house commands (close round increments ties) stands =
     (round_to_close house.setup (history house.setup commands).closed sheets) round increments ties)) stands.sheets
 effect_after house commands other stands = refl
 
--- the right response after some texts, and the house stands for these and the text
+-- the right effect after some texts, and the house stands for these and the text
 pub record IsAfter (setup : SetupFields) (texts : List (List ℕ)) (text : List ℕ) (response : Response)
     (new : HouseFields) : Type 0 where
-  pub replied : response.reply ≡ reply setup texts text
   pub changed : response.effect ≡ effect setup texts text
   pub stands : StandsForTexts (text ∷ texts) new
 
 pub right_after : (texts : List (List ℕ)) (text : List ℕ) (response : Response) (old new : HouseFields)
     → StandsForTexts texts old → IsRightResponse text old new response → IsAfter old.setup texts text response new
 right_after texts text response old new stands right = record {
-  replied = (right.answer.after texts stands).is;
   changed = right.effect ∙ effect_after old (commands_of old.setup texts) (text_command old.setup text) stands;
   stands = stands_after texts text old new stands right.answer.followed;
 }
