@@ -14,14 +14,16 @@ use Rattle.clock_http.specs.declared.code.Code.TheVariants.{CutShort}
 use Rattle.clock_http.specs.Framing.{framing, incomplete, needs_more}
 use Rattle.clock_front.specs.Callers.{caller}
 use Rattle.clock_front.specs.Effects.{IsRightResponse, RespondsTo, close_effect, effect, effect_in, put_effect}
-use Rattle.clock_front.specs.Fronts.{StandsForTexts, commands_of, house_after, reply, text_command}
+use Rattle.clock_front.specs.Fronts.{StandsForTexts, commands_of, house_after, text_command}
 use Rattle.clock_front.specs.Requests.{request_of}
 use Rattle.clock_front.specs.declared.front.response.Effect.{Effect}
 use Rattle.clock_front.specs.declared.front.response.Effect.TheVariants.{Nothing, Sheet, Closing}
 use Rattle.clock_front.specs.declared.front.response.Response.{Response}
 use Rattle.clock_front.proofs.AnswerLaws.{stands_after}
 use Rattle.clock_front.proofs.FrontLaws.{away_command, needs_by_test}
-use Rattle.clock_server.specs.Keeping.{IsAccepted, is_change}
+use Rattle.clock_journal.specs.Logged.{IsAppended, JournalState}
+use Rattle.clock_journal.specs.Reading.{onto}
+use Rattle.clock_server.specs.Keeping.{IsAccepted, LogsChange, is_change}
 
 -- a command changes the same in a house and after the commands that the house stands for
 effect_after : (house : HouseFields) (commands : List Command) (command : Command) → StandsFor commands house
@@ -36,31 +38,40 @@ effect_after house commands (close round increments ties) stands =
     (round_to_close house.setup (history house.setup commands).closed sheets) round increments ties)) stands.sheets
 effect_after house commands other stands = refl
 
--- the right response after some texts, and the house stands for these and the text
+-- the right effect after some texts, and the house stands for these and the text
 pub record IsAfter (setup : SetupFields) (texts : List (List ℕ)) (text : List ℕ) (response : Response)
     (new : HouseFields) : Type 0 where
-  pub replied : response.reply ≡ reply setup texts text
   pub changed : response.effect ≡ effect setup texts text
   pub stands : StandsForTexts (text ∷ texts) new
 
 pub right_after : (texts : List (List ℕ)) (text : List ℕ) (response : Response) (old new : HouseFields)
     → StandsForTexts texts old → IsRightResponse text old new response → IsAfter old.setup texts text response new
 right_after texts text response old new stands right = record {
-  replied = (right.answer.after texts stands).is;
   changed = right.effect ∙ effect_after old (commands_of old.setup texts) (text_command old.setup text) stands;
   stands = stands_after texts text old new stands right.answer.followed;
 }
 
 -- ---- what changes the auction
 
--- the logged texts, the oldest first, after a text that changes the auction or not
+-- the accepted texts, the oldest first, after a text that changes the auction or not
 abbrev pub logged_when : Bool → List (List ℕ) → List ℕ → List (List ℕ)
 logged_when changes past text = if changes then past ++ text ∷ [] else past
+
+pub onto-push : (texts : List (List ℕ)) (text : List ℕ) (past : List (List ℕ))
+    → onto (texts ++ text ∷ []) past ≡ text ∷ onto texts past
+onto-push [] text past = refl
+onto-push (one ∷ texts) text past = onto-push texts text (one ∷ past)
 
 pub nothing_where : (one : Effect) → is_change one ≡ false → one ≡ Nothing
 nothing_where Nothing is = refl
 nothing_where Sheet is = absurd (let no : ⊥ = cc in no)
 nothing_where (Closing round) is = absurd (let no : ⊥ = cc in no)
+
+pub logs_where : (one : Effect) (text : List ℕ) (old new : JournalState) → is_change one ≡ true
+    → IsAppended text old new → LogsChange one text old new
+logs_where Nothing text old new is appended = absurd (let no : ⊥ = cc in no)
+logs_where Sheet text old new is appended = appended
+logs_where (Closing round) text old new is appended = appended
 
 -- a response that changed something is not out of memory
 pub right_where : (text : List ℕ) (response : Response) (old new : HouseFields) → RespondsTo text response old new

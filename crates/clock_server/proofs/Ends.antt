@@ -1,7 +1,6 @@
 -- How a run ends with one more connection: it was served, it could not be accepted, or its text could not be logged.
 use Rattle.std.proofs.Common.{◌≡◌, ◌<◌, ◌+◌, ℕ, List, [], ◌∷◌, ◌++◌, Option, Result, Ok, Err, length, refl, sym}
 use Rattle.std.proofs.Common.{subst, arith, length-append}
-use Rattle.clock_terms.specs.Limits.{IsSetup}
 use Rattle.clock_house.specs.House.{HouseFields}
 use Rattle.clock_journal.specs.Logged.{JournalState}
 use Rattle.clock_server.specs.Keeping.{GrowsBy}
@@ -25,8 +24,8 @@ pub record HasServed (count : ℕ) (coming_old coming_new : Option (List (List �
 
 module _ (count : ℕ) (coming_old coming_mid coming_new : Option (List (List ℕ)))
     (first mid last : Option (List Exchange)) (rounds_old rounds_mid rounds_new : Option (List ℕ))
-    (journal_old journal_mid journal_new : JournalState) (old now new : HouseFields) (limits : IsSetup old.setup)
-    (same : now.setup ≡ old.setup) (before : HasServed count coming_old coming_mid first mid rounds_old rounds_mid
+    (journal_old journal_mid journal_new : JournalState) (old now new : HouseFields) (same : now.setup ≡ old.setup)
+    (before : HasServed count coming_old coming_mid first mid rounds_old rounds_mid
     journal_old journal_mid old now) where
   -- one more was served
   pub one_more : {U : Type 0} (done : U)
@@ -38,7 +37,7 @@ module _ (count : ℕ) (coming_old coming_mid coming_new : Option (List (List �
     came = came_more coming_old coming_mid coming_new before.exchanges ends.0 before.came ends.2;
     counted = omega (arith, length-append before.exchanges (ends.0 ∷ []), before.counted);
     served = served_more before.exchanges ends.0 ends.3.0 rounds_old rounds_mid rounds_new journal_old journal_mid
-        journal_new old now new limits same before.served ends.3.1 ends.3.2;
+        journal_new old now new same before.served ends.3.1 ends.3.2;
   }
 
   -- this ends the run

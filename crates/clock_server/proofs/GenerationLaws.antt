@@ -4,6 +4,7 @@ use Rattle.std.proofs.Common.{refl, sym, ap, ◌∙◌, subst, arith, length-app
 use Rattle.std.proofs.lemmas.List.{take_at}
 use Rattle.clock_terms.specs.Limits.{SetupFields}
 use Rattle.clock_house.specs.House.{HouseFields}
+use Rattle.clock_front.specs.Fronts.{StandsForTexts}
 use Rattle.clock_journal.specs.Crash.{LeavesJournal}
 use Rattle.clock_journal.specs.Disks.{CouldBeLeft, LeaveOnly, MayBeLeft, Moment}
 use Rattle.clock_journal.specs.Logged.{HasTexts, JournalState}
@@ -11,120 +12,77 @@ use Rattle.clock_journal.proofs.Starting.{now_left}
 use Rattle.clock_journal.proofs.TakenOver.{left_first}
 use Rattle.clock_server.specs.Accepted.{AreAccepted, IsOwnFile}
 use Rattle.clock_journal.specs.Reading.{onto}
-use Rattle.clock_server.specs.Keeping.{IsAccepted, IsInStep}
+use Rattle.clock_server.specs.Keeping.{IsAccepted}
 use Rattle.clock_server.specs.Starts.{IsResumed}
 use Rattle.clock_journal.specs.declared.recovery.Recovered.{Recovered}
 use Rattle.clock_server.proofs.AcceptedLaws.{accepted_after, accepted_push, accepted_take}
 use Rattle.clock_server.specs.Exchanges.{Exchange}
 use Rattle.clock_server.specs.Generations.{AreRestarts, ContinueFrom, EndsGeneration, Generation, GenerationsContinue}
-use Rattle.clock_server.specs.Generations.{IsGeneration, LeftSince, MayLeave, ServesFrom, failed, served}
+use Rattle.clock_server.specs.Generations.{IsGeneration, LeftSince, MayLeave, failed, served}
 use Rattle.clock_server.specs.declared.generation.GenerationFault.TheVariants.{Serve}
 use Rattle.clock_server.specs.declared.serving.ServeFault.{ServeFault}
 use Rattle.clock_server.specs.declared.serving.ServeFault.TheVariants as fault
-use Rattle.clock_server.specs.Serving.{AreServed, EndsServing, IsUnlogged, LogsText, LoggedTexts, RepliesOver, Walks}
-use Rattle.clock_server.proofs.Served.{left_since}
+use Rattle.clock_server.specs.Serving.{AcceptedTexts, AreServed, EndsServing, IsUnlogged, RepliesTo}
+use Rattle.clock_server.specs.Serving.{Walks}
+use Rattle.clock_server.proofs.Served.{state}
+use Rattle.clock_server.proofs.Untouched.{left_all}
 
--- ---- logged texts were accepted
+-- ---- accepted texts that are on the disk
 
-accepted_step : (setup : SetupFields) (before : LoggedTexts) (one : Exchange) (after : LoggedTexts)
-    → RepliesOver setup before one after → AreAccepted setup [] before.texts → AreAccepted setup [] after.texts
-accepted_step setup before one after (inl (text, answer, replied, inl (right, is), seen)) accepted =
-    subst (λ (texts : List (List ℕ)). AreAccepted setup [] texts) (sym is)
-    (accepted_after setup before.texts text accepted)
-accepted_step setup before one after (inl (text, answer, replied, inr (left_out, is), seen)) accepted =
-    subst (λ (texts : List (List ℕ)). AreAccepted setup [] texts) (sym is) accepted
-accepted_step setup before one after (inr (alone, is)) accepted =
-    subst (λ (logged : LoggedTexts). AreAccepted setup [] logged.texts) (sym is) accepted
+abbrev HasAccepted : SetupFields → List ℕ → AcceptedTexts → Type 0
+HasAccepted setup digest at = AreAccepted setup [] at.texts × HasTexts digest at.texts at.journal
 
-accepted_walk : (digest : List ℕ) (setup : SetupFields) (first : LoggedTexts) (exchanges : List Exchange)
-    (last : LoggedTexts) → Walks (LogsText digest setup) first exchanges last → AreAccepted setup [] first.texts
-    → AreAccepted setup [] last.texts
-accepted_walk digest setup first [] last walks accepted =
-    subst (λ (logged : LoggedTexts). AreAccepted setup [] logged.texts) (sym walks) accepted
-accepted_walk digest setup first (one ∷ others) last walks accepted =
-    accepted_walk digest setup walks.0 others last walks.2
-    (accepted_step setup first one walks.0 walks.1.replies accepted)
+accepted_step : (setup : SetupFields) (before : AcceptedTexts) (one : Exchange) (after : AcceptedTexts)
+    → RepliesTo setup before one after → AreAccepted setup [] before.texts → AreAccepted setup [] after.texts
+accepted_step setup before one after (inl (text, answer, replied, shown, inl (right, is))) accepted =
+    subst (AreAccepted setup []) (sym is) (accepted_after setup before.texts text accepted)
+accepted_step setup before one after (inl (text, answer, replied, shown, inr (left_out, is))) accepted =
+    subst (AreAccepted setup []) (sym is) accepted
+accepted_step setup before one after (inr (unanswered, is)) accepted =
+    subst (λ (now : AcceptedTexts). AreAccepted setup [] now.texts) (sym is) accepted
+
+accepted_walk : (setup : SetupFields) (digest : List ℕ) (first : AcceptedTexts) (exchanges : List Exchange)
+    (last : AcceptedTexts) → Walks setup first exchanges last → HasAccepted setup digest first
+    → HasAccepted setup digest last
+accepted_walk setup digest first [] last walks has = subst (HasAccepted setup digest) (sym walks) has
+accepted_walk setup digest first (one ∷ others) last (next, step, walks) has =
+    accepted_walk setup digest next others last walks
+    (accepted_step setup first one next step.replies has.0, (step.logs digest has.1).0)
 
 -- ---- one generation
 
--- the journal has a prefix of these texts, at least `least`, all on its disk, and the auction stands for them
-pub record HasResumed (digest : List ℕ) (texts : List (List ℕ)) (least : ℕ) (journal : JournalState)
-    (house : HouseFields) : Type 0 where
-  pub count : ℕ
-  pub enough : least ≤ count
-  pub most : count ≤ length texts
-  pub in_step : IsInStep digest (take count texts) journal house
+-- from accepted texts on the disk, the file at the end has these, and at most one more
+abbrev EndsWith : SetupFields → List ℕ → JournalState → HouseFields → JournalState → Type 0
+EndsWith setup digest before house last = (texts : List (List ℕ))
+    → HasAccepted setup digest (state texts before) → StandsForTexts (onto texts []) house
+    → (more : List (List ℕ)) × (length more ≤ 1) × IsOwnFile setup digest (texts ++ more) (length texts) last
 
-pub has_resumed : (digest bytes : List ℕ) (journal : JournalState) (house : HouseFields) (recovered : Recovered)
-    (texts : List (List ℕ)) (least : ℕ) → IsResumed digest bytes journal house recovered
-    → LeavesJournal digest bytes texts least → HasResumed digest texts least journal house
-has_resumed digest bytes journal house recovered texts least resumed leaves =
-    let first = left_first digest bytes resumed.texts texts least recovered resumed.are leaves in
-    record {
-      count = first.0;
-      enough = first.1;
-      most = first.2;
-      in_step = subst (λ (all : List (List ℕ)). IsInStep digest all journal house) first.3 resumed.in_step;
-    }
+-- all connections were served
+all_logged : (setup : SetupFields) (digest : List ℕ) (last : JournalState) (house : HouseFields)
+    → EndsWith setup digest last house last
+all_logged setup digest last house texts has stands = (
+  [],
+  omega arith,
+  subst (λ (all : List (List ℕ)). IsOwnFile setup digest all (length texts) last) (sym (append-nil texts)) (record {
+    accepted = has.0;
+    leaves = λ left may. inl (left_all digest texts last left has.1 may);
+  }),
+)
 
-module _ (digest : List ℕ) (texts : List (List ℕ)) (least : ℕ) (first last : JournalState) (old : HouseFields)
-    (accepted : AreAccepted old.setup [] texts) (resumed : HasResumed digest texts least first old) where
-  accepted_end : (exchanges : List Exchange) (end : LoggedTexts)
-      → Walks (LogsText digest old.setup) (record { texts = take resumed.count texts; journal = first }) exchanges end
-      → AreAccepted old.setup [] end.texts
-  accepted_end exchanges end walks =
-      accepted_walk digest old.setup (record { texts = take resumed.count texts; journal = first }) exchanges end walks
-      (accepted_take old.setup [] texts resumed.count accepted)
-
-  -- all connections were served
-  pub serves_all : (exchanges : List Exchange) (rounds_old rounds_new : Option (List ℕ)) (new : HouseFields)
-      → AreServed exchanges rounds_old rounds_new first last old new
-      → ServesFrom old.setup digest texts least exchanges last
-  serves_all exchanges rounds_old rounds_new new are =
-      let logged = are.logged digest (take resumed.count texts) resumed.in_step in
-      let has = subst (λ (all : List (List ℕ)). HasTexts digest all last) (sym (append-nil logged.0)) logged.2.has in
-      record {
-        count = resumed.count;
-        enough = resumed.enough;
-        most = resumed.most;
-        resumed = first;
-        last = record { texts = logged.0; journal = last };
-        walks = logged.1;
-        more = [];
-        few = omega arith;
-        own = record {
-          accepted = subst (λ (all : List (List ℕ)). AreAccepted old.setup [] all) (sym (append-nil logged.0))
-              (accepted_end exchanges (record { texts = logged.0; journal = last }) logged.1);
-          leaves = λ left may. inl (left_since digest logged.0 [] last last left logged.2.has has may);
-        };
-      }
-
-  -- the text of the last could not be logged
-  pub serves_but : (some : List Exchange) (last_one : Exchange) (rounds_old rounds_new : Option (List ℕ))
-      (before : JournalState) (house : HouseFields) → AreServed some rounds_old rounds_new first before old house
-      → house.setup ≡ old.setup → IsUnlogged last_one before last house
-      → ServesFrom old.setup digest texts least some last
-  serves_but some last_one rounds_old rounds_new before house are same unlogged =
-      let logged = are.logged digest (take resumed.count texts) resumed.in_step in
-      record {
-        count = resumed.count;
-        enough = resumed.enough;
-        most = resumed.most;
-        resumed = first;
-        last = record { texts = logged.0; journal = before };
-        walks = logged.1;
-        more = unlogged.text ∷ [];
-        few = omega arith;
-        own = record {
-          accepted = accepted_push old.setup [] logged.0 unlogged.text
-              (accepted_end some (record { texts = logged.0; journal = before }) logged.1)
-              (subst (λ (setup : SetupFields). IsAccepted setup (onto logged.0 []) unlogged.text) same
-              (unlogged.accepted (onto logged.0 []) logged.2.stands));
-          leaves = λ left may.
-              inl ((unlogged.moments digest logged.0 logged.2.has).at_end left
-              (subst (λ (bytes : Option (List ℕ)). MayBeLeft bytes last.written left) unlogged.on_disk may));
-        };
-      }
+-- the text of the last could not be logged
+one_unlogged : (setup : SetupFields) (digest : List ℕ) (before last : JournalState) (house : HouseFields)
+    (one : Exchange) → house.setup ≡ setup → IsUnlogged one before last house
+    → EndsWith setup digest before house last
+one_unlogged setup digest before last house one same unlogged texts has stands = (
+  unlogged.text ∷ [],
+  omega arith,
+  record {
+    accepted = accepted_push setup [] texts unlogged.text has.0 (subst (λ (of_setup : SetupFields).
+        IsAccepted of_setup (onto texts []) unlogged.text) same (unlogged.accepted (onto texts []) stands));
+    leaves = λ left may. inl ((unlogged.moments digest texts has.1).at_end left
+        (subst (λ (bytes : Option (List ℕ)). MayBeLeft bytes last.written left) unlogged.on_disk may));
+  },
+)
 
 -- what is in the file is what a crash may leave of it
 pub own_left : (setup : SetupFields) (digest : List ℕ) (texts : List (List ℕ)) (least : ℕ) (journal : JournalState)
@@ -133,38 +91,57 @@ pub own_left : (setup : SetupFields) (digest : List ℕ) (texts : List (List ℕ
 own_left setup digest texts least journal synced bytes is written own =
     own.leaves bytes (now_left journal.synced journal.written synced bytes is written)
 
-module _ (setup : SetupFields) (found first last : JournalState) (bytes : List ℕ) (old : HouseFields)
-    (same : old.setup ≡ setup) (resumed : (texts : List (List ℕ)) (least : ℕ) → found.written ≡ Some bytes
-    → LeavesJournal found.chain bytes texts least → HasResumed found.chain texts least first old) where
-  lives : (exchanges : List Exchange) → ((texts : List (List ℕ)) (least : ℕ) → AreAccepted old.setup [] texts
-      → HasResumed found.chain texts least first old → ServesFrom old.setup found.chain texts least exchanges last)
+module _ (setup : SetupFields) (found first : JournalState) (bytes : List ℕ) (old : HouseFields) (same : old.setup
+    ≡ setup) (recovered : Recovered) (resumes : found.written ≡ Some bytes → IsResumed found.chain bytes first old
+    recovered) where
+  serves : (exchanges : List Exchange) (rounds_old rounds_new : Option (List ℕ)) (before last : JournalState)
+      (house : HouseFields) → AreServed exchanges rounds_old rounds_new first before old house
+      → EndsWith setup found.chain before house last
       → found.written ≡ Some bytes → IsGeneration setup found.chain (served found exchanges last)
-  lives exchanges how written texts least synced is own =
-      subst (λ (one : SetupFields). ServesFrom one found.chain texts least exchanges last) same
-      (how texts least (subst (λ (one : SetupFields). AreAccepted one [] texts) (sym same) own.accepted)
-      (resumed texts least written (own_left setup found.chain texts least found synced bytes is written own)))
+  serves exchanges rounds_old rounds_new before last house are ends_with written texts least synced is own =
+      let resumed = resumes written in
+      let those = left_first found.chain bytes resumed.texts texts least recovered resumed.are
+      (own_left setup found.chain texts least found synced bytes is written own) in
+      let has = subst (λ (all : List (List ℕ)). HasTexts found.chain all first) those.3 resumed.has in
+      let ends = are (take those.0 texts)
+      (subst (λ (all : List (List ℕ)). StandsForTexts (onto all []) old) those.3 resumed.stands) in
+      let walks = subst (λ (of_setup : SetupFields). Walks of_setup (state (take those.0 texts) first) exchanges
+      (state ends.0 before)) same ends.1 in
+      let own_end = ends_with ends.0 (accepted_walk setup found.chain (state (take those.0 texts) first) exchanges
+      (state ends.0 before) walks (accepted_take setup [] texts those.0 own.accepted, has)) ends.2 in
+      record {
+        count = those.0;
+        enough = those.1;
+        most = those.2;
+        resumed = first;
+        has = has;
+        last = state ends.0 before;
+        walks = walks;
+        more = own_end.0;
+        few = own_end.1;
+        own = own_end.2;
+      }
 
-  pub served_all : (exchanges : List Exchange) (rounds_old rounds_new : Option (List ℕ)) (new : HouseFields)
-      → AreServed exchanges rounds_old rounds_new first last old new
+  pub served_all : (exchanges : List Exchange) (rounds_old rounds_new : Option (List ℕ)) (last : JournalState)
+      (new : HouseFields) → AreServed exchanges rounds_old rounds_new first last old new
       → found.written ≡ Some bytes → IsGeneration setup found.chain (served found exchanges last)
-  served_all exchanges rounds_old rounds_new new are =
-      lives exchanges (λ texts least accepted resumes.
-      serves_all found.chain texts least first last old accepted resumes exchanges rounds_old rounds_new new are)
+  served_all exchanges rounds_old rounds_new last new are =
+      serves exchanges rounds_old rounds_new last last new are (all_logged setup found.chain last new)
 
   pub ends_by_fault : (U : Type 0) (count : ℕ) (exchanges : List Exchange) (rounds_old rounds_new : Option (List ℕ))
-      (new : HouseFields) (why : ServeFault)
+      (last : JournalState) (new : HouseFields) (why : ServeFault)
       → EndsServing {U = U} count exchanges rounds_old rounds_new first last old new (Err why)
       → EndsGeneration {U = U} setup count exchanges bytes found last (Err (Serve why))
-  ends_by_fault U count exchanges rounds_old rounds_new new fault.Accept ends =
-      (ends.0, served_all exchanges rounds_old rounds_new new ends.1)
-  ends_by_fault U count exchanges rounds_old rounds_new new fault.Journal ends = (
+  ends_by_fault U count exchanges rounds_old rounds_new last new fault.Accept ends =
+      (ends.0, served_all exchanges rounds_old rounds_new last new ends.1)
+  ends_by_fault U count exchanges rounds_old rounds_new last new fault.Journal ends = (
     ends.0,
     ends.1,
     ends.2,
     ends.3,
     ends.8.silent,
-    lives ends.0 (λ texts least accepted resumes. serves_but found.chain texts least first last old accepted resumes
-        ends.0 ends.1 rounds_old rounds_new ends.4 ends.5 ends.6 ends.7 ends.8),
+    serves ends.0 rounds_old rounds_new ends.4 last ends.5 ends.6
+        (one_unlogged setup found.chain ends.4 last ends.5 ends.1 (ends.7 ∙ same) ends.8),
   )
 
 -- ---- generations

@@ -3,24 +3,13 @@ use Rattle.std.proofs.Common.{◌≡◌, false, ℕ, List, [], ◌∷◌, Option
 use Rattle.std.specs.Prelude.{OnOk}
 use Rattle.clock_house.specs.House.{HouseFields}
 use Rattle.clock_front.specs.declared.front.response.Effect.{Effect}
-use Rattle.clock_front.specs.declared.front.response.Effect.TheVariants.{Nothing, Sheet, Closing}
 use Rattle.clock_journal.specs.Logged.{JournalState}
 use Rattle.clock_server.specs.Keeping.{GrowsBy}
 use Rattle.clock_server.specs.declared.serving.ServeFault.{ServeFault}
 use Rattle.clock_server.specs.declared.serving.ServeFault.TheVariants.{Accept, Journal}
 use Rattle.clock_server.specs.Exchanges.{Came, Exchange, bytes_given}
 use Rattle.clock_server.specs.Serving.{IsUnlogged, is_accept_fault}
-use Rattle.clock_server.specs.inside.Served.{EndsOne, EndsTaken, IsServed, IsReported, IsReportedAs}
-use Rattle.clock_server.specs.inside.Served.{round_closed}
-use Rattle.clock_server.proofs.Walking.{grown_none}
-
-grows_by : (one : Effect) (rounds_old rounds_new : Option (List ℕ)) → IsReported rounds_old rounds_new one
-    → GrowsBy rounds_old rounds_new (round_closed one)
-grows_by Nothing rounds_old rounds_new reported =
-    subst (λ (now : Option (List ℕ)). GrowsBy rounds_old now []) (sym reported) (grown_none rounds_old)
-grows_by Sheet rounds_old rounds_new reported =
-    subst (λ (now : Option (List ℕ)). GrowsBy rounds_old now []) (sym reported) (grown_none rounds_old)
-grows_by (Closing round) rounds_old rounds_new reported = reported
+use Rattle.clock_server.specs.inside.Served.{EndsOne, EndsTaken, IsServed, IsReportedAs}
 
 module _ (coming_old coming_new : Option (List (List ℕ))) (closed_old closed_new : Option (List Exchange))
     (rounds_old rounds_new : Option (List ℕ)) (journal_old journal_mid journal_new : JournalState)
@@ -37,7 +26,7 @@ module _ (coming_old coming_new : Option (List (List ℕ))) (closed_old closed_n
     (
       effect,
       subst (λ (journal : JournalState). IsServed one effect journal_old journal old new) (sym logged) ends,
-      grows_by effect rounds_old rounds_new reported,
+      reported,
     ),
   )
   ends_one (Ok effect) (Err fault) closed came ends logged reported = absurd reported

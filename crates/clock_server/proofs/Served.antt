@@ -1,40 +1,33 @@
 -- A run continues with one connection that was served.
-use Rattle.std.proofs.Common.{◌≡◌, ◌≤◌, inl, inr, ℕ, List, [], ◌∷◌, ◌++◌, Option, Some, length, refl, sym, ap, ◌∙◌}
-use Rattle.std.proofs.Common.{subst, arith, length-append, append-nil}
+use Rattle.std.proofs.Common.{◌≡◌, inl, inr, ℕ, List, [], ◌∷◌, ◌++◌, Option, length, refl, sym, ap, ◌∙◌, subst}
 use Rattle.std.specs.Prelude.{◌||◌, Result, Ok, Err, false, is_err}
-use Rattle.std.proofs.Math.Seq.{take-append_seam}
 use Rattle.clock_device.specs.Streams.{WritesText}
 use Rattle.clock_device.specs.Reports.{IsUnused, SinkReport, Writing}
 use Rattle.clock_device.specs.Writings.{WritesNothing}
 use Rattle.clock_device.proofs.Streams.{same_bytes}
-use Rattle.clock_terms.specs.Limits.{SetupFields, IsSetup}
+use Rattle.clock_terms.specs.Limits.{SetupFields}
 use Rattle.clock_house.specs.House.{HouseFields}
+use Rattle.clock_house.specs.History.{history}
 use Rattle.clock_http.specs.Replies.{Answer}
-use Rattle.clock_front.specs.FixedReplies.{no_memory}
-use Rattle.clock_connections.specs.Arrivals.{HasArrived}
-use Rattle.clock_front.specs.Effects.{RespondsTo, effect}
-use Rattle.clock_front.specs.Fronts.{StandsForTexts, reply}
+use Rattle.clock_front.specs.Effects.{IsRightResponse, RespondsTo}
+use Rattle.clock_front.specs.Fronts.{StandsForTexts, commands_of}
 use Rattle.clock_front.specs.declared.front.response.Effect.{Effect}
-use Rattle.clock_front.specs.declared.front.response.Effect.TheVariants.{Nothing}
+use Rattle.clock_front.specs.declared.front.response.Effect.TheVariants.{Nothing, Sheet, Closing}
 use Rattle.clock_front.specs.declared.front.response.Response.{Response}
-use Rattle.clock_front.specs.Headline.{IsRight}
-use Rattle.clock_journal.specs.Crash.{LeavesTexts}
-use Rattle.clock_journal.specs.Disks.{LeaveOnly, MayBeLeft}
-use Rattle.clock_journal.specs.Logged.{HasTexts, JournalState, file_of}
+use Rattle.clock_front.proofs.AnswerLaws.{stands_still}
+use Rattle.clock_journal.specs.Crash.{LeavesSince, LeavesTexts}
+use Rattle.clock_journal.specs.Logged.{HasTexts, IsAppended, JournalState}
 use Rattle.clock_journal.specs.Reading.{onto}
-use Rattle.clock_journal.proofs.Moments.{front_leaves}
 use Rattle.clock_journal.proofs.Passing.{leave_none}
-use Rattle.clock_server.specs.Keeping.{GrowsBy, IsInStep, IsLogged, RightOrNoMemory, logged_after}
-use Rattle.clock_server.proofs.EffectLaws.{right_after}
 use Rattle.clock_server.specs.Closings.{closed_by}
 use Rattle.clock_server.specs.Exchanges.{Exchange}
-use Rattle.clock_server.specs.Serving.{AreServed, LogsText, LoggedTexts, RepliesOver, RepliesTo, Walks}
-use Rattle.clock_server.specs.Serving.{WritesReply}
-use Rattle.clock_server.specs.inside.Served.{IsServed, round_closed}
-use Rattle.clock_front.proofs.AnswerLaws.{stands_still}
-use Rattle.clock_front.proofs.RunLaws.{right}
-use Rattle.clock_server.proofs.Walking.{logged_behind, walks_on}
+use Rattle.clock_server.specs.Keeping.{GrowsBy, LogsChange, is_change}
+use Rattle.clock_server.specs.Serving.{AcceptedTexts, AreServed, LogsText, RepliesTo, WritesReply}
+use Rattle.clock_server.specs.inside.Served.{IsAnswered, IsServed, round_closed}
+use Rattle.clock_server.proofs.EffectLaws.{logged_when, onto-push, right_after}
 use Rattle.clock_server.proofs.Telling.{CountsOn, counts_text, tells_none, tells_on}
+use Rattle.clock_server.proofs.Untouched.{left_all}
+use Rattle.clock_server.proofs.Walking.{walks_on}
 
 -- a reply was written, or a prefix of it
 pub reply_written : {U E : Type 0} (writing : Writing) (answer : Answer) (result : Result U E)
@@ -50,208 +43,134 @@ pub nothing_written : (reported : SinkReport) → IsUnused reported
     → WritesNothing (record { before = reported; after = reported })
 nothing_written reported unused = record { unused = unused; bytes = same_bytes reported.taken }
 
--- of a journal to which texts were appended, a crash leaves the texts before, and a prefix of the others
-pub left_since : (digest : List ℕ) (past more : List (List ℕ)) (journal_old journal_new : JournalState) (left : List ℕ)
-    → HasTexts digest past journal_old → HasTexts digest (past ++ more) journal_new
-    → MayBeLeft journal_old.synced journal_new.written left → LeavesTexts digest left (past ++ more) (length past)
-left_since digest past more journal_old journal_new left has_old has_new may =
-    let known : MayBeLeft (Some (file_of digest past)) (Some (file_of digest (past ++ more))) left =
-    subst (λ (bytes : Option (List ℕ)). MayBeLeft bytes (Some (file_of digest (past ++ more))) left) (has_old.1
-    ∙ has_old.0) (subst (λ (bytes : Option (List ℕ)). MayBeLeft journal_old.synced bytes left) has_new.0 may) in
-    subst (λ (bytes : List ℕ). LeavesTexts digest bytes (past ++ more) (length past)) (sym known.2)
-    (front_leaves digest (past ++ more) (length past) known.0 has_new.3 (omega (arith, length-append past more))
-    (subst (λ (all : List (List ℕ)). length (file_of digest all) ≤ known.0) (sym (take-append_seam past more)) known.1))
+abbrev pub state : List (List ℕ) → JournalState → AcceptedTexts
+state texts journal = record { texts = texts; journal = journal }
 
--- what one connection made of the texts that a front stands for
+-- all texts are on the disk, and a crash since leaves the texts before, and at most the one logged now
+abbrev IsLogged : List ℕ → AcceptedTexts → AcceptedTexts → Type 0
+IsLogged digest before after = HasTexts digest after.texts after.journal
+    × LeavesSince before.journal after.journal (λ left. LeavesTexts digest left after.texts (length before.texts))
+
+-- what one connection made of the accepted texts and of the journal
 pub record HasNext (setup : SetupFields) (past : List (List ℕ)) (one : Exchange) (changed : Effect)
-    (new : HouseFields) : Type 0 where
-  pub next : List (List ℕ)
-  pub replies : RepliesTo setup past one next
-  pub stands : StandsForTexts next new
-  pub counts : CountsOn changed (closed_by setup past) (closed_by setup next)
-
--- and of the logged texts
-pub record HasNextLogged (digest : List ℕ) (setup : SetupFields) (past : List (List ℕ)) (one : Exchange)
     (journal_old journal_new : JournalState) (new : HouseFields) : Type 0 where
   pub next : List (List ℕ)
-  pub keeps : LogsText digest setup (record { texts = past; journal = journal_old }) one
-      (record { texts = next; journal = journal_new })
-  pub in_step : IsInStep digest next journal_new new
+  pub logs : LogsText setup (state past journal_old) one (state next journal_new)
+  pub stands : StandsForTexts (onto next []) new
+  pub counts : CountsOn changed (closed_by setup past) (closed_by setup next)
 
-module _ (one : Exchange) (effect_is : Effect) (journal_old journal_new : JournalState) (old new : HouseFields)
-    (setup : SetupFields) (limits : IsSetup setup) (same : old.setup ≡ setup) where
-  right_here : (past : List (List ℕ)) (text : List ℕ) (answer : Answer) → answer ≡ reply old.setup past text
-      → IsRight setup past text answer
-  right_here past text answer is =
-      right setup limits past text answer (is ∙ ap (λ (of_setup : SetupFields). reply of_setup past text) same)
+module _ (one : Exchange) (journal_old journal_new : JournalState) (old new : HouseFields) (past : List (List ℕ))
+    (stands : StandsForTexts (onto past []) old) where
+  -- nothing was appended
+  still_logged : (digest : List ℕ) → HasTexts digest past journal_old
+      → IsLogged digest (state past journal_old) (state past journal_old)
+  still_logged digest has = (has, record {
+    at_end = λ left may. left_all digest past journal_old left has may;
+    moments = leave_none journal_old.moments (λ left. LeavesTexts digest left past (length past));
+  })
 
-  written_no_memory : (answer : Answer) → answer ≡ no_memory → WritesReply one.writing answer
-      → WritesReply one.writing no_memory
-  written_no_memory answer is written = subst (λ (a : Answer). WritesReply one.writing a) is written
-
-  -- a connection that changed nothing closed no round
-  counts_nothing : (texts : List (List ℕ)) (changed : Effect) → effect_is ≡ changed → changed ≡ Nothing
-      → CountsOn effect_is (closed_by setup texts) (closed_by setup texts)
-  counts_nothing texts changed is nothing =
-      subst (λ (e : Effect). CountsOn e (closed_by setup texts) (closed_by setup texts)) (sym (is ∙ nothing)) refl
-
-  -- a right reply closes the rounds that its text closes
-  counts_here : (past : List (List ℕ)) (text : List ℕ) (changed : Effect) → effect_is ≡ changed
-      → changed ≡ effect old.setup past text → CountsOn effect_is (closed_by setup past) (closed_by setup (text ∷ past))
-  counts_here past text changed is right =
-      subst (λ (e : Effect). CountsOn e (closed_by setup past) (closed_by setup (text ∷ past)))
-      (sym (is ∙ right ∙ ap (λ (of_setup : SetupFields). effect of_setup past text) same)) (counts_text setup past text)
-
-  -- the texts of the front
-  replied_text : (past : List (List ℕ)) (text : List ℕ) (response : Response) → StandsForTexts past old
-      → HasArrived one.reading text → WritesReply one.writing response.reply → effect_is ≡ response.effect
-      → RespondsTo text response old new → HasNext setup past one effect_is new
-  replied_text past text response stands has written is (inl right) =
-      let after = right_after past text response old new stands right in
-      record {
-        next = text ∷ past;
-        replies = inl (
-          text,
-          response.reply,
-          record { arrived = has; written = written },
-          inl (right_here past text response.reply after.replied, refl),
-        );
-        stands = after.stands;
-        counts = counts_here past text response.effect is after.changed;
-      }
-  replied_text past text response stands has written is (inr (left_out, nothing, still)) = record {
+  -- it changed nothing
+  unchanged : (changed : Effect) → changed ≡ Nothing → journal_new ≡ journal_old → StandsForTexts (onto past []) new
+      → RepliesTo old.setup (state past journal_old) one (state past journal_new)
+      → HasNext old.setup past one changed journal_old journal_new new
+  unchanged changed nothing same stands_now replies = record {
     next = past;
-    replies = inl (text, response.reply, record { arrived = has; written = written }, inr (left_out, refl));
-    stands = stands_still past old new stands still;
-    counts = counts_nothing past response.effect is nothing;
-  }
-
-  replied_one : (past : List (List ℕ)) → StandsForTexts past old
-      → IsServed one effect_is journal_old journal_new old new → HasNext setup past one effect_is new
-  replied_one past stands (inl (response, inl reported, written, is, seen)) =
-      replied_text past reported.text response stands reported.arrived written is reported.responds
-  replied_one past stands (inl (response, inr (room, none, still, logged), written, is, seen)) = record {
-    next = past;
-    replies = inr (inl (room, written_no_memory response.reply (ap (λ (r : Response). r.reply) none) written), refl);
-    stands = subst (λ (house : HouseFields). StandsForTexts past house) (sym still) stands;
-    counts = counts_nothing past response.effect is (ap (λ (r : Response). r.effect) none);
-  }
-  replied_one past stands (inr ((unanswered, logged), silent, is)) = record {
-    next = past;
-    replies = inr (inr (unanswered.0, silent), refl);
-    stands = subst (λ (house : HouseFields). StandsForTexts past house) (sym unanswered.1) stands;
-    counts = counts_nothing past Nothing is refl;
-  }
-
-  in_step_still : (digest : List ℕ) (past : List (List ℕ)) → IsInStep digest past journal_old old → new ≡ old
-      → journal_new ≡ journal_old → IsInStep digest past journal_new new
-  in_step_still digest past in_step still logged =
-      subst (λ (house : HouseFields). IsInStep digest past journal_new house) (sym still)
-      (subst (λ (journal : JournalState). IsInStep digest past journal old) (sym logged) in_step)
-
-  -- what is on the disk then, and what a crash until then leaves
-  has_next : (digest : List ℕ) (past : List (List ℕ)) → IsInStep digest past journal_old old → (next : List (List ℕ))
-      → IsInStep digest next journal_new new → RepliesOver setup (record { texts = past; journal = journal_old }) one
-      (record { texts = next; journal = journal_new }) → (more : List (List ℕ)) → next ≡ past ++ more
-      → LeaveOnly journal_old.moments journal_new.moments (λ left. LeavesTexts digest left next (length past))
-      → HasNextLogged digest setup past one journal_old journal_new new
-  has_next digest past before next after replies more is moments = record {
-    next = next;
-    keeps = record {
+    logs = record {
       replies = replies;
-      has = after.has;
-      moments = moments;
-      at_end = λ left may.
-          subst (λ (texts : List (List ℕ)). LeavesTexts digest left texts (length past)) (sym is)
-          (left_since digest past more journal_old journal_new left before.has
-          (subst (λ (texts : List (List ℕ)). HasTexts digest texts journal_new) is after.has) may);
+      logs = λ digest has. subst (λ (journal : JournalState). IsLogged digest (state past journal_old)
+          (state past journal)) (sym same) (still_logged digest has);
     };
-    in_step = after;
+    stands = stands_now;
+    counts = subst (λ (e : Effect). CountsOn e (closed_by old.setup past) (closed_by old.setup past))
+        (sym nothing) refl;
   }
 
-  logged_reply : (past : List (List ℕ)) (text : List ℕ) (answer : Answer) (next : List (List ℕ))
-      → RightOrNoMemory (answer ≡ reply old.setup (onto past []) text) text answer past
-      (logged_after old.setup past text) next
-      → RightOrNoMemory (IsRight setup (onto past []) text answer) text answer past (logged_after setup past text) next
-  logged_reply past text answer next (inl (is, logged)) = inl (
-    right_here (onto past []) text answer is,
-    logged ∙ ap (λ (of_setup : SetupFields). logged_after of_setup past text) same,
-  )
-  logged_reply past text answer next (inr left_out) = inr left_out
+  module _ (response : Response) (reported : IsAnswered one response journal_old journal_new old new)
+      (fits : IsRightResponse reported.text old new response) where
+    right_reply : (changed : Effect) → response.effect ≡ changed → RepliesTo old.setup (state past journal_old) one
+        (state (logged_when (is_change changed) past reported.text) journal_new)
+    right_reply changed is =
+        let after = right_after (onto past []) reported.text response old new stands fits in
+        inl (
+          reported.text,
+          response.reply,
+          reported.replied,
+          reported.shown,
+          inl (
+            fits.answer.after (onto past []) stands,
+            ap (λ (e : Effect). logged_when (is_change e) past reported.text) (sym is ∙ after.changed),
+          ),
+        )
 
-  -- no moment has passed
-  no_moment : (digest : List ℕ) (past : List (List ℕ)) → journal_new ≡ journal_old
-      → LeaveOnly journal_old.moments journal_new.moments (λ left. LeavesTexts digest left past (length past))
-  no_moment digest past logged = subst (λ (journal : JournalState). LeaveOnly journal_old.moments journal.moments
-      (λ left. LeavesTexts digest left past (length past))) (sym logged)
-      (leave_none journal_old.moments (λ left. LeavesTexts digest left past (length past)))
+    -- its text was accepted and logged
+    appended : (changed : Effect) → response.effect ≡ changed → IsAppended reported.text journal_old journal_new
+        → RepliesTo old.setup (state past journal_old) one (state (past ++ reported.text ∷ []) journal_new)
+        → HasNext old.setup past one changed journal_old journal_new new
+    appended changed is appends replies =
+        let after = right_after (onto past []) reported.text response old new stands fits in
+        let push = sym (onto-push past reported.text []) in
+        record {
+          next = past ++ reported.text ∷ [];
+          logs = record {
+            replies = replies;
+            logs = λ digest has. (appends digest past has, reported.moments digest past has);
+          };
+          stands = subst (λ (texts : List (List ℕ)). StandsForTexts texts new) push after.stands;
+          counts = subst (λ (texts : List (List ℕ)). CountsOn changed (closed_by old.setup past)
+              (length (history old.setup (commands_of old.setup texts)).closed)) push (subst (λ (e : Effect).
+              CountsOn e (closed_by old.setup past) (length (history old.setup (commands_of old.setup
+              (reported.text ∷ onto past []))).closed)) (sym after.changed ∙ is)
+              (counts_text old.setup (onto past []) reported.text));
+        }
 
-  -- the texts of the journal
-  logged_one : (digest : List ℕ) (past : List (List ℕ)) → IsInStep digest past journal_old old → IsServed one effect_is
-      journal_old journal_new old new → HasNextLogged digest setup past one journal_old journal_new new
-  logged_one digest past in_step (inl (response, inl reported, written, is, seen)) =
-      let logged : IsLogged digest past reported.text response.reply journal_old journal_new old new =
-      reported.logged digest past in_step in
-      let replies : RepliesOver setup (record { texts = past; journal = journal_old }) one
-      (record { texts = logged.texts; journal = journal_new }) =
-      inl (
-        reported.text,
-        response.reply,
-        record { arrived = reported.arrived; written = written },
-        logged_reply past reported.text response.reply logged.texts logged.next,
-        seen,
-      ) in
-      let behind = logged_behind digest setup (record { texts = past; journal = journal_old }) one
-      (record { texts = logged.texts; journal = journal_new }) replies in
-      has_next digest past in_step logged.texts logged.in_step replies behind.0 behind.1 logged.moments
-  logged_one digest past in_step (inl (response, inr (room, none, still, logged), written, is, seen)) =
-      has_next digest past in_step past (in_step_still digest past in_step still logged)
-      (inr (
-        inl (room, written_no_memory response.reply (ap (λ (r : Response). r.reply) none) written),
-        ap (λ (journal : JournalState). record { texts = past; journal = journal }) logged,
-      )) [] (sym (append-nil past)) (no_moment digest past logged)
-  logged_one digest past in_step (inr ((unanswered, logged), silent, is)) =
-      has_next digest past in_step past (in_step_still digest past in_step unanswered.1 logged)
-      (inr (
-        inr (unanswered.0, silent),
-        ap (λ (journal : JournalState). record { texts = past; journal = journal }) logged,
-      )) [] (sym (append-nil past)) (no_moment digest past logged)
+    answered : (changed : Effect) → response.effect ≡ changed
+        → LogsChange changed reported.text journal_old journal_new
+        → HasNext old.setup past one changed journal_old journal_new new
+    answered Nothing is logged = unchanged Nothing refl logged
+        (stands_still (onto past []) old new stands (fits.still is)) (right_reply Nothing is)
+    answered Sheet is logged = appended Sheet is logged (right_reply Sheet is)
+    answered (Closing round) is logged = appended (Closing round) is logged (right_reply (Closing round) is)
+
+  responded : (response : Response) (reported : IsAnswered one response journal_old journal_new old new)
+      → RespondsTo reported.text response old new
+      → HasNext old.setup past one response.effect journal_old journal_new new
+  responded response reported (inl fits) = answered response reported fits response.effect refl reported.logged
+  responded response reported (inr (left_out, nothing, still)) =
+      unchanged response.effect nothing
+      (subst (λ (e : Effect). LogsChange e reported.text journal_old journal_new) nothing reported.logged)
+      (stands_still (onto past []) old new stands still)
+      (inl (reported.text, response.reply, reported.replied, reported.shown, inr (left_out, refl)))
+
+  served_one : (changed : Effect) → IsServed one changed journal_old journal_new old new
+      → HasNext old.setup past one changed journal_old journal_new new
+  served_one changed (inl (response, reported, is)) =
+      subst (λ (e : Effect). HasNext old.setup past one e journal_old journal_new new) (sym is)
+      (responded response reported reported.responds)
+  served_one changed (inr (unanswered, nothing, same, still)) =
+      unchanged changed nothing same
+      (subst (λ (house : HouseFields). StandsForTexts (onto past []) house) (sym still) stands)
+      (inr (unanswered, ap (state past) same))
 
 -- no connection was served yet
 pub served_none : (reported : Option (List ℕ)) (journal : JournalState) (house : HouseFields)
     → AreServed [] reported reported journal journal house house
-served_none reported journal house = record {
-  replied = λ past stands. (past, refl, stands, tells_none house.setup past reported);
-  logged = λ digest past in_step. (past, refl, in_step);
-}
+served_none reported journal house past stands = (past, refl, stands, tells_none house.setup past reported)
 
 -- one more was served
 pub served_more : (exchanges : List Exchange) (one : Exchange) (changed : Effect)
     (rounds_old rounds_mid rounds_new : Option (List ℕ)) (journal_old journal_mid journal_new : JournalState)
-    (old mid new : HouseFields) → IsSetup old.setup → mid.setup ≡ old.setup
+    (old mid new : HouseFields) → mid.setup ≡ old.setup
     → AreServed exchanges rounds_old rounds_mid journal_old journal_mid old mid
     → IsServed one changed journal_mid journal_new mid new → GrowsBy rounds_mid rounds_new (round_closed changed)
     → AreServed (exchanges ++ one ∷ []) rounds_old rounds_new journal_old journal_new old new
 served_more exchanges one changed rounds_old rounds_mid rounds_new journal_old journal_mid journal_new old mid new
-    limits same before served tells = record {
-      replied = λ past stands.
-          let so_far = before.replied past stands in
-          let next = replied_one one changed journal_mid journal_new mid new old.setup limits same so_far.0
-          so_far.2 served in (
-            next.next,
-            walks_on (RepliesTo old.setup) past exchanges so_far.0 one next.next so_far.1 next.replies,
-            next.stands,
-            tells_on old.setup past so_far.0 next.next changed rounds_old rounds_mid rounds_new
-                so_far.3 next.counts tells,
-          );
-      logged = λ digest past in_step.
-          let so_far = before.logged digest past in_step in
-          let next = logged_one one changed journal_mid journal_new mid new old.setup limits same digest so_far.0
-          so_far.2 served in
-          let first : LoggedTexts = record { texts = past; journal = journal_old } in
-          let last : LoggedTexts = record { texts = next.next; journal = journal_new } in
-          let walks : Walks (LogsText digest old.setup) first (exchanges ++ one ∷ []) last =
-          walks_on (LogsText digest old.setup) first exchanges
-          (record { texts = so_far.0; journal = journal_mid }) one last so_far.1 next.keeps in
-          (next.next, walks, next.in_step);
-    }
+    same before served tells past stands =
+    let so_far = before past stands in
+    let next = subst (λ (setup : SetupFields). HasNext setup so_far.0 one changed journal_mid journal_new new) same
+    (served_one one journal_mid journal_new mid new so_far.0 so_far.2 changed served) in (
+      next.next,
+      walks_on old.setup (state past journal_old) exchanges (state so_far.0 journal_mid) one
+          (state next.next journal_new) so_far.1 next.logs,
+      next.stands,
+      tells_on old.setup past so_far.0 next.next changed rounds_old rounds_mid rounds_new so_far.3 next.counts tells,
+    )

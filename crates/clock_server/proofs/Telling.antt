@@ -60,7 +60,8 @@ counts_command setup commands other = refl
 
 -- so does a text, after others
 pub counts_text : (setup : SetupFields) (texts : List (List ℕ)) (text : List ℕ)
-    → CountsOn (effect setup texts text) (closed_by setup texts) (closed_by setup (text ∷ texts))
+    → CountsOn (effect setup texts text) (length (history setup (commands_of setup texts)).closed)
+    (length (history setup (commands_of setup (text ∷ texts))).closed)
 counts_text setup texts text = counts_command setup (commands_of setup texts) (text_command setup text)
 
 -- no closed round is open again

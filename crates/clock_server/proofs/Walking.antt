@@ -1,15 +1,12 @@
 -- Lists that grow by one connection at a time.
-use Rattle.std.proofs.Common.{◌≡◌, inl, inr, ℕ, Bool, true, false, List, [], ◌∷◌, ◌++◌, map, Option, Some, None}
+use Rattle.std.proofs.Common.{◌≡◌, ℕ, List, [], ◌∷◌, ◌++◌, map, Option, Some, None}
 use Rattle.std.proofs.Common.{refl, sym, ap, ◌∙◌, subst, append_assoc, append-nil}
 use Rattle.clock_terms.specs.Limits.{SetupFields}
 use Rattle.clock_device.specs.Reports.{SinkReport, SourceReport}
 use Rattle.std.proofs.lemmas.List.{map-append}
-use Rattle.clock_front.specs.Effects.{effect}
-use Rattle.clock_journal.specs.Reading.{onto}
-use Rattle.clock_server.proofs.EffectLaws.{logged_when}
-use Rattle.clock_server.specs.Keeping.{GrowsBy, is_change}
+use Rattle.clock_server.specs.Keeping.{GrowsBy}
 use Rattle.clock_server.specs.Exchanges.{Came, Exchange, Offer, bytes_given}
-use Rattle.clock_server.specs.Serving.{LoggedTexts, RepliesOver, Walks}
+use Rattle.clock_server.specs.Serving.{AcceptedTexts, LogsText, Walks}
 
 -- nothing was appended
 pub grown_none : {A : Type 0} (list : Option (List A)) → GrowsBy list list []
@@ -56,30 +53,13 @@ came_one first mid last offer one came still from =
     (subst (λ (report : SourceReport). Came first mid (report.left ∷ [])) from came)
 
 -- one more connection
-pub walks_on : {A : Type 0} (step : A → Exchange → A → Type 0) (past : A) (exchanges : List Exchange) (end : A)
-    (one : Exchange) (next : A) → Walks step past exchanges end → step end one next
-    → Walks step past (exchanges ++ one ∷ []) next
-walks_on {A = A} step past [] end one next walks steps =
-    (next, subst (λ (now : A). step now one next) walks steps, refl)
-walks_on step past (first ∷ others) end one next walks steps =
-    (walks.0, walks.1, walks_on step walks.0 others end one next walks.2 steps)
-
--- the logged texts are unchanged, and more come after them
-logged_if_behind : (changes : Bool) (past : List (List ℕ)) (text : List ℕ)
-    → (more : List (List ℕ)) × (logged_when changes past text ≡ past ++ more)
-logged_if_behind true past text = (text ∷ [], refl)
-logged_if_behind false past text = ([], sym (append-nil past))
-
-pub logged_behind : (digest : List ℕ) (setup : SetupFields) (before : LoggedTexts) (one : Exchange)
-    (after : LoggedTexts) → RepliesOver setup before one after
-    → (more : List (List ℕ)) × (after.texts ≡ before.texts ++ more)
-logged_behind digest setup before one after (inl (text, answer, replied, inl (right, is), seen)) =
-    let behind = logged_if_behind (is_change (effect setup (onto before.texts []) text)) before.texts text in
-    (behind.0, is ∙ behind.1)
-logged_behind digest setup before one after (inl (text, answer, replied, inr (left_out, is), seen)) =
-    ([], is ∙ sym (append-nil before.texts))
-logged_behind digest setup before one after (inr (alone, is)) =
-    ([], ap (λ (logged : LoggedTexts). logged.texts) is ∙ sym (append-nil before.texts))
+pub walks_on : (setup : SetupFields) (past : AcceptedTexts) (exchanges : List Exchange) (end : AcceptedTexts)
+    (one : Exchange) (next : AcceptedTexts) → Walks setup past exchanges end → LogsText setup end one next
+    → Walks setup past (exchanges ++ one ∷ []) next
+walks_on setup past [] end one next walks logs =
+    (next, subst (λ (now : AcceptedTexts). LogsText setup now one next) walks logs, refl)
+walks_on setup past (first ∷ others) end one next walks logs =
+    (walks.0, walks.1, walks_on setup walks.0 others end one next walks.2 logs)
 
 -- the open connection was closed
 pub closed_one : (first mid last : Option (List Exchange)) (offer : Offer) (one : Exchange) → mid ≡ first

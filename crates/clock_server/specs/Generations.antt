@@ -29,12 +29,12 @@ use Rattle.clock_terms.specs.Limits.{SetupFields}
 use Rattle.clock_device.specs.Writings.{WritesNothing}
 use Rattle.clock_journal.specs.Crash.{LeavesJournal}
 use Rattle.clock_journal.specs.Disks.{CouldBeLeft, LeaveOnly, MayBeLeft, Moment}
-use Rattle.clock_journal.specs.Logged.{JournalState}
+use Rattle.clock_journal.specs.Logged.{HasTexts, JournalState}
 use Rattle.clock_server.specs.Accepted.{IsNotRefused, IsOwnFile}
 use Rattle.clock_server.specs.Starts.{IsLeftBy}
 use Rattle.clock_server.specs.declared.taking.ResumeFault.{ResumeFault}
 use Rattle.clock_server.specs.Exchanges.{Exchange}
-use Rattle.clock_server.specs.Serving.{LogsText, LoggedTexts, Walks}
+use Rattle.clock_server.specs.Serving.{AcceptedTexts, Walks}
 use Rattle.clock_server.specs.declared.generation.GenerationFault.{GenerationFault}
 use Rattle.clock_server.specs.declared.generation.GenerationFault.TheVariants.{Start, Serve}
 use Rattle.clock_server.specs.declared.serving.ServeFault.TheVariants as fault
@@ -52,9 +52,10 @@ pub record ServesFrom (setup : SetupFields) (digest : List ℕ) (texts : List (L
   pub enough : least ≤ count
   pub most : count ≤ length texts
   pub resumed : JournalState
-  pub last : LoggedTexts
-  pub walks : Walks (LogsText digest setup)
-      (record { texts = take count texts; journal = resumed }) exchanges last
+  pub has : HasTexts digest (take count texts) resumed
+  pub last : AcceptedTexts
+  pub walks :
+      Walks setup (record { texts = take count texts; journal = resumed }) exchanges last
   pub more : List (List ℕ)
   pub few : length more ≤ 1
   pub own : IsOwnFile setup digest (last.texts ++ more) (length last.texts) end

@@ -3,27 +3,17 @@
 --     is_change effect      a sheet or a closing was accepted
 --     IsAccepted setup texts text, IsRefused setup texts text      after these texts, a text
 --         changes the auction, or not
---     logged_after setup past text      the logged texts after one more text
---     RightOrNoMemory right text answer past after next      how a text is answered, and what the
---         texts are then
---     IsInStep digest texts journal house      the journal has these texts on its disk, and the
---         house stands for them
---     IsLogged digest past text answer journal_old journal old new      how a text is answered and
---         logged
+--     logged_after setup past text      the accepted texts after one more text
+--     LogsChange effect text old new      a text is logged if it changes the auction
 --     GrowsBy old new more      exactly these were appended, if contracts see the list
 --     no_journal      the journal of a server that logs nothing
-use Rattle.std.specs.Prelude.{◌≡◌, ◌⊎◌, ◌++◌, ℕ, Bool, true, false, List, [], ◌∷◌, Option}
-use Rattle.std.specs.Prelude.{Some, None, if◌then◌else◌, length}
+use Rattle.std.specs.Prelude.{◌≡◌, ◌++◌, ℕ, Bool, true, false, List, [], ◌∷◌, Option, Some, None}
+use Rattle.std.specs.Prelude.{if◌then◌else◌}
 use Rattle.clock_terms.specs.Limits.{SetupFields}
-use Rattle.clock_house.specs.House.{HouseFields}
-use Rattle.clock_http.specs.Replies.{Answer}
 use Rattle.clock_front.specs.Effects.{effect}
-use Rattle.clock_front.specs.Fronts.{reply, StandsForTexts, IsOutOfMemoryReply}
 use Rattle.clock_front.specs.declared.front.response.Effect.{Effect}
 use Rattle.clock_front.specs.declared.front.response.Effect.TheVariants.{Nothing, Sheet, Closing}
-use Rattle.clock_journal.specs.Crash.{LeavesTexts}
-use Rattle.clock_journal.specs.Disks.{LeaveOnly}
-use Rattle.clock_journal.specs.Logged.{JournalState, HasTexts}
+use Rattle.clock_journal.specs.Logged.{IsAppended, JournalState}
 use Rattle.clock_journal.specs.Reading.{onto}
 
 -- a sheet was put in force, or a round was closed
@@ -40,33 +30,16 @@ IsAccepted setup texts text = is_change (effect setup texts text) ≡ true
 abbrev pub IsRefused : SetupFields → List (List ℕ) → List ℕ → Type 0
 IsRefused setup texts text = is_change (effect setup texts text) ≡ false
 
--- a text that changes the auction is appended to the logged ones, the oldest first
+-- a text that changes the auction is appended to the accepted ones, the oldest first
 abbrev pub logged_after : SetupFields → List (List ℕ) → List ℕ → List (List ℕ)
 logged_after setup past text =
     if is_change (effect setup (onto past []) text) then past ++ text ∷ [] else past
 
--- the right reply, and then the texts `after`; or the out-of-memory reply, and still `past`
-abbrev pub RightOrNoMemory : Type 0 → List ℕ → Answer → List (List ℕ) → List (List ℕ)
-    → List (List ℕ) → Type 0
-RightOrNoMemory right text answer past after next =
-    (right × (next ≡ after)) ⊎ (IsOutOfMemoryReply text answer × (next ≡ past))
-
--- the journal has these texts, the oldest first, all on its disk, and the house stands for them
-pub record IsInStep (digest : List ℕ) (texts : List (List ℕ)) (journal : JournalState)
-    (house : HouseFields) : Type 0 where
-  pub has : HasTexts digest texts journal
-  pub stands : StandsForTexts (onto texts []) house
-
--- the text is answered, and logged if it changes the auction. Journal and house stay in step. A
--- crash at any moment since leaves the texts before, and at most the one that is logged
-pub record IsLogged (digest : List ℕ) (past : List (List ℕ)) (text : List ℕ) (answer : Answer)
-    (journal_old journal : JournalState) (old new : HouseFields) : Type 0 where
-  pub texts : List (List ℕ)
-  pub next : RightOrNoMemory (answer ≡ reply old.setup (onto past []) text) text answer past
-      (logged_after old.setup past text) texts
-  pub in_step : IsInStep digest texts journal new
-  pub moments : LeaveOnly journal_old.moments journal.moments
-      (λ left. LeavesTexts digest left texts (length past))
+-- a text that changes the auction is appended to the journal; any other leaves it as it is
+abbrev pub LogsChange : Effect → List ℕ → JournalState → JournalState → Type 0
+LogsChange Nothing text old new = new ≡ old
+LogsChange Sheet text old new = IsAppended text old new
+LogsChange (Closing round) text old new = IsAppended text old new
 
 -- exactly these were appended, in order, if contracts see the list
 abbrev pub GrowsBy : {A : Type 0} → Option (List A) → Option (List A) → List A → Type 0

@@ -1,15 +1,12 @@
--- How connections are served one after the other, one request each. Lists of a front's texts have
--- the newest first, those of a journal the oldest first.
+-- How connections are served one after the other, one request each.
 --     WritesReply writing answer      the reply was written, or a prefix of it if a write failed
 --     IsReplied one text answer      the text was read, and the reply was written
 --     EndsUnanswered one      no text was read that could be answered
---     Walks step past exchanges end      the step leads from `past` to `end`, connection by
---         connection
---     RepliesTo setup past one next      the reply is the right one after the texts before it
---     LoggedTexts      the logged texts, and the journal that has them
---     LogsText digest setup before one after      the reply is the right one after the logged
---         texts, and a text that changes the auction is on the disk when the first byte of its
---         reply is written
+--     AcceptedTexts      the accepted texts, and the journal
+--     RepliesTo setup before one after      the reply is the right one after the texts before it
+--     LogsText setup before one after      the reply is right, and a text that changes the auction
+--         is on the disk when the first byte of its reply is written
+--     Walks setup before exchanges after      so do these connections, one after the other
 --     AreServed exchanges ..      all of these connections were served
 --     IsUnlogged one ..      the text of a connection could not be logged
 --     is_accept_fault result      a connection could not be accepted
@@ -23,13 +20,12 @@ use Rattle.clock_device.specs.Reports.{Writing}
 use Rattle.clock_device.specs.Writings.{WritesWhole, WritesFront, WritesNothing}
 use Rattle.clock_connections.specs.Arrivals.{HasArrived, HasNoMemory, IsNotRead}
 use Rattle.clock_front.specs.FixedReplies.{no_memory}
-use Rattle.clock_front.specs.Fronts.{StandsForTexts}
+use Rattle.clock_front.specs.Fronts.{IsOutOfMemoryReply, StandsForTexts}
 use Rattle.clock_front.specs.Headline.{IsRight}
-use Rattle.clock_journal.specs.Crash.{LeavesOneMore, LeavesTexts}
-use Rattle.clock_journal.specs.Disks.{LeaveOnly, MayBeLeft}
+use Rattle.clock_journal.specs.Crash.{LeavesOneMore, LeavesSince, LeavesTexts}
 use Rattle.clock_journal.specs.Logged.{HasTexts, JournalState}
 use Rattle.clock_journal.specs.Reading.{onto}
-use Rattle.clock_server.specs.Keeping.{IsAccepted, IsInStep, RightOrNoMemory, logged_after}
+use Rattle.clock_server.specs.Keeping.{IsAccepted, logged_after}
 use Rattle.clock_server.specs.Exchanges.{Exchange, IsShownJournal}
 use Rattle.clock_server.specs.Closings.{ReportsClosings}
 use Rattle.clock_server.specs.declared.serving.ServeFault.{ServeFault}
@@ -50,54 +46,48 @@ EndsUnanswered one =
     (HasNoMemory one.reading × WritesReply one.writing no_memory)
     ⊎ (IsNotRead one.reading × WritesNothing one.writing)
 
--- the step leads from `past` to `end`, connection by connection, in order
-abbrev pub Walks : {A : Type 0} → (A → Exchange → A → Type 0) → A → List Exchange → A → Type 0
-Walks step past [] end = end ≡ past
-Walks {A = A} step past (one ∷ others) end =
-    (next : A) × step past one next × Walks step next others end
-
--- the request that was read got its reply, and joins the others; or none could be read
-abbrev pub RepliesTo : SetupFields → List (List ℕ) → Exchange → List (List ℕ) → Type 0
-RepliesTo setup past one next = ((text : List ℕ) × (answer : Answer) × IsReplied one text answer
-    × RightOrNoMemory (IsRight setup past text answer) text answer past (text ∷ past) next)
-    ⊎ (EndsUnanswered one × (next ≡ past))
-
--- the logged texts, the oldest first, and the journal that has them
-pub record LoggedTexts : Type 0 where
+-- the texts that were accepted, the oldest first, and the journal
+pub record AcceptedTexts : Type 0 where
   pub texts : List (List ℕ)
   pub journal : JournalState
 
--- the request that was read got the right reply, and is logged if it changes the auction. Then the
--- first byte was written, when this was the journal. Or none could be read, and nothing changed
-abbrev pub RepliesOver : SetupFields → LoggedTexts → Exchange → LoggedTexts → Type 0
-RepliesOver setup before one after =
+-- the request that was read got the right reply, and joins the texts if it is accepted; or the
+-- out-of-memory reply. When the first byte was written, this was the journal. Or none could be
+-- read, and nothing changed. Refused texts are left out, since they change nothing: so each reply
+-- is still the right one after all requests before it
+abbrev pub RepliesTo : SetupFields → AcceptedTexts → Exchange → AcceptedTexts → Type 0
+RepliesTo setup before one after =
     ((text : List ℕ) × (answer : Answer) × IsReplied one text answer
-    × RightOrNoMemory (IsRight setup (onto before.texts []) text answer) text answer before.texts
-    (logged_after setup before.texts text) after.texts × IsShownJournal one.logged after.journal)
+    × IsShownJournal one.logged after.journal
+    × ((IsRight setup (onto before.texts []) text answer
+    × (after.texts ≡ logged_after setup before.texts text))
+    ⊎ (IsOutOfMemoryReply text answer × (after.texts ≡ before.texts))))
     ⊎ (EndsUnanswered one × (after ≡ before))
 
--- the reply is right, and then all logged texts are on the disk. A crash at any moment since the
--- connection before leaves the texts logged before, and at most the one logged now
-pub record LogsText (digest : List ℕ) (setup : SetupFields) (before : LoggedTexts) (one : Exchange)
-    (after : LoggedTexts) : Type 0 where
-  pub replies : RepliesOver setup before one after
-  pub has : HasTexts digest after.texts after.journal
-  pub at_end : (left : List ℕ) → MayBeLeft before.journal.synced after.journal.written left
-      → LeavesTexts digest left after.texts (length before.texts)
-  pub moments : LeaveOnly before.journal.moments after.journal.moments
+-- the reply is right. If all texts before were on the disk, all texts after are. Then a crash at
+-- any moment since leaves the texts before, and at most the one logged now
+pub record LogsText (setup : SetupFields) (before : AcceptedTexts) (one : Exchange)
+    (after : AcceptedTexts) : Type 0 where
+  pub replies : RepliesTo setup before one after
+  pub logs : (digest : List ℕ) → HasTexts digest before.texts before.journal
+      → HasTexts digest after.texts after.journal × LeavesSince before.journal after.journal
       (λ left. LeavesTexts digest left after.texts (length before.texts))
 
--- these connections were served in order, and each round that was closed was reported. If all texts
--- of the front were logged, so are all that it stands for now
-pub record AreServed (exchanges : List Exchange) (rounds_old rounds_new : Option (List ℕ))
-    (journal_old journal_new : JournalState) (old new : HouseFields) : Type 0 where
-  pub replied : (past : List (List ℕ)) → StandsForTexts past old → (end : List (List ℕ))
-      × Walks (RepliesTo old.setup) past exchanges end × StandsForTexts end new
-      × ReportsClosings old.setup past end rounds_old rounds_new
-  pub logged : (digest : List ℕ) (past : List (List ℕ)) → IsInStep digest past journal_old old
-      → (end : List (List ℕ)) × Walks (LogsText digest old.setup)
-      (record { texts = past; journal = journal_old }) exchanges
-      (record { texts = end; journal = journal_new }) × IsInStep digest end journal_new new
+-- each connection leads from the texts and the journal before it to those after it, in order
+abbrev pub Walks : SetupFields → AcceptedTexts → List Exchange → AcceptedTexts → Type 0
+Walks setup before [] after = after ≡ before
+Walks setup before (one ∷ others) after =
+    (next : AcceptedTexts) × LogsText setup before one next × Walks setup next others after
+
+-- from any texts that the front stood for, these connections lead to texts that it stands for now.
+-- They were served in order, and each round that was closed was reported
+abbrev pub AreServed : List Exchange → Option (List ℕ) → Option (List ℕ) → JournalState
+    → JournalState → HouseFields → HouseFields → Type 0
+AreServed exchanges rounds_old rounds_new journal_old journal_new old new =
+    (past : List (List ℕ)) → StandsForTexts (onto past []) old → (end : List (List ℕ))
+    × Walks old.setup (record { texts = past; journal = journal_old }) exchanges
+    (record { texts = end; journal = journal_new }) × StandsForTexts (onto end []) new
+    × ReportsClosings old.setup past end rounds_old rounds_new
 
 -- an accepted text could not be logged, since a call of the disk has failed. It got no reply. A
 -- crash leaves the texts before, and at most this one more

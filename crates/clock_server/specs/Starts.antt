@@ -8,11 +8,11 @@ use Rattle.std.specs.Prelude.{◌≡◌, ℕ, List, [], true}
 use Rattle.clock_terms.specs.Limits.{SetupFields}
 use Rattle.clock_house.specs.House.{HouseFields}
 use Rattle.clock_front.specs.Fronts.{StandsForTexts}
-use Rattle.clock_journal.specs.Logged.{JournalState}
+use Rattle.clock_journal.specs.Logged.{HasTexts, JournalState}
 use Rattle.clock_journal.specs.Reading.{onto}
 use Rattle.clock_journal.specs.Recovering.{AreTextsOf, IsFound}
 use Rattle.clock_journal.specs.declared.recovery.Recovered.{Recovered}
-use Rattle.clock_server.specs.Keeping.{IsInStep, IsRefused}
+use Rattle.clock_server.specs.Keeping.{IsRefused}
 use Rattle.clock_server.specs.declared.taking.ResumeFault.{ResumeFault}
 use Rattle.clock_server.specs.declared.taking.ResumeFault.TheVariants.{Refused, Failed}
 
@@ -21,7 +21,8 @@ pub record IsResumed (digest bytes : List ℕ) (journal : JournalState) (house :
     (recovered : Recovered) : Type 0 where
   pub texts : List (List ℕ)
   pub are : AreTextsOf digest bytes texts recovered
-  pub in_step : IsInStep digest texts journal house
+  pub has : HasTexts digest texts journal
+  pub stands : StandsForTexts (onto texts []) house
 
 -- the file has this fault; or the auction stands for all of its texts, and the disk failed
 abbrev pub IsNotResumed : SetupFields → List ℕ → List ℕ → HouseFields → ResumeFault → Type 0

@@ -4,7 +4,7 @@ ghost use Rattle.clock_http.specs.Shown.{Knows};
 ghost use Rattle.clock_front.specs.{Effects.{RespondsTo}, Fronts.{StandsForTexts}};
 ghost use Rattle.clock_journal.specs.{Crash.{LeavesOneMore}, Format.{most_text}};
 ghost use Rattle.clock_journal.specs.Logged.{JournalState};
-ghost use Rattle.clock_server.specs.Keeping.{GrowsBy, IsAccepted, IsInStep, IsLogged};
+ghost use Rattle.clock_server.specs.Keeping.{GrowsBy, IsAccepted, LogsChange};
 ghost use Rattle.clock_server.specs.Keeping.{is_change as is_change_of, no_journal};
 
 use clock_device::Failed;
@@ -41,9 +41,8 @@ pub trait RequestLog {
         ensures response { IfOk result
             (λ response. RespondsTo text.now response front.old front.new) }
         ensures setup { front.new.setup ≡ front.old.setup }
-        ensures logged { (digest : List ℕ) (past : List (List ℕ)) → IsInStep digest past
-            (journal self.old) front.old → IfOk result (λ response. IsLogged digest past text.now
-            response.reply (journal self.old) (journal self.new) front.old front.new) }
+        ensures logged { IfOk result (λ response. LogsChange response.effect text.now
+            (journal self.old) (journal self.new)) }
         ensures accepted { (texts : List (List ℕ)) → StandsForTexts texts front.old
             → OnErr result (IsAccepted front.old.setup texts text.now) }
         ensures moments { LeavesOneMore text.now (journal self.old) (journal self.new) }

@@ -150,7 +150,6 @@ pub fn serve_all<P: Processor, K: RequestLog, C: Acceptor>(
     ensures taken { C.has_failed connections.new ≡ is_accept_fault result }
     ensures setup { front.new.setup ≡ front.old.setup }
 {
-    front.house().law_of_house();
     for _connection in 0..count {
         serve_next(alloc, front, log, connections)?;
     }

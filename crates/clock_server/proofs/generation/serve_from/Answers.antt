@@ -1,6 +1,6 @@
 use Rattle.std.proofs.Common.{[], refl}
 use Rattle.clock_server.proofs.AcceptedLaws.{own_starts}
-use Rattle.clock_server.proofs.GenerationLaws.{ends_by_fault, has_resumed, own_left, served_all}
+use Rattle.clock_server.proofs.GenerationLaws.{ends_by_fault, own_left, served_all}
 use Rattle.clock_server.proofs.Walking.{came_none, grown_none}
 use Rattle.clock_server.proofs.generation.serve_from.Goals as goal
 
@@ -28,33 +28,26 @@ returns-in-Err-clause-generation g c =
 pub returns-in-Ok-clause-generation : goal.returns-in-Ok-clause-generation
 returns-in-Ok-clause-generation g c =
     let started = c.in_default.ensures in
-    let found = c.args.journal.now in
-    let first = c.resume_auction.new.journal in
-    let house = c.resume_auction.new.auction.front in
     let ends = c.in-Ok.ensures.served in (
       ends.0,
       ends.1,
       ends.2,
       (
         ends.3.0,
-        served_all c.args.auction.now.front.setup found first c.serve_all.new.log c.args.bytes.now house started.setup
-            (λ texts least written leaves. has_resumed found.chain c.args.bytes.now first house _ texts least
-            (started.in_step written) leaves) ends.0 _ _ c.serve_all.new.front ends.3.1,
+        served_all c.args.auction.now.front.setup c.args.journal.now c.resume_auction.new.journal c.args.bytes.now
+            c.resume_auction.new.auction.front started.setup _ started.in_step ends.0 _ _ c.serve_all.new.log
+            c.serve_all.new.front ends.3.1,
       ),
     )
 
 pub returns-in-Err-serve_all-clause-generation : goal.returns-in-Err-serve_all-clause-generation
 returns-in-Err-serve_all-clause-generation g c =
     let started = c.in_default.ensures in
-    let found = c.args.journal.now in
-    let first = c.resume_auction.new.journal in
-    let house = c.resume_auction.new.auction.front in
     let ends = c.in-Err-serve_all.ensures.served in (
       ends.0,
       ends.1,
       ends.2,
-      ends_by_fault c.args.auction.now.front.setup found first c.serve_all.new.log c.args.bytes.now house started.setup
-          (λ texts least written leaves. has_resumed found.chain c.args.bytes.now first house _ texts least
-          (started.in_step written) leaves) (Unit {0}) c.args.count ends.0 _ _ c.serve_all.new.front
-          c.in-Err-serve_all.fault ends.3,
+      ends_by_fault c.args.auction.now.front.setup c.args.journal.now c.resume_auction.new.journal c.args.bytes.now
+          c.resume_auction.new.auction.front started.setup _ started.in_step (Unit {0}) c.args.count ends.0 _ _
+          c.serve_all.new.log c.serve_all.new.front c.in-Err-serve_all.fault ends.3,
     )

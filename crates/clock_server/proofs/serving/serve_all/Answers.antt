@@ -1,15 +1,9 @@
-use Rattle.std.proofs.Common.{◌≡◌, [], refl, subst, ◌∙◌}
+use Rattle.std.proofs.Common.{[], refl, ◌∙◌}
 use Rattle.std.proofs.lemmas.Result.{err_from_is_err_and}
-use Rattle.clock_terms.specs.Limits.{IsSetup}
-use Rattle.clock_house.specs.House.{HouseFields}
 use Rattle.clock_server.proofs.Walking.{came_none, grown_none}
 use Rattle.clock_server.proofs.Served.{served_none}
 use Rattle.clock_server.proofs.Ends.{ends_by, one_more}
 use Rattle.clock_server.proofs.serving.serve_all.Goals as goal
-
--- the limits of a set-up, for the house that the code asks
-limits_of : (house front : HouseFields) → house ≡ front → IsSetup house.setup → IsSetup front.setup
-limits_of house front same limits = subst (λ (fields : HouseFields). IsSetup fields.setup) same limits
 
 pub loop-connection-init : goal.loop-connection-init
 loop-connection-init g c = record {
@@ -39,9 +33,8 @@ returns-in_err-serve_next-clause-served g c =
     (coming c.serve_next.new.connections) (closed c.args.connections.now) (closed loop.connections)
     (closed c.serve_next.new.connections) (rounds c.args.log.now) (rounds loop.log) (rounds c.serve_next.new.log)
     (journal c.args.log.now) (journal loop.log) (journal c.serve_next.new.log) c.args.front.now loop.front
-    c.serve_next.new.front (limits_of c.house.result.now c.args.front.now c.house.ensures c.law_of_house.ensures.limits)
-    loop.invariant.setup loop.invariant.served c.serve_next.result c.args.count c.in_err-serve_next.field-0.0
-    c.loop-connection-test.true c.in_err-serve_next.ensures.ends)
+    c.serve_next.new.front loop.invariant.setup loop.invariant.served c.serve_next.result c.args.count
+    c.in_err-serve_next.field-0.0 c.loop-connection-test.true c.in_err-serve_next.ensures.ends)
 
 pub loop-connection-preserved : goal.loop-connection-preserved
 loop-connection-preserved g c =
@@ -56,7 +49,6 @@ loop-connection-preserved g c =
           (closed c.serve_next.new.connections) (rounds c.args.log.now) (rounds loop.log) (rounds c.serve_next.new.log)
           (journal c.args.log.now) (journal loop.log)
           (journal c.serve_next.new.log) c.args.front.now loop.front c.serve_next.new.front
-          (limits_of c.house.result.now c.args.front.now c.house.ensures c.law_of_house.ensures.limits)
           loop.invariant.setup loop.invariant.served c.in_ok-serve_next.field-0 c.in_ok-serve_next.ensures.ends;
       unfailed = c.in_ok-serve_next.ensures.unfailed;
       closed = c.in_ok-serve_next.ensures.closed;

@@ -45,6 +45,7 @@ returns-clause-unfailed g c =
 pub returns-clause-taken : goal.returns-clause-taken
 returns-clause-taken g c =
     let rounds = g.K.RequestLog.rounds in
-    c.close.ensures.failed ∙ c.in-Ok.ensures.failed ∙ rw c.requires.taken
+    let failed = g.C.Acceptor.has_failed c.close.new.self in
+    ◌∙◌ {a = failed} (c.close.ensures.failed) (c.in-Ok.ensures.failed ∙ rw c.requires.taken
     (not_accept (rounds c.serve_one-served.new.log) (rounds c.tell_closing.new.log) c.serve_one-served.result
-    c.tell_closing.result c.tell_closing.ensures.rounds)
+    c.tell_closing.result c.tell_closing.ensures.rounds))

@@ -1,10 +1,8 @@
-use Rattle.std.proofs.Common.{◌≡◌, ◌<◌, ◌⊎◌, Bool, List, ℕ, length, true, ap, arith, inl, inr, refl, sym, subst}
+use Rattle.std.proofs.Common.{◌≡◌, ◌<◌, ◌⊎◌, Bool, List, ℕ, length, true, arith, inl, inr, refl, sym, subst}
 use Rattle.std.proofs.lemmas.Result.{err_from_is_err_and}
 use Rattle.clock_device.specs.Reports.{Reading}
 use Rattle.clock_connections.specs.Arrivals.{HasArrived}
 use Rattle.clock_connections.proofs.LengthLaws.{short_arrived}
-use Rattle.clock_front.specs.declared.front.response.Effect.TheVariants.{Nothing}
-use Rattle.clock_http.specs.Replies.{Answer}
 use Rattle.clock_journal.specs.Format.{most_text}
 use Rattle.clock_server.proofs.Served.{nothing_written}
 use Rattle.clock_server.proofs.serving.serve_one.Goals as goal
@@ -39,36 +37,37 @@ returns-in_err-response-in-Ok-clause-served g c =
 pub returns-in_ok-response-in-Ok-clause-served : goal.returns-in_ok-response-in-Ok-clause-served
 returns-in_ok-response-in-Ok-clause-served g c = inl (
   c.in_ok-response-in-Ok.response,
-  inl (record {
+  record {
     text = c.as_slice.result.now;
-    arrived = arrived _ c.in-Ok.request c.as_slice.result.now c.as_slice.ensures c.in-Ok.ensures.arrival;
+    replied = record {
+      arrived = arrived _ c.in-Ok.request c.as_slice.result.now c.as_slice.ensures c.in-Ok.ensures.arrival;
+      written = c.write_reply.ensures.written;
+    };
+    shown = c.write_reply.ensures.logged;
     responds = c.in_ok-response-in-Ok.ensures.response;
     logged = c.in_ok-response-in-Ok.ensures.logged;
-  }),
-  c.write_reply.ensures.written,
+    moments = c.in_ok-response-in-Ok.ensures.moments;
+  },
   c.write_reply.ensures.effect,
-  c.write_reply.ensures.logged,
 )
 
 pub returns-in-Err-Memory-clause-served : goal.returns-in-Err-Memory-clause-served
-returns-in-Err-Memory-clause-served g c = inl (
-  record { reply = c.no_memory_reply-reply.result; effect = Nothing },
-  inr (
+returns-in-Err-Memory-clause-served g c = inr (
+  inl (
     rw c.in-Err-Memory.field-0-is at c.in-Err-Memory.ensures.arrival,
-    ap (λ (reply : Answer). record { reply = reply; effect = Nothing }) c.no_memory_reply-reply.ensures,
-    refl,
-    refl,
+    rw c.no_memory_reply-reply.ensures at c.write_reply-in-Err-Memory.ensures.written,
   ),
-  c.write_reply-in-Err-Memory.ensures.written,
   c.write_reply-in-Err-Memory.ensures.effect,
-  c.write_reply-in-Err-Memory.ensures.logged,
+  refl,
+  refl,
 )
 
 -- no request could be read, and nothing was written
 pub returns-in-Err-Read-clause-served : goal.returns-in-Err-Read-clause-served
 returns-in-Err-Read-clause-served g c = inr (
-  ((rw c.in-Err-Read.field-0-is at c.in-Err-Read.ensures.arrival, refl), refl),
-  nothing_written _ c.requires.unused,
+  inr (rw c.in-Err-Read.field-0-is at c.in-Err-Read.ensures.arrival, nothing_written _ c.requires.unused),
+  refl,
+  refl,
   refl,
 )
 

@@ -31,10 +31,8 @@ returns-in-Ok-resume-clause-in_step g c written =
     record {
       texts = up.texts;
       are = up.are;
-      in_step = record {
-        has = c.in-Ok-resume.ensures.logged c.args.bytes.now up.texts written up.are;
-        stands = up.stands;
-      };
+      has = c.in-Ok-resume.ensures.logged c.args.bytes.now up.texts written up.are;
+      stands = up.stands;
     }
 
 pub returns-in-Err-resume-clause-err : goal.returns-in-Err-resume-clause-err

@@ -1,15 +1,12 @@
-use Rattle.std.proofs.Common.{arith, sym, ◌∙◌}
+use Rattle.std.proofs.Common.{arith, refl, sym, ◌∙◌}
 use Rattle.std.proofs.lemmas.Result.{err_from_is_err_and}
-use Rattle.clock_server.proofs.EffectLaws.{accepted_where, some_bytes}
-use Rattle.clock_server.proofs.LoggedLaws.{logged, passed_over}
+use Rattle.clock_server.proofs.EffectLaws.{accepted_where, logs_where, nothing_where, some_bytes}
 use Rattle.clock_server.proofs.Untouched.{untouched}
 use Rattle.clock_server.proofs.keeping.JournalRequestLog.answer.Goals as goal
 
 pub returns-then-not-is_change-clause-logged : goal.returns-then-not-is_change-clause-logged
-returns-then-not-is_change-clause-logged g c digest past in_step =
-    passed_over digest past c.args.text.now c.respond-response.result c.args.front.now c.respond-response.new.self _
-    in_step (c.respond-response.ensures.response c.args.text.now c.framing.ensures)
-    (sym c.is_change.ensures ∙ c.if-not-is_change.true)
+returns-then-not-is_change-clause-logged g c =
+    rw (nothing_where c.respond-response.result.effect (sym c.is_change.ensures ∙ c.if-not-is_change.true)) refl
 
 pub returns-then-not-is_change-clause-accepted : goal.returns-then-not-is_change-clause-accepted
 returns-then-not-is_change-clause-accepted g c texts stands = tt
@@ -42,10 +39,8 @@ returns-in_err-append-clause-accepted g c texts stands =
     (sym c.is_change.ensures ∙ c.if-not-is_change.false))
 
 pub returns-clause-logged : goal.returns-clause-logged
-returns-clause-logged g c digest past in_step = logged digest past c.args.text.now c.respond-response.result
-    c.args.front.now c.respond-response.new.self _ _ (c.in_ok-append.ensures.logged digest past in_step.has)
-    in_step.stands (c.respond-response.ensures.response c.args.text.now c.framing.ensures) (sym c.is_change.ensures
-    ∙ c.if-not-is_change.false) (c.in_ok-append.ensures.moments digest past in_step.has).moments
+returns-clause-logged g c = logs_where c.respond-response.result.effect c.args.text.now _ _
+    (sym c.is_change.ensures ∙ c.if-not-is_change.false) c.in_ok-append.ensures.logged
 
 pub returns-clause-accepted : goal.returns-clause-accepted
 returns-clause-accepted g c texts stands = tt
