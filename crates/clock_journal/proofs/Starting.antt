@@ -41,8 +41,8 @@ front_of_head digest left n size is =
       | inr long ↦ (let count = ap length is ∙ length-take n (head digest) in
           let all = length-append (head digest) [] in
           let enough : length (head digest ++ []) ≤ n = omega (arith, count, all, before, long) in
-          inl (subst (λ (b : List ℕ). LeavesTexts digest b [] 0) (sym (is
-          ∙ ap (take n) (sym (append-nil (head digest))))) (front_leaves digest [] 0 n (All-nil Fits) (omega arith) enough)))
+          inl (subst (λ (b : List ℕ). LeavesTexts digest b [] 0) (sym (is ∙ ap (take n)
+          (sym (append-nil (head digest))))) (front_leaves digest [] 0 n (All-nil Fits) (omega arith) enough)))
     ]
 
 head_left : (digest written left : List ℕ) (synced : Option (List ℕ)) → length digest ≡ 32

@@ -1,10 +1,12 @@
 use Rattle.std.proofs.Common.{◌≡◌, ◌≤◌, ◌+◌, ◌-◌, ◌++◌, List, [], ◌∷◌, ℕ, length, take, drop, refl, sym, ap, ◌∙◌}
-use Rattle.std.proofs.Common.{inl, inr, subst, arith, length-append, get_or, ◌<◌, rules, Bool, true, false, bytes_eq, append-nil}
+use Rattle.std.proofs.Common.{inl, inr, subst, arith, length-append, get_or, ◌<◌, rules, Bool, true, false, bytes_eq}
+use Rattle.std.proofs.Common.{append-nil}
 use Rattle.std.specs.Prelude.{not}
 use Rattle.std.proofs.lemmas.List.Elements.{All-nil, All-push}
 use Rattle.std.proofs.lemmas.List.{append_assoc, drop_at, get_or-drop, take-append-drop, take_rest}
 use Rattle.clock_journal.specs.Entries.{Entry, entries_onto, entry_of, texts_in}
-use Rattle.clock_journal.specs.Format.{Fits, before_text, head, file_head_length, kind, link, last_link, record_of, records}
+use Rattle.clock_journal.specs.Format.{Fits, before_text, head, file_head_length, kind, link, last_link, record_of}
+use Rattle.clock_journal.specs.Format.{records}
 use Rattle.clock_journal.specs.Crash.{IsEnd, IsFile}
 use Rattle.clock_journal.specs.Reading.{Next, next, onto, damaged, whole}
 use Rattle.clock_journal.specs.Recovering.{HasHead}
