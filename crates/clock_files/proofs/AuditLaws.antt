@@ -13,8 +13,8 @@ use Rattle.clock_front.specs.declared.front.response.Effect.{Effect}
 use Rattle.clock_front.specs.declared.front.response.Effect.TheVariants.{Nothing, Sheet, Closing}
 use Rattle.clock_reports.specs.FinalReport.{report_of}
 use Rattle.clock_reports.specs.Reports.{ReportFields}
-use Rattle.clock_journal.specs.Entries.{Entry, entries_onto, texts_in}
-use Rattle.clock_journal.specs.Recovering.{AreTextsOf}
+use Rattle.clock_journal.specs.Reading.{onto}
+use Rattle.clock_journal.specs.Recovering.{AreTextsOf, record_at}
 use Rattle.clock_journal.specs.declared.recovery.Record.{Record}
 use Rattle.clock_journal.specs.declared.recovery.Recovered.{Recovered}
 use Rattle.clock_server.proofs.Telling.{CountsOn, counts_text}
@@ -27,25 +27,25 @@ still_enough Sheet before after digests chain counts enough = omega (arith, coun
 still_enough (Closing round) before after digests chain counts enough =
     omega (arith, counts.1, enough, length-append digests (encode_lower chain ∷ []))
 
-enough_digests : (setup : SetupFields) (entries : List Entry)
-    → length (closed_after setup (texts_in entries)) ≤ length (closing_digests setup entries)
-enough_digests setup [] = omega arith
-enough_digests setup (entry ∷ past) =
-    still_enough (effect setup (texts_in past) entry.1) (length (closed_after setup (texts_in past)))
-    (length (closed_after setup (entry.1 ∷ texts_in past))) (closing_digests setup past) entry.0.digest
-    (counts_text setup (texts_in past) entry.1) (enough_digests setup past)
+enough_digests : (setup : SetupFields) (first : List ℕ) (texts : List (List ℕ))
+    → length (closed_after setup texts) ≤ length (closing_digests setup first texts)
+enough_digests setup first [] = omega arith
+enough_digests setup first (text ∷ past) =
+    still_enough (effect setup past text) (length (closed_after setup past)) (length (closed_after setup (text ∷ past)))
+    (closing_digests setup first past) (record_at first past text).digest (counts_text setup past text)
+    (enough_digests setup first past)
 
-enough_for : (entries : List Entry) (house : HouseFields) (digests : List (List ℕ)) → IsRecounted entries house digests
-    → length house.closed ≤ length digests
-enough_for entries house digests is = subst (λ (all : List (List ℕ)). length house.closed ≤ length all)
+enough_for : (first : List ℕ) (texts : List (List ℕ)) (house : HouseFields) (digests : List (List ℕ))
+    → IsRecounted first texts house digests → length house.closed ≤ length digests
+enough_for first texts house digests is = subst (λ (all : List (List ℕ)). length house.closed ≤ length all)
     (sym is.digests_are) (subst (λ (closed : List ClosedRound). length closed
-    ≤ length (closing_digests house.setup entries)) (sym is.stands.closed) (enough_digests house.setup entries))
+    ≤ length (closing_digests house.setup first texts)) (sym is.stands.closed) (enough_digests house.setup first texts))
 
 -- a digest for each sheet of the report
-pub enough_for_report : (entries : List Entry) (house : HouseFields) (digests given : List (List ℕ))
-    (report : ReportFields) → IsRecounted entries house digests → report ≡ report_of house.setup house.closed
+pub enough_for_report : (first : List ℕ) (texts : List (List ℕ)) (house : HouseFields) (digests given : List (List ℕ))
+    (report : ReportFields) → IsRecounted first texts house digests → report ≡ report_of house.setup house.closed
     → given ≡ digests → length report.sheets ≤ length given
-enough_for_report entries house digests given report recounted is same =
+enough_for_report first texts house digests given report recounted is same =
     let many = length-map (reverse house.closed) (λ (closed : ClosedRound). closed.sheet) in
     omega (
       arith,
@@ -53,30 +53,31 @@ enough_for_report entries house digests given report recounted is same =
       many,
       length-reverse house.closed,
       ap length same,
-      enough_for entries house digests recounted,
+      enough_for first texts house digests recounted,
     )
 
 -- what is printed for an auction that stands for all texts of a file
 pub audit_is : (setup setup_new : SetupFields) (first bytes given shown : List ℕ) (texts : List (List ℕ))
     (recovered : Recovered) → given ≡ bytes → setup_new ≡ setup → AreTextsOf first given texts recovered
-    → shown ≡ audited setup_new (entries_onto first [] texts []) → IsAuditOf setup first bytes shown recovered
+    → shown ≡ audited setup_new first (onto texts []) → IsAuditOf setup first bytes shown recovered
 audit_is setup setup_new first bytes given shown texts recovered same same_setup are is = record {
   texts = texts;
   are = subst (λ (file : List ℕ). AreTextsOf first file texts recovered) same are;
-  shown_is = is ∙ ap (λ (of_setup : SetupFields). audited of_setup (entries_onto first [] texts [])) same_setup;
+  shown_is = is ∙ ap (λ (of_setup : SetupFields). audited of_setup first (onto texts [])) same_setup;
 }
 
 -- one more text is counted
-pub recounted_on : (entries : List Entry) (at : Record) (text : List ℕ) (changed : Effect) (old new : HouseFields)
-    (digests digests_new : List (List ℕ)) → IsRecounted entries old digests
-    → changed ≡ effect old.setup (texts_in entries) text → StandsForTexts (text ∷ texts_in entries) new
+pub recounted_on : (first : List ℕ) (texts : List (List ℕ)) (at : Record) (text : List ℕ) (changed : Effect)
+    (old new : HouseFields) (digests digests_new : List (List ℕ)) → IsRecounted first texts old digests
+    → at ≡ record_at first texts text → changed ≡ effect old.setup texts text → StandsForTexts (text ∷ texts) new
     → new.setup ≡ old.setup → digests_new ≡ with_digest changed digests at.digest
-    → IsRecounted ((at, text) ∷ entries) new digests_new
-recounted_on entries at text changed old new digests digests_new is right stands same added =
-    let before = closing_digests old.setup entries in
+    → IsRecounted first (text ∷ texts) new digests_new
+recounted_on first texts at text changed old new digests digests_new is its right stands same added =
+    let before = closing_digests old.setup first texts in
     record {
       stands = stands;
       digests_are = added ∙ ap (λ (all : List (List ℕ)). with_digest changed all at.digest) is.digests_are
           ∙ ap (λ (one : Effect). with_digest one before at.digest) right
-          ∙ ap (λ (setup : SetupFields). closing_digests setup ((at, text) ∷ entries)) (sym same);
+          ∙ ap (λ (one : Record). with_digest (effect old.setup texts text) before one.digest) its
+          ∙ ap (λ (setup : SetupFields). closing_digests setup first (text ∷ texts)) (sym same);
     }

@@ -1,12 +1,12 @@
 -- What `audit` computes from a set-up document and a journal. Lists have the newest entry first.
 --     closed_after setup texts      the rounds that texts have closed
 --     with_digest effect digests digest      one more digest if a round was closed
---     closing_digests setup entries      the digests of the texts that closed a round, in digits,
---         the oldest first
---     IsRecounted entries house digests      the auction stands for the texts, with the digests of
---         its closings
+--     closing_digests setup first texts      the digests of the texts that closed a round, in
+--         digits, the oldest first
+--     IsRecounted first texts house digests      the auction stands for the texts, with the digests
+--         of its closings
 --     IsAuditFault setup first bytes fault      the reported fault is one of this file
---     audited setup entries      what an audit prints of the rounds
+--     audited setup first texts      what an audit prints of the rounds
 --     IsAuditOf setup first bytes shown recovered      this is printed of all texts of a file
 use Rattle.std.specs.Prelude.{◌≡◌, ◌++◌, ℕ, List, [], ◌∷◌}
 use Rattle.hex.specs.Hex.{encode_lower}
@@ -20,8 +20,8 @@ use Rattle.clock_front.specs.declared.front.response.Effect.{Effect}
 use Rattle.clock_front.specs.declared.front.response.Effect.TheVariants.{Nothing, Sheet, Closing}
 use Rattle.clock_answers.specs.FaultLines.{of_journal}
 use Rattle.clock_answers.specs.declared.fault.Fault.{Fault}
-use Rattle.clock_journal.specs.Entries.{Entry, entries_onto, texts_in}
-use Rattle.clock_journal.specs.Recovering.{AreTextsOf, IsFound}
+use Rattle.clock_journal.specs.Reading.{onto}
+use Rattle.clock_journal.specs.Recovering.{AreTextsOf, IsFound, record_at}
 use Rattle.clock_journal.specs.declared.recovery.JournalFault.{JournalFault}
 use Rattle.clock_journal.specs.declared.recovery.Recovered.{Recovered}
 use Rattle.clock_server.specs.Keeping.{IsRefused}
@@ -37,23 +37,23 @@ with_digest Nothing digests digest = digests
 with_digest Sheet digests digest = digests
 with_digest (Closing round) digests digest = digests ++ encode_lower digest ∷ []
 
-abbrev pub closing_digests : SetupFields → List Entry → List (List ℕ)
-closing_digests setup [] = []
-closing_digests setup (entry ∷ past) =
-    with_digest (effect setup (texts_in past) entry.1) (closing_digests setup past) entry.0.digest
+abbrev pub closing_digests : SetupFields → List ℕ → List (List ℕ) → List (List ℕ)
+closing_digests setup first [] = []
+closing_digests setup first (text ∷ past) = with_digest (effect setup past text)
+    (closing_digests setup first past) (record_at first past text).digest
 
 -- the auction stands for the texts, and the digests are those of its closings
-pub record IsRecounted (entries : List Entry) (house : HouseFields)
+pub record IsRecounted (first : List ℕ) (texts : List (List ℕ)) (house : HouseFields)
     (digests : List (List ℕ)) : Type 0 where
-  pub stands : StandsForTexts (texts_in entries) house
-  pub digests_are : digests ≡ closing_digests house.setup entries
+  pub stands : StandsForTexts texts house
+  pub digests_are : digests ≡ closing_digests house.setup first texts
 
 -- the file has this fault, and a text that is reported as refused is refused after those before it
 pub record IsAuditFault (setup : SetupFields) (first bytes : List ℕ)
     (reported : Fault) : Type 0 where
   pub fault : JournalFault
   pub reported_is : reported ≡ of_journal fault
-  pub is : IsFound (IsRefused setup) (λ past. past ≡ []) first bytes fault
+  pub is : IsFound (IsRefused setup) first bytes fault
 
 -- the lines of the closed rounds, each with its closing's digest, and what each bidder won if the
 -- auction has ended
@@ -62,13 +62,13 @@ text_of_rounds setup [] digests = []
 text_of_rounds setup (round ∷ closed) digests =
     audit_text (report_of setup (round ∷ closed)) digests
 
-abbrev pub audited : SetupFields → List Entry → List ℕ
-audited setup entries =
-    text_of_rounds setup (closed_after setup (texts_in entries)) (closing_digests setup entries)
+abbrev pub audited : SetupFields → List ℕ → List (List ℕ) → List ℕ
+audited setup first texts =
+    text_of_rounds setup (closed_after setup texts) (closing_digests setup first texts)
 
 -- these are the texts of the file, and the rounds of all of them are printed
 pub record IsAuditOf (setup : SetupFields) (first bytes shown : List ℕ)
     (recovered : Recovered) : Type 0 where
   pub texts : List (List ℕ)
   pub are : AreTextsOf first bytes texts recovered
-  pub shown_is : shown ≡ audited setup (entries_onto first [] texts [])
+  pub shown_is : shown ≡ audited setup first (onto texts [])

@@ -1,7 +1,6 @@
 //! `audit`: an auction that is counted again, from its set-up document and its journal only.
 ghost use Rattle.std.specs.Prelude.{◌≡◌, [], List, ℕ, IfOk, IfErr, OnOk};
 ghost use Rattle.clock_terms.specs.Limits.{SetupFields};
-ghost use Rattle.clock_journal.specs.Entries.{Entry};
 ghost use Rattle.clock_server.specs.Keeping.{IsRefused};
 ghost use Rattle.clock_files.specs.Audits.{IsAuditOf, IsRecounted, IsAuditFault, audited};
 ghost use Rattle.clock_files.specs.Audits.{with_digest};
@@ -52,7 +51,7 @@ impl Machine for Recount {
 
     ghost rules = { λ recount. recount.front.setup };
 
-    ghost stands_for = { λ recount entries. IsRecounted entries recount.front
+    ghost stands_for = { λ recount first texts. IsRecounted first texts recount.front
         recount.digests.items };
 
     ghost refuses = { λ setup texts text. IsRefused setup texts text };
@@ -82,7 +81,7 @@ pub fn audit_of(
     first: &Link,
     bytes: Vec<u8>,
 ) -> Result<(Text, Recovered), Fault>
-    requires { IsRecounted [] recount.old.front recount.old.digests.items }
+    requires { IsRecounted first.now [] recount.old.front recount.old.digests.items }
     ensures ok { IfOk result
         (λ audit. IsAuditOf recount.old.front.setup first.now bytes.items audit.0 audit.1) }
     ensures err { IfErr result (IsAuditFault recount.old.front.setup first.now bytes.items) }
@@ -95,11 +94,11 @@ pub fn audit_of(
 
 /// Returns the lines of the closed rounds. `recount` has taken all texts.
 fn rounds_of(alloc: Global, recount: &Recount) -> Result<Text, NoMemory>
-    requires { (entries : List Entry) × IsRecounted entries recount.now.front
-        recount.now.digests.items }
-    ensures { (entries : List Entry)
-        → IsRecounted entries recount.now.front recount.now.digests.items
-        → IfOk result (λ text. text ≡ audited recount.now.front.setup entries) }
+    requires { (first : List ℕ) × (texts : List (List ℕ))
+        × IsRecounted first texts recount.now.front recount.now.digests.items }
+    ensures { (first : List ℕ) (texts : List (List ℕ))
+        → IsRecounted first texts recount.now.front recount.now.digests.items
+        → IfOk result (λ text. text ≡ audited recount.now.front.setup first texts) }
 {
     let house = recount.front.house();
     if house.closed_rounds() == 0 {

@@ -29,16 +29,13 @@ where
 /// The lines of the texts so far.
 #[derive(Drop)]
 struct Listing {
-    first: Link,
     text: Text,
 }
 
 impl Machine for Listing {
-    ghost Rules = { List ℕ };
+    ghost rules = { λ listing. tt };
 
-    ghost rules = { λ listing. listing.first };
-
-    ghost stands_for = { λ listing entries. listing.text ≡ listing_text listing.first entries };
+    ghost stands_for = { λ listing first texts. listing.text ≡ listing_text first texts };
 
     ghost refuses = { λ rules texts text. ⊥ };
 
@@ -85,7 +82,7 @@ pub fn listing_of(alloc: Global, first: Link, bytes: &[u8]) -> Result<(Text, Rec
     let mut text = Text::new(alloc);
     text.extend_from_slice(b"setup ")?;
     push_digits(&mut text, &first)?;
-    let mut listing = Listing { first, text };
+    let mut listing = Listing { text };
     let recovered = recover(&mut listing, &first, bytes)?;
     Ok((listing.text, recovered))
 }

@@ -10,4 +10,4 @@ pub mod Placed
 pub mod Files
 pub mod Passing
 pub mod Starting
-pub mod EntryLaws
+pub mod Lists

@@ -8,7 +8,7 @@ use Rattle.clock_journal.specs.Logged.{file_of}
 use Rattle.clock_journal.specs.Crash.{IsEnd, IsFile, IsPartOfHead, LeavesJournal}
 use Rattle.clock_journal.specs.Recovering.{AreTextsOf, HasHead}
 use Rattle.clock_journal.specs.declared.recovery.Recovered.{Recovered}
-use Rattle.clock_journal.proofs.EntryLaws.{many_bytes}
+use Rattle.clock_journal.proofs.Lists.{many_bytes}
 use Rattle.clock_journal.proofs.Files.{length-head, same_texts}
 use Rattle.clock_journal.proofs.Fronts.{damage_is_none, end_is_none, end_undamaged}
 use Rattle.clock_journal.proofs.Records.{next_none}

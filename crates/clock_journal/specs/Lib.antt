@@ -3,7 +3,6 @@ pub mod Reading
 pub mod Crash
 pub mod Disks
 pub mod Logged
-pub mod Entries
 pub mod Recovering
 pub mod Chain
 pub mod Laws

@@ -1,8 +1,7 @@
 //! Recovery: a machine takes the texts of a file, one after the other.
 
-ghost use Rattle.std.specs.Prelude.{◌≡◌, ◌∷◌, List, ℕ, Err, MatchResult, OnOk};
-ghost use Rattle.clock_journal.specs.Entries.{Entry, texts_in};
-ghost use Rattle.clock_journal.specs.Recovering.{IsFound, IsRecovered};
+ghost use Rattle.std.specs.Prelude.{◌≡◌, [], ◌∷◌, List, ℕ, Err, MatchResult, OnOk};
+ghost use Rattle.clock_journal.specs.Recovering.{IsFound, IsRecovered, record_at};
 
 use crate::format::{
     BEFORE_TEXT, HEAD_LENGTH, KIND, KIND_LENGTH, Link, Next, head_of, next_record,
@@ -29,26 +28,27 @@ pub struct Record {
 
 /// What takes the texts of a journal, in order.
 ///
-/// In contracts, a machine stands for the texts that it took, each with its record, the newest
-/// first.
+/// In contracts, a machine stands for the texts that it took, the newest first. They are the first
+/// texts in the journal of the set-up document with a digest.
 pub trait Machine {
     /// What decides whether it refuses a text. No text changes it.
     ghost Rules: { Type 0 } = { Unit {0} };
 
     ghost rules: { Self → Self.Rules };
 
-    ghost stands_for: { Self → List Entry → Type 0 };
+    ghost stands_for: { Self → List ℕ → List (List ℕ) → Type 0 };
 
     /// By these rules, a machine that took these texts refuses this one.
     ghost refuses: { Self.Rules → List (List ℕ) → List ℕ → Type 0 };
 
     /// Takes the next text, whose record is `at`.
     fn take(&mut self, text: &[u8], at: &Record) -> Result<(), TakeError>
-        ensures taken { OnOk result ((entries : List Entry) → stands_for self.old entries
-            → stands_for self.new ((at.now, text.now) ∷ entries)) }
-        ensures refused { (entries : List Entry)
-            → result ≡ Err TakeError.Refused → stands_for self.old entries
-            → refuses (rules self.old) (texts_in entries) text.now }
+        ensures taken { OnOk result ((digest : List ℕ) (past : List (List ℕ))
+            → stands_for self.old digest past → at.now ≡ record_at digest past text.now
+            → stands_for self.new digest (text.now ∷ past)) }
+        ensures refused { (digest : List ℕ) (past : List (List ℕ))
+            → result ≡ Err TakeError.Refused → stands_for self.old digest past
+            → refuses (rules self.old) past text.now }
         ensures rules { rules self.new ≡ rules self.old };
 }
 
@@ -86,6 +86,8 @@ pub enum JournalFault {
 /// [`law_of_journals`](crate::law_of_journals), a file has one list of texts only. So what a crash
 /// left of a journal is not damaged, and the machine takes every text that was on the disk.
 ///
+/// Requires a machine without texts.
+///
 /// Errors, in this order: `Unknown`, `Setup`; then, of the first record that is not taken,
 /// `Damaged`, `Refused`, or `NoMemory`. Hashes each text once, and allocates nothing.
 pub fn recover<M: Machine>(
@@ -93,10 +95,10 @@ pub fn recover<M: Machine>(
     digest: &Link,
     bytes: &[u8],
 ) -> Result<Recovered, JournalFault>
+    requires { M.stands_for machine.old digest.now [] }
     ensures read { MatchResult result
-        (IsRecovered (M.stands_for machine.old) (M.stands_for machine.new) digest.now bytes.now)
-        (IsFound (M.refuses (M.rules machine.old)) (M.stands_for machine.old) digest.now
-        bytes.now) }
+        (IsRecovered (M.stands_for machine.new) digest.now bytes.now)
+        (IsFound (M.refuses (M.rules machine.old)) digest.now bytes.now) }
     ensures rules { M.rules machine.new ≡ M.rules machine.old }
 {
     let mut chain = *digest;

@@ -19,7 +19,7 @@ struct Count(u64);
 impl Machine for Count {
     ghost rules = { λ count. tt };
 
-    ghost stands_for = { λ count texts. Unit {0} };
+    ghost stands_for = { λ count first texts. Unit {0} };
 
     ghost refuses = { λ rules texts text. ⊥ };
 

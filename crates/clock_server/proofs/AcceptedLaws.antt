@@ -111,7 +111,7 @@ own_starts setup digest bytes texts least house (Refused fault.Setup) accepted l
 own_starts setup digest bytes texts least house (Refused (fault.Damaged place)) accepted leaves found =
     absurd (left_undamaged digest bytes found.0 texts least found.1 leaves)
 own_starts setup digest bytes texts least house (Refused (fault.Refused place)) accepted (inl leaves) found =
-    absurd (none_refused setup digest bytes texts least found.0 found.1 accepted leaves found.2 (found.4 [] refl))
+    absurd (none_refused setup digest bytes texts least found.0 found.1 accepted leaves found.2 found.4)
 own_starts setup digest bytes texts least house (Refused (fault.Refused place)) accepted (inr part) found =
     absurd (no_text digest bytes found.0 found.1 part.1 found.2)
 own_starts setup digest bytes texts least house (Refused fault.NoMemory) accepted leaves found = tt

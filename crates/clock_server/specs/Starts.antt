@@ -27,7 +27,7 @@ pub record IsResumed (digest bytes : List ℕ) (journal : JournalState) (house :
 -- the file has this fault; or the auction stands for all of its texts, and the disk failed
 abbrev pub IsNotResumed : SetupFields → List ℕ → List ℕ → HouseFields → ResumeFault → Type 0
 IsNotResumed setup digest bytes house (Refused fault) =
-    IsFound (IsRefused setup) (λ past. past ≡ []) digest bytes fault
+    IsFound (IsRefused setup) digest bytes fault
 IsNotResumed setup digest bytes house Failed =
     (recovered : Recovered) × (texts : List (List ℕ)) × AreTextsOf digest bytes texts recovered
     × StandsForTexts (onto texts []) house

@@ -1,6 +1,5 @@
 ghost use Rattle.std.specs.Prelude.{◌≡◌, [], ◌∷◌, List, ℕ, Err, IfErr, IfOk, OnOk, Some, false};
 ghost use Rattle.clock_journal.specs.Crash.{BeginsWithTexts, LeavesJournal, StaysSo};
-ghost use Rattle.clock_journal.specs.Entries.{texts_in};
 ghost use Rattle.clock_terms.specs.Limits.{SetupFields};
 ghost use Rattle.clock_front.specs.{Effects.{effect as effect_of}, Fronts.{StandsForTexts}};
 ghost use Rattle.clock_server.specs.{Accepted.{OwnStarts}, Keeping.{IsRefused}};
@@ -26,7 +25,7 @@ impl<P: Processor> Machine for ReplayedAuction<P> {
 
     ghost rules = { λ auction. auction.front.setup };
 
-    ghost stands_for = { λ auction entries. StandsForTexts (texts_in entries) auction.front };
+    ghost stands_for = { λ auction digest texts. StandsForTexts texts auction.front };
 
     ghost refuses = { λ setup texts text. IsRefused setup texts text };
 

@@ -1,10 +1,8 @@
 use Rattle.std.proofs.Common.{List, [], ℕ, subst}
 use Rattle.std.proofs.lemmas.Result.{err_from_is_err_and}
-use Rattle.clock_journal.specs.Entries.{Entry, entries_onto}
+use Rattle.clock_journal.specs.Reading.{onto}
 use Rattle.clock_journal.specs.declared.recovery.JournalFault.TheVariants.{NoMemory}
-use Rattle.clock_server.specs.Keeping.{IsRefused}
-use Rattle.clock_server.proofs.TakenUp.{found_first}
-use Rattle.clock_files.specs.Audits.{IsRecounted, IsAuditFault}
+use Rattle.clock_files.specs.Audits.{IsAuditFault}
 use Rattle.clock_files.proofs.AuditLaws.{audit_is}
 use Rattle.clock_files.proofs.audit.audit_of.Goals as goal
 
@@ -17,14 +15,13 @@ returns-in_err-recovered-clause-err c =
     (λ (bytes : List ℕ). IsAuditFault was.front.setup c.args.first.now bytes p.0) c.as_slice.ensures.value (record {
       fault = refused.field-0.0;
       reported_is = p.2;
-      is = found_first (λ (entries : List Entry). IsRecounted entries was.front was.digests.items) c.requires
-          (IsRefused was.front.setup) c.args.first.now c.as_slice.result.now refused.field-0.0 refused.ensures.read;
+      is = refused.ensures.read;
     }))
 
 pub rounds_of-requires : goal.rounds_of-requires
 rounds_of-requires c =
     let all = c.in_ok-recovered.ensures.read in
-    (entries_onto c.args.first.now [] all.texts [], all.stands [] c.requires)
+    (c.args.first.now, onto all.texts [], all.stands)
 
 pub returns-in_err-text-clause-err : goal.returns-in_err-text-clause-err
 returns-in_err-text-clause-err c =
@@ -38,8 +35,6 @@ returns-in_err-text-clause-err c =
 pub returns-clause-ok : goal.returns-clause-ok
 returns-clause-ok c =
     let all = c.in_ok-recovered.ensures.read in
-    let entries = entries_onto c.args.first.now [] all.texts [] in
     audit_is c.args.recount.now.front.setup c.recover.new.machine.front.setup c.args.first.now c.args.bytes.items
     c.as_slice.result.now _ all.texts c.in_ok-recovered.recovered c.as_slice.ensures.value c.recover.ensures.rules
-    all.are
-    (c.in_ok-text.ensures entries (all.stands [] c.requires))
+    all.are (c.in_ok-text.ensures c.args.first.now (onto all.texts []) all.stands)

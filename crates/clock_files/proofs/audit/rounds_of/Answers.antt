@@ -8,5 +8,5 @@ pub audit_text-text-requires : goal.audit_text-text-requires
 audit_text-text-requires c =
     let same = ap (λ (house : HouseFields). report_of house.setup house.closed) c.house-house.ensures in
     let recount = c.args.recount.now in
-    enough_for_report c.requires.0 recount.front recount.digests.items
-    c.as_slice.result.now c.in_ok-report.report c.requires.1 (c.in_ok-report.ensures ∙ same) c.as_slice.ensures.value
+    enough_for_report c.requires.0 c.requires.1 recount.front recount.digests.items
+    c.as_slice.result.now c.in_ok-report.report c.requires.2 (c.in_ok-report.ensures ∙ same) c.as_slice.ensures.value

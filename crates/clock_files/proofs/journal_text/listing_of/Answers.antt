@@ -1,9 +1,5 @@
-use Rattle.std.proofs.Common.{◌≡◌, List, [], ℕ, rules, subst}
 use Rattle.std.proofs.lemmas.Result.{err_from_is_err_and}
-use Rattle.clock_journal.specs.Entries.{Entry, entries_onto}
 use Rattle.clock_journal.specs.declared.recovery.JournalFault.TheVariants.{NoMemory}
-use Rattle.clock_server.proofs.TakenUp.{found_first}
-use Rattle.clock_files.specs.Listings.{listing_text}
 use Rattle.clock_files.proofs.journal_text.listing_of.Goals as goal
 
 pub returns-in_err-extend_from_slice-clause-err : goal.returns-in_err-extend_from_slice-clause-err
@@ -20,22 +16,9 @@ returns-in_err-push_digits-clause-err c =
 pub returns-in_err-recovered-clause-err : goal.returns-in_err-recovered-clause-err
 returns-in_err-recovered-clause-err c =
     let p = err_from_is_err_and c.from_residual-in_err-recovered.result c.from_residual-in_err-recovered.ensures.1 in
-    let refused = c.in_err-recovered in
-    let shown = c.push_digits.new.text in
-    rw p.1 (record {
-      fault = refused.field-0.0;
-      reported_is = p.2;
-      is = found_first (λ (entries : List Entry). shown ≡ listing_text c.args.first entries) (search rules)
-          (λ (past : List (List ℕ)) (text : List ℕ). ⊥) c.args.first c.args.bytes.now refused.field-0.0
-          refused.ensures.read;
-    })
+    rw p.1 (record { fault = c.in_err-recovered.field-0.0; reported_is = p.2; is = c.in_err-recovered.ensures.read })
 
 pub returns-clause-ok : goal.returns-clause-ok
 returns-clause-ok c =
     let all = c.in_ok-recovered.ensures.read in
-    record {
-      texts = all.texts;
-      are = all.are;
-      shown_is = subst (λ (from : List ℕ). c.recover.new.machine.text ≡ listing_text from
-          (entries_onto c.args.first [] all.texts [])) c.recover.ensures.rules (all.stands [] (search rules));
-    }
+    record { texts = all.texts; are = all.are; shown_is = all.stands }

@@ -4,16 +4,15 @@ use Rattle.std.proofs.Common.{append-nil}
 use Rattle.std.specs.Prelude.{not}
 use Rattle.std.proofs.lemmas.List.Elements.{All-nil, All-push}
 use Rattle.std.proofs.lemmas.List.{append_assoc, drop_at, get_or-drop, take-append-drop, take_rest}
-use Rattle.clock_journal.specs.Entries.{Entry, entries_onto, entry_of, texts_in}
 use Rattle.clock_journal.specs.Format.{Fits, before_text, head, file_head_length, kind, link, last_link, record_of}
 use Rattle.clock_journal.specs.Format.{records}
 use Rattle.clock_journal.specs.Crash.{IsEnd, IsFile}
 use Rattle.clock_journal.specs.Reading.{Next, next, onto, damaged, whole}
-use Rattle.clock_journal.specs.Recovering.{HasHead}
+use Rattle.clock_journal.specs.Recovering.{HasHead, record_at}
 use Rattle.clock_journal.specs.inside.Replays.{IsOnWay}
 use Rattle.clock_journal.specs.Logged.{file_of}
 use Rattle.clock_journal.specs.declared.recovery.Record.{Record}
-use Rattle.clock_journal.proofs.EntryLaws.{entries-push, many_bytes, texts_in-onto}
+use Rattle.clock_journal.proofs.Lists.{length-onto, many_bytes, onto-onto, onto-push, onto-twice}
 use Rattle.clock_journal.proofs.Moments.{file-push, last_link-push}
 use Rattle.clock_journal.proofs.TakenOver.{kind_of_head, long_head, not_same, short_headless}
 use Rattle.clock_journal.proofs.Tested.{same_where}
@@ -29,19 +28,24 @@ was_true true is = refl
 was_true false is = sym is
 
 -- the record that the code makes is that of the next text
-next_entry : (first : List ℕ) (texts : List (List ℕ)) (text chain : List ℕ) (count place : ℕ) (digest : List ℕ) → count
-    ≡ length texts → place ≡ length (file_of first texts) → chain ≡ last_link first texts → digest ≡ link chain text
-    → (let made : Record = record { number = count + 1; place = place; digest = digest } in (made, text))
-    ≡ entry_of first texts text
+next_entry : (first : List ℕ) (texts : List (List ℕ)) (text chain : List ℕ) (count place : ℕ) (digest : List ℕ)
+    → count ≡ length texts → place ≡ length (file_of first texts) → chain ≡ last_link first texts
+    → digest ≡ link chain text → (let made : Record = record { number = count + 1; place = place; digest = digest } in
+    made) ≡ record_at first (onto texts []) text
 next_entry first texts text chain count place digest counts places linked is =
-    ap (λ (n : ℕ). let made : Record = record { number = n + 1; place = place; digest = digest } in (made, text)) counts
-    ∙ ap (λ (at : ℕ). let made : Record = record { number = length texts + 1; place = at; digest = digest } in
-    (made, text)) places ∙ ap (λ (last : List ℕ).
-    let made : Record = record { number = length texts + 1; place = length (file_of first texts); digest = last } in
-    (made, text)) (is ∙ ap (λ (before : List ℕ). link before text) linked ∙ sym (last_link-push first texts text))
+    ap (λ (n : ℕ). let made : Record = record { number = n + 1; place = place; digest = digest } in made)
+    (let size = length-onto texts [] in omega (arith, counts, size))
+    ∙ ap (λ (at : ℕ). let made : Record = record { number = length (onto texts []) + 1; place = at; digest = digest } in
+    made) (places ∙ ap (λ (all : List (List ℕ)). length (file_of first all)) (sym (onto-twice texts)))
+    ∙ ap (λ (last : List ℕ). let made : Record = record {
+      number = length (onto texts []) + 1;
+      place = length (file_of first (onto (onto texts []) []));
+      digest = last;
+    } in made) (is ∙ ap (λ (before : List ℕ). link before text) linked ∙ sym (last_link-push first texts text)
+    ∙ ap (last_link first) (sym (onto-onto texts [] (text ∷ []))))
 
-module _ (old mid : List Entry → Type 0) (digest bytes chain : List ℕ) (count : ℕ) (rest : List ℕ)
-    (way : IsOnWay old mid digest bytes chain count rest) where
+module _ (mid : List ℕ → List (List ℕ) → Type 0) (digest bytes chain : List ℕ) (count : ℕ) (rest : List ℕ)
+    (way : IsOnWay mid digest bytes chain count rest) where
   all_bytes : length (file_of digest way.texts) + length rest ≡ length bytes
   all_bytes = sym (ap length way.file ∙ length-append (file_of digest way.texts) rest)
 
@@ -72,11 +76,12 @@ module _ (old mid : List Entry → Type 0) (digest bytes chain : List ℕ) (coun
       ∙ ap (λ (b : List ℕ). get_or b place 0) behind) (small (length file + place))
 
   -- one more text was taken, with its record
-  on_way_more : (new : List Entry → Type 0) (text link_is : List ℕ) (record_is : Record)
+  on_way_more : (new : List ℕ → List (List ℕ) → Type 0) (text link_is : List ℕ) (record_is : Record)
       → ((place : ℕ) → get_or bytes place 0 < 256) → next chain rest ≡ whole text → link_is ≡ link chain text
-      → (record_is, text) ≡ entry_of digest way.texts text
-      → ((entries : List Entry) → mid entries → new ((record_is, text) ∷ entries))
-      → IsOnWay old new digest bytes link_is (count + 1) (drop (before_text + length text) rest)
+      → record_is ≡ record_at digest (onto way.texts []) text
+      → ((first : List ℕ) (past : List (List ℕ)) → mid first past → record_is ≡ record_at first past text
+      → new first (text ∷ past))
+      → IsOnWay new digest bytes link_is (count + 1) (drop (before_text + length text) rest)
   on_way_more new text link_is record_is small is linked same taken =
       let file = file_of digest way.texts in
       let left = drop (before_text + length text) rest in
@@ -91,19 +96,9 @@ module _ (old mid : List Entry → Type 0) (digest bytes chain : List ℕ) (coun
         chain_is = linked ∙ (ap (λ (before : List ℕ). link before text) way.chain_is
             ∙ sym (last_link-push digest way.texts text));
         count_is = omega (arith, way.count_is, length-append way.texts (text ∷ []));
-        stands = λ past was. subst new (ap (λ (entry : Entry). entry ∷ entries_onto digest [] way.texts past) same
-            ∙ sym (entries-push digest [] way.texts text past))
-            (taken (entries_onto digest [] way.texts past) (way.stands past was));
+        stands = subst (new digest) (sym (onto-push way.texts text []))
+            (taken digest (onto way.texts []) way.stands same);
       }
-
-  -- the machine refuses a text after those before it
-  refused_after : (refuses now : List (List ℕ) → List ℕ → Type 0) (text : List ℕ) → now ≡ refuses
-      → ((entries : List Entry) → mid entries → now (texts_in entries) text) → (past : List Entry) → old past
-      → refuses (onto way.texts (texts_in past)) text
-  refused_after refuses now text same refused past was =
-      subst (λ (all : List (List ℕ)). refuses all text) (texts_in-onto digest [] way.texts past)
-      (subst (λ (by : List (List ℕ) → List ℕ → Type 0). by (texts_in (entries_onto digest [] way.texts past)) text) same
-      (refused (entries_onto digest [] way.texts past) (way.stands past was)))
 
 pub loop-chain-init : goal.loop-chain-init
 loop-chain-init g c =
@@ -119,14 +114,13 @@ loop-chain-init g c =
             ∙ ap (λ (b : List ℕ). file ++ b) (sym (take_rest bytes file_head_length)));
         chain_is = refl;
         count_is = refl;
-        stands = λ past was. was;
+        stands = c.requires;
       },
       refl,
     )
 
 pub loop-chain-preserved : goal.loop-chain-preserved
 loop-chain-preserved g c =
-    let old = g.M.Machine.stands_for c.args.machine.now in
     let mid = g.M.Machine.stands_for c.loop-chain.machine in
     let new = g.M.Machine.stands_for c.take.new.self in
     let digest = c.args.digest.now in
@@ -134,9 +128,9 @@ loop-chain-preserved g c =
     let text = c.in-Whole.text.now in
     let at = c.loop-chain in
     let way = at.invariant.0 in
-    let place = next_place old mid digest bytes at.chain at.texts at.rest.now way in (
-      subst (λ rest. IsOnWay old new digest bytes c.in-Whole.digest (at.texts + 1) rest)
-          (sym (take_rest at.rest.now (before_text + length text))) (on_way_more old mid digest bytes at.chain at.texts
+    let place = next_place mid digest bytes at.chain at.texts at.rest.now way in (
+      subst (λ rest. IsOnWay new digest bytes c.in-Whole.digest (at.texts + 1) rest)
+          (sym (take_rest at.rest.now (before_text + length text))) (on_way_more mid digest bytes at.chain at.texts
           at.rest.now way new text c.in-Whole.digest _ (λ place. search rules) (sym c.in-Whole.ensures.next)
           c.in-Whole.ensures.record.linked (next_entry digest way.texts text at.chain at.texts (length bytes
           - length at.rest.now) c.in-Whole.digest way.count_is place way.chain_is c.in-Whole.ensures.record.linked)
@@ -147,7 +141,7 @@ loop-chain-preserved g c =
 -- there are no more texts than bytes, so the count does not overflow
 pub overflow_add-number : goal.overflow_add-number
 overflow_add-number g c =
-    let few = few_texts (g.M.Machine.stands_for c.args.machine.now) (g.M.Machine.stands_for c.loop-chain.machine)
+    let few = few_texts (g.M.Machine.stands_for c.loop-chain.machine)
     c.args.digest.now c.args.bytes.now c.loop-chain.chain c.loop-chain.texts c.loop-chain.rest.now
     c.loop-chain.invariant.0 in
     let whole = c.in-Whole.ensures.record.within in
@@ -157,7 +151,7 @@ pub overflow_sub-end : goal.overflow_sub-end
 overflow_sub-end g c =
     omega (
       arith,
-      all_bytes (g.M.Machine.stands_for c.args.machine.now) (g.M.Machine.stands_for c.loop-chain.machine)
+      all_bytes (g.M.Machine.stands_for c.loop-chain.machine)
           c.args.digest.now c.args.bytes.now c.loop-chain.chain c.loop-chain.texts c.loop-chain.rest.now
           c.loop-chain.invariant.0,
     )
@@ -180,7 +174,7 @@ returns-then-eq-clause-read g c = record {
       refl,
     );
   };
-  stands = λ past was. was;
+  stands = c.requires;
 }
 
 pub returns-then-bytes-lt-HEAD_LENGTH-clause-read : goal.returns-then-bytes-lt-HEAD_LENGTH-clause-read
@@ -224,7 +218,6 @@ returns-then-ne-2-clause-read g c =
 
 pub returns-in-Ended-clause-read : goal.returns-in-Ended-clause-read
 returns-in-Ended-clause-read g c =
-    let old = g.M.Machine.stands_for c.args.machine.now in
     let now = g.M.Machine.stands_for c.loop-chain.machine in
     let digest = c.args.digest.now in
     let bytes = c.args.bytes.now in
@@ -237,8 +230,8 @@ returns-in-Ended-clause-read g c =
         chain_is = way.chain_is;
         count_is = way.count_is;
         end_is = inl (
-          file_at old now digest bytes at.chain at.texts at.rest.now way IsEnd ends,
-          next_place old now digest bytes at.chain at.texts at.rest.now way,
+          file_at now digest bytes at.chain at.texts at.rest.now way IsEnd ends,
+          next_place now digest bytes at.chain at.texts at.rest.now way,
         );
       };
       stands = way.stands;
@@ -246,21 +239,19 @@ returns-in-Ended-clause-read g c =
 
 pub returns-in-Damaged-clause-read : goal.returns-in-Damaged-clause-read
 returns-in-Damaged-clause-read g c =
-    let old = g.M.Machine.stands_for c.args.machine.now in
     let now = g.M.Machine.stands_for c.loop-chain.machine in
     let digest = c.args.digest.now in
     let bytes = c.args.bytes.now in
     let at = c.loop-chain in
     let way = at.invariant.0 in (
       way.texts,
-      file_at old now digest bytes at.chain at.texts at.rest.now way (λ (found : Next). found ≡ damaged)
+      file_at now digest bytes at.chain at.texts at.rest.now way (λ (found : Next). found ≡ damaged)
           (sym c.in-Damaged.ensures.next),
-      next_place old now digest bytes at.chain at.texts at.rest.now way,
+      next_place now digest bytes at.chain at.texts at.rest.now way,
     )
 
 pub returns-in-Err-Refused-clause-read : goal.returns-in-Err-Refused-clause-read
 returns-in-Err-Refused-clause-read g c =
-    let old = g.M.Machine.stands_for c.args.machine.now in
     let now = g.M.Machine.stands_for c.loop-chain.machine in
     let digest = c.args.digest.now in
     let bytes = c.args.bytes.now in
@@ -269,13 +260,12 @@ returns-in-Err-Refused-clause-read g c =
     let way = at.invariant.0 in (
       way.texts,
       text,
-      file_at old now digest bytes at.chain at.texts at.rest.now way (λ (found : Next). found ≡ whole text)
+      file_at now digest bytes at.chain at.texts at.rest.now way (λ (found : Next). found ≡ whole text)
           (sym c.in-Whole.ensures.next),
-      next_place old now digest bytes at.chain at.texts at.rest.now way,
-      refused_after old now digest bytes at.chain at.texts at.rest.now way
-          (g.M.Machine.refuses (g.M.Machine.rules c.args.machine.now)) (g.M.Machine.refuses
-          (g.M.Machine.rules at.machine)) text (ap g.M.Machine.refuses at.invariant.1)
-          (λ entries. c.take.ensures.refused entries (search rules)),
+      next_place now digest bytes at.chain at.texts at.rest.now way,
+      subst (λ (by : List (List ℕ) → List ℕ → Type 0). by (onto way.texts []) text)
+          (ap g.M.Machine.refuses at.invariant.1)
+          (c.take.ensures.refused digest (onto way.texts []) (search rules) way.stands),
     )
 
 pub returns-in-Err-NoMemory-clause-read : goal.returns-in-Err-NoMemory-clause-read

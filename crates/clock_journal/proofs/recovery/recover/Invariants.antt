@@ -4,8 +4,7 @@ use Rattle.clock_journal.proofs.recovery.recover.Given as goal
 
 -- some texts were taken and counted, and the rest is left
 abbrev pub invariant-loop-chain : goal.invariant-loop-chain
-invariant-loop-chain g l = IsOnWay (g.M.Machine.stands_for l.initial.machine)
-    (g.M.Machine.stands_for l.machine) l.digest l.bytes l.chain l.texts l.rest
+invariant-loop-chain g l = IsOnWay (g.M.Machine.stands_for l.machine) l.digest l.bytes l.chain l.texts l.rest
     × (g.M.Machine.rules l.machine ≡ g.M.Machine.rules l.initial.machine)
 
 abbrev pub decreases-loop-chain : goal.decreases-loop-chain

@@ -1,7 +1,6 @@
 use Rattle.std.proofs.Common.{Result, Ok, Err}
 use Rattle.std.specs.Prelude.{OnOk}
 use Rattle.std.specs.Result.{result_or}
-use Rattle.clock_journal.specs.Entries.{texts_in}
 use Rattle.clock_files.proofs.AuditLaws.{recounted_on}
 use Rattle.clock_files.proofs.audit.RecountMachine.take.Goals as goal
 
@@ -13,7 +12,7 @@ with_other (Err refused) other holds then_ = tt
 
 pub returns-clause-taken : goal.returns-clause-taken
 returns-clause-taken c =
-    rw c.or.ensures (with_other c.remember.result _ c.remember.ensures (λ added entries is.
-    recounted_on entries c.args.at.now c.args.text.now c.in_ok-effect.effect c.args.self.now.front c.take_text.new.front
-    c.args.self.now.digests.items _ is (c.in_ok-effect.ensures.taken (texts_in entries) is.stands)
-    (c.in_ok-effect.ensures.stands (texts_in entries) is.stands) c.in_ok-effect.ensures.setup added))
+    rw c.or.ensures (with_other c.remember.result _ c.remember.ensures (λ added first texts is its.
+    recounted_on first texts c.args.at.now c.args.text.now c.in_ok-effect.effect c.args.self.now.front
+    c.take_text.new.front c.args.self.now.digests.items _ is its (c.in_ok-effect.ensures.taken texts is.stands)
+    (c.in_ok-effect.ensures.stands texts is.stands) c.in_ok-effect.ensures.setup added))
