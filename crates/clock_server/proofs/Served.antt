@@ -43,6 +43,7 @@ pub nothing_written : (reported : SinkReport) → IsUnused reported
     → WritesNothing (record { before = reported; after = reported })
 nothing_written reported unused = record { unused = unused; bytes = same_bytes reported.taken }
 
+-- these texts, and this journal
 abbrev pub state : List (List ℕ) → JournalState → AcceptedTexts
 state texts journal = record { texts = texts; journal = journal }
 

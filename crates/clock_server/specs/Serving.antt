@@ -6,7 +6,7 @@
 --     RepliesTo setup before one after      the reply is the right one after the texts before it
 --     LogsText setup before one after      the reply is right, and a text that changes the auction
 --         is on the disk when the first byte of its reply is written
---     Walks setup before exchanges after      so do these connections, one after the other
+--     Walks setup before exchanges after      this holds of each of these connections, in order
 --     AreServed exchanges ..      all of these connections were served
 --     IsUnlogged one ..      the text of a connection could not be logged
 --     is_accept_fault result      a connection could not be accepted
