@@ -177,10 +177,10 @@ pub cut_leaves : (digest bytes : List ℕ) (texts read : List (List ℕ)) (least
 cut_leaves digest bytes texts read least recovered left long leaves placed may =
     elim placed.end_is [
       | inl here ↦ (let part = cut_within bytes left recovered.end (length (file_of digest read)) may
-          (long_file digest bytes read IsEnd here.0 long).1 here.1 in
+          (long_file digest bytes read IsEnd here.0).1 here.1 in
           leaves_front digest bytes texts read least left part.0 leaves here.0 part.1 part.2)
       | inr begun ↦ (let whole_head =
-          long_file digest bytes (take leaves.count texts) IsEnd leaves.first long in
+          long_file digest bytes (take leaves.count texts) IsEnd leaves.first in
           let short = begun.0.short in
           absurd (omega (arith, whole_head.0, whole_head.1, short)))
     ]

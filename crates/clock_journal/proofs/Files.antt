@@ -1,20 +1,32 @@
 -- Files that are the journal of some texts, and what comes after that.
-use Rattle.std.proofs.Common.{◌≡◌, ◌≤◌, ◌-◌, ◌+◌, ◌++◌, ℕ, List, [], ◌∷◌, length, take, drop, refl, sym, ap}
+use Rattle.std.proofs.Common.{◌≡◌, ◌≤◌, ◌-◌, ◌+◌, ◌++◌, ℕ, List, [], ◌∷◌, length, take, drop, codes, refl, sym, ap}
 use Rattle.std.proofs.Common.{◌∙◌, subst, arith, length-append}
 use Rattle.std.proofs.lemmas.List.{append_assoc, drop_at}
 use Rattle.std.proofs.lemmas.List.Elements.{All-take}
 use Rattle.std.specs.Prelude.{All}
 use Rattle.std.proofs.Math.Seq.{take-append-add}
 use Rattle.clock_journal.specs.Crash.{BeginsWithTexts, IsFile, LeavesTexts}
-use Rattle.clock_journal.specs.Format.{file_head_length, head, kind, link, record_of, records, last_link, Fits}
+use Rattle.clock_journal.specs.Format.{head, link, record_of, records, last_link, Fits}
 use Rattle.clock_journal.specs.Laws.{WhateverFollows}
 use Rattle.clock_journal.specs.Logged.{file_of}
 use Rattle.clock_journal.specs.Reading.{Next, next}
 use Rattle.clock_journal.proofs.Fronts.{HasSome, IsNoText, ReadsTexts, reads_first, reads_once, reads_records}
 
+-- the bytes of a head
+abbrev pub file_head_length : ℕ
+file_head_length = 56
+
+-- its first bytes, which are the same in every journal
+abbrev pub kind : List ℕ
+kind = codes "clock_auction journal 1\n"
+
 pub length-head : (digest : List ℕ) → length digest ≡ 32 → length (head digest) ≡ file_head_length
-unfolding head kind
+unfolding head
 length-head digest long = omega (arith, long, length-append kind digest)
+
+pub some_head : (digest : List ℕ) → 1 ≤ length (head digest)
+unfolding head
+some_head digest = omega (arith, length-append kind digest)
 
 pub records-append : (chain : List ℕ) (texts further : List (List ℕ))
     → records chain (texts ++ further) ≡ records chain texts ++ records (last_link chain texts) further
@@ -53,12 +65,12 @@ module _ (digest bytes : List ℕ) (texts : List (List ℕ)) (Comes : Next → T
       (reads_records digest texts file.rest file.fit)
 
   -- it has a whole head
-  pub long_file : length digest ≡ 32
-      → (file_head_length ≤ length (file_of digest texts)) × (length (file_of digest texts) ≤ length bytes)
-  long_file size =
+  pub long_file : (length (head digest) ≤ length (file_of digest texts))
+      × (length (file_of digest texts) ≤ length bytes)
+  long_file =
       let all = ap length file.file ∙ length-append (file_of digest texts) file.rest in
       let parts = length-append (head digest) (records digest texts) in
-      (omega (arith, parts, length-head digest size), omega (arith, all))
+      (omega (arith, parts), omega (arith, all))
 
   -- a prefix of the file with all of its whole records
   pub shorter : (left : List ℕ) (count : ℕ) (Others : Next → Type 0) → length (file_of digest texts) ≤ count

@@ -6,7 +6,7 @@ use Rattle.clock_journal.specs.Crash.{IsEnd}
 use Rattle.clock_journal.specs.Logged.{file_of}
 use Rattle.clock_journal.specs.Recovering.{AreTextsOf}
 use Rattle.clock_journal.specs.declared.recovery.Recovered.{Recovered}
-use Rattle.clock_journal.proofs.Files.{long_file}
+use Rattle.clock_journal.proofs.Files.{length-head, long_file}
 use Rattle.clock_journal.proofs.Moments.{Keeps}
 
 -- a file that is truncated to nothing has no texts
@@ -14,8 +14,8 @@ pub placed_empty : (digest bytes : List ℕ) (texts : List (List ℕ)) (recovere
     → recovered.end ≡ 0 → AreTextsOf digest bytes texts recovered → texts ≡ []
 placed_empty digest bytes texts recovered long nowhere placed =
     elim placed.end_is [
-      | inl here ↦ (let whole_head = long_file digest bytes texts IsEnd here.0 long in
-          absurd (omega (arith, whole_head.0, here.1, nowhere)))
+      | inl here ↦ (let whole_head = long_file digest bytes texts IsEnd here.0 in
+          absurd (omega (arith, whole_head.0, here.1, nowhere, length-head digest long)))
       | inr begun ↦ begun.1
     ]
 

@@ -7,7 +7,7 @@ use Rattle.std.proofs.lemmas.Bool.{cases_lt}
 use Rattle.std.proofs.lemmas.List.Elements.{All-nil}
 use Rattle.clock_device.specs.Streams.{HasWrittenFront}
 use Rattle.clock_journal.specs.Disks.{LeaveOnly, MayBeLeft, Moment, Passes}
-use Rattle.clock_journal.specs.Format.{head, file_head_length, Fits}
+use Rattle.clock_journal.specs.Format.{head, Fits}
 use Rattle.clock_journal.specs.Logged.{file_of}
 use Rattle.clock_journal.specs.Reading.{Next}
 use Rattle.clock_journal.specs.Crash.{BeginsWithTexts, IsEnd, IsFile, IsPartOfHead, LeavesJournal, LeavesTexts}
@@ -21,26 +21,24 @@ use Rattle.clock_journal.proofs.Passing.{leave_one, leave_then}
 
 -- ---- the head
 
-part_is : (digest left : List ℕ) (n : ℕ) → length digest ≡ 32 → left ≡ take n (head digest)
-    → length left < file_head_length → IsPartOfHead digest left
-part_is digest left n size is short =
-    let before = length-head digest size in
+part_is : (digest left : List ℕ) (n : ℕ) → left ≡ take n (head digest) → length left < length (head digest)
+    → IsPartOfHead digest left
+part_is digest left n is short =
     elim (cases_lt n (length (head digest))) [
       | inl less ↦ (let same : length left ≡ n = ap length is ∙ length-take-le n (head digest) (omega (arith, less)) in
           record { short = short; front = is ∙ ap (λ (k : ℕ). take k (head digest)) (sym same) })
       | inr all ↦ (let same = ap length (is ∙ take_all n (head digest) all) in
-          absurd (omega (arith, same, before, short)))
+          absurd (omega (arith, same, short)))
     ]
 
 pub front_of_head : (digest left : List ℕ) (n : ℕ) → length digest ≡ 32 → left ≡ take n (head digest)
     → LeavesJournal digest left [] 0
 front_of_head digest left n size is =
-    let before = length-head digest size in
-    elim (cases_lt (length left) file_head_length) [
-      | inl short ↦ inr (refl, part_is digest left n size is short)
+    elim (cases_lt (length left) (length (head digest))) [
+      | inl short ↦ inr (refl, part_is digest left n is short)
       | inr long ↦ (let count = ap length is ∙ length-take n (head digest) in
           let all = length-append (head digest) [] in
-          let enough : length (head digest ++ []) ≤ n = omega (arith, count, all, before, long) in
+          let enough : length (head digest ++ []) ≤ n = omega (arith, count, all, long) in
           inl (subst (λ (b : List ℕ). LeavesTexts digest b [] 0) (sym (is ∙ ap (take n)
           (sym (append-nil (head digest))))) (front_leaves digest [] 0 n (All-nil Fits) (omega arith) enough)))
     ]
@@ -106,7 +104,7 @@ crash_cut digest bytes texts read least recovered left size (inr part) placed ma
     let short = part.1.short in
     inr (
       part.0,
-      part_is digest left front.0 size (may.2 ∙ (ap (take may.0) part.1.front ∙ front.1))
+      part_is digest left front.0 (may.2 ∙ (ap (take may.0) part.1.front ∙ front.1))
           (omega (arith, shorter, short)),
     )
 
@@ -116,11 +114,11 @@ pub tail_cut : (digest bytes : List ℕ) (texts read : List (List ℕ)) (recover
 tail_cut digest bytes texts read recovered left size begins placed may =
     elim placed.end_is [
       | inl here ↦ (let part = cut_within bytes left recovered.end (length (file_of digest read)) may
-          (long_file digest bytes read IsEnd here.0 size).1 here.1 in
+          (long_file digest bytes read IsEnd here.0).1 here.1 in
           let first = texts_first digest bytes texts read IsEnd begins here.0 (end_is_none _ here.0.comes) in
           shorter digest bytes texts (λ (found : Next). Unit {0}) begins left part.0 (λ (found : Next). Unit {0})
           (omega (arith, first.1, part.1)) part.2 (λ n. tt))
-      | inr begun ↦ (let long = long_file digest bytes texts (λ (found : Next). Unit {0}) begins size in
+      | inr begun ↦ (let long = long_file digest bytes texts (λ (found : Next). Unit {0}) begins in
           let short = begun.0.short in
           absurd (omega (arith, long.0, long.1, short)))
     ]
@@ -128,18 +126,18 @@ tail_cut digest bytes texts read recovered left size begins placed may =
 -- ---- a journal that begins again
 
 nothing_reported : (digest bytes : List ℕ) (texts : List (List ℕ)) (least : ℕ) → length digest ≡ 32
-    → LeavesJournal digest bytes texts least → length bytes < file_head_length → least ≡ 0
+    → LeavesJournal digest bytes texts least → length bytes < length (head digest) → least ≡ 0
 nothing_reported digest bytes texts least size (inl leaves) short =
-    let long = long_file digest bytes (take leaves.count texts) IsEnd leaves.first size in
+    let long = long_file digest bytes (take leaves.count texts) IsEnd leaves.first in
     absurd (omega (arith, long.0, long.1, short))
 nothing_reported digest bytes texts least size (inr part) short = part.0
 
 begun_anew : (digest bytes : List ℕ) (read : List (List ℕ)) (recovered : Recovered) → length digest ≡ 32
-    → recovered.end ≡ 0 → AreTextsOf digest bytes read recovered → length bytes < file_head_length
+    → recovered.end ≡ 0 → AreTextsOf digest bytes read recovered → length bytes < length (head digest)
 begun_anew digest bytes read recovered size nowhere placed =
     elim placed.end_is [
-      | inl here ↦ (let long = long_file digest bytes read IsEnd here.0 size in
-          absurd (omega (arith, long.0, here.1, nowhere)))
+      | inl here ↦ (let long = long_file digest bytes read IsEnd here.0 in
+          absurd (omega (arith, long.0, here.1, nowhere, length-head digest size)))
       | inr begun ↦ begun.0.short
     ]
 
@@ -169,6 +167,6 @@ anew_leaves digest bytes texts read least recovered left size nowhere leaves pla
 pub none_first : (digest bytes : List ℕ) (texts read : List (List ℕ)) (recovered : Recovered) → length digest ≡ 32
     → recovered.end ≡ 0 → BeginsWithTexts digest bytes texts → AreTextsOf digest bytes read recovered → ⊥
 none_first digest bytes texts read recovered size nowhere begins placed =
-    let long = long_file digest bytes texts (λ (found : Next). Unit {0}) begins size in
+    let long = long_file digest bytes texts (λ (found : Next). Unit {0}) begins in
     let short = begun_anew digest bytes read recovered size nowhere placed in
     omega (arith, long.0, long.1, short)

@@ -1,15 +1,15 @@
 -- How a file begins, by what is compared, and what is read of what a crash left.
-use Rattle.std.proofs.Common.{◌≡◌, ◌≤◌, ◌<◌, ◌++◌, ℕ, true, false, List, [], ◌∷◌, length, take, length-append}
+use Rattle.std.proofs.Common.{◌≡◌, ◌≤◌, ◌<◌, ◌++◌, ℕ, true, false, List, [], ◌∷◌, length, take, drop, length-append, length-drop}
 use Rattle.std.proofs.Common.{bytes_eq, refl, sym, ap, ◌∙◌, subst, arith, inl, inr}
-use Rattle.std.proofs.lemmas.List.{append_assoc, length-take, take_all, take_at, take-take}
-use Rattle.clock_journal.specs.Format.{file_head_length, head, kind, records, last_link}
+use Rattle.std.proofs.lemmas.List.{append_assoc, length-take, length-take-le, take_all, take_at, take-append-drop, take-take}
+use Rattle.clock_journal.specs.Format.{head, records, last_link}
 use Rattle.clock_journal.specs.Reading.{Next, damaged, ended, next}
 use Rattle.clock_journal.specs.Logged.{file_of}
 use Rattle.clock_journal.specs.Crash.{IsEnd, IsFile, IsPartOfHead, LeavesJournal}
-use Rattle.clock_journal.specs.Recovering.{AreTextsOf, HasHead}
+use Rattle.clock_journal.specs.Recovering.{AreTextsOf, HasHead, HasSomeHead}
 use Rattle.clock_journal.specs.declared.recovery.Recovered.{Recovered}
 use Rattle.clock_journal.proofs.Lists.{many_bytes}
-use Rattle.clock_journal.proofs.Files.{length-head, same_texts}
+use Rattle.clock_journal.proofs.Files.{file_head_length, kind, length-head, same_texts}
 use Rattle.clock_journal.proofs.Fronts.{damage_is_none, end_is_none, end_undamaged}
 use Rattle.clock_journal.proofs.Records.{next_none}
 use Rattle.clock_journal.proofs.Tested.{bytes_eq_same}
@@ -37,9 +37,34 @@ long_head digest bytes size long has = head_is digest bytes size has
 -- a head begins with its kind
 pub kind_of_head : (digest bytes : List ℕ) → take file_head_length bytes ≡ head digest
     → take (length kind) bytes ≡ kind
-unfolding head kind
+unfolding head
 kind_of_head digest bytes same = sym (take-take (length kind) file_head_length bytes (omega arith))
     ∙ ap (take (length kind)) same ∙ take_at kind digest (length kind) refl
+
+-- ---- the head of another journal
+
+-- it has at least the bytes of a head, and begins with its kind
+pub other_head : (bytes : List ℕ) → HasSomeHead bytes → (file_head_length ≤ length bytes)
+    × (take (length kind) bytes ≡ kind)
+unfolding head
+other_head bytes (digest, rest, size, is) =
+    let all = ap length is ∙ length-append (head digest) rest in (
+      omega (arith, all, length-head digest size),
+      ap (take (length kind)) (is ∙ append_assoc kind digest rest) ∙ take_at kind (digest ++ rest) (length kind) refl,
+    )
+
+pub has_head : (bytes : List ℕ) → file_head_length ≤ length bytes → take (length kind) bytes ≡ kind
+    → HasSomeHead bytes
+unfolding head
+has_head bytes long same =
+    let behind = drop (length kind) bytes in (
+      take 32 behind,
+      drop 32 behind,
+      length-take-le 32 behind (omega (arith, long, length-drop (length kind) bytes)),
+      sym (take-append-drop (length kind) bytes) ∙ (ap (λ (b : List ℕ). b ++ behind) same
+          ∙ ap (λ (b : List ℕ). kind ++ b) (sym (take-append-drop 32 behind))
+          ∙ sym (append_assoc kind (take 32 behind) (drop 32 behind))),
+    )
 
 -- ---- what a crash left
 

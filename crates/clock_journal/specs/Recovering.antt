@@ -2,13 +2,12 @@
 --     AreTextsOf digest bytes texts recovered      the recovered part of the file is the journal of
 --         the texts
 --     record_at digest past text      the record of a text after these
---     IsRecovered new digest bytes recovered      the machine took all texts of the file
 --     HasHead digest bytes      the file begins with its head, or is a prefix of it
---     HasKind bytes      the file begins with the head of some journal
+--     HasSomeHead bytes      the file begins with the head of some journal
 --     IsFound refuses digest bytes why      the file has this fault
-use Rattle.std.specs.Prelude.{◌≡◌, ◌⊎◌, ◌≤◌, ◌+◌, ℕ, List, [], ◌∷◌, length, take}
+use Rattle.std.specs.Prelude.{◌≡◌, ◌⊎◌, ◌++◌, ◌+◌, ℕ, List, [], ◌∷◌, length, take}
 use Rattle.clock_journal.specs.Crash.{IsEnd, IsFile, IsPartOfHead}
-use Rattle.clock_journal.specs.Format.{file_head_length, head, kind, last_link}
+use Rattle.clock_journal.specs.Format.{head, last_link}
 use Rattle.clock_journal.specs.Logged.{file_of}
 use Rattle.clock_journal.specs.Reading.{damaged, whole, onto}
 use Rattle.clock_journal.specs.declared.recovery.Record.{Record}
@@ -25,8 +24,7 @@ pub record AreTextsOf (digest bytes : List ℕ) (texts : List (List ℕ)) (recov
   pub end_is : (IsFile digest bytes texts IsEnd × (recovered.end ≡ length (file_of digest texts)))
       ⊎ (IsPartOfHead digest bytes × (texts ≡ []) × (recovered.end ≡ 0))
 
--- the record of a text after these, the newest first: numbered from 1, it begins where the texts
--- before it end, and its digest is the last of all
+-- numbered from 1, it begins where the texts before it (the newest first) end; the last digest
 abbrev pub record_at : List ℕ → List (List ℕ) → List ℕ → Record
 record_at digest past text = record {
   number = length past + 1;
@@ -34,26 +32,19 @@ record_at digest past text = record {
   digest = last_link digest (onto (text ∷ past) []);
 }
 
--- the machine stands for the texts of the file
-pub record IsRecovered (new : List ℕ → List (List ℕ) → Type 0) (digest bytes : List ℕ)
-    (recovered : Recovered) : Type 0 where
-  pub texts : List (List ℕ)
-  pub are : AreTextsOf digest bytes texts recovered
-  pub stands : new digest (onto texts [])
-
 -- the file begins with its head, or is a prefix of it
 abbrev pub HasHead : List ℕ → List ℕ → Type 0
 HasHead digest bytes = take (length (head digest)) bytes ≡ take (length bytes) (head digest)
 
 -- the file begins with the head of some journal
-abbrev pub HasKind : List ℕ → Type 0
-HasKind bytes = (file_head_length ≤ length bytes) × (take (length kind) bytes ≡ kind)
+abbrev pub HasSomeHead : List ℕ → Type 0
+HasSomeHead bytes = (digest rest : List ℕ) × (length digest ≡ 32) × (bytes ≡ head digest ++ rest)
 
 -- the file has no head, or that of another set-up; or at `place`, after some texts, comes damage,
 -- or a text that the machine refuses after those
 abbrev pub IsFound : (List (List ℕ) → List ℕ → Type 0) → List ℕ → List ℕ → JournalFault → Type 0
-IsFound refuses digest bytes fault.Unknown = (HasHead digest bytes → ⊥) × (HasKind bytes → ⊥)
-IsFound refuses digest bytes fault.Setup = (HasHead digest bytes → ⊥) × HasKind bytes
+IsFound refuses digest bytes fault.Unknown = (HasHead digest bytes → ⊥) × (HasSomeHead bytes → ⊥)
+IsFound refuses digest bytes fault.Setup = (HasHead digest bytes → ⊥) × HasSomeHead bytes
 IsFound refuses digest bytes (fault.Damaged place) = (texts : List (List ℕ))
     × IsFile digest bytes texts (λ found. found ≡ damaged) × (place ≡ length (file_of digest texts))
 IsFound refuses digest bytes (fault.Refused place) = (texts : List (List ℕ)) × (text : List ℕ)

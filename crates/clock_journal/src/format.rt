@@ -38,7 +38,7 @@ pub const KIND_LENGTH: usize = 24;
 pub const KIND: &[u8; KIND_LENGTH] = b"clock_auction journal 1\n";
 
 /// Returns the head of a journal, for the set-up document with this digest.
-#[tactic(auto, unfolding(crate::specs::Format::head, crate::specs::Format::kind))]
+#[tactic(auto, unfolding(crate::specs::Format::head))]
 pub fn head_of(digest: &Link) -> [u8; HEAD_LENGTH]
     ensures { result ≡ head digest.now }
 {

@@ -1,7 +1,7 @@
 //! Recovery: a machine takes the texts of a file, one after the other.
 
-ghost use Rattle.std.specs.Prelude.{◌≡◌, [], ◌∷◌, List, ℕ, Err, MatchResult, OnOk};
-ghost use Rattle.clock_journal.specs.Recovering.{IsFound, IsRecovered, record_at};
+ghost use Rattle.std.specs.Prelude.{◌≡◌, [], ◌∷◌, List, ℕ, Err, IfErr, IfOk, OnOk};
+ghost use Rattle.clock_journal.specs.{Reading.{onto}, Recovering.{AreTextsOf, IsFound, record_at}};
 
 use crate::format::{
     BEFORE_TEXT, HEAD_LENGTH, KIND, KIND_LENGTH, Link, Next, head_of, next_record,
@@ -96,9 +96,10 @@ pub fn recover<M: Machine>(
     bytes: &[u8],
 ) -> Result<Recovered, JournalFault>
     requires { M.stands_for machine.old digest.now [] }
-    ensures read { MatchResult result
-        (IsRecovered (M.stands_for machine.new) digest.now bytes.now)
-        (IsFound (M.refuses (M.rules machine.old)) digest.now bytes.now) }
+    ensures ok { IfOk result (λ recovered. (texts : List (List ℕ))
+        × AreTextsOf digest.now bytes.now texts recovered
+        × M.stands_for machine.new digest.now (onto texts [])) }
+    ensures err { IfErr result (IsFound (M.refuses (M.rules machine.old)) digest.now bytes.now) }
     ensures rules { M.rules machine.new ≡ M.rules machine.old }
 {
     let mut chain = *digest;

@@ -8,6 +8,7 @@ use Rattle.clock_front.specs.Fronts.{StandsForTexts}
 use Rattle.clock_journal.specs.Crash.{LeavesJournal}
 use Rattle.clock_journal.specs.Disks.{CouldBeLeft, LeaveOnly, MayBeLeft, Moment}
 use Rattle.clock_journal.specs.Logged.{HasTexts, JournalState}
+use Rattle.clock_journal.proofs.Files.{some_head}
 use Rattle.clock_journal.proofs.Starting.{now_left}
 use Rattle.clock_journal.proofs.TakenOver.{left_first}
 use Rattle.clock_server.specs.Accepted.{AreAccepted, IsOwnFile}
@@ -192,7 +193,7 @@ continue_from setup digest texts least Leaves (served found exchanges end ∷ ot
     )
 
 empty_left : (digest left : List ℕ) → left ≡ [] → LeavesJournal digest left [] 0
-empty_left digest [] none = inr (refl, record { short = omega arith; front = refl })
+empty_left digest [] none = inr (refl, record { short = let some = some_head digest in omega (arith, some); front = refl })
 empty_left digest (byte ∷ rest) none = let no : byte ∷ rest ≡ [] = none in absurd (let bad : ⊥ = cc in bad)
 
 pub generations : GenerationsContinue

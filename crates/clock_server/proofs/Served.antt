@@ -65,10 +65,13 @@ module _ (one : Exchange) (journal_old journal_new : JournalState) (old new : Ho
   -- nothing was appended
   still_logged : (digest : List ℕ) → HasTexts digest past journal_old
       → IsLogged digest (state past journal_old) (state past journal_old)
-  still_logged digest has = (has, record {
-    at_end = λ left may. left_all digest past journal_old left has may;
-    moments = leave_none journal_old.moments (λ left. LeavesTexts digest left past (length past));
-  })
+  still_logged digest has = (
+    has,
+    record {
+      at_end = λ left may. left_all digest past journal_old left has may;
+      moments = leave_none journal_old.moments (λ left. LeavesTexts digest left past (length past));
+    },
+  )
 
   -- it changed nothing
   unchanged : (changed : Effect) → changed ≡ Nothing → journal_new ≡ journal_old → StandsForTexts (onto past []) new

@@ -3,7 +3,7 @@ use Rattle.std.proofs.Common.{◌≡◌, List, [], ℕ, subst}
 use Rattle.clock_house.specs.House.{HouseFields}
 use Rattle.clock_front.specs.Fronts.{StandsForTexts}
 use Rattle.clock_journal.specs.Reading.{onto}
-use Rattle.clock_journal.specs.Recovering.{AreTextsOf, IsRecovered}
+use Rattle.clock_journal.specs.Recovering.{AreTextsOf}
 use Rattle.clock_journal.specs.declared.recovery.Recovered.{Recovered}
 
 -- the auction stands for the texts of the file
@@ -13,10 +13,10 @@ pub record HasReplayed (digest bytes : List ℕ) (house : HouseFields) (recovere
   pub stands : StandsForTexts (onto texts []) house
 
 pub replayed : (new : HouseFields) (chain digest bytes : List ℕ) (recovered : Recovered) → chain ≡ digest
-    → IsRecovered (λ (at : List ℕ) (texts : List (List ℕ)). StandsForTexts texts new) chain bytes recovered
+    → (texts : List (List ℕ)) × AreTextsOf chain bytes texts recovered × StandsForTexts (onto texts []) new
     → HasReplayed digest bytes new recovered
-replayed new chain digest bytes recovered same taken = record {
-  texts = taken.texts;
-  are = subst (λ (at : List ℕ). AreTextsOf at bytes taken.texts recovered) same taken.are;
-  stands = taken.stands;
+replayed new chain digest bytes recovered same (texts, are, stands) = record {
+  texts = texts;
+  are = subst (λ (at : List ℕ). AreTextsOf at bytes texts recovered) same are;
+  stands = stands;
 }

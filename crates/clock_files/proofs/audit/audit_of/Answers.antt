@@ -15,13 +15,13 @@ returns-in_err-recovered-clause-err c =
     (λ (bytes : List ℕ). IsAuditFault was.front.setup c.args.first.now bytes p.0) c.as_slice.ensures.value (record {
       fault = refused.field-0.0;
       reported_is = p.2;
-      is = refused.ensures.read;
+      is = refused.ensures.err;
     }))
 
 pub rounds_of-requires : goal.rounds_of-requires
 rounds_of-requires c =
-    let all = c.in_ok-recovered.ensures.read in
-    (c.args.first.now, onto all.texts [], all.stands)
+    let all = c.in_ok-recovered.ensures.ok in
+    (c.args.first.now, onto all.0 [], all.2)
 
 pub returns-in_err-text-clause-err : goal.returns-in_err-text-clause-err
 returns-in_err-text-clause-err c =
@@ -34,7 +34,7 @@ returns-in_err-text-clause-err c =
 
 pub returns-clause-ok : goal.returns-clause-ok
 returns-clause-ok c =
-    let all = c.in_ok-recovered.ensures.read in
+    let all = c.in_ok-recovered.ensures.ok in
     audit_is c.args.recount.now.front.setup c.recover.new.machine.front.setup c.args.first.now c.args.bytes.items
-    c.as_slice.result.now _ all.texts c.in_ok-recovered.recovered c.as_slice.ensures.value c.recover.ensures.rules
-    all.are (c.in_ok-text.ensures c.args.first.now (onto all.texts []) all.stands)
+    c.as_slice.result.now _ all.0 c.in_ok-recovered.recovered c.as_slice.ensures.value c.recover.ensures.rules
+    all.1 (c.in_ok-text.ensures c.args.first.now (onto all.0 []) all.2)

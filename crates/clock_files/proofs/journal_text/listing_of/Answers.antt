@@ -16,9 +16,9 @@ returns-in_err-push_digits-clause-err c =
 pub returns-in_err-recovered-clause-err : goal.returns-in_err-recovered-clause-err
 returns-in_err-recovered-clause-err c =
     let p = err_from_is_err_and c.from_residual-in_err-recovered.result c.from_residual-in_err-recovered.ensures.1 in
-    rw p.1 (record { fault = c.in_err-recovered.field-0.0; reported_is = p.2; is = c.in_err-recovered.ensures.read })
+    rw p.1 (record { fault = c.in_err-recovered.field-0.0; reported_is = p.2; is = c.in_err-recovered.ensures.err })
 
 pub returns-clause-ok : goal.returns-clause-ok
 returns-clause-ok c =
-    let all = c.in_ok-recovered.ensures.read in
-    record { texts = all.texts; are = all.are; shown_is = all.stands }
+    let all = c.in_ok-recovered.ensures.ok in
+    record { texts = all.0; are = all.1; shown_is = all.2 }

@@ -4,8 +4,7 @@ use Rattle.std.proofs.Common.{append-nil}
 use Rattle.std.specs.Prelude.{not}
 use Rattle.std.proofs.lemmas.List.Elements.{All-nil, All-push}
 use Rattle.std.proofs.lemmas.List.{append_assoc, drop_at, get_or-drop, take-append-drop, take_rest}
-use Rattle.clock_journal.specs.Format.{Fits, before_text, head, file_head_length, kind, link, last_link, record_of}
-use Rattle.clock_journal.specs.Format.{records}
+use Rattle.clock_journal.specs.Format.{Fits, before_text, head, link, last_link, record_of, records}
 use Rattle.clock_journal.specs.Crash.{IsEnd, IsFile}
 use Rattle.clock_journal.specs.Reading.{Next, next, onto, damaged, whole}
 use Rattle.clock_journal.specs.Recovering.{HasHead, record_at}
@@ -14,7 +13,8 @@ use Rattle.clock_journal.specs.Logged.{file_of}
 use Rattle.clock_journal.specs.declared.recovery.Record.{Record}
 use Rattle.clock_journal.proofs.Lists.{length-onto, many_bytes, onto-onto, onto-push, onto-twice}
 use Rattle.clock_journal.proofs.Moments.{file-push, last_link-push}
-use Rattle.clock_journal.proofs.TakenOver.{kind_of_head, long_head, not_same, short_headless}
+use Rattle.clock_journal.proofs.Files.{file_head_length, kind, length-head}
+use Rattle.clock_journal.proofs.TakenOver.{has_head, kind_of_head, long_head, not_same, other_head, short_headless}
 use Rattle.clock_journal.proofs.Tested.{same_where}
 use Rattle.clock_journal.proofs.Whole.{whole_fits, whole_record}
 use Rattle.clock_journal.proofs.recovery.recover.Goals as goal
@@ -158,40 +158,39 @@ overflow_sub-end g c =
 
 -- ---- a file with less than a head
 
-pub returns-then-eq-clause-read : goal.returns-then-eq-clause-read
-returns-then-eq-clause-read g c = record {
-  texts = [];
-  are = record {
+pub returns-then-eq-clause-ok : goal.returns-then-eq-clause-ok
+returns-then-eq-clause-ok g c = (
+  [],
+  record {
     chain_is = refl;
     count_is = refl;
     end_is = inr (
       record {
-        short = omega (arith, c.if-bytes-lt-HEAD_LENGTH.true);
+        short = omega (arith, c.if-bytes-lt-HEAD_LENGTH.true, length-head c.args.digest.now (search rules));
         front = same_where _ _ (subst (λ (h : List ℕ). bytes_eq c.args.bytes.now (take (length c.args.bytes.now) h)
             ≡ true) c.head_of-head.ensures (sym c.eq.ensures ∙ c.if-eq.true));
       },
       refl,
       refl,
     );
-  };
-  stands = c.requires;
-}
+  },
+  c.requires,
+)
 
-pub returns-then-bytes-lt-HEAD_LENGTH-clause-read : goal.returns-then-bytes-lt-HEAD_LENGTH-clause-read
-returns-then-bytes-lt-HEAD_LENGTH-clause-read g c =
+pub returns-then-bytes-lt-HEAD_LENGTH-clause-err : goal.returns-then-bytes-lt-HEAD_LENGTH-clause-err
+returns-then-bytes-lt-HEAD_LENGTH-clause-err g c =
     let digest = c.args.digest.now in
     let bytes = c.args.bytes.now in
     let size : length digest ≡ 32 = search rules in
     let short : length bytes < file_head_length = omega (arith, c.if-bytes-lt-HEAD_LENGTH.true) in
     let none = short_headless digest bytes size short (subst (λ (h : List ℕ). bytes_eq bytes (take (length bytes) h)
     ≡ false) c.head_of-head.ensures (sym c.eq.ensures ∙ c.if-eq.false)) in
-    (none, λ kinded. let long = kinded.0 in omega (arith, long, short))
+    (none, λ headed. let long = (other_head bytes headed).0 in omega (arith, long, short))
 
 -- ---- a file with another head
 
-pub returns-then-ne-clause-read : goal.returns-then-ne-clause-read
-unfolding kind
-returns-then-ne-clause-read g c =
+pub returns-then-ne-clause-err : goal.returns-then-ne-clause-err
+returns-then-ne-clause-err g c =
     let digest = c.args.digest.now in
     let bytes = c.args.bytes.now in
     let size : length digest ≡ 32 = search rules in
@@ -199,11 +198,10 @@ returns-then-ne-clause-read g c =
     let other = not_same (take (length kind) bytes) kind (was_false _ (sym c.ne.ensures ∙ c.if-ne.true)) in
     let none : HasHead digest bytes → ⊥ =
     λ has. other (kind_of_head digest bytes (long_head digest bytes size long has)) in
-    (none, λ kinded. other kinded.1)
+    (none, λ headed. other (other_head bytes headed).1)
 
-pub returns-then-ne-2-clause-read : goal.returns-then-ne-2-clause-read
-unfolding kind
-returns-then-ne-2-clause-read g c =
+pub returns-then-ne-2-clause-err : goal.returns-then-ne-2-clause-err
+returns-then-ne-2-clause-err g c =
     let digest = c.args.digest.now in
     let bytes = c.args.bytes.now in
     let size : length digest ≡ 32 = search rules in
@@ -212,33 +210,32 @@ returns-then-ne-2-clause-read g c =
     (take file_head_length bytes) h ≡ false) c.head_of-head.ensures
     (was_false _ (sym c.ne-2.ensures ∙ c.if-ne-2.true))) in
     let none : HasHead digest bytes → ⊥ = λ has. differ (long_head digest bytes size long has) in
-    (none, (long, same_where _ _ (was_true _ (sym c.ne.ensures ∙ c.if-ne.false))))
+    (none, has_head bytes long (same_where _ _ (was_true _ (sym c.ne.ensures ∙ c.if-ne.false))))
 
 -- ---- the texts after the head
 
-pub returns-in-Ended-clause-read : goal.returns-in-Ended-clause-read
-returns-in-Ended-clause-read g c =
+pub returns-in-Ended-clause-ok : goal.returns-in-Ended-clause-ok
+returns-in-Ended-clause-ok g c =
     let now = g.M.Machine.stands_for c.loop-chain.machine in
     let digest = c.args.digest.now in
     let bytes = c.args.bytes.now in
     let at = c.loop-chain in
     let way = at.invariant.0 in
-    let ends : IsEnd (next at.chain at.rest.now) = search rules in
-    record {
-      texts = way.texts;
-      are = record {
+    let ends : IsEnd (next at.chain at.rest.now) = search rules in (
+      way.texts,
+      record {
         chain_is = way.chain_is;
         count_is = way.count_is;
         end_is = inl (
           file_at now digest bytes at.chain at.texts at.rest.now way IsEnd ends,
           next_place now digest bytes at.chain at.texts at.rest.now way,
         );
-      };
-      stands = way.stands;
-    }
+      },
+      way.stands,
+    )
 
-pub returns-in-Damaged-clause-read : goal.returns-in-Damaged-clause-read
-returns-in-Damaged-clause-read g c =
+pub returns-in-Damaged-clause-err : goal.returns-in-Damaged-clause-err
+returns-in-Damaged-clause-err g c =
     let now = g.M.Machine.stands_for c.loop-chain.machine in
     let digest = c.args.digest.now in
     let bytes = c.args.bytes.now in
@@ -250,8 +247,8 @@ returns-in-Damaged-clause-read g c =
       next_place now digest bytes at.chain at.texts at.rest.now way,
     )
 
-pub returns-in-Err-Refused-clause-read : goal.returns-in-Err-Refused-clause-read
-returns-in-Err-Refused-clause-read g c =
+pub returns-in-Err-Refused-clause-err : goal.returns-in-Err-Refused-clause-err
+returns-in-Err-Refused-clause-err g c =
     let now = g.M.Machine.stands_for c.loop-chain.machine in
     let digest = c.args.digest.now in
     let bytes = c.args.bytes.now in
@@ -268,5 +265,5 @@ returns-in-Err-Refused-clause-read g c =
           (c.take.ensures.refused digest (onto way.texts []) (search rules) way.stands),
     )
 
-pub returns-in-Err-NoMemory-clause-read : goal.returns-in-Err-NoMemory-clause-read
-returns-in-Err-NoMemory-clause-read g c = tt
+pub returns-in-Err-NoMemory-clause-err : goal.returns-in-Err-NoMemory-clause-err
+returns-in-Err-NoMemory-clause-err g c = tt

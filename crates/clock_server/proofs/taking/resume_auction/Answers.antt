@@ -10,7 +10,7 @@ use Rattle.clock_server.proofs.taking.resume_auction.Goals as goal
 
 pub returns-in-Err-clause-err : goal.returns-in-Err-clause-err
 returns-in-Err-clause-err g c = subst (λ (digest : List ℕ). IsFound (IsRefused c.args.auction.now.front.setup) digest
-    c.args.bytes.now c.in-Err.fault) c.chain.ensures c.in-Err.ensures.read
+    c.args.bytes.now c.in-Err.fault) c.chain.ensures c.in-Err.ensures.err
 
 pub returns-in-Err-clause-refused : goal.returns-in-Err-clause-refused
 returns-in-Err-clause-refused g c = refl
@@ -28,7 +28,7 @@ returns-in-Err-clause-any_tail g c synced texts written on_disk before =
 pub returns-in-Ok-resume-clause-in_step : goal.returns-in-Ok-resume-clause-in_step
 returns-in-Ok-resume-clause-in_step g c written =
     let up = replayed c.recover.new.machine.front c.chain.result.now c.args.journal.now.chain c.args.bytes.now
-    c.in-Ok.recovered c.chain.ensures c.in-Ok.ensures.read in
+    c.in-Ok.recovered c.chain.ensures c.in-Ok.ensures.ok in
     record {
       texts = up.texts;
       are = up.are;
@@ -39,29 +39,29 @@ returns-in-Ok-resume-clause-in_step g c written =
 pub returns-in-Err-resume-clause-err : goal.returns-in-Err-resume-clause-err
 returns-in-Err-resume-clause-err g c =
     let up = replayed c.recover.new.machine.front c.chain.result.now c.args.journal.now.chain c.args.bytes.now
-    c.in-Ok.recovered c.chain.ensures c.in-Ok.ensures.read in
+    c.in-Ok.recovered c.chain.ensures c.in-Ok.ensures.ok in
     (c.in-Ok.recovered, up.texts, up.are, up.stands)
 
 pub returns-in-Ok-resume-clause-crash : goal.returns-in-Ok-resume-clause-crash
 returns-in-Ok-resume-clause-crash g c synced texts least written on_disk =
     let up = replayed c.recover.new.machine.front c.chain.result.now c.args.journal.now.chain c.args.bytes.now
-    c.in-Ok.recovered c.chain.ensures c.in-Ok.ensures.read in
+    c.in-Ok.recovered c.chain.ensures c.in-Ok.ensures.ok in
     c.resume.ensures.crash c.args.bytes.now synced up.texts texts least written on_disk up.are
 
 pub returns-in-Ok-resume-clause-any_tail : goal.returns-in-Ok-resume-clause-any_tail
 returns-in-Ok-resume-clause-any_tail g c synced texts written on_disk =
     let up = replayed c.recover.new.machine.front c.chain.result.now c.args.journal.now.chain c.args.bytes.now
-    c.in-Ok.recovered c.chain.ensures c.in-Ok.ensures.read in
+    c.in-Ok.recovered c.chain.ensures c.in-Ok.ensures.ok in
     c.resume.ensures.any_tail c.args.bytes.now synced up.texts texts written on_disk up.are
 
 pub returns-in-Err-resume-clause-crash : goal.returns-in-Err-resume-clause-crash
 returns-in-Err-resume-clause-crash g c synced texts least written on_disk =
     let up = replayed c.recover.new.machine.front c.chain.result.now c.args.journal.now.chain c.args.bytes.now
-    c.in-Ok.recovered c.chain.ensures c.in-Ok.ensures.read in
+    c.in-Ok.recovered c.chain.ensures c.in-Ok.ensures.ok in
     c.resume.ensures.crash c.args.bytes.now synced up.texts texts least written on_disk up.are
 
 pub returns-in-Err-resume-clause-any_tail : goal.returns-in-Err-resume-clause-any_tail
 returns-in-Err-resume-clause-any_tail g c synced texts written on_disk =
     let up = replayed c.recover.new.machine.front c.chain.result.now c.args.journal.now.chain c.args.bytes.now
-    c.in-Ok.recovered c.chain.ensures c.in-Ok.ensures.read in
+    c.in-Ok.recovered c.chain.ensures c.in-Ok.ensures.ok in
     c.resume.ensures.any_tail c.args.bytes.now synced up.texts texts written on_disk up.are
