@@ -114,5 +114,5 @@ own_starts setup digest bytes texts least house (Refused (fault.Refused place)) 
     absurd (none_refused setup digest bytes texts least found.0 found.1 accepted leaves found.2 found.4)
 own_starts setup digest bytes texts least house (Refused (fault.Refused place)) accepted (inr part) found =
     absurd (no_text digest bytes found.0 found.1 part.1 found.2)
-own_starts setup digest bytes texts least house (Refused fault.NoMemory) accepted leaves found = tt
-own_starts setup digest bytes texts least house Failed accepted leaves found = tt
+own_starts setup digest bytes texts least house (Refused fault.NoMemory) accepted leaves found = inl refl
+own_starts setup digest bytes texts least house Failed accepted leaves found = inr refl

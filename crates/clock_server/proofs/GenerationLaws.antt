@@ -14,7 +14,7 @@ use Rattle.clock_journal.proofs.TakenOver.{left_first}
 use Rattle.clock_server.specs.Accepted.{AreAccepted, IsOwnFile}
 use Rattle.clock_journal.specs.Reading.{onto}
 use Rattle.clock_server.specs.Keeping.{IsAccepted}
-use Rattle.clock_server.specs.Starts.{IsResumed}
+use Rattle.clock_journal.specs.Recovering.{AreTextsOf}
 use Rattle.clock_journal.specs.declared.recovery.Recovered.{Recovered}
 use Rattle.clock_server.proofs.AcceptedLaws.{accepted_after, accepted_push, accepted_take}
 use Rattle.clock_server.specs.Exchanges.{Exchange}
@@ -92,20 +92,25 @@ pub own_left : (setup : SetupFields) (digest : List ℕ) (texts : List (List ℕ
 own_left setup digest texts least journal synced bytes is written own =
     own.leaves bytes (now_left journal.synced journal.written synced bytes is written)
 
+-- the texts of the file, which the auction stands for; all are on the disk, if contracts see its bytes
+abbrev IsResumed : List ℕ → List ℕ → Option (List ℕ) → JournalState → HouseFields → Recovered → Type 0
+IsResumed digest bytes written journal house recovered = (texts : List (List ℕ))
+    × AreTextsOf digest bytes texts recovered × StandsForTexts (onto texts []) house
+    × (written ≡ Some bytes → HasTexts digest texts journal)
+
 module _ (setup : SetupFields) (found first : JournalState) (bytes : List ℕ) (old : HouseFields) (same : old.setup
-    ≡ setup) (recovered : Recovered) (resumes : found.written ≡ Some bytes → IsResumed found.chain bytes first old
+    ≡ setup) (recovered : Recovered) (resumes : IsResumed found.chain bytes found.written first old
     recovered) where
   serves : (exchanges : List Exchange) (rounds_old rounds_new : Option (List ℕ)) (before last : JournalState)
       (house : HouseFields) → AreServed exchanges rounds_old rounds_new first before old house
       → EndsWith setup found.chain before house last
       → found.written ≡ Some bytes → IsGeneration setup found.chain (served found exchanges last)
   serves exchanges rounds_old rounds_new before last house are ends_with written texts least synced is own =
-      let resumed = resumes written in
-      let those = left_first found.chain bytes resumed.texts texts least recovered resumed.are
+      let those = left_first found.chain bytes resumes.0 texts least recovered resumes.1
       (own_left setup found.chain texts least found synced bytes is written own) in
-      let has = subst (λ (all : List (List ℕ)). HasTexts found.chain all first) those.3 resumed.has in
+      let has = subst (λ (all : List (List ℕ)). HasTexts found.chain all first) those.3 (resumes.3 written) in
       let ends = are (take those.0 texts)
-      (subst (λ (all : List (List ℕ)). StandsForTexts (onto all []) old) those.3 resumed.stands) in
+      (subst (λ (all : List (List ℕ)). StandsForTexts (onto all []) old) those.3 resumes.2) in
       let walks = subst (λ (of_setup : SetupFields). Walks of_setup (state (take those.0 texts) first) exchanges
       (state ends.0 before)) same ends.1 in
       let own_end = ends_with ends.0 (accepted_walk setup found.chain (state (take those.0 texts) first) exchanges

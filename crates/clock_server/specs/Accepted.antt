@@ -4,7 +4,7 @@
 --         texts, at least `least`
 --     IsNotRefused fault      memory ran out, or a call of the disk has failed
 --     OwnStarts      a start on an auction's own file fails for no other reason
-use Rattle.std.specs.Prelude.{ℕ, List, [], ◌∷◌}
+use Rattle.std.specs.Prelude.{◌≡◌, ◌⊎◌, ℕ, List, [], ◌∷◌}
 use Rattle.clock_terms.specs.Limits.{SetupFields}
 use Rattle.clock_house.specs.House.{HouseFields}
 use Rattle.clock_journal.specs.Crash.{LeavesJournal}
@@ -31,9 +31,7 @@ pub record IsOwnFile (setup : SetupFields) (digest : List ℕ) (texts : List (Li
 
 -- memory ran out, or a call of the disk has failed
 abbrev pub IsNotRefused : ResumeFault → Type 0
-IsNotRefused (Refused NoMemory) = Unit {0}
-IsNotRefused (Refused fault) = ⊥
-IsNotRefused Failed = Unit {0}
+IsNotRefused fault = (fault ≡ Refused NoMemory) ⊎ (fault ≡ Failed)
 
 -- if a crash left the journal of accepted texts, a start fails only because of memory or the disk
 abbrev pub OwnStarts : Type 0

@@ -1,6 +1,4 @@
--- How a server resumes a journal.
---     IsResumed digest bytes journal house recovered      journal and auction have the texts of a
---         file
+-- Why a server does not resume a journal.
 --     IsNotResumed setup digest bytes house fault      the file has this fault, or a call of the
 --         disk failed after the replay
 --     IsLeftBy old new fault      what a call that did not resume did to the file
@@ -8,21 +6,13 @@ use Rattle.std.specs.Prelude.{◌≡◌, ℕ, List, [], true}
 use Rattle.clock_terms.specs.Limits.{SetupFields}
 use Rattle.clock_house.specs.House.{HouseFields}
 use Rattle.clock_front.specs.Fronts.{StandsForTexts}
-use Rattle.clock_journal.specs.Logged.{HasTexts, JournalState}
+use Rattle.clock_journal.specs.Logged.{JournalState}
 use Rattle.clock_journal.specs.Reading.{onto}
 use Rattle.clock_journal.specs.Recovering.{AreTextsOf, IsFound}
 use Rattle.clock_journal.specs.declared.recovery.Recovered.{Recovered}
 use Rattle.clock_server.specs.Keeping.{IsRefused}
 use Rattle.clock_server.specs.declared.taking.ResumeFault.{ResumeFault}
 use Rattle.clock_server.specs.declared.taking.ResumeFault.TheVariants.{Refused, Failed}
-
--- these are the texts of the file; all are on the disk, and the auction stands for them
-pub record IsResumed (digest bytes : List ℕ) (journal : JournalState) (house : HouseFields)
-    (recovered : Recovered) : Type 0 where
-  pub texts : List (List ℕ)
-  pub are : AreTextsOf digest bytes texts recovered
-  pub has : HasTexts digest texts journal
-  pub stands : StandsForTexts (onto texts []) house
 
 -- the file has this fault; or the auction stands for all of its texts, and the disk failed
 abbrev pub IsNotResumed : SetupFields → List ℕ → List ℕ → HouseFields → ResumeFault → Type 0

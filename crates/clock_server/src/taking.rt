@@ -1,10 +1,11 @@
 ghost use Rattle.std.specs.Prelude.{◌≡◌, [], ◌∷◌, List, ℕ, Err, IfErr, IfOk, OnOk, Some, false};
 ghost use Rattle.clock_journal.specs.Crash.{BeginsWithTexts, LeavesJournal, StaysSo};
+ghost use Rattle.clock_journal.specs.{Logged.{HasTexts}, Reading.{onto}, Recovering.{AreTextsOf}};
 ghost use Rattle.clock_terms.specs.Limits.{SetupFields};
 ghost use Rattle.clock_front.specs.{Effects.{effect as effect_of}, Fronts.{StandsForTexts}};
 ghost use Rattle.clock_server.specs.{Accepted.{OwnStarts}, Keeping.{IsRefused}};
 ghost use Rattle.clock_server.specs.{Starts.{IsLeftBy, IsNotResumed}};
-ghost use Rattle.clock_server.specs.{Starts.{IsResumed}, inside.Taken.{taken_as}};
+ghost use Rattle.clock_server.specs.inside.Taken.{taken_as};
 
 use clock_device::Failed;
 use clock_front::{Effect, Front};
@@ -95,8 +96,10 @@ pub fn resume_auction<P: Processor, D: Durable, F: FnOnce(Recovered)>(
     requires fresh { StandsForTexts [] auction.old.front }
     requires unfailed { journal.old.has_failed ≡ false }
     requires callable { F.IsAlwaysCallable tell }
-    ensures in_step { journal.old.written ≡ Some bytes.now
-        → IfOk result (IsResumed journal.old.chain bytes.now journal.new auction.new.front) }
+    ensures ok { IfOk result (λ recovered. (texts : List (List ℕ))
+        × AreTextsOf journal.old.chain bytes.now texts recovered
+        × StandsForTexts (onto texts []) auction.new.front
+        × (journal.old.written ≡ Some bytes.now → HasTexts journal.old.chain texts journal.new)) }
     ensures err { IfErr result (IsNotResumed auction.old.front.setup journal.old.chain bytes.now
         auction.new.front) }
     ensures refused { IfErr result (IsLeftBy journal.old journal.new) }

@@ -25,16 +25,15 @@ returns-in-Err-clause-any_tail g c synced texts written on_disk before =
 
 -- ---- a journal that is continued
 
-pub returns-in-Ok-resume-clause-in_step : goal.returns-in-Ok-resume-clause-in_step
-returns-in-Ok-resume-clause-in_step g c written =
+pub returns-in-Ok-resume-clause-ok : goal.returns-in-Ok-resume-clause-ok
+returns-in-Ok-resume-clause-ok g c =
     let up = replayed c.recover.new.machine.front c.chain.result.now c.args.journal.now.chain c.args.bytes.now
-    c.in-Ok.recovered c.chain.ensures c.in-Ok.ensures.ok in
-    record {
-      texts = up.texts;
-      are = up.are;
-      has = c.in-Ok-resume.ensures.logged c.args.bytes.now up.texts written up.are;
-      stands = up.stands;
-    }
+    c.in-Ok.recovered c.chain.ensures c.in-Ok.ensures.ok in (
+      up.texts,
+      up.are,
+      up.stands,
+      λ written. c.in-Ok-resume.ensures.logged c.args.bytes.now up.texts written up.are,
+    )
 
 pub returns-in-Err-resume-clause-err : goal.returns-in-Err-resume-clause-err
 returns-in-Err-resume-clause-err g c =
