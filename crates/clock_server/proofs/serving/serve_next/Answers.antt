@@ -1,38 +1,41 @@
-use Rattle.std.proofs.Common.{Option, List, ℕ, subst, ◌∙◌}
-use Rattle.clock_server.specs.Exchanges.{Exchange}
-use Rattle.clock_server.specs.inside.Served.{IsReportedAs}
+use Rattle.std.proofs.Common.{◌≡◌, Option, List, [], ◌∷◌, ℕ, ap, subst, sym, ◌∙◌}
+use Rattle.clock_device.specs.Reports.{Reading, SourceReport}
+use Rattle.clock_server.specs.Exchanges.{Exchange, Sends}
+use Rattle.clock_server.specs.Keeping.{GrowsBy}
+use Rattle.clock_server.specs.inside.Served.{EndsTaken, IsReportedAs}
 use Rattle.clock_server.proofs.Reports.{ends_one, not_accept, unfailed}
-use Rattle.clock_server.proofs.Walking.{came_one, closed_one}
+use Rattle.clock_server.proofs.Walking.{came_one}
 use Rattle.clock_server.proofs.serving.serve_next.Goals as goal
 
 pub returns-clause-ends : goal.returns-clause-ends
 returns-clause-ends g c =
-    let source = g.C.Reader.Source in
-    let sink = g.C.Writer.Outlet in
+    let report = g.C.Reader.Source.report in
     let closed = g.C.Acceptor.closed in
     let coming = g.C.Acceptor.coming in
     let journal = g.K.RequestLog.journal in
     let rounds = g.K.RequestLog.rounds in
-    let one : Exchange = record {
-      reading =
-          record { before = source.report c.in-Ok.one.source; after = source.report c.serve_one-served.new.source };
-      writing = record { before = sink.report c.in-Ok.one.sink; after = sink.report c.serve_one-served.new.sink };
-      logged = sink.logged c.serve_one-served.new.sink;
-    } in
+    let offer = g.C.Acceptor.offer c.accept.new.self in
+    let closes = c.close.ensures.closed in
+    let one : Exchange = closes.0 in
+    let old = c.args.front.now in
+    let served = c.serve_one-served in
+    let read = subst (λ (before : SourceReport). one.reading
+    ≡ record { before = before; after = report served.new.source }) c.in-Ok.ensures.source closes.2 in
     ends_one (coming c.args.connections.now) (coming c.close.new.self) (closed c.args.connections.now)
-    (closed c.close.new.self)
-    (rounds c.args.log.now) (rounds c.tell_closing.new.log) (journal c.args.log.now)
-    (journal c.serve_one-served.new.log)
-    (journal c.tell_closing.new.log) c.args.front.now c.serve_one-served.new.front one c.serve_one-served.result
+    (closed c.close.new.self) (rounds c.args.log.now) (rounds c.tell_closing.new.log) (journal c.args.log.now)
+    (journal served.new.log) (journal c.tell_closing.new.log) old served.new.front one served.result
     c.tell_closing.result
-    (closed_one (closed c.args.connections.now) (closed c.accept.new.self) (closed c.close.new.self)
-    (g.C.Acceptor.offer c.accept.new.self) one c.in-Ok.ensures.closed c.in-Ok.ensures.source c.in-Ok.ensures.sink
-    c.close.ensures.closed)
+    (subst (λ (list : Option (List Exchange)). GrowsBy list (closed c.close.new.self) (one ∷ []))
+    c.in-Ok.ensures.closed closes.1)
     (came_one (coming c.args.connections.now) (coming c.accept.new.self) (coming c.close.new.self)
-    (g.C.Acceptor.offer c.accept.new.self) one c.in-Ok.ensures.came c.close.ensures.coming c.in-Ok.ensures.source)
-    c.serve_one-served.ensures.served c.tell_closing.ensures.logged
-    (subst (λ (before : Option (List ℕ)). IsReportedAs before (rounds c.tell_closing.new.log) c.serve_one-served.result
-    c.tell_closing.result) c.serve_one-served.ensures.rounds c.tell_closing.ensures.rounds)
+    offer one c.in-Ok.ensures.came c.close.ensures.coming
+    (ap (λ (reading : Reading). reading.before) closes.2))
+    (subst (λ (reading : Reading). EndsTaken reading (journal c.args.log.now) (journal served.new.log) old served.new.front
+    served.result) (sym read) served.ensures.served)
+    (subst (λ (reply : List ℕ). Sends one reply (journal served.new.log)) c.reply_bytes.ensures closes.3)
+    c.tell_closing.ensures.logged
+    (subst (λ (before : Option (List ℕ)). IsReportedAs before (rounds c.tell_closing.new.log) served.result
+    c.tell_closing.result) served.ensures.rounds c.tell_closing.ensures.rounds)
 
 pub returns-clause-unfailed : goal.returns-clause-unfailed
 returns-clause-unfailed g c =
