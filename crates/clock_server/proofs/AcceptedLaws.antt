@@ -1,13 +1,11 @@
 -- Texts that were accepted, and starts on what a crash left of them.
 use Rattle.std.proofs.Common.{◌≡◌, ◌+◌, ◌++◌, inl, inr, ℕ, zero, suc, Bool, true, false, List, [], ◌∷◌}
-use Rattle.std.proofs.Common.{length, take, drop, refl, sym, ap, ◌∙◌, subst, arith, length-append}
-use Rattle.std.proofs.lemmas.List.{length-take}
+use Rattle.std.proofs.Common.{length, take, drop, refl, sym, ap, ◌∙◌, subst}
 use Rattle.clock_terms.specs.Limits.{SetupFields}
 use Rattle.clock_house.specs.House.{HouseFields}
 use Rattle.clock_front.specs.Effects.{effect}
 use Rattle.clock_journal.specs.Crash.{IsEnd, IsFile, IsPartOfHead, LeavesJournal, LeavesTexts}
-use Rattle.clock_journal.specs.Format.{before_text, head, last_link, link, records}
-use Rattle.clock_journal.specs.Logged.{file_of}
+use Rattle.clock_journal.specs.Format.{before_text, head, last_link, link}
 use Rattle.clock_journal.specs.Reading.{Next, ended, next, onto, whole}
 use Rattle.clock_journal.specs.declared.recovery.JournalFault.TheVariants as fault
 use Rattle.clock_journal.proofs.Files.{reads_of}

@@ -1,6 +1,7 @@
 -- How serving one connection ends, by what was reported to the log.
-use Rattle.std.proofs.Common.{◌≡◌, false, ℕ, List, [], ◌∷◌, Option, Result, Ok, Err, refl, sym, subst}
+use Rattle.std.proofs.Common.{◌≡◌, false, ℕ, List, [], ◌∷◌, Option, Some, Result, Ok, Err, refl, sym, subst, ◌∙◌}
 use Rattle.std.specs.Prelude.{OnOk}
+use Rattle.clock_device.specs.Reports.{Reading, SourceReport}
 use Rattle.clock_house.specs.House.{HouseFields}
 use Rattle.clock_front.specs.declared.front.response.Response.{Response}
 use Rattle.clock_journal.specs.Logged.{JournalState}
@@ -10,6 +11,15 @@ use Rattle.clock_server.specs.declared.serving.ServeFault.TheVariants.{Accept, J
 use Rattle.clock_server.specs.Exchanges.{Came, Exchange, Sends, bytes_given}
 use Rattle.clock_server.specs.Serving.{IsUnlogged, is_accept_fault}
 use Rattle.clock_server.specs.inside.Served.{EndsOne, EndsTaken, IsServed, IsReportedAs, bytes_of, reply_bytes}
+
+-- the reads from the acceptance of a connection to its closing
+pub reading_of : (reading : Reading) (offer : Option SourceReport) (before after : SourceReport)
+    → offer ≡ Some before → offer ≡ Some reading.before → reading.after ≡ after
+    → reading ≡ record { before = before; after = after }
+reading_of reading offer before after from is to =
+    let twice : Some before ≡ Some reading.before = sym from ∙ is in
+    let same : before ≡ reading.before = cc in
+    rw (same, sym to) refl
 
 module _ (coming_old coming_new : Option (List (List ℕ))) (closed_old closed_new : Option (List Exchange))
     (rounds_old rounds_new : Option (List ℕ)) (journal_old journal_mid journal_new : JournalState)

@@ -46,10 +46,10 @@ came_more first mid last exchanges one before after = subst (λ (given : List (O
     (came_then first mid last (bytes_given exchanges) (bytes_given (one ∷ [])) before after)
 
 -- the accepted connection came
-pub came_one : (first mid last : Option (List (List ℕ))) (offer : SourceReport) (one : Exchange)
-    → Came first mid (offer.left ∷ []) → last ≡ mid → one.reading.before ≡ offer
+pub came_one : (first mid last : Option (List (List ℕ))) (before : SourceReport) (one : Exchange)
+    → Came first mid (before.left ∷ []) → last ≡ mid → one.reading.before ≡ before
     → Came first last (bytes_given (one ∷ []))
-came_one first mid last offer one came still from =
+came_one first mid last before one came still from =
     subst (λ (left : Option (List (List ℕ))). Came first left (one.reading.before.left ∷ [])) (sym still)
     (subst (λ (report : SourceReport). Came first mid (report.left ∷ [])) (sym from) came)
 

@@ -1,5 +1,5 @@
-ghost use Rattle.std.specs.Prelude.{◌≡◌, ◌||◌, ◌∷◌, [], ℕ, Bool, List, Option, IfOk, OnOk, OnErr};
-ghost use Rattle.std.specs.Prelude.{is_err, is_some, not, true, false, None};
+ghost use Rattle.std.specs.Prelude.{◌≡◌, ◌||◌, ◌∷◌, [], ℕ, Bool, List, Option, IfOk, OnErr};
+ghost use Rattle.std.specs.Prelude.{IsSome, is_err, option_map, false, Some, None};
 ghost use Rattle.clock_device.specs.Reports.{IsUnread, SourceReport, unread};
 ghost use Rattle.clock_server.specs.Keeping.{GrowsBy};
 ghost use Rattle.clock_server.specs.Exchanges.{Came, Exchange, Sends};
@@ -10,18 +10,16 @@ use std::net::{TcpListener, TcpStream};
 
 /// A source of connections, one after the other, each closed before the next.
 ///
-/// In contracts, an acceptor shows the bytes of the connections still to come, whether one is open,
-/// what that one's source had when it was accepted, and what was read and sent on each closed one.
-/// `None` means that it does not show this. No two connections are open at once, so each source
-/// belongs to one.
+/// In contracts, an acceptor shows the bytes of the connections still to come, and what was read and
+/// sent on each closed one. `None` means that it does not show this. No two connections are open at
+/// once, so each source belongs to one.
 pub trait Acceptor {
     type Reader: Source;
 
     ghost coming: { Self → Option (List (List ℕ)) };
 
-    ghost is_open: { Self → Bool };
-
-    ghost offer: { Self → SourceReport };
+    /// What the source of the open connection had when it was accepted, if one is open.
+    ghost offer: { Self → Option SourceReport };
 
     ghost closed: { Self → Option (List Exchange) };
 
@@ -33,26 +31,26 @@ pub trait Acceptor {
     ///
     /// Requires that no connection is open.
     fn accept(&mut self) -> Result<Self::Reader, Failed>
-        requires { is_open self.old ≡ false }
-        ensures open { is_open self.new ≡ not (is_err result) }
-        ensures source { IfOk result (λ source. offer self.new ≡ Self.Reader.report source) }
+        requires { offer self.old ≡ None }
+        ensures open { IfOk result (λ source. offer self.new ≡ Some (Self.Reader.report source)) }
         ensures unread { IfOk result (λ source. IsUnread (Self.Reader.report source)) }
-        ensures came { OnOk result
-            (Came (coming self.old) (coming self.new) ((offer self.new).left ∷ [])) }
+        ensures came { IfOk result (λ source. Came (coming self.old) (coming self.new)
+            ((Self.Reader.report source).left ∷ [])) }
         ensures still { OnErr result (coming self.new ≡ coming self.old) }
+        ensures none { OnErr result (offer self.new ≡ None) }
         ensures closed { closed self.new ≡ closed self.old }
         ensures failed { has_failed self.new ≡ (has_failed self.old || is_err result) };
 
     /// Sends a reply, or a prefix of it if a write fails, and closes the open connection. An empty
     /// reply is none. `log` has what is logged at that time.
     fn close<K: RequestLog>(&mut self, source: Self::Reader, reply: &[u8], log: &K)
-        requires { is_open self.old ≡ true }
-        ensures open { is_open self.new ≡ false }
+        requires { IsSome (offer self.old) }
+        ensures open { offer self.new ≡ None }
         ensures coming { coming self.new ≡ coming self.old }
         ensures failed { has_failed self.new ≡ has_failed self.old }
         ensures closed { (one : Exchange) × GrowsBy (closed self.old) (closed self.new) (one ∷ [])
-            × (one.reading
-            ≡ record { before = offer self.old; after = Self.Reader.report source })
+            × (offer self.old ≡ Some one.reading.before)
+            × (one.reading.after ≡ Self.Reader.report source)
             × Sends one reply.now (K.journal log.now) };
 }
 
@@ -68,7 +66,7 @@ pub struct PortAcceptor<'a> {
 impl<'a> PortAcceptor<'a> {
     /// Returns the port's connections, before the first is accepted.
     pub fn new(listener: &'a TcpListener) -> PortAcceptor<'a>
-        ensures open { ⟦<PortAcceptor<'a> as Acceptor>⟧.is_open result ≡ false }
+        ensures open { ⟦<PortAcceptor<'a> as Acceptor>⟧.offer result ≡ None }
         ensures closed { ⟦<PortAcceptor<'a> as Acceptor>⟧.closed result ≡ None }
         ensures unfailed { ⟦<PortAcceptor<'a> as Acceptor>⟧.has_failed result ≡ false }
     {
@@ -85,9 +83,7 @@ impl Acceptor for PortAcceptor<'_> {
 
     ghost coming = { λ listening. None };
 
-    ghost is_open = { λ listening. is_some listening.sink };
-
-    ghost offer = { λ listening. unread None };
+    ghost offer = { λ listening. option_map (λ sink. unread None) listening.sink };
 
     ghost closed = { λ listening. None };
 

@@ -77,13 +77,13 @@ fn serve_next<P: Processor, K: RequestLog, C: Acceptor>(
     connections: &mut C,
 ) -> Result<(), ServeFault>
     requires unfailed { (K.journal log.old).has_failed ≡ false }
-    requires closed { C.is_open connections.old ≡ false }
+    requires closed { C.offer connections.old ≡ None }
     requires taken { C.has_failed connections.old ≡ false }
     ensures ends { EndsOne (C.coming connections.old) (C.coming connections.new)
         (C.closed connections.old) (C.closed connections.new) (K.rounds log.old) (K.rounds log.new)
         (K.journal log.old) (K.journal log.new) front.old front.new result }
     ensures unfailed { OnOk result ((K.journal log.new).has_failed ≡ false) }
-    ensures closed { C.is_open connections.new ≡ false }
+    ensures closed { C.offer connections.new ≡ None }
     ensures taken { C.has_failed connections.new ≡ is_accept_fault result }
     ensures setup { front.new.setup ≡ front.old.setup }
 {
@@ -131,14 +131,14 @@ pub fn serve_all<P: Processor, K: RequestLog, C: Acceptor>(
     count: u64,
 ) -> Result<(), ServeFault>
     requires unfailed { (K.journal log.old).has_failed ≡ false }
-    requires closed { C.is_open connections.old ≡ false }
+    requires closed { C.offer connections.old ≡ None }
     requires taken { C.has_failed connections.old ≡ false }
     ensures served { (exchanges : List Exchange)
         × GrowsBy (C.closed connections.old) (C.closed connections.new) exchanges
         × Came (C.coming connections.old) (C.coming connections.new) (bytes_given exchanges)
         × EndsServing count exchanges (K.rounds log.old) (K.rounds log.new) (K.journal log.old)
         (K.journal log.new) front.old front.new result }
-    ensures closed { C.is_open connections.new ≡ false }
+    ensures closed { C.offer connections.new ≡ None }
     ensures taken { C.has_failed connections.new ≡ is_accept_fault result }
     ensures setup { front.new.setup ≡ front.old.setup }
 {

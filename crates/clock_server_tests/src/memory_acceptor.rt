@@ -1,5 +1,5 @@
 ghost use Rattle.std.specs.Prelude.{◌≡◌, ◌≤◌, ◌+◌, [], ◌∷◌, drop, length, map, IfOk, IfSome};
-ghost use Rattle.std.specs.Prelude.{MatchBool, None, Some, is_some, true, false};
+ghost use Rattle.std.specs.Prelude.{IsSome, MatchBool, None, Some, is_some, option_map, false};
 ghost use Rattle.clock_device.specs.{Reports.{unread}, SourceState.{source_report}};
 ghost use Rattle.clock_server.specs.{Exchanges.{Exchange, Sends}, Keeping.{GrowsBy}};
 ghost use Rattle.clock_server_tests.specs.MemoryAcceptor.{MemoryAcceptorState};
@@ -70,8 +70,7 @@ impl<'a> Model for MemoryAcceptor<'a> {
 
     ghost view = { λ l. record {
       coming = map (λ client. client.bytes.now) (drop l.next l.clients.now);
-      is_open = is_some l.sink;
-      offered = l.offered.now;
+      offered = option_map (λ sink. l.offered.now) l.sink;
       closed = l.closed.items;
       has_failed = l.has_failed;
     } };
@@ -87,8 +86,7 @@ impl<'a> MemoryAcceptor<'a> {
     pub fn new(alloc: Global, clients: &'a [Client<'a>]) -> Result<MemoryAcceptor<'a>, NoMemory>
         ensures { IfOk result (λ listed. listed ≡ record {
           coming = map (λ client. client.bytes.now) clients.now;
-          is_open = false;
-          offered = [];
+          offered = None;
           closed = [];
           has_failed = false;
         }) }
@@ -117,9 +115,7 @@ impl<'a> Acceptor for MemoryAcceptor<'a> {
 
     ghost coming = { λ listed. Some listed.coming };
 
-    ghost is_open = { λ listed. listed.is_open };
-
-    ghost offer = { λ listed. unread (Some listed.offered) };
+    ghost offer = { λ listed. option_map (λ bytes. unread (Some bytes)) listed.offered };
 
     ghost closed = { λ listed. Some listed.closed };
 
@@ -141,17 +137,7 @@ impl<'a> Acceptor for MemoryAcceptor<'a> {
         Ok(ListSource::new(client.bytes, client.read.max(1), client.read_stop))
     }
 
-    fn close<K: RequestLog>(&mut self, source: ListSource<'a>, reply: &[u8], _log: &K)
-        requires { self.old.is_open ≡ true }
-        ensures open { self.new.is_open ≡ false }
-        ensures coming { Some self.new.coming ≡ Some self.old.coming }
-        ensures failed { self.new.has_failed ≡ self.old.has_failed }
-        ensures closed { (one : Exchange)
-            × GrowsBy (Some self.old.closed) (Some self.new.closed) (one ∷ [])
-            × (one.reading
-            ≡ record { before = unread (Some self.old.offered); after = source_report source.entry })
-            × Sends one reply.now (K.journal _log.now) }
-    {
+    fn close<K: RequestLog>(&mut self, source: ListSource<'a>, reply: &[u8], _log: &K) {
         if let Some(mut sink) = self.sink.take() {
             // a failed write ends only this connection
             let _fault = write_all(&mut sink, reply);

@@ -1,4 +1,4 @@
-use Rattle.std.proofs.Common.{None, false, length, arith, refl}
+use Rattle.std.proofs.Common.{None, ap, false, length, arith, option_map, refl, sym, ◌∙◌}
 use Rattle.clock_device.specs.Reports.{unread}
 use Rattle.clock_server.proofs.acceptor.PortAcceptorAcceptor.close.Goals as goal
 
@@ -20,6 +20,7 @@ returns-in-Some-clause-closed g c = (
     logged = None;
   },
   tt,
+  ap (option_map (λ sink. unread None)) (sym c.take.ensures.value ∙ c.in-Some.is),
   refl,
   record { count = length c.args.reply.now; sent = tt; whole = λ unfailed. omega arith; logged = tt },
 )
