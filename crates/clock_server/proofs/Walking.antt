@@ -1,8 +1,7 @@
 -- Lists that grow by one connection at a time.
-use Rattle.std.proofs.Common.{◌≡◌, ℕ, List, [], ◌∷◌, ◌++◌, map, Option, Some, None}
+use Rattle.std.proofs.Common.{ℕ, List, [], ◌∷◌, ◌++◌, map, Option, Some, None}
 use Rattle.std.proofs.Common.{refl, sym, ap, ◌∙◌, subst, append_assoc, append-nil}
 use Rattle.clock_terms.specs.Limits.{SetupFields}
-use Rattle.clock_device.specs.Reports.{SourceReport}
 use Rattle.std.proofs.lemmas.List.{map-append}
 use Rattle.clock_server.specs.Keeping.{GrowsBy}
 use Rattle.clock_server.specs.Exchanges.{Came, Exchange, bytes_given}
@@ -44,14 +43,6 @@ pub came_more : (first mid last : Option (List (List ℕ))) (exchanges : List Ex
 came_more first mid last exchanges one before after = subst (λ (given : List (Option (List ℕ))). Came first last given)
     (sym (map-append (λ one. one.reading.before.left) exchanges (one ∷ [])))
     (came_then first mid last (bytes_given exchanges) (bytes_given (one ∷ [])) before after)
-
--- the accepted connection came
-pub came_one : (first mid last : Option (List (List ℕ))) (before : SourceReport) (one : Exchange)
-    → Came first mid (before.left ∷ []) → last ≡ mid → one.reading.before ≡ before
-    → Came first last (bytes_given (one ∷ []))
-came_one first mid last before one came still from =
-    subst (λ (left : Option (List (List ℕ))). Came first left (one.reading.before.left ∷ [])) (sym still)
-    (subst (λ (report : SourceReport). Came first mid (report.left ∷ [])) (sym from) came)
 
 -- one more connection
 pub walks_on : (setup : SetupFields) (past : AcceptedTexts) (exchanges : List Exchange) (end : AcceptedTexts)

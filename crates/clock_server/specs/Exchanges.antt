@@ -1,8 +1,7 @@
 -- What contracts see of connections that are served one after the other. `None` means that
 -- contracts do not see it.
 --     Exchange      what was read and sent on a connection until it was closed
---     Sends one reply journal      this reply was sent over this journal, or a prefix of the reply
---         if a write failed
+--     Sends one reply journal      this reply was sent on it, and this was the journal then
 --     Came old new given      connections with these bytes were accepted, in order; the others are
 --         still to come
 --     bytes_given exchanges      what the source of each had before it was read
@@ -11,7 +10,7 @@ use Rattle.std.specs.Prelude.{Option, Some, None, IfSome}
 use Rattle.clock_device.specs.Reports.{Reading}
 use Rattle.clock_journal.specs.Logged.{JournalState}
 
--- all reads; the bytes that were sent, if contracts see them; whether a write failed; and the
+-- all reads; the bytes that were sent, if contracts see them; whether sending failed; and the
 -- journal when the first byte was sent, if contracts see it
 pub record Exchange : Type 0 where
   pub reading : Reading
@@ -19,8 +18,8 @@ pub record Exchange : Type 0 where
   pub has_failed : Bool
   pub logged : Option JournalState
 
--- the first bytes of the reply were sent, and no others; if no write failed, these were all. Then
--- this was the journal. An empty reply is none
+-- the reply was sent, or a prefix of it if that failed, and nothing else; this was the journal when
+-- the first byte was sent. An empty reply is none
 pub record Sends (one : Exchange) (reply : List ℕ) (journal : JournalState) : Type 0 where
   pub count : ℕ
   pub sent : IfSome one.sent (λ sent. sent ≡ take count reply)

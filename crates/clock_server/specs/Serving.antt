@@ -3,7 +3,7 @@
 --     AcceptedTexts      the accepted texts, and the journal
 --     RepliesTo setup before one after      the reply is the right one after the texts before it
 --     LogsText setup before one after      the reply is right, and a text that changes the auction
---         is on the disk when the first byte of its reply is written
+--         is on the disk when the first byte of its reply is sent
 --     Walks setup before exchanges after      so do these connections, one after the other
 --     AreServed exchanges ..      all of these connections were served
 --     IsUnlogged reading ..      the text that was read could not be logged

@@ -41,8 +41,10 @@ pub trait Acceptor {
         ensures closed { closed self.new ≡ closed self.old }
         ensures failed { has_failed self.new ≡ (has_failed self.old || is_err result) };
 
-    /// Sends a reply, or a prefix of it if a write fails, and closes the open connection. An empty
-    /// reply is none. `log` has what is logged at that time.
+    /// Sends the reply, or a prefix of it if a write fails, and closes the open connection. An
+    /// empty reply is none. `log` has what is logged at that time.
+    ///
+    /// Requires that a connection is open, and its source.
     fn close<K: RequestLog>(&mut self, source: Self::Reader, reply: &[u8], log: &K)
         requires { IsSome (offer self.old) }
         ensures open { offer self.new ≡ None }

@@ -4,7 +4,7 @@ ghost use Rattle.clock_server.specs.Keeping.{GrowsBy, no_journal};
 ghost use Rattle.clock_server.specs.Exchanges.{Came, Exchange, bytes_given};
 ghost use Rattle.clock_server.specs.Laws.{ReportedBytes};
 ghost use Rattle.clock_server.specs.Serving.{EndsServing, is_accept_fault};
-ghost use Rattle.clock_server.specs.inside.Served.{EndsOne, EndsTaken, IsReportedAs};
+ghost use Rattle.clock_server.specs.inside.Served.{EndsOne, EndsTaken, effect_of, round_closed};
 ghost use Rattle.clock_server.specs.inside.Served.{reply_bytes as reply_bytes_of};
 
 use crate::acceptor::{Acceptor, PortAcceptor};
@@ -59,7 +59,8 @@ fn serve_one<P: Processor, K: RequestLog, R: Source>(
     }
 }
 
-/// The bytes of the reply. There are none if there was no response, or no log of it.
+/// The bytes of the reply. There are none if no request could be read, or if its text could not be
+/// logged.
 fn reply_bytes(served: &Result<Option<Response>, Failed>) -> &[u8]
     ensures { result.now ≡ reply_bytes_of served.now }
 {
@@ -92,26 +93,23 @@ fn serve_next<P: Processor, K: RequestLog, C: Acceptor>(
     };
     let served = serve_one(alloc, front, log, &mut source);
     connections.close(source, reply_bytes(&served), log);
-    tell_closing(log, served)
+    let Ok(served) = served else {
+        return Err(ServeFault::Journal);
+    };
+    tell_closing(log, served);
+    Ok(())
 }
 
 /// Reports the round that a request closed, if any, to the log.
-fn tell_closing<K: RequestLog>(
-    log: &mut K,
-    served: Result<Option<Response>, Failed>,
-) -> Result<(), ServeFault>
+fn tell_closing<K: RequestLog>(log: &mut K, served: Option<Response>)
     ensures logged { K.journal log.new ≡ K.journal log.old }
-    ensures rounds { IsReportedAs (K.rounds log.old) (K.rounds log.new) served result }
+    ensures rounds { GrowsBy (K.rounds log.old) (K.rounds log.new)
+        (round_closed (effect_of served)) }
 {
-    match served {
-        Ok(Some(response)) => {
-            if let Effect::Closing(round) = response.effect {
-                log.round_closed(round);
-            }
-            Ok(())
+    if let Some(response) = served {
+        if let Effect::Closing(round) = response.effect {
+            log.round_closed(round);
         }
-        Ok(None) => Ok(()),
-        Err(Failed) => Err(ServeFault::Journal),
     }
 }
 

@@ -6,7 +6,6 @@
 --     effect_of served, bytes_of served      what the request changed, and the bytes of its reply
 --     reply_bytes result      the bytes that are sent
 --     round_closed effect      the closed round, if any
---     IsReportedAs old new served result      the closed round, if any, was reported
 --     EndsOne coming_old coming_new .. result      how accepting and serving one ends
 use Rattle.std.specs.Prelude.{◌≡◌, ◌⊎◌, ℕ, List, [], ◌∷◌, Option, Some, None, Result, Ok, Err}
 use Rattle.clock_house.specs.House.{HouseFields}
@@ -72,14 +71,6 @@ abbrev pub round_closed : Effect → List ℕ
 round_closed Nothing = []
 round_closed Sheet = []
 round_closed (Closing round) = round ∷ []
-
--- it was reported; or the text could not be logged, and the fault says so
-abbrev pub IsReportedAs : {U E : Type 0} → Option (List ℕ) → Option (List ℕ)
-    → Result (Option Response) E → Result U ServeFault → Type 0
-IsReportedAs rounds_old rounds_new (Ok served) (Ok done) =
-    GrowsBy rounds_old rounds_new (round_closed (effect_of served))
-IsReportedAs rounds_old rounds_new (Err failed) (Err fault.Journal) = rounds_new ≡ rounds_old
-IsReportedAs rounds_old rounds_new served result = ⊥
 
 -- how serving one connection ends: it was served, and its closing reported; or it could not be
 -- accepted, and nothing changed; or its text could not be logged
