@@ -37,7 +37,7 @@ module _ (count : ℕ) (coming_old coming_mid coming_new : Option (List (List �
     came = came_more coming_old coming_mid coming_new before.exchanges ends.0 before.came ends.2;
     counted = omega (arith, length-append before.exchanges (ends.0 ∷ []), before.counted);
     served = served_more before.exchanges ends.0 ends.3.0 rounds_old rounds_mid rounds_new journal_old journal_mid
-        journal_new old now new same before.served ends.3.1 ends.3.2;
+        journal_new old now new same before.served ends.3.1 ends.3.2 ends.3.3;
   }
 
   -- this ends the run
@@ -72,8 +72,9 @@ module _ (count : ℕ) (coming_old coming_mid coming_new : Option (List (List �
       journal_mid,
       now,
       subst (λ (reported : Option (List ℕ)).
-          AreServed before.exchanges rounds_old reported journal_old journal_mid old now) (sym ends.4) before.served,
+          AreServed before.exchanges rounds_old reported journal_old journal_mid old now) (sym ends.5) before.served,
       same,
       ends.3,
+      ends.4,
     ),
   )

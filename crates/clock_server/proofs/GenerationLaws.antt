@@ -35,9 +35,9 @@ HasAccepted setup digest at = AreAccepted setup [] at.texts × HasTexts digest a
 
 accepted_step : (setup : SetupFields) (before : AcceptedTexts) (one : Exchange) (after : AcceptedTexts)
     → RepliesTo setup before one after → AreAccepted setup [] before.texts → AreAccepted setup [] after.texts
-accepted_step setup before one after (inl (text, answer, replied, shown, inl (right, is))) accepted =
+accepted_step setup before one after (inl (text, answer, arrived, sends, inl (right, is))) accepted =
     subst (AreAccepted setup []) (sym is) (accepted_after setup before.texts text accepted)
-accepted_step setup before one after (inl (text, answer, replied, shown, inr (left_out, is))) accepted =
+accepted_step setup before one after (inl (text, answer, arrived, sends, inr (left_out, is))) accepted =
     subst (AreAccepted setup []) (sym is) accepted
 accepted_step setup before one after (inr (unanswered, is)) accepted =
     subst (λ (now : AcceptedTexts). AreAccepted setup [] now.texts) (sym is) accepted
@@ -72,7 +72,7 @@ all_logged setup digest last house texts has stands = (
 
 -- the text of the last could not be logged
 one_unlogged : (setup : SetupFields) (digest : List ℕ) (before last : JournalState) (house : HouseFields)
-    (one : Exchange) → house.setup ≡ setup → IsUnlogged one before last house
+    (one : Exchange) → house.setup ≡ setup → IsUnlogged one.reading before last house
     → EndsWith setup digest before house last
 one_unlogged setup digest before last house one same unlogged texts has stands = (
   unlogged.text ∷ [],
@@ -145,7 +145,7 @@ module _ (setup : SetupFields) (found first : JournalState) (bytes : List ℕ) (
     ends.1,
     ends.2,
     ends.3,
-    ends.8.silent,
+    ends.9,
     serves ends.0 rounds_old rounds_new ends.4 last ends.5 ends.6
         (one_unlogged setup found.chain ends.4 last ends.5 ends.1 (ends.7 ∙ same) ends.8),
   )

@@ -1,14 +1,9 @@
 -- A run continues with one connection that was served.
-use Rattle.std.proofs.Common.{◌≡◌, inl, inr, ℕ, List, [], ◌∷◌, ◌++◌, Option, length, refl, sym, ap, ◌∙◌, subst}
-use Rattle.std.specs.Prelude.{◌||◌, Result, Ok, Err, false, is_err}
-use Rattle.clock_device.specs.Streams.{WritesText}
-use Rattle.clock_device.specs.Reports.{IsUnused, SinkReport, Writing}
-use Rattle.clock_device.specs.Writings.{WritesNothing}
-use Rattle.clock_device.proofs.Streams.{same_bytes}
+use Rattle.std.proofs.Common.{◌≡◌, inl, inr, ℕ, List, [], ◌∷◌, ◌++◌, Option, Some, None, length}
+use Rattle.std.proofs.Common.{refl, sym, ap, ◌∙◌, subst}
 use Rattle.clock_terms.specs.Limits.{SetupFields}
 use Rattle.clock_house.specs.House.{HouseFields}
 use Rattle.clock_house.specs.History.{history}
-use Rattle.clock_http.specs.Replies.{Answer}
 use Rattle.clock_front.specs.Effects.{IsRightResponse, RespondsTo}
 use Rattle.clock_front.specs.Fronts.{StandsForTexts, commands_of}
 use Rattle.clock_front.specs.declared.front.response.Effect.{Effect}
@@ -20,28 +15,14 @@ use Rattle.clock_journal.specs.Logged.{HasTexts, IsAppended, JournalState}
 use Rattle.clock_journal.specs.Reading.{onto}
 use Rattle.clock_journal.proofs.Passing.{leave_none}
 use Rattle.clock_server.specs.Closings.{closed_by}
-use Rattle.clock_server.specs.Exchanges.{Exchange}
+use Rattle.clock_server.specs.Exchanges.{Exchange, Sends}
 use Rattle.clock_server.specs.Keeping.{GrowsBy, LogsChange, is_change}
-use Rattle.clock_server.specs.Serving.{AcceptedTexts, AreServed, LogsText, RepliesTo, WritesReply}
-use Rattle.clock_server.specs.inside.Served.{IsAnswered, IsServed, round_closed}
+use Rattle.clock_server.specs.Serving.{AcceptedTexts, AreServed, EndsUnanswered, LogsText, RepliesTo}
+use Rattle.clock_server.specs.inside.Served.{IsAnswered, IsServed, bytes_of, effect_of, round_closed}
 use Rattle.clock_server.proofs.EffectLaws.{logged_when, onto-push, right_after}
 use Rattle.clock_server.proofs.Telling.{CountsOn, counts_text, tells_none, tells_on}
 use Rattle.clock_server.proofs.Untouched.{left_all}
 use Rattle.clock_server.proofs.Walking.{walks_on}
-
--- a reply was written, or a prefix of it
-pub reply_written : {U E : Type 0} (writing : Writing) (answer : Answer) (result : Result U E)
-    → WritesText writing.before.taken writing.after.taken answer.bytes result → writing.before.has_failed ≡ false
-    → writing.after.has_failed ≡ (writing.before.has_failed || is_err result) → WritesReply writing answer
-reply_written writing answer (Ok done) bytes fresh failed =
-    inl (record { bytes = bytes; unfailed = failed ∙ rw fresh refl })
-reply_written writing answer (Err fault) bytes fresh failed =
-    inr (record { bytes = bytes; failed = failed ∙ rw fresh refl })
-
--- no write was made
-pub nothing_written : (reported : SinkReport) → IsUnused reported
-    → WritesNothing (record { before = reported; after = reported })
-nothing_written reported unused = record { unused = unused; bytes = same_bytes reported.taken }
 
 -- these texts, and this journal
 abbrev pub state : List (List ℕ) → JournalState → AcceptedTexts
@@ -89,7 +70,8 @@ module _ (one : Exchange) (journal_old journal_new : JournalState) (old new : Ho
         (sym nothing) refl;
   }
 
-  module _ (response : Response) (reported : IsAnswered one response journal_old journal_new old new)
+  module _ (response : Response) (sends : Sends one response.reply.bytes journal_new)
+      (reported : IsAnswered one.reading response journal_old journal_new old new)
       (fits : IsRightResponse reported.text old new response) where
     right_reply : (changed : Effect) → response.effect ≡ changed → RepliesTo old.setup (state past journal_old) one
         (state (logged_when (is_change changed) past reported.text) journal_new)
@@ -98,8 +80,8 @@ module _ (one : Exchange) (journal_old journal_new : JournalState) (old new : Ho
         inl (
           reported.text,
           response.reply,
-          reported.replied,
-          reported.shown,
+          reported.arrived,
+          sends,
           inl (
             fits.answer.after (onto past []) stands,
             ap (λ (e : Effect). logged_when (is_change e) past reported.text) (sym is ∙ after.changed),
@@ -135,25 +117,34 @@ module _ (one : Exchange) (journal_old journal_new : JournalState) (old new : Ho
     answered Sheet is logged = appended Sheet is logged (right_reply Sheet is)
     answered (Closing round) is logged = appended (Closing round) is logged (right_reply (Closing round) is)
 
-  responded : (response : Response) (reported : IsAnswered one response journal_old journal_new old new)
+  responded : (response : Response) → Sends one response.reply.bytes journal_new
+      → (reported : IsAnswered one.reading response journal_old journal_new old new)
       → RespondsTo reported.text response old new
       → HasNext old.setup past one response.effect journal_old journal_new new
-  responded response reported (inl fits) = answered response reported fits response.effect refl reported.logged
-  responded response reported (inr (left_out, nothing, still)) =
+  responded response sends reported (inl fits) =
+      answered response sends reported fits response.effect refl reported.logged
+  responded response sends reported (inr (left_out, nothing, still)) =
       unchanged response.effect nothing
       (subst (λ (e : Effect). LogsChange e reported.text journal_old journal_new) nothing reported.logged)
       (stands_still (onto past []) old new stands still)
-      (inl (reported.text, response.reply, reported.replied, reported.shown, inr (left_out, refl)))
+      (inl (reported.text, response.reply, reported.arrived, sends, inr (left_out, refl)))
 
-  served_one : (changed : Effect) → IsServed one changed journal_old journal_new old new
-      → HasNext old.setup past one changed journal_old journal_new new
-  served_one changed (inl (response, reported, is)) =
-      subst (λ (e : Effect). HasNext old.setup past one e journal_old journal_new new) (sym is)
-      (responded response reported reported.responds)
-  served_one changed (inr (unanswered, nothing, same, still)) =
+  -- no text was read that could be answered
+  unanswered : (changed : Effect) → changed ≡ Nothing → EndsUnanswered one journal_new → journal_new ≡ journal_old
+      → new ≡ old → HasNext old.setup past one changed journal_old journal_new new
+  unanswered changed nothing ends same still =
       unchanged changed nothing same
       (subst (λ (house : HouseFields). StandsForTexts (onto past []) house) (sym still) stands)
-      (inr (unanswered, ap (state past) same))
+      (inr (ends, ap (state past) same))
+
+  served_one : (served : Option Response) → IsServed one.reading served journal_old journal_new old new
+      → Sends one (bytes_of served) journal_new
+      → HasNext old.setup past one (effect_of served) journal_old journal_new new
+  served_one (Some response) (inl reported) sends = responded response sends reported reported.responds
+  served_one (Some response) (inr (memory, is, same, still)) sends =
+      unanswered response.effect (ap (λ (r : Response). r.effect) is)
+      (inl (memory, subst (λ (r : Response). Sends one r.reply.bytes journal_new) is sends)) same still
+  served_one None (unread, same, still) sends = unanswered Nothing refl (inr (unread, sends)) same still
 
 -- no connection was served yet
 pub served_none : (reported : Option (List ℕ)) (journal : JournalState) (house : HouseFields)
@@ -161,17 +152,19 @@ pub served_none : (reported : Option (List ℕ)) (journal : JournalState) (house
 served_none reported journal house past stands = (past, refl, stands, tells_none house.setup past reported)
 
 -- one more was served
-pub served_more : (exchanges : List Exchange) (one : Exchange) (changed : Effect)
+pub served_more : (exchanges : List Exchange) (one : Exchange) (served : Option Response)
     (rounds_old rounds_mid rounds_new : Option (List ℕ)) (journal_old journal_mid journal_new : JournalState)
     (old mid new : HouseFields) → mid.setup ≡ old.setup
     → AreServed exchanges rounds_old rounds_mid journal_old journal_mid old mid
-    → IsServed one changed journal_mid journal_new mid new → GrowsBy rounds_mid rounds_new (round_closed changed)
+    → IsServed one.reading served journal_mid journal_new mid new → Sends one (bytes_of served) journal_new
+    → GrowsBy rounds_mid rounds_new (round_closed (effect_of served))
     → AreServed (exchanges ++ one ∷ []) rounds_old rounds_new journal_old journal_new old new
-served_more exchanges one changed rounds_old rounds_mid rounds_new journal_old journal_mid journal_new old mid new
-    same before served tells past stands =
+served_more exchanges one served rounds_old rounds_mid rounds_new journal_old journal_mid journal_new old mid new
+    same before ends sends tells past stands =
     let so_far = before past stands in
+    let changed = effect_of served in
     let next = subst (λ (setup : SetupFields). HasNext setup so_far.0 one changed journal_mid journal_new new) same
-    (served_one one journal_mid journal_new mid new so_far.0 so_far.2 changed served) in (
+    (served_one one journal_mid journal_new mid new so_far.0 so_far.2 served ends sends) in (
       next.next,
       walks_on old.setup (state past journal_old) exchanges (state so_far.0 journal_mid) one
           (state next.next journal_new) so_far.1 next.logs,

@@ -1,11 +1,10 @@
 -- Lists that grow by one connection at a time.
-use Rattle.std.proofs.Common.{◌≡◌, ℕ, List, [], ◌∷◌, ◌++◌, map, Option, Some, None}
+use Rattle.std.proofs.Common.{ℕ, List, [], ◌∷◌, ◌++◌, map, Option, Some, None}
 use Rattle.std.proofs.Common.{refl, sym, ap, ◌∙◌, subst, append_assoc, append-nil}
 use Rattle.clock_terms.specs.Limits.{SetupFields}
-use Rattle.clock_device.specs.Reports.{SinkReport, SourceReport}
 use Rattle.std.proofs.lemmas.List.{map-append}
 use Rattle.clock_server.specs.Keeping.{GrowsBy}
-use Rattle.clock_server.specs.Exchanges.{Came, Exchange, Offer, bytes_given}
+use Rattle.clock_server.specs.Exchanges.{Came, Exchange, bytes_given}
 use Rattle.clock_server.specs.Serving.{AcceptedTexts, LogsText, Walks}
 
 -- nothing was appended
@@ -45,13 +44,6 @@ came_more first mid last exchanges one before after = subst (λ (given : List (O
     (sym (map-append (λ one. one.reading.before.left) exchanges (one ∷ [])))
     (came_then first mid last (bytes_given exchanges) (bytes_given (one ∷ [])) before after)
 
--- the accepted connection came
-pub came_one : (first mid last : Option (List (List ℕ))) (offer : Offer) (one : Exchange) → Came first mid
-    (offer.source.left ∷ []) → last ≡ mid → offer.source ≡ one.reading.before → Came first last (bytes_given (one ∷ []))
-came_one first mid last offer one came still from =
-    subst (λ (left : Option (List (List ℕ))). Came first left (one.reading.before.left ∷ [])) (sym still)
-    (subst (λ (report : SourceReport). Came first mid (report.left ∷ [])) from came)
-
 -- one more connection
 pub walks_on : (setup : SetupFields) (past : AcceptedTexts) (exchanges : List Exchange) (end : AcceptedTexts)
     (one : Exchange) (next : AcceptedTexts) → Walks setup past exchanges end → LogsText setup end one next
@@ -60,24 +52,3 @@ walks_on setup past [] end one next walks logs =
     (next, subst (λ (now : AcceptedTexts). LogsText setup now one next) walks logs, refl)
 walks_on setup past (first ∷ others) end one next walks logs =
     (walks.0, walks.1, walks_on setup walks.0 others end one next walks.2 logs)
-
--- the open connection was closed
-pub closed_one : (first mid last : Option (List Exchange)) (offer : Offer) (one : Exchange) → mid ≡ first
-    → offer.source ≡ one.reading.before → offer.sink ≡ one.writing.before → GrowsBy mid last (record {
-      reading = record one.reading { before = offer.source };
-      writing = record one.writing { before = offer.sink };
-      logged = one.logged;
-    } ∷ [])
-    → GrowsBy first last (record { reading = one.reading; writing = one.writing; logged = one.logged } ∷ [])
-closed_one first mid last offer one same from to closes =
-    let reading = one.reading in
-    let writing = one.writing in
-    subst (λ (closed : Option (List Exchange)).
-    GrowsBy closed last (record { reading = reading; writing = writing; logged = one.logged } ∷ [])) same
-    (subst (λ (report : SourceReport). GrowsBy mid last
-    (record { reading = record reading { before = report }; writing = writing; logged = one.logged } ∷ [])) from
-    (subst (λ (report : SinkReport). GrowsBy mid last (record {
-      reading = record reading { before = offer.source };
-      writing = record writing { before = report };
-      logged = one.logged;
-    } ∷ [])) to closes))

@@ -6,7 +6,7 @@
 -- - Each start resumes with every text that was logged when the generation before ended, and with
 --   at most one more, which was accepted. A connection whose text could not be logged got no reply.
 -- - Each reply of each generation is the right one after the texts that are logged, and private, as
---   in the headline. An accepted text is on the disk before the first byte of its reply is written.
+--   in the headline. An accepted text is on the disk before the first byte of its reply is sent.
 --
 -- A crash may come at any moment: a generation that crashes is one that ends there. The disk and
 -- the network may fail at each call, and a failed write may have written any part of its bytes. A
@@ -26,14 +26,13 @@
 use Rattle.std.specs.Prelude.{◌≡◌, ◌<◌, ◌≤◌, ◌⊎◌, ◌++◌, ℕ, List, [], ◌∷◌, length, take}
 use Rattle.std.specs.Prelude.{Option, Some, None, Result, Ok, Err}
 use Rattle.clock_terms.specs.Limits.{SetupFields}
-use Rattle.clock_device.specs.Writings.{WritesNothing}
 use Rattle.clock_journal.specs.Crash.{LeavesJournal}
 use Rattle.clock_journal.specs.Disks.{CouldBeLeft, LeaveOnly, MayBeLeft, Moment}
 use Rattle.clock_journal.specs.Logged.{HasTexts, JournalState}
 use Rattle.clock_server.specs.Accepted.{IsNotRefused, IsOwnFile}
 use Rattle.clock_server.specs.Starts.{IsLeftBy}
 use Rattle.clock_server.specs.declared.taking.ResumeFault.{ResumeFault}
-use Rattle.clock_server.specs.Exchanges.{Exchange}
+use Rattle.clock_server.specs.Exchanges.{Exchange, Sends}
 use Rattle.clock_server.specs.Serving.{AcceptedTexts, Walks}
 use Rattle.clock_server.specs.declared.generation.GenerationFault.{GenerationFault}
 use Rattle.clock_server.specs.declared.generation.GenerationFault.TheVariants.{Start, Serve}
@@ -126,5 +125,5 @@ EndsGeneration setup count exchanges bytes found end (Err (Serve fault.Accept)) 
     × (found.written ≡ Some bytes → IsGeneration setup found.chain (served found exchanges end))
 EndsGeneration setup count exchanges bytes found end (Err (Serve fault.Journal)) =
     (some : List Exchange) × (last : Exchange) × (exchanges ≡ some ++ last ∷ [])
-    × (length exchanges ≤ count) × WritesNothing last.writing
+    × (length exchanges ≤ count) × Sends last [] end
     × (found.written ≡ Some bytes → IsGeneration setup found.chain (served found some end))

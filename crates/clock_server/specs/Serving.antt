@@ -1,14 +1,12 @@
 -- How connections are served one after the other, one request each.
---     WritesReply writing answer      the reply was written, or a prefix of it if a write failed
---     IsReplied one text answer      the text was read, and the reply was written
---     EndsUnanswered one      no text was read that could be answered
+--     EndsUnanswered one journal      no text was read that could be answered
 --     AcceptedTexts      the accepted texts, and the journal
 --     RepliesTo setup before one after      the reply is the right one after the texts before it
 --     LogsText setup before one after      the reply is right, and a text that changes the auction
---         is on the disk when the first byte of its reply is written
+--         is on the disk when the first byte of its reply is sent
 --     Walks setup before exchanges after      this holds of each of these connections, in order
 --     AreServed exchanges ..      all of these connections were served
---     IsUnlogged one ..      the text of a connection could not be logged
+--     IsUnlogged reading ..      the text that was read could not be logged
 --     is_accept_fault result      a connection could not be accepted
 --     EndsServing count exchanges .. result      how serving `count` connections ends
 use Rattle.std.specs.Prelude.{◌≡◌, ◌<◌, ◌≤◌, ◌⊎◌, ◌++◌, ℕ, Bool, true, false, List, [], ◌∷◌, length}
@@ -16,8 +14,7 @@ use Rattle.std.specs.Prelude.{Option, Result, Ok, Err}
 use Rattle.clock_terms.specs.Limits.{SetupFields}
 use Rattle.clock_house.specs.House.{HouseFields}
 use Rattle.clock_http.specs.Replies.{Answer}
-use Rattle.clock_device.specs.Reports.{Writing}
-use Rattle.clock_device.specs.Writings.{WritesWhole, WritesFront, WritesNothing}
+use Rattle.clock_device.specs.Reports.{Reading}
 use Rattle.clock_connections.specs.Arrivals.{HasArrived, HasNoMemory, IsNotRead}
 use Rattle.clock_front.specs.FixedReplies.{no_memory}
 use Rattle.clock_front.specs.Fronts.{IsOutOfMemoryReply, StandsForTexts}
@@ -26,25 +23,15 @@ use Rattle.clock_journal.specs.Crash.{LeavesOneMore, LeavesSince, LeavesTexts}
 use Rattle.clock_journal.specs.Logged.{HasTexts, JournalState}
 use Rattle.clock_journal.specs.Reading.{onto}
 use Rattle.clock_server.specs.Keeping.{IsAccepted, logged_after}
-use Rattle.clock_server.specs.Exchanges.{Exchange, IsShownJournal}
+use Rattle.clock_server.specs.Exchanges.{Exchange, Sends}
 use Rattle.clock_server.specs.Closings.{ReportsClosings}
 use Rattle.clock_server.specs.declared.serving.ServeFault.{ServeFault}
 use Rattle.clock_server.specs.declared.serving.ServeFault.TheVariants as fault
 
--- all of the reply was written; or a prefix of it, and a write failed
-abbrev pub WritesReply : Writing → Answer → Type 0
-WritesReply writing answer = WritesWhole writing answer.bytes ⊎ WritesFront writing answer.bytes
-
--- the text was read on this connection, and the reply was written on it
-pub record IsReplied (one : Exchange) (text : List ℕ) (answer : Answer) : Type 0 where
-  pub arrived : HasArrived one.reading text
-  pub written : WritesReply one.writing answer
-
--- memory ran out, and the reply says so; or no request could be read, and nothing was written
-abbrev pub EndsUnanswered : Exchange → Type 0
-EndsUnanswered one =
-    (HasNoMemory one.reading × WritesReply one.writing no_memory)
-    ⊎ (IsNotRead one.reading × WritesNothing one.writing)
+-- memory ran out, and the reply says so; or no request could be read, and nothing was sent
+abbrev pub EndsUnanswered : Exchange → JournalState → Type 0
+EndsUnanswered one journal = (HasNoMemory one.reading × Sends one no_memory.bytes journal)
+    ⊎ (IsNotRead one.reading × Sends one [] journal)
 
 -- the texts that were accepted, the oldest first, and the journal
 pub record AcceptedTexts : Type 0 where
@@ -52,17 +39,16 @@ pub record AcceptedTexts : Type 0 where
   pub journal : JournalState
 
 -- the request that was read got the right reply, and joins the texts if it is accepted; or the
--- out-of-memory reply. When the first byte was written, this was the journal. Or none could be
+-- out-of-memory reply. When the first byte was sent, this was the journal. Or none could be
 -- read, and nothing changed. Refused texts are left out, since they change nothing: so each reply
 -- is still the right one after all requests before it
 abbrev pub RepliesTo : SetupFields → AcceptedTexts → Exchange → AcceptedTexts → Type 0
 RepliesTo setup before one after =
-    ((text : List ℕ) × (answer : Answer) × IsReplied one text answer
-    × IsShownJournal one.logged after.journal
-    × ((IsRight setup (onto before.texts []) text answer
+    ((text : List ℕ) × (answer : Answer) × HasArrived one.reading text
+    × Sends one answer.bytes after.journal × ((IsRight setup (onto before.texts []) text answer
     × (after.texts ≡ logged_after setup before.texts text))
     ⊎ (IsOutOfMemoryReply text answer × (after.texts ≡ before.texts))))
-    ⊎ (EndsUnanswered one × (after ≡ before))
+    ⊎ (EndsUnanswered one after.journal × (after ≡ before))
 
 -- the reply is right. If all texts before were on the disk, all texts after are. Then a crash at
 -- any moment since leaves the texts before, and at most the one logged now
@@ -89,16 +75,15 @@ AreServed exchanges rounds_old rounds_new journal_old journal_new old new =
     (record { texts = end; journal = journal_new }) × StandsForTexts (onto end []) new
     × ReportsClosings old.setup past end rounds_old rounds_new
 
--- an accepted text could not be logged, since a call of the disk has failed. It got no reply. A
--- crash leaves the texts before, and at most this one more
-pub record IsUnlogged (one : Exchange) (journal_old journal_new : JournalState)
+-- an accepted text could not be logged, since a call of the disk has failed. A crash leaves the
+-- texts before, and at most this one more
+pub record IsUnlogged (reading : Reading) (journal_old journal_new : JournalState)
     (old : HouseFields) : Type 0 where
   pub text : List ℕ
-  pub arrived : HasArrived one.reading text
+  pub arrived : HasArrived reading text
   pub accepted : (texts : List (List ℕ)) → StandsForTexts texts old
       → IsAccepted old.setup texts text
   pub failed : journal_new.has_failed ≡ true
-  pub silent : WritesNothing one.writing
   pub moments : LeavesOneMore text journal_old journal_new
   pub on_disk : journal_new.synced ≡ journal_old.synced
 
@@ -108,7 +93,7 @@ is_accept_fault (Err fault.Accept) = true
 is_accept_fault result = false
 
 -- all were served; or those before one that could not be accepted; or those before the last one,
--- whose text could not be logged, so that no round that it closed was reported
+-- whose text could not be logged: it got no reply, and no round that it closed was reported
 abbrev pub EndsServing : {U : Type 0} → ℕ → List Exchange → Option (List ℕ) → Option (List ℕ)
     → JournalState → JournalState → HouseFields → HouseFields → Result U ServeFault → Type 0
 EndsServing count exchanges rounds_old rounds_new journal_old journal_new old new (Ok done) =
@@ -121,4 +106,5 @@ EndsServing count exchanges rounds_old rounds_new journal_old journal_new old ne
     (Err fault.Journal) = (served : List Exchange) × (last : Exchange)
     × (exchanges ≡ served ++ last ∷ []) × (length exchanges ≤ count) × (before : JournalState)
     × (house : HouseFields) × AreServed served rounds_old rounds_new journal_old before old house
-    × (house.setup ≡ old.setup) × IsUnlogged last before journal_new house
+    × (house.setup ≡ old.setup) × IsUnlogged last.reading before journal_new house
+    × Sends last [] journal_new

@@ -1,4 +1,4 @@
-ghost use Rattle.std.specs.Prelude.{◌≡◌, [], List, Err, true, false};
+ghost use Rattle.std.specs.Prelude.{◌≡◌, [], List, Err, None, true, false};
 ghost use Rattle.clock_front.specs.Fronts.{StandsForTexts};
 ghost use Rattle.clock_server.specs.Keeping.{GrowsBy};
 ghost use Rattle.clock_server.specs.Exchanges.{Came, Exchange, bytes_given};
@@ -39,14 +39,14 @@ pub fn serve_from<P: Processor, D: Durable, C: Acceptor, F: FnOnce(Recovered)>(
     requires fresh { StandsForTexts [] auction.old.front }
     requires unfailed { journal.old.has_failed ≡ false }
     requires callable { F.IsAlwaysCallable tell }
-    requires closed { C.is_open connections.old ≡ false }
+    requires closed { C.offer connections.old ≡ None }
     requires taken { C.has_failed connections.old ≡ false }
     ensures generation { (exchanges : List Exchange)
         × GrowsBy (C.closed connections.old) (C.closed connections.new) exchanges
         × Came (C.coming connections.old) (C.coming connections.new) (bytes_given exchanges)
         × EndsGeneration auction.old.front.setup count exchanges bytes.now journal.old journal.new
         result }
-    ensures closed { C.is_open connections.new ≡ false }
+    ensures closed { C.offer connections.new ≡ None }
     ensures taken { result ≡ Err (GenerationFault.Serve ServeFault.Accept)
         → C.has_failed connections.new ≡ true }
 {

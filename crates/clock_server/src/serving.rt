@@ -1,14 +1,14 @@
 ghost use Rattle.std.specs.Prelude.{◌≡◌, List, OnOk, None, false};
-ghost use Rattle.clock_device.specs.Reports.{IsUnread, IsUnused};
+ghost use Rattle.clock_device.specs.Reports.{IsUnread};
 ghost use Rattle.clock_server.specs.Keeping.{GrowsBy, no_journal};
-ghost use Rattle.clock_server.specs.Exchanges.{Came, Exchange, IsShownJournal, bytes_given};
+ghost use Rattle.clock_server.specs.Exchanges.{Came, Exchange, bytes_given};
 ghost use Rattle.clock_server.specs.Laws.{ReportedBytes};
-ghost use Rattle.clock_server.specs.Serving.{EndsServing, WritesReply, is_accept_fault};
-ghost use Rattle.clock_server.specs.inside.Served.{EndsOne, EndsTaken, IsReportedAs};
+ghost use Rattle.clock_server.specs.Serving.{EndsServing, is_accept_fault};
+ghost use Rattle.clock_server.specs.inside.Served.{EndsOne, EndsTaken, effect_of, round_closed};
+ghost use Rattle.clock_server.specs.inside.Served.{reply_bytes as reply_bytes_of};
 
 use crate::acceptor::{Acceptor, PortAcceptor};
 use crate::keeping::{NoLog, RequestLog};
-use crate::outlet::Outlet;
 use clock_connections::{RequestReadError, read_request};
 use clock_device::{Failed, Source};
 use clock_front::{Effect, Front, Response, no_memory_reply};
@@ -30,23 +30,18 @@ pub enum ServeFault {
     Journal,
 }
 
-/// Reads one request, answers it, logs it if it changed the auction, and then writes its reply.
-/// Returns what it changed.
-fn serve_one<P: Processor, K: RequestLog, R: Source, W: Outlet>(
+/// Reads one request, answers it, and logs it if it changed the auction. Returns `None` if no
+/// request could be read.
+fn serve_one<P: Processor, K: RequestLog, R: Source>(
     alloc: Global,
     front: &mut Front<P>,
     log: &mut K,
     source: &mut R,
-    sink: &mut W,
-) -> Result<Effect, Failed>
+) -> Result<Option<Response>, Failed>
     requires unread { IsUnread (R.report source.old) }
-    requires unused { IsUnused (W.report sink.old) }
     requires unfailed { (K.journal log.old).has_failed ≡ false }
-    ensures served { EndsTaken (record {
-      reading = record { before = R.report source.old; after = R.report source.new };
-      writing = record { before = W.report sink.old; after = W.report sink.new };
-      logged = W.logged sink.new;
-    }) (K.journal log.old) (K.journal log.new) front.old front.new result }
+    ensures served { EndsTaken (record { before = R.report source.old; after = R.report source.new })
+        (K.journal log.old) (K.journal log.new) front.old front.new result }
     ensures unfailed { OnOk result ((K.journal log.new).has_failed ≡ false) }
     ensures rounds { K.rounds log.new ≡ K.rounds log.old }
     ensures setup { front.new.setup ≡ front.old.setup }
@@ -54,32 +49,28 @@ fn serve_one<P: Processor, K: RequestLog, R: Source, W: Outlet>(
     match read_request(alloc, source) {
         Ok(request) => {
             let response = log.answer(front, request.as_slice(), request.progress())?;
-            Ok(write_reply(log, sink, response))
+            Ok(Some(response))
         }
         Err(RequestReadError::Memory) => {
             let (reply, effect) = (no_memory_reply(), Effect::Nothing);
-            Ok(write_reply(log, sink, Response { reply, effect }))
+            Ok(Some(Response { reply, effect }))
         }
-        Err(RequestReadError::Read) => Ok(Effect::Nothing),
+        Err(RequestReadError::Read) => Ok(None),
     }
 }
 
-/// Writes a reply, and returns what its request changed. A failed write ends only this connection:
-/// the front still has what the request changed.
-fn write_reply<K: RequestLog, W: Outlet>(log: &K, sink: &mut W, response: Response) -> Effect
-    requires { IsUnused (W.report sink.old) }
-    ensures written { WritesReply (record {
-      before = W.report sink.old;
-      after = W.report sink.new;
-    }) response.reply }
-    ensures logged { IsShownJournal (W.logged sink.new) (K.journal log.now) }
-    ensures effect { result ≡ response.effect }
+/// The bytes of the reply. There are none if no request could be read, or if its text could not be
+/// logged.
+fn reply_bytes(served: &Result<Option<Response>, Failed>) -> &[u8]
+    ensures { result.now ≡ reply_bytes_of served.now }
 {
-    let _fault = sink.reply(log, response.reply.bytes());
-    response.effect
+    match served {
+        Ok(Some(response)) => response.reply.bytes(),
+        Ok(None) | Err(Failed) => b"",
+    }
 }
 
-/// Accepts the next connection, serves it, and closes it.
+/// Accepts the next connection, serves it, and closes it with its reply.
 fn serve_next<P: Processor, K: RequestLog, C: Acceptor>(
     alloc: Global,
     front: &mut Front<P>,
@@ -87,39 +78,38 @@ fn serve_next<P: Processor, K: RequestLog, C: Acceptor>(
     connections: &mut C,
 ) -> Result<(), ServeFault>
     requires unfailed { (K.journal log.old).has_failed ≡ false }
-    requires closed { C.is_open connections.old ≡ false }
+    requires closed { C.offer connections.old ≡ None }
     requires taken { C.has_failed connections.old ≡ false }
     ensures ends { EndsOne (C.coming connections.old) (C.coming connections.new)
         (C.closed connections.old) (C.closed connections.new) (K.rounds log.old) (K.rounds log.new)
         (K.journal log.old) (K.journal log.new) front.old front.new result }
     ensures unfailed { OnOk result ((K.journal log.new).has_failed ≡ false) }
-    ensures closed { C.is_open connections.new ≡ false }
+    ensures closed { C.offer connections.new ≡ None }
     ensures taken { C.has_failed connections.new ≡ is_accept_fault result }
     ensures setup { front.new.setup ≡ front.old.setup }
 {
-    let Ok(mut one) = connections.accept() else {
+    let Ok(mut source) = connections.accept() else {
         return Err(ServeFault::Accept);
     };
-    let served = serve_one(alloc, front, log, &mut one.source, &mut one.sink);
-    connections.close(one);
-    tell_closing(log, served)
+    let served = serve_one(alloc, front, log, &mut source);
+    connections.close(source, reply_bytes(&served), log);
+    let Ok(served) = served else {
+        return Err(ServeFault::Journal);
+    };
+    tell_closing(log, served);
+    Ok(())
 }
 
 /// Reports the round that a request closed, if any, to the log.
-fn tell_closing<K: RequestLog>(
-    log: &mut K,
-    served: Result<Effect, Failed>,
-) -> Result<(), ServeFault>
+fn tell_closing<K: RequestLog>(log: &mut K, served: Option<Response>)
     ensures logged { K.journal log.new ≡ K.journal log.old }
-    ensures rounds { IsReportedAs (K.rounds log.old) (K.rounds log.new) served result }
+    ensures rounds { GrowsBy (K.rounds log.old) (K.rounds log.new)
+        (round_closed (effect_of served)) }
 {
-    match served {
-        Ok(Effect::Closing(round)) => {
+    if let Some(response) = served {
+        if let Effect::Closing(round) = response.effect {
             log.round_closed(round);
-            Ok(())
         }
-        Ok(Effect::Nothing | Effect::Sheet) => Ok(()),
-        Err(Failed) => Err(ServeFault::Journal),
     }
 }
 
@@ -139,14 +129,14 @@ pub fn serve_all<P: Processor, K: RequestLog, C: Acceptor>(
     count: u64,
 ) -> Result<(), ServeFault>
     requires unfailed { (K.journal log.old).has_failed ≡ false }
-    requires closed { C.is_open connections.old ≡ false }
+    requires closed { C.offer connections.old ≡ None }
     requires taken { C.has_failed connections.old ≡ false }
     ensures served { (exchanges : List Exchange)
         × GrowsBy (C.closed connections.old) (C.closed connections.new) exchanges
         × Came (C.coming connections.old) (C.coming connections.new) (bytes_given exchanges)
         × EndsServing count exchanges (K.rounds log.old) (K.rounds log.new) (K.journal log.old)
         (K.journal log.new) front.old front.new result }
-    ensures closed { C.is_open connections.new ≡ false }
+    ensures closed { C.offer connections.new ≡ None }
     ensures taken { C.has_failed connections.new ≡ is_accept_fault result }
     ensures setup { front.new.setup ≡ front.old.setup }
 {
@@ -171,8 +161,8 @@ pub fn serve_on<P: Processor>(
     serve_all(alloc, front, &mut NoLog, &mut port, connections)
 }
 
-/// A law, which does nothing when it runs: if contracts see a connection's bytes, its request was
-/// their beginning, and its client got the reply or a prefix of it.
+/// A law, which does nothing when it runs: if contracts see the bytes of a connection, its request
+/// was their beginning. That its client got the reply or a prefix of it is what `Sends` says.
 pub fn law_reported_bytes()
     ensures { ReportedBytes }
 {}

@@ -1,12 +1,11 @@
-ghost use Rattle.std.specs.Prelude.{◌≡◌, ◌≤◌, ◌+◌, [], ◌∷◌, drop, length, map, IfOk, MatchBool};
-ghost use Rattle.std.specs.Prelude.{None, Some, true, false};
-ghost use Rattle.clock_device.specs.{Reports.{unread, unused}, SourceState.{source_report}};
-ghost use Rattle.clock_device.specs.SinkState.{sink_report};
-ghost use Rattle.clock_server.specs.{Exchanges.{Exchange}, Keeping.{GrowsBy}};
+ghost use Rattle.std.specs.Prelude.{◌≡◌, ◌≤◌, ◌+◌, [], ◌∷◌, drop, length, map, IfOk, IfSome};
+ghost use Rattle.std.specs.Prelude.{IsSome, MatchBool, None, Some, is_some, option_map, false};
+ghost use Rattle.clock_device.specs.{Reports.{unread}, SourceState.{source_report}};
+ghost use Rattle.clock_server.specs.{Exchanges.{Exchange, Sends}, Keeping.{GrowsBy}};
 ghost use Rattle.clock_server_tests.specs.MemoryAcceptor.{MemoryAcceptorState};
 
-use clock_device::{Bounded, Failed, Items, ListSink, ListSource, NoMemory, Stop};
-use clock_server::{Acceptor, Connection};
+use clock_device::{Bounded, Failed, Items, ListSink, ListSource, NoMemory, Stop, write_all};
+use clock_server::{Acceptor, RequestLog};
 use std::alloc::Global;
 use std::marker::Model;
 
@@ -25,8 +24,7 @@ pub struct Client<'a> {
     pub write_stop: Option<u64>,
 }
 
-/// A connection in memory that was closed. Contracts see the bytes that were read and written on
-/// it.
+/// A connection in memory that was closed. Contracts see the bytes that were read and sent on it.
 #[derive(Drop)]
 pub struct Closed<'a> {
     offered: &'a [u8],
@@ -39,7 +37,8 @@ impl<'a> Model for Closed<'a> {
 
     ghost view = { λ c. record {
       reading = record { before = unread (Some c.offered.now); after = source_report c.source };
-      writing = record { before = unused (Some []); after = sink_report c.sink };
+      sent = Some c.sink.taken;
+      has_failed = c.sink.has_failed;
       logged = None;
     } };
 }
@@ -47,7 +46,7 @@ impl<'a> Model for Closed<'a> {
 impl<'a> Closed<'a> {
     /// The bytes that were written on it.
     pub fn written(&self) -> &[u8]
-        ensures { Some result.now ≡ self.now.writing.after.taken }
+        ensures { Some result.now ≡ self.now.sent }
     {
         self.sink.bytes()
     }
@@ -60,7 +59,7 @@ pub struct MemoryAcceptor<'a> {
     alloc: Global,
     clients: &'a [Client<'a>],
     next: usize,
-    is_open: bool,
+    sink: Option<ListSink>,
     offered: &'a [u8],
     closed: Bounded<Closed<'a>>,
     has_failed: bool,
@@ -71,15 +70,15 @@ impl<'a> Model for MemoryAcceptor<'a> {
 
     ghost view = { λ l. record {
       coming = map (λ client. client.bytes.now) (drop l.next l.clients.now);
-      is_open = l.is_open;
-      offered = l.offered.now;
+      offered = option_map (λ sink. l.offered.now) l.sink;
       closed = l.closed.items;
       has_failed = l.has_failed;
     } };
 
     ghost invariant = { λ l. (l.next ≤ length l.clients.now)
         × (length l.clients.now ≤ l.next + l.closed.room)
-        × MatchBool l.is_open (length l.clients.now + 1 ≤ l.next + l.closed.room) (Unit {0}) };
+        × MatchBool (is_some l.sink) (length l.clients.now + 1 ≤ l.next + l.closed.room) (Unit {0})
+        × IfSome l.sink (λ sink. sink.taken ≡ []) };
 }
 
 impl<'a> MemoryAcceptor<'a> {
@@ -87,8 +86,7 @@ impl<'a> MemoryAcceptor<'a> {
     pub fn new(alloc: Global, clients: &'a [Client<'a>]) -> Result<MemoryAcceptor<'a>, NoMemory>
         ensures { IfOk result (λ listed. listed ≡ record {
           coming = map (λ client. client.bytes.now) clients.now;
-          is_open = false;
-          offered = [];
+          offered = None;
           closed = [];
           has_failed = false;
         }) }
@@ -97,7 +95,7 @@ impl<'a> MemoryAcceptor<'a> {
             alloc,
             clients,
             next: 0,
-            is_open: false,
+            sink: None,
             offered: &[],
             closed: Items::with_capacity(alloc, clients.len())?,
             has_failed: false,
@@ -115,20 +113,15 @@ impl<'a> MemoryAcceptor<'a> {
 impl<'a> Acceptor for MemoryAcceptor<'a> {
     type Reader = ListSource<'a>;
 
-    type Writer = ListSink;
-
     ghost coming = { λ listed. Some listed.coming };
 
-    ghost is_open = { λ listed. listed.is_open };
-
-    ghost offer = { λ listed.
-        record { source = unread (Some listed.offered); sink = unused (Some []) } };
+    ghost offer = { λ listed. option_map (λ bytes. unread (Some bytes)) listed.offered };
 
     ghost closed = { λ listed. Some listed.closed };
 
     ghost has_failed = { λ listed. listed.has_failed };
 
-    fn accept(&mut self) -> Result<Connection<ListSource<'a>, ListSink>, Failed> {
+    fn accept(&mut self) -> Result<ListSource<'a>, Failed> {
         let Some(client) = self.clients.get(self.next) else {
             self.has_failed = true;
             return Err(Failed);
@@ -139,36 +132,20 @@ impl<'a> Acceptor for MemoryAcceptor<'a> {
             return Err(Failed);
         };
         self.next += 1;
-        self.is_open = true;
+        self.sink = Some(sink);
         self.offered = client.bytes;
-        Ok(Connection {
-            source: ListSource::new(client.bytes, client.read.max(1), client.read_stop),
-            sink,
-        })
+        Ok(ListSource::new(client.bytes, client.read.max(1), client.read_stop))
     }
 
-    fn close(&mut self, connection: Connection<ListSource<'a>, ListSink>)
-        requires { self.old.is_open ≡ true }
-        ensures open { self.new.is_open ≡ false }
-        ensures coming { Some self.new.coming ≡ Some self.old.coming }
-        ensures failed { self.new.has_failed ≡ self.old.has_failed }
-        ensures closed { GrowsBy (Some self.old.closed) (Some self.new.closed) (record {
-          reading = record {
-            before = unread (Some self.old.offered);
-            after = source_report connection.entry.source;
-          };
-          writing = record {
-            before = unused (Some []);
-            after = sink_report connection.entry.sink;
-          };
-          logged = None;
-        } ∷ []) }
-    {
-        self.is_open = false;
-        self.closed.push(Closed {
-            offered: self.offered,
-            source: connection.source,
-            sink: connection.sink,
-        });
+    fn close<K: RequestLog>(&mut self, source: ListSource<'a>, reply: &[u8], _log: &K) {
+        if let Some(mut sink) = self.sink.take() {
+            // a failed write ends only this connection
+            let _fault = write_all(&mut sink, reply);
+            self.closed.push(Closed {
+                offered: self.offered,
+                source,
+                sink,
+            });
+        }
     }
 }

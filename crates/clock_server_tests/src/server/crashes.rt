@@ -1,6 +1,6 @@
 //! A server over crashes. It runs on a disk of which each call in turn is the first to fail, and is
 //! started again on each file that a crash at some moment may have left.
-ghost use Rattle.std.specs.Prelude.{◌≡◌, [], IfOk, false};
+ghost use Rattle.std.specs.Prelude.{◌≡◌, [], IfOk, None, false};
 ghost use Rattle.clock_front.specs.Fronts.{StandsForTexts};
 
 use super::crash_disk::{CrashDisk, Passed};
@@ -73,7 +73,7 @@ fn generation<R: Abort>(
     count: u64,
 ) -> Option<&'static str>
     requires unfailed { journal.old.has_failed ≡ false }
-    requires closed { listed.old.is_open ≡ false }
+    requires closed { listed.old.offered ≡ None }
     requires taken { listed.old.has_failed ≡ false }
 {
     let Ok(mut auction) = auction(alloc) else {

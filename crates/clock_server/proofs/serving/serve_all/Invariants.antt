@@ -1,4 +1,4 @@
-use Rattle.std.proofs.Common.{◌≡◌, false}
+use Rattle.std.proofs.Common.{◌≡◌, None, false}
 use Rattle.clock_server.proofs.Ends.{HasServed}
 use Rattle.clock_server.proofs.serving.serve_all.Given as goal
 
@@ -10,7 +10,7 @@ invariant-loop-connection g l = record {
       (g.K.RequestLog.rounds l.initial.log) (g.K.RequestLog.rounds l.log) (g.K.RequestLog.journal l.initial.log)
       (g.K.RequestLog.journal l.log) l.initial.front l.front;
   unfailed : (g.K.RequestLog.journal l.log).has_failed ≡ false;
-  closed : g.C.Acceptor.is_open l.connections ≡ false;
+  closed : g.C.Acceptor.offer l.connections ≡ None;
   taken : g.C.Acceptor.has_failed l.connections ≡ false;
   setup : l.front.setup ≡ l.initial.front.setup;
 }

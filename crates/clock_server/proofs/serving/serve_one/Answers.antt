@@ -4,7 +4,6 @@ use Rattle.clock_device.specs.Reports.{Reading}
 use Rattle.clock_connections.specs.Arrivals.{HasArrived}
 use Rattle.clock_connections.proofs.LengthLaws.{short_arrived}
 use Rattle.clock_journal.specs.Format.{most_text}
-use Rattle.clock_server.proofs.Served.{nothing_written}
 use Rattle.clock_server.proofs.serving.serve_one.Goals as goal
 
 -- an equal text has arrived too
@@ -29,50 +28,30 @@ returns-in_err-response-in-Ok-clause-served g c =
       arrived = has;
       accepted = c.in_err-response-in-Ok.ensures.accepted;
       failed = disk_failed reading c.as_slice.result.now _ has c.in_err-response-in-Ok.ensures.err;
-      silent = nothing_written _ c.requires.unused;
       moments = c.in_err-response-in-Ok.ensures.moments;
       on_disk = c.in_err-response-in-Ok.ensures.on_disk;
     })
 
 pub returns-in_ok-response-in-Ok-clause-served : goal.returns-in_ok-response-in-Ok-clause-served
-returns-in_ok-response-in-Ok-clause-served g c = inl (
-  c.in_ok-response-in-Ok.response,
-  record {
-    text = c.as_slice.result.now;
-    replied = record {
-      arrived = arrived _ c.in-Ok.request c.as_slice.result.now c.as_slice.ensures c.in-Ok.ensures.arrival;
-      written = c.write_reply.ensures.written;
-    };
-    shown = c.write_reply.ensures.logged;
-    responds = c.in_ok-response-in-Ok.ensures.response;
-    logged = c.in_ok-response-in-Ok.ensures.logged;
-    moments = c.in_ok-response-in-Ok.ensures.moments;
-  },
-  c.write_reply.ensures.effect,
-)
+returns-in_ok-response-in-Ok-clause-served g c = inl (record {
+  text = c.as_slice.result.now;
+  arrived = arrived _ c.in-Ok.request c.as_slice.result.now c.as_slice.ensures c.in-Ok.ensures.arrival;
+  responds = c.in_ok-response-in-Ok.ensures.response;
+  logged = c.in_ok-response-in-Ok.ensures.logged;
+  moments = c.in_ok-response-in-Ok.ensures.moments;
+})
 
 pub returns-in-Err-Memory-clause-served : goal.returns-in-Err-Memory-clause-served
 returns-in-Err-Memory-clause-served g c = inr (
-  inl (
-    rw c.in-Err-Memory.field-0-is at c.in-Err-Memory.ensures.arrival,
-    rw c.no_memory_reply-reply.ensures at c.write_reply-in-Err-Memory.ensures.written,
-  ),
-  c.write_reply-in-Err-Memory.ensures.effect,
+  rw c.in-Err-Memory.field-0-is at c.in-Err-Memory.ensures.arrival,
+  rw c.no_memory_reply-reply.ensures refl,
   refl,
   refl,
 )
 
--- no request could be read, and nothing was written
 pub returns-in-Err-Read-clause-served : goal.returns-in-Err-Read-clause-served
-returns-in-Err-Read-clause-served g c = inr (
-  inr (rw c.in-Err-Read.field-0-is at c.in-Err-Read.ensures.arrival, nothing_written _ c.requires.unused),
-  refl,
+returns-in-Err-Read-clause-served g c = (
+  rw c.in-Err-Read.field-0-is at c.in-Err-Read.ensures.arrival,
   refl,
   refl,
 )
-
-pub write_reply-requires : goal.write_reply-requires
-write_reply-requires g c = c.requires.unused
-
-pub write_reply-requires-in-Err-Memory : goal.write_reply-requires-in-Err-Memory
-write_reply-requires-in-Err-Memory g c = c.requires.unused
