@@ -23,27 +23,27 @@ use Rattle.clock_server.specs.Generations.{IsGeneration, LeftSince, MayLeave, fa
 use Rattle.clock_server.specs.declared.generation.GenerationFault.TheVariants.{Serve}
 use Rattle.clock_server.specs.declared.serving.ServeFault.{ServeFault}
 use Rattle.clock_server.specs.declared.serving.ServeFault.TheVariants as fault
-use Rattle.clock_server.specs.Serving.{AcceptedTexts, AreServed, EndsServing, IsUnlogged, RepliesTo}
+use Rattle.clock_server.specs.Serving.{ServerState, AreServed, EndsServing, IsUnlogged, RepliesTo}
 use Rattle.clock_server.specs.Serving.{Walks}
 use Rattle.clock_server.proofs.Served.{state}
 use Rattle.clock_server.proofs.Untouched.{left_all}
 
 -- ---- accepted texts that are on the disk
 
-abbrev HasAccepted : SetupFields → List ℕ → AcceptedTexts → Type 0
+abbrev HasAccepted : SetupFields → List ℕ → ServerState → Type 0
 HasAccepted setup digest at = AreAccepted setup [] at.texts × HasTexts digest at.texts at.journal
 
-accepted_step : (setup : SetupFields) (before : AcceptedTexts) (one : Exchange) (after : AcceptedTexts)
+accepted_step : (setup : SetupFields) (before : ServerState) (one : Exchange) (after : ServerState)
     → RepliesTo setup before one after → AreAccepted setup [] before.texts → AreAccepted setup [] after.texts
 accepted_step setup before one after (inl (text, answer, arrived, sends, inl (right, is))) accepted =
     subst (AreAccepted setup []) (sym is) (accepted_after setup before.texts text accepted)
 accepted_step setup before one after (inl (text, answer, arrived, sends, inr (left_out, is))) accepted =
     subst (AreAccepted setup []) (sym is) accepted
 accepted_step setup before one after (inr (unanswered, is)) accepted =
-    subst (λ (now : AcceptedTexts). AreAccepted setup [] now.texts) (sym is) accepted
+    subst (λ (now : ServerState). AreAccepted setup [] now.texts) (sym is) accepted
 
-accepted_walk : (setup : SetupFields) (digest : List ℕ) (first : AcceptedTexts) (exchanges : List Exchange)
-    (last : AcceptedTexts) → Walks setup first exchanges last → HasAccepted setup digest first
+accepted_walk : (setup : SetupFields) (digest : List ℕ) (first : ServerState) (exchanges : List Exchange)
+    (last : ServerState) → Walks setup first exchanges last → HasAccepted setup digest first
     → HasAccepted setup digest last
 accepted_walk setup digest first [] last walks has = subst (HasAccepted setup digest) (sym walks) has
 accepted_walk setup digest first (one ∷ others) last (next, step, walks) has =
@@ -55,7 +55,7 @@ accepted_walk setup digest first (one ∷ others) last (next, step, walks) has =
 -- from accepted texts on the disk, the file at the end has these, and at most one more
 abbrev EndsWith : SetupFields → List ℕ → JournalState → HouseFields → JournalState → Type 0
 EndsWith setup digest before house last = (texts : List (List ℕ))
-    → HasAccepted setup digest (state texts before) → StandsForTexts (onto texts []) house
+    → HasAccepted setup digest (state texts before None) → StandsForTexts (onto texts []) house
     → (more : List (List ℕ)) × (length more ≤ 1) × IsOwnFile setup digest (texts ++ more) (length texts) last
 
 -- all connections were served
@@ -101,52 +101,52 @@ IsResumed digest bytes written journal house recovered = (texts : List (List ℕ
 module _ (setup : SetupFields) (found first : JournalState) (bytes : List ℕ) (old : HouseFields) (same : old.setup
     ≡ setup) (recovered : Recovered) (resumes : IsResumed found.chain bytes found.written first old
     recovered) where
-  serves : (exchanges : List Exchange) (rounds_old rounds_new : Option (List ℕ)) (before last : JournalState)
-      (house : HouseFields) → AreServed exchanges rounds_old rounds_new first before old house
+  serves : (exchanges : List Exchange) (rounds : Option (List ℕ)) (before last : JournalState)
+      (house : HouseFields) → AreServed exchanges None rounds first before old house
       → EndsWith setup found.chain before house last
       → found.written ≡ Some bytes → IsGeneration setup found.chain (served found exchanges last)
-  serves exchanges rounds_old rounds_new before last house are ends_with written texts least synced is own =
+  serves exchanges rounds before last house are ends_with written texts least synced is own =
       let those = left_first found.chain bytes resumes.0 texts least recovered resumes.1
       (own_left setup found.chain texts least found synced bytes is written own) in
       let has = subst (λ (all : List (List ℕ)). HasTexts found.chain all first) those.3 (resumes.3 written) in
       let ends = are (take those.0 texts)
       (subst (λ (all : List (List ℕ)). StandsForTexts (onto all []) old) those.3 resumes.2) in
-      let walks = subst (λ (of_setup : SetupFields). Walks of_setup (state (take those.0 texts) first) exchanges
-      (state ends.0 before)) same ends.1 in
-      let own_end = ends_with ends.0 (accepted_walk setup found.chain (state (take those.0 texts) first) exchanges
-      (state ends.0 before) walks (accepted_take setup [] texts those.0 own.accepted, has)) ends.2 in
+      let walks = subst (λ (of_setup : SetupFields). Walks of_setup (state (take those.0 texts) first None) exchanges
+      (state ends.0 before rounds)) same ends.1 in
+      let own_end = ends_with ends.0 (accepted_walk setup found.chain (state (take those.0 texts) first None) exchanges
+      (state ends.0 before rounds) walks (accepted_take setup [] texts those.0 own.accepted, has)) ends.2 in
       record {
         count = those.0;
         enough = those.1;
         most = those.2;
         resumed = first;
         has = has;
-        last = state ends.0 before;
+        last = state ends.0 before rounds;
         walks = walks;
         more = own_end.0;
         few = own_end.1;
         own = own_end.2;
       }
 
-  pub served_all : (exchanges : List Exchange) (rounds_old rounds_new : Option (List ℕ)) (last : JournalState)
-      (new : HouseFields) → AreServed exchanges rounds_old rounds_new first last old new
+  pub served_all : (exchanges : List Exchange) (rounds : Option (List ℕ)) (last : JournalState)
+      (new : HouseFields) → AreServed exchanges None rounds first last old new
       → found.written ≡ Some bytes → IsGeneration setup found.chain (served found exchanges last)
-  served_all exchanges rounds_old rounds_new last new are =
-      serves exchanges rounds_old rounds_new last last new are (all_logged setup found.chain last new)
+  served_all exchanges rounds last new are =
+      serves exchanges rounds last last new are (all_logged setup found.chain last new)
 
-  pub ends_by_fault : (U : Type 0) (count : ℕ) (exchanges : List Exchange) (rounds_old rounds_new : Option (List ℕ))
+  pub ends_by_fault : (U : Type 0) (count : ℕ) (exchanges : List Exchange) (rounds : Option (List ℕ))
       (last : JournalState) (new : HouseFields) (why : ServeFault)
-      → EndsServing {U = U} count exchanges rounds_old rounds_new first last old new (Err why)
+      → EndsServing {U = U} count exchanges None rounds first last old new (Err why)
       → EndsGeneration {U = U} setup count exchanges bytes found last (Err (Serve why))
-  ends_by_fault U count exchanges rounds_old rounds_new last new fault.Accept ends =
-      (ends.0, served_all exchanges rounds_old rounds_new last new ends.1)
-  ends_by_fault U count exchanges rounds_old rounds_new last new fault.Journal ends = (
+  ends_by_fault U count exchanges rounds last new fault.Accept ends =
+      (ends.0, served_all exchanges rounds last new ends.1)
+  ends_by_fault U count exchanges rounds last new fault.Journal ends = (
     ends.0,
     ends.1,
     ends.2,
     ends.3,
     ends.9,
-    serves ends.0 rounds_old rounds_new ends.4 last ends.5 ends.6
+    serves ends.0 rounds ends.4 last ends.5 ends.6
         (one_unlogged setup found.chain ends.4 last ends.5 ends.1 (ends.7 ∙ same) ends.8),
   )
 

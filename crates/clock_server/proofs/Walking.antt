@@ -5,7 +5,7 @@ use Rattle.clock_terms.specs.Limits.{SetupFields}
 use Rattle.std.proofs.lemmas.List.{map-append}
 use Rattle.clock_server.specs.Keeping.{GrowsBy}
 use Rattle.clock_server.specs.Exchanges.{Came, Exchange, bytes_given}
-use Rattle.clock_server.specs.Serving.{AcceptedTexts, LogsText, Walks}
+use Rattle.clock_server.specs.Serving.{ServerState, LogsText, Walks}
 
 -- nothing was appended
 pub grown_none : {A : Type 0} (list : Option (List A)) → GrowsBy list list []
@@ -45,10 +45,10 @@ came_more first mid last exchanges one before after = subst (λ (given : List (O
     (came_then first mid last (bytes_given exchanges) (bytes_given (one ∷ [])) before after)
 
 -- one more connection
-pub walks_on : (setup : SetupFields) (past : AcceptedTexts) (exchanges : List Exchange) (end : AcceptedTexts)
-    (one : Exchange) (next : AcceptedTexts) → Walks setup past exchanges end → LogsText setup end one next
+pub walks_on : (setup : SetupFields) (past : ServerState) (exchanges : List Exchange) (end : ServerState)
+    (one : Exchange) (next : ServerState) → Walks setup past exchanges end → LogsText setup end one next
     → Walks setup past (exchanges ++ one ∷ []) next
 walks_on setup past [] end one next walks logs =
-    (next, subst (λ (now : AcceptedTexts). LogsText setup now one next) walks logs, refl)
+    (next, subst (λ (now : ServerState). LogsText setup now one next) walks logs, refl)
 walks_on setup past (first ∷ others) end one next walks logs =
     (walks.0, walks.1, walks_on setup walks.0 others end one next walks.2 logs)

@@ -33,7 +33,7 @@ use Rattle.clock_server.specs.Accepted.{IsNotRefused, IsOwnFile}
 use Rattle.clock_server.specs.Starts.{IsLeftBy}
 use Rattle.clock_server.specs.declared.taking.ResumeFault.{ResumeFault}
 use Rattle.clock_server.specs.Exchanges.{Exchange, Sends}
-use Rattle.clock_server.specs.Serving.{AcceptedTexts, Walks}
+use Rattle.clock_server.specs.Serving.{ServerState, Walks}
 use Rattle.clock_server.specs.declared.generation.GenerationFault.{GenerationFault}
 use Rattle.clock_server.specs.declared.generation.GenerationFault.TheVariants.{Start, Serve}
 use Rattle.clock_server.specs.declared.serving.ServeFault.TheVariants as fault
@@ -52,9 +52,9 @@ pub record ServesFrom (setup : SetupFields) (digest : List ℕ) (texts : List (L
   pub most : count ≤ length texts
   pub resumed : JournalState
   pub has : HasTexts digest (take count texts) resumed
-  pub last : AcceptedTexts
-  pub walks :
-      Walks setup (record { texts = take count texts; journal = resumed }) exchanges last
+  pub last : ServerState
+  pub walks : Walks setup
+      (record { texts = take count texts; journal = resumed; rounds = None }) exchanges last
   pub more : List (List ℕ)
   pub few : length more ≤ 1
   pub own : IsOwnFile setup digest (last.texts ++ more) (length last.texts) end

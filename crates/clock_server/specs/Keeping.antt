@@ -1,6 +1,7 @@
 -- An auction whose accepted texts are logged in a journal. (Own rule: a text that changes nothing
 -- is not logged.)
 --     is_change effect      a sheet or a closing was accepted
+--     round_closed effect      the closed round, if any
 --     IsAccepted setup texts text, IsRefused setup texts text      after these texts, a text
 --         changes the auction, or not
 --     logged_after setup past text      the accepted texts after one more text
@@ -12,15 +13,19 @@ use Rattle.std.specs.Prelude.{if◌then◌else◌}
 use Rattle.clock_terms.specs.Limits.{SetupFields}
 use Rattle.clock_front.specs.Effects.{effect}
 use Rattle.clock_front.specs.declared.front.response.Effect.{Effect}
-use Rattle.clock_front.specs.declared.front.response.Effect.TheVariants.{Nothing, Sheet, Closing}
+use Rattle.clock_front.specs.declared.front.response.Effect.TheVariants.{Nothing, Closing}
 use Rattle.clock_journal.specs.Logged.{IsAppended, JournalState}
 use Rattle.clock_journal.specs.Reading.{onto}
 
 -- a sheet was put in force, or a round was closed
 abbrev pub is_change : Effect → Bool
 is_change Nothing = false
-is_change Sheet = true
-is_change (Closing round) = true
+is_change effect = true
+
+-- the closed round, if any
+abbrev pub round_closed : Effect → List ℕ
+round_closed (Closing round) = round ∷ []
+round_closed effect = []
 
 -- after these texts, the newest first, the text changes the auction
 abbrev pub IsAccepted : SetupFields → List (List ℕ) → List ℕ → Type 0
@@ -38,8 +43,7 @@ logged_after setup past text =
 -- a text that changes the auction is appended to the journal; any other leaves it as it is
 abbrev pub LogsChange : Effect → List ℕ → JournalState → JournalState → Type 0
 LogsChange Nothing text old new = new ≡ old
-LogsChange Sheet text old new = IsAppended text old new
-LogsChange (Closing round) text old new = IsAppended text old new
+LogsChange effect text old new = IsAppended text old new
 
 -- exactly these were appended, in order, if contracts see the list
 abbrev pub GrowsBy : {A : Type 0} → Option (List A) → Option (List A) → List A → Type 0

@@ -2,7 +2,6 @@ pub mod Keeping
 pub mod Starts
 pub mod Accepted
 pub mod Exchanges
-pub mod Closings
 pub mod Serving
 pub mod Laws
 pub mod Generations

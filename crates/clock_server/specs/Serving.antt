@@ -1,6 +1,6 @@
 -- How connections are served one after the other, one request each.
 --     EndsUnanswered one journal      no text was read that could be answered
---     AcceptedTexts      the accepted texts, and the journal
+--     ServerState      the accepted texts, the journal, and the reported rounds
 --     RepliesTo setup before one after      the reply is the right one after the texts before it
 --     LogsText setup before one after      the reply is right, and a text that changes the auction
 --         is on the disk when the first byte of its reply is sent
@@ -16,15 +16,15 @@ use Rattle.clock_house.specs.House.{HouseFields}
 use Rattle.clock_http.specs.Replies.{Answer}
 use Rattle.clock_device.specs.Reports.{Reading}
 use Rattle.clock_connections.specs.Arrivals.{HasArrived, HasNoMemory, IsNotRead}
+use Rattle.clock_front.specs.Effects.{effect}
 use Rattle.clock_front.specs.FixedReplies.{no_memory}
 use Rattle.clock_front.specs.Fronts.{IsOutOfMemoryReply, StandsForTexts}
 use Rattle.clock_front.specs.Headline.{IsRight}
 use Rattle.clock_journal.specs.Crash.{LeavesOneMore, LeavesSince, LeavesTexts}
 use Rattle.clock_journal.specs.Logged.{HasTexts, JournalState}
 use Rattle.clock_journal.specs.Reading.{onto}
-use Rattle.clock_server.specs.Keeping.{IsAccepted, logged_after}
+use Rattle.clock_server.specs.Keeping.{GrowsBy, IsAccepted, logged_after, round_closed}
 use Rattle.clock_server.specs.Exchanges.{Exchange, Sends}
-use Rattle.clock_server.specs.Closings.{ReportsClosings}
 use Rattle.clock_server.specs.declared.serving.ServeFault.{ServeFault}
 use Rattle.clock_server.specs.declared.serving.ServeFault.TheVariants as fault
 
@@ -33,47 +33,47 @@ abbrev pub EndsUnanswered : Exchange → JournalState → Type 0
 EndsUnanswered one journal = (HasNoMemory one.reading × Sends one no_memory.bytes journal)
     ⊎ (IsNotRead one.reading × Sends one [] journal)
 
--- the texts that were accepted, the oldest first, and the journal
-pub record AcceptedTexts : Type 0 where
+-- the accepted texts, the oldest first; the journal; and the reported rounds, if contracts see them
+pub record ServerState : Type 0 where
   pub texts : List (List ℕ)
   pub journal : JournalState
+  pub rounds : Option (List ℕ)
 
--- the request that was read got the right reply, and joins the texts if it is accepted; or the
--- out-of-memory reply. When the first byte was sent, this was the journal. Or none could be
--- read, and nothing changed. Refused texts are left out, since they change nothing: so each reply
--- is still the right one after all requests before it
-abbrev pub RepliesTo : SetupFields → AcceptedTexts → Exchange → AcceptedTexts → Type 0
+-- the request that was read got the right reply. Then it joins the texts if it is accepted, and the
+-- round that it closed is reported. Or memory ran out, or no request could be read, and nothing
+-- changed. Refused texts are left out: each reply is still right after all requests before it
+abbrev pub RepliesTo : SetupFields → ServerState → Exchange → ServerState → Type 0
 RepliesTo setup before one after =
     ((text : List ℕ) × (answer : Answer) × HasArrived one.reading text
     × Sends one answer.bytes after.journal × ((IsRight setup (onto before.texts []) text answer
-    × (after.texts ≡ logged_after setup before.texts text))
-    ⊎ (IsOutOfMemoryReply text answer × (after.texts ≡ before.texts))))
+    × (after.texts ≡ logged_after setup before.texts text) × GrowsBy before.rounds after.rounds
+    (round_closed (effect setup (onto before.texts []) text)))
+    ⊎ (IsOutOfMemoryReply text answer × (after ≡ before))))
     ⊎ (EndsUnanswered one after.journal × (after ≡ before))
 
 -- the reply is right. If all texts before were on the disk, all texts after are. Then a crash at
 -- any moment since leaves the texts before, and at most the one logged now
-pub record LogsText (setup : SetupFields) (before : AcceptedTexts) (one : Exchange)
-    (after : AcceptedTexts) : Type 0 where
+pub record LogsText (setup : SetupFields) (before : ServerState) (one : Exchange)
+    (after : ServerState) : Type 0 where
   pub replies : RepliesTo setup before one after
   pub logs : (digest : List ℕ) → HasTexts digest before.texts before.journal
       → HasTexts digest after.texts after.journal × LeavesSince before.journal after.journal
       (λ left. LeavesTexts digest left after.texts (length before.texts))
 
--- each connection leads from the texts and the journal before it to those after it, in order
-abbrev pub Walks : SetupFields → AcceptedTexts → List Exchange → AcceptedTexts → Type 0
+-- each connection leads from the state before it to the one after it, in order
+abbrev pub Walks : SetupFields → ServerState → List Exchange → ServerState → Type 0
 Walks setup before [] after = after ≡ before
 Walks setup before (one ∷ others) after =
-    (next : AcceptedTexts) × LogsText setup before one next × Walks setup next others after
+    (next : ServerState) × LogsText setup before one next × Walks setup next others after
 
--- from any texts that the front stood for, these connections lead to texts that it stands for now.
--- They were served in order, and each round that was closed was reported
+-- from any texts that the front stood for, these connections lead to texts that it stands for now
 abbrev pub AreServed : List Exchange → Option (List ℕ) → Option (List ℕ) → JournalState
     → JournalState → HouseFields → HouseFields → Type 0
 AreServed exchanges rounds_old rounds_new journal_old journal_new old new =
     (past : List (List ℕ)) → StandsForTexts (onto past []) old → (end : List (List ℕ))
-    × Walks old.setup (record { texts = past; journal = journal_old }) exchanges
-    (record { texts = end; journal = journal_new }) × StandsForTexts (onto end []) new
-    × ReportsClosings old.setup past end rounds_old rounds_new
+    × Walks old.setup (record { texts = past; journal = journal_old; rounds = rounds_old })
+    exchanges (record { texts = end; journal = journal_new; rounds = rounds_new })
+    × StandsForTexts (onto end []) new
 
 -- an accepted text could not be logged, since a call of the disk has failed. A crash leaves the
 -- texts before, and at most this one more

@@ -4,7 +4,7 @@ ghost use Rattle.clock_server.specs.Keeping.{GrowsBy, no_journal};
 ghost use Rattle.clock_server.specs.Exchanges.{Came, Exchange, bytes_given};
 ghost use Rattle.clock_server.specs.Laws.{ReportedBytes};
 ghost use Rattle.clock_server.specs.Serving.{EndsServing, is_accept_fault};
-ghost use Rattle.clock_server.specs.inside.Served.{EndsOne, EndsTaken, effect_of, round_closed};
+ghost use Rattle.clock_server.specs.inside.Served.{EndsOne, EndsTaken, IsReported, effect_of};
 ghost use Rattle.clock_server.specs.inside.Served.{reply_bytes as reply_bytes_of};
 
 use crate::acceptor::{Acceptor, PortAcceptor};
@@ -103,8 +103,7 @@ fn serve_next<P: Processor, K: RequestLog, C: Acceptor>(
 /// Reports the round that a request closed, if any, to the log.
 fn tell_closing<K: RequestLog>(log: &mut K, served: Option<Response>)
     ensures logged { K.journal log.new ≡ K.journal log.old }
-    ensures rounds { GrowsBy (K.rounds log.old) (K.rounds log.new)
-        (round_closed (effect_of served)) }
+    ensures rounds { IsReported (K.rounds log.old) (K.rounds log.new) (effect_of served) }
 {
     if let Some(response) = served {
         if let Effect::Closing(round) = response.effect {

@@ -5,7 +5,7 @@
 --     EndsTaken reading .. result      how serving an accepted connection ends
 --     effect_of served, bytes_of served      what the request changed, and the bytes of its reply
 --     reply_bytes result      the bytes that are sent
---     round_closed effect      the closed round, if any
+--     IsReported old new effect      the closed round, if any, was reported
 --     EndsOne coming_old coming_new .. result      how accepting and serving one ends
 use Rattle.std.specs.Prelude.{◌≡◌, ◌⊎◌, ℕ, List, [], ◌∷◌, Option, Some, None, Result, Ok, Err}
 use Rattle.clock_house.specs.House.{HouseFields}
@@ -14,7 +14,7 @@ use Rattle.clock_connections.specs.Arrivals.{HasArrived, HasNoMemory, IsNotRead}
 use Rattle.clock_front.specs.Effects.{RespondsTo}
 use Rattle.clock_front.specs.FixedReplies.{no_memory}
 use Rattle.clock_front.specs.declared.front.response.Effect.{Effect}
-use Rattle.clock_front.specs.declared.front.response.Effect.TheVariants.{Nothing, Sheet, Closing}
+use Rattle.clock_front.specs.declared.front.response.Effect.TheVariants.{Nothing, Closing}
 use Rattle.clock_front.specs.declared.front.response.Response.{Response}
 use Rattle.clock_journal.specs.Crash.{LeavesOneMore}
 use Rattle.clock_journal.specs.Logged.{JournalState}
@@ -66,11 +66,10 @@ abbrev pub reply_bytes : {E : Type 0} → Result (Option Response) E → List �
 reply_bytes (Ok served) = bytes_of served
 reply_bytes (Err failed) = []
 
--- the closed round, if any
-abbrev pub round_closed : Effect → List ℕ
-round_closed Nothing = []
-round_closed Sheet = []
-round_closed (Closing round) = round ∷ []
+-- the closed round, if any, was reported
+abbrev pub IsReported : Option (List ℕ) → Option (List ℕ) → Effect → Type 0
+IsReported rounds_old rounds_new (Closing round) = GrowsBy rounds_old rounds_new (round ∷ [])
+IsReported rounds_old rounds_new effect = rounds_new ≡ rounds_old
 
 -- how serving one connection ends: it was served, and its closing reported; or it could not be
 -- accepted, and nothing changed; or its text could not be logged
@@ -82,7 +81,7 @@ EndsOne coming_old coming_new closed_old closed_new rounds_old rounds_new journa
     × Came coming_old coming_new (bytes_given (one ∷ [])) × ((served : Option Response)
     × IsServed one.reading served journal_old journal_new old new
     × Sends one (bytes_of served) journal_new
-    × GrowsBy rounds_old rounds_new (round_closed (effect_of served)))
+    × IsReported rounds_old rounds_new (effect_of served))
 EndsOne coming_old coming_new closed_old closed_new rounds_old rounds_new journal_old journal_new
     old new (Err fault.Accept) = (closed_new ≡ closed_old) × (coming_new ≡ coming_old)
     × (journal_new ≡ journal_old) × (new ≡ old) × (rounds_new ≡ rounds_old)

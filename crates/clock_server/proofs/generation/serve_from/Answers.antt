@@ -35,7 +35,7 @@ returns-in-Ok-clause-generation g c =
       (
         ends.3.0,
         served_all c.args.auction.now.front.setup c.args.journal.now c.resume_auction.new.journal c.args.bytes.now
-            c.resume_auction.new.auction.front started.setup _ started.ok ends.0 _ _ c.serve_all.new.log
+            c.resume_auction.new.auction.front started.setup _ started.ok ends.0 _ c.serve_all.new.log
             c.serve_all.new.front ends.3.1,
       ),
     )
@@ -48,6 +48,6 @@ returns-in-Err-serve_all-clause-generation g c =
       ends.1,
       ends.2,
       ends_by_fault c.args.auction.now.front.setup c.args.journal.now c.resume_auction.new.journal c.args.bytes.now
-          c.resume_auction.new.auction.front started.setup _ started.ok (Unit {0}) c.args.count ends.0 _ _
+          c.resume_auction.new.auction.front started.setup _ started.ok (Unit {0}) c.args.count ends.0 _
           c.serve_all.new.log c.serve_all.new.front c.in-Err-serve_all.fault ends.3,
     )
