@@ -35,10 +35,10 @@ HasAccepted setup digest at = AreAccepted setup [] at.texts × HasTexts digest a
 
 accepted_step : (setup : SetupFields) (before : ServerState) (one : Exchange) (after : ServerState)
     → RepliesTo setup before one after → AreAccepted setup [] before.texts → AreAccepted setup [] after.texts
-accepted_step setup before one after (inl (text, answer, arrived, sends, inl (right, is))) accepted =
+accepted_step setup before one after (inl (text, answer, arrived, sends, inl (right, is, reported))) accepted =
     subst (AreAccepted setup []) (sym is) (accepted_after setup before.texts text accepted)
 accepted_step setup before one after (inl (text, answer, arrived, sends, inr (left_out, is))) accepted =
-    subst (AreAccepted setup []) (sym is) accepted
+    subst (λ (now : ServerState). AreAccepted setup [] now.texts) (sym is) accepted
 accepted_step setup before one after (inr (unanswered, is)) accepted =
     subst (λ (now : ServerState). AreAccepted setup [] now.texts) (sym is) accepted
 
