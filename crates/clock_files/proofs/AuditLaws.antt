@@ -1,5 +1,5 @@
 -- Each closed round has a digest, and so an audit prints what a file's texts determine.
-use Rattle.std.proofs.Common.{◌≡◌, ◌≤◌, ℕ, List, [], ◌∷◌, length, ap, sym, ◌∙◌, subst, arith}
+use Rattle.std.proofs.Common.{◌≡◌, ◌≤◌, ℕ, List, [], ◌∷◌, length, ap, sym, ◌∙◌, subst, arith, reverse}
 use Rattle.std.proofs.Common.{length-append}
 use Rattle.std.specs.Prelude.{reverse}
 use Rattle.std.proofs.lemmas.List.{length-map, length-reverse}
@@ -13,7 +13,6 @@ use Rattle.clock_front.specs.declared.front.response.Effect.{Effect}
 use Rattle.clock_front.specs.declared.front.response.Effect.TheVariants.{Nothing, Sheet, Closing}
 use Rattle.clock_reports.specs.FinalReport.{report_of}
 use Rattle.clock_reports.specs.Reports.{ReportFields}
-use Rattle.clock_journal.specs.Reading.{onto}
 use Rattle.clock_journal.specs.Recovering.{AreTextsOf, record_at}
 use Rattle.clock_journal.specs.declared.recovery.Record.{Record}
 use Rattle.clock_journal.specs.declared.recovery.Recovered.{Recovered}
@@ -59,11 +58,11 @@ enough_for_report first texts house digests given report recounted is same =
 -- what is printed for an auction that stands for all texts of a file
 pub audit_is : (setup setup_new : SetupFields) (first bytes given shown : List ℕ) (texts : List (List ℕ))
     (recovered : Recovered) → given ≡ bytes → setup_new ≡ setup → AreTextsOf first given texts recovered
-    → shown ≡ audited setup_new first (onto texts []) → IsAuditOf setup first bytes shown recovered
+    → shown ≡ audited setup_new first (reverse texts) → IsAuditOf setup first bytes shown recovered
 audit_is setup setup_new first bytes given shown texts recovered same same_setup are is = record {
   texts = texts;
   are = subst (λ (file : List ℕ). AreTextsOf first file texts recovered) same are;
-  shown_is = is ∙ ap (λ (of_setup : SetupFields). audited of_setup first (onto texts [])) same_setup;
+  shown_is = is ∙ ap (λ (of_setup : SetupFields). audited of_setup first (reverse texts)) same_setup;
 }
 
 -- one more text is counted

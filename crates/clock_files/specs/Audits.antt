@@ -8,7 +8,7 @@
 --     IsAuditFault setup first bytes fault      the reported fault is one of this file
 --     audited setup first texts      what an audit prints of the rounds
 --     IsAuditOf setup first bytes shown recovered      this is printed of all texts of a file
-use Rattle.std.specs.Prelude.{◌≡◌, ◌++◌, ℕ, List, [], ◌∷◌}
+use Rattle.std.specs.Prelude.{◌≡◌, ◌++◌, ℕ, List, [], ◌∷◌, reverse}
 use Rattle.hex.specs.Hex.{encode_lower}
 use Rattle.clock_terms.specs.Limits.{SetupFields}
 use Rattle.clock_closing.specs.declared.closed_round.ClosedRound.{ClosedRound}
@@ -20,7 +20,6 @@ use Rattle.clock_front.specs.declared.front.response.Effect.{Effect}
 use Rattle.clock_front.specs.declared.front.response.Effect.TheVariants.{Nothing, Sheet, Closing}
 use Rattle.clock_answers.specs.FaultLines.{of_journal}
 use Rattle.clock_answers.specs.declared.fault.Fault.{Fault}
-use Rattle.clock_journal.specs.Reading.{onto}
 use Rattle.clock_journal.specs.Recovering.{AreTextsOf, IsFound, record_at}
 use Rattle.clock_journal.specs.declared.recovery.JournalFault.{JournalFault}
 use Rattle.clock_journal.specs.declared.recovery.Recovered.{Recovered}
@@ -71,4 +70,4 @@ pub record IsAuditOf (setup : SetupFields) (first bytes shown : List ℕ)
     (recovered : Recovered) : Type 0 where
   pub texts : List (List ℕ)
   pub are : AreTextsOf first bytes texts recovered
-  pub shown_is : shown ≡ audited setup first (onto texts [])
+  pub shown_is : shown ≡ audited setup first (reverse texts)

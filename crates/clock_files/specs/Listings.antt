@@ -3,9 +3,8 @@
 --     listing_text first texts      the line of the set-up document's digest, and then the texts
 --     IsListingOf first bytes shown recovered      this is listed of all texts of a file
 --     IsListFault first bytes fault      the reported fault is one of this file
-use Rattle.std.specs.Prelude.{◌≡◌, ◌++◌, ℕ, List, [], ◌∷◌, codes, decimal, length}
+use Rattle.std.specs.Prelude.{◌≡◌, ◌++◌, ℕ, List, [], ◌∷◌, codes, decimal, length, reverse}
 use Rattle.hex.specs.Hex.{encode_lower}
-use Rattle.clock_journal.specs.Reading.{onto}
 use Rattle.clock_journal.specs.Recovering.{AreTextsOf, IsFound, record_at}
 use Rattle.clock_journal.specs.declared.recovery.JournalFault.{JournalFault}
 use Rattle.clock_journal.specs.declared.recovery.Record.{Record}
@@ -37,7 +36,7 @@ listing_text first (text ∷ past) =
 pub record IsListingOf (first bytes shown : List ℕ) (recovered : Recovered) : Type 0 where
   pub texts : List (List ℕ)
   pub are : AreTextsOf first bytes texts recovered
-  pub shown_is : shown ≡ listing_text first (onto texts [])
+  pub shown_is : shown ≡ listing_text first (reverse texts)
 
 -- the file has this fault or memory ran out; no text is refused
 pub record IsListFault (first bytes : List ℕ) (reported : Fault) : Type 0 where

@@ -1,27 +1,24 @@
 -- Lists with the newest first, and how many texts a file has.
-use Rattle.std.proofs.Common.{◌≡◌, ◌≤◌, ◌+◌, ◌++◌, ℕ, List, [], ◌∷◌, length, refl, ◌∙◌, arith, length-append}
-use Rattle.std.proofs.lemmas.List.{append-nil}
+use Rattle.std.proofs.Common.{◌≡◌, ◌≤◌, ◌++◌, ℕ, List, [], ◌∷◌, length, reverse, ap, ◌∙◌, arith, length-append}
+use Rattle.std.proofs.lemmas.List.{append_assoc, reverse-append, reverse-reverse}
+use mathlib.Core.List.{reverse-cons}
 use Rattle.clock_journal.specs.Format.{link, record_of, records}
-use Rattle.clock_journal.specs.Reading.{onto}
 use Rattle.clock_journal.proofs.Records.{length-record}
 
--- a list that is turned twice
-pub onto-onto : (texts past more : List (List ℕ)) → onto (onto texts past) more ≡ onto past (texts ++ more)
-onto-onto [] past more = refl
-onto-onto (text ∷ texts) past more = onto-onto texts (text ∷ past) more
-
-pub onto-twice : (texts : List (List ℕ)) → onto (onto texts []) [] ≡ texts
-onto-twice texts = onto-onto texts [] [] ∙ append-nil texts
-
 -- one more text is the newest
-pub onto-push : (texts : List (List ℕ)) (text : List ℕ) (past : List (List ℕ))
-    → onto (texts ++ text ∷ []) past ≡ text ∷ onto texts past
-onto-push [] text past = refl
-onto-push (one ∷ texts) text past = onto-push texts text (one ∷ past)
+pub reverse-push : (texts : List (List ℕ)) (text : List ℕ) → reverse (texts ++ text ∷ []) ≡ text ∷ reverse texts
+reverse-push texts text = reverse-append texts (text ∷ [])
 
-pub length-onto : (texts past : List (List ℕ)) → length (onto texts past) ≡ length texts + length past
-length-onto [] past = omega arith
-length-onto (text ∷ texts) past = let later = length-onto texts (text ∷ past) in omega (arith, later)
+-- the newest text is the last one
+pub reverse-newest : (texts : List (List ℕ)) (text : List ℕ) → reverse (text ∷ reverse texts) ≡ texts ++ text ∷ []
+reverse-newest texts text = reverse-cons text (reverse texts)
+    ∙ ap (λ (all : List (List ℕ)). all ++ text ∷ []) (reverse-reverse texts)
+
+-- the oldest text comes before the past
+pub reverse-oldest : (text : List ℕ) (texts past : List (List ℕ))
+    → reverse (text ∷ texts) ++ past ≡ reverse texts ++ text ∷ past
+reverse-oldest text texts past = ap (λ (all : List (List ℕ)). all ++ past) (reverse-cons text texts)
+    ∙ append_assoc (reverse texts) (text ∷ []) past
 
 -- each record has at least one byte, so there are no more texts than bytes
 pub many_bytes : (chain : List ℕ) (texts : List (List ℕ)) → length texts ≤ length (records chain texts)

@@ -5,11 +5,11 @@
 --     HasHead digest bytes      the file begins with its head, or is a prefix of it
 --     HasSomeHead bytes      the file begins with the head of some journal
 --     IsFound refuses digest bytes why      the file has this fault
-use Rattle.std.specs.Prelude.{◌≡◌, ◌⊎◌, ◌++◌, ◌+◌, ℕ, List, [], ◌∷◌, length, take}
+use Rattle.std.specs.Prelude.{◌≡◌, ◌⊎◌, ◌++◌, ◌+◌, ℕ, List, [], ◌∷◌, length, take, reverse}
 use Rattle.clock_journal.specs.Crash.{IsEnd, IsFile, IsPartOfHead}
 use Rattle.clock_journal.specs.Format.{head, last_link}
 use Rattle.clock_journal.specs.Logged.{file_of}
-use Rattle.clock_journal.specs.Reading.{damaged, whole, onto}
+use Rattle.clock_journal.specs.Reading.{damaged, whole}
 use Rattle.clock_journal.specs.declared.recovery.Record.{Record}
 use Rattle.clock_journal.specs.declared.recovery.Recovered.{Recovered}
 use Rattle.clock_journal.specs.declared.recovery.JournalFault.{JournalFault}
@@ -28,8 +28,8 @@ pub record AreTextsOf (digest bytes : List ℕ) (texts : List (List ℕ)) (recov
 abbrev pub record_at : List ℕ → List (List ℕ) → List ℕ → Record
 record_at digest past text = record {
   number = length past + 1;
-  place = length (file_of digest (onto past []));
-  digest = last_link digest (onto (text ∷ past) []);
+  place = length (file_of digest (reverse past));
+  digest = last_link digest (reverse (text ∷ past));
 }
 
 -- the file begins with its head, or is a prefix of it
@@ -49,5 +49,5 @@ IsFound refuses digest bytes (fault.Damaged place) = (texts : List (List ℕ))
     × IsFile digest bytes texts (λ found. found ≡ damaged) × (place ≡ length (file_of digest texts))
 IsFound refuses digest bytes (fault.Refused place) = (texts : List (List ℕ)) × (text : List ℕ)
     × IsFile digest bytes texts (λ found. found ≡ whole text)
-    × (place ≡ length (file_of digest texts)) × refuses (onto texts []) text
+    × (place ≡ length (file_of digest texts)) × refuses (reverse texts) text
 IsFound refuses digest bytes fault.NoMemory = Unit {0}

@@ -1,7 +1,7 @@
 //! Recovery: a machine takes the texts of a file, one after the other.
 
-ghost use Rattle.std.specs.Prelude.{◌≡◌, [], ◌∷◌, List, ℕ, Err, IfErr, IfOk, OnOk};
-ghost use Rattle.clock_journal.specs.{Reading.{onto}, Recovering.{AreTextsOf, IsFound, record_at}};
+ghost use Rattle.std.specs.Prelude.{◌≡◌, [], ◌∷◌, List, ℕ, Err, IfErr, IfOk, OnOk, reverse};
+ghost use Rattle.clock_journal.specs.Recovering.{AreTextsOf, IsFound, record_at};
 
 use crate::format::{
     BEFORE_TEXT, HEAD_LENGTH, KIND, KIND_LENGTH, Link, Next, head_of, next_record,
@@ -98,7 +98,7 @@ pub fn recover<M: Machine>(
     requires { M.stands_for machine.old digest.now [] }
     ensures ok { IfOk result (λ recovered. (texts : List (List ℕ))
         × AreTextsOf digest.now bytes.now texts recovered
-        × M.stands_for machine.new digest.now (onto texts [])) }
+        × M.stands_for machine.new digest.now (reverse texts)) }
     ensures err { IfErr result (IsFound (M.refuses (M.rules machine.old)) digest.now bytes.now) }
     ensures rules { M.rules machine.new ≡ M.rules machine.old }
 {

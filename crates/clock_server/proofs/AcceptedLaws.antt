@@ -1,15 +1,16 @@
 -- Texts that were accepted, and starts on what a crash left of them.
 use Rattle.std.proofs.Common.{◌≡◌, ◌+◌, ◌++◌, inl, inr, ℕ, zero, suc, Bool, true, false, List, [], ◌∷◌}
-use Rattle.std.proofs.Common.{length, take, drop, refl, sym, ap, ◌∙◌, subst}
+use Rattle.std.proofs.Common.{append-nil, length, reverse, take, drop, refl, sym, ap, ◌∙◌, subst}
 use Rattle.clock_terms.specs.Limits.{SetupFields}
 use Rattle.clock_house.specs.House.{HouseFields}
 use Rattle.clock_front.specs.Effects.{effect}
 use Rattle.clock_journal.specs.Crash.{IsEnd, IsFile, IsPartOfHead, LeavesJournal, LeavesTexts}
 use Rattle.clock_journal.specs.Format.{before_text, head, last_link, link}
-use Rattle.clock_journal.specs.Reading.{Next, ended, next, onto, whole}
+use Rattle.clock_journal.specs.Reading.{Next, ended, next, whole}
 use Rattle.clock_journal.specs.declared.recovery.JournalFault.TheVariants as fault
 use Rattle.clock_journal.proofs.Files.{reads_of}
 use Rattle.clock_journal.proofs.Fronts.{IsNoText, ReadsTexts, end_is_none}
+use Rattle.clock_journal.proofs.Lists.{reverse-oldest}
 use Rattle.clock_journal.proofs.TakenOver.{left_headed, left_undamaged, none_in_head}
 use Rattle.clock_server.specs.Accepted.{AreAccepted, IsNotRefused}
 use Rattle.clock_server.specs.Starts.{IsNotResumed}
@@ -29,27 +30,37 @@ accepted_take setup past (text ∷ texts) (suc count) accepted =
     (accepted.0, accepted_take setup (text ∷ past) texts count accepted.1)
 
 accepted_at : (setup : SetupFields) (past before : List (List ℕ)) (text : List ℕ) (more : List (List ℕ))
-    → AreAccepted setup past (before ++ text ∷ more) → IsAccepted setup (onto before past) text
+    → AreAccepted setup past (before ++ text ∷ more) → IsAccepted setup (reverse before ++ past) text
 accepted_at setup past [] text more accepted = accepted.0
-accepted_at setup past (one ∷ before) text more accepted = accepted_at setup (one ∷ past) before text more accepted.1
+accepted_at setup past (one ∷ before) text more accepted =
+    subst (λ (all : List (List ℕ)). IsAccepted setup all text) (sym (reverse-oldest one before past))
+    (accepted_at setup (one ∷ past) before text more accepted.1)
 
-pub accepted_push : (setup : SetupFields) (past texts : List (List ℕ)) (text : List ℕ) → AreAccepted setup past texts
-    → IsAccepted setup (onto texts past) text → AreAccepted setup past (texts ++ text ∷ [])
-accepted_push setup past [] text accepted is = (is, tt)
-accepted_push setup past (one ∷ texts) text accepted is =
-    (accepted.0, accepted_push setup (one ∷ past) texts text accepted.1 is)
+accepted_behind : (setup : SetupFields) (past texts : List (List ℕ)) (text : List ℕ) → AreAccepted setup past texts
+    → IsAccepted setup (reverse texts ++ past) text → AreAccepted setup past (texts ++ text ∷ [])
+accepted_behind setup past [] text accepted is = (is, tt)
+accepted_behind setup past (one ∷ texts) text accepted is = (
+  accepted.0,
+  accepted_behind setup (one ∷ past) texts text accepted.1
+      (subst (λ (all : List (List ℕ)). IsAccepted setup all text) (reverse-oldest one texts past) is),
+)
+
+pub accepted_push : (setup : SetupFields) (texts : List (List ℕ)) (text : List ℕ) → AreAccepted setup [] texts
+    → IsAccepted setup (reverse texts) text → AreAccepted setup [] (texts ++ text ∷ [])
+accepted_push setup texts text accepted is = accepted_behind setup [] texts text accepted
+    (subst (λ (all : List (List ℕ)). IsAccepted setup all text) (sym (append-nil (reverse texts))) is)
 
 -- a text is logged only if it is accepted
 logged_if : (changes : Bool) (setup : SetupFields) (texts : List (List ℕ)) (text : List ℕ)
-    → is_change (effect setup (onto texts []) text) ≡ changes → AreAccepted setup [] texts
+    → is_change (effect setup (reverse texts) text) ≡ changes → AreAccepted setup [] texts
     → AreAccepted setup [] (logged_when changes texts text)
-logged_if true setup texts text is accepted = accepted_push setup [] texts text accepted is
+logged_if true setup texts text is accepted = accepted_push setup texts text accepted is
 logged_if false setup texts text is accepted = accepted
 
 pub accepted_after : (setup : SetupFields) (texts : List (List ℕ)) (text : List ℕ) → AreAccepted setup [] texts
     → AreAccepted setup [] (logged_after setup texts text)
 accepted_after setup texts text accepted =
-    logged_if (is_change (effect setup (onto texts []) text)) setup texts text refl accepted
+    logged_if (is_change (effect setup (reverse texts) text)) setup texts text refl accepted
 
 -- ---- a start on a file that a crash left
 
@@ -81,7 +92,7 @@ not_both changes one other = let bad : true ≡ false = sym one ∙ other in cc
 -- so no text of the file is refused
 none_refused : (setup : SetupFields) (digest bytes : List ℕ) (texts : List (List ℕ)) (least : ℕ)
     (before : List (List ℕ)) (text : List ℕ) → AreAccepted setup [] texts → LeavesTexts digest bytes texts least
-    → IsFile digest bytes before (λ found. found ≡ whole text) → IsRefused setup (onto before []) text → ⊥
+    → IsFile digest bytes before (λ found. found ≡ whole text) → IsRefused setup (reverse before) text → ⊥
 none_refused setup digest bytes texts least before text accepted leaves file refused =
     let some = take leaves.count texts in
     let first = leaves.first in
@@ -90,7 +101,9 @@ none_refused setup digest bytes texts least before text accepted leaves file ref
     (reads_of digest bytes before (λ (found : Next). found ≡ whole text) file) file.comes in
     let all = subst (λ (list : List (List ℕ)). AreAccepted setup [] list) among.1
     (accepted_take setup [] texts leaves.count accepted) in
-    not_both (is_change (effect setup (onto before []) text)) (accepted_at setup [] before text among.0 all) refused
+    not_both (is_change (effect setup (reverse before) text)) (subst
+    (λ (past : List (List ℕ)). IsAccepted setup past text) (append-nil (reverse before))
+    (accepted_at setup [] before text among.0 all)) refused
 
 -- less than a head has no text
 no_text : (digest bytes : List ℕ) (before : List (List ℕ)) (text : List ℕ) → IsPartOfHead digest bytes

@@ -22,7 +22,6 @@ use Rattle.clock_front.specs.declared.front.response.Response.{Response}
 use Rattle.clock_front.proofs.AnswerLaws.{stands_after}
 use Rattle.clock_front.proofs.FrontLaws.{away_command, needs_by_test}
 use Rattle.clock_journal.specs.Logged.{IsAppended, JournalState}
-use Rattle.clock_journal.specs.Reading.{onto}
 use Rattle.clock_server.specs.Keeping.{IsAccepted, LogsChange, is_change}
 
 -- a command changes the same in a house and after the commands that the house stands for
@@ -56,11 +55,6 @@ right_after texts text response old new stands right = record {
 -- the accepted texts, the oldest first, after a text that changes the auction or not
 abbrev pub logged_when : Bool → List (List ℕ) → List ℕ → List (List ℕ)
 logged_when changes past text = if changes then past ++ text ∷ [] else past
-
-pub onto-push : (texts : List (List ℕ)) (text : List ℕ) (past : List (List ℕ))
-    → onto (texts ++ text ∷ []) past ≡ text ∷ onto texts past
-onto-push [] text past = refl
-onto-push (one ∷ texts) text past = onto-push texts text (one ∷ past)
 
 pub nothing_where : (one : Effect) → is_change one ≡ false → one ≡ Nothing
 nothing_where Nothing is = refl

@@ -1,6 +1,6 @@
 -- GenerationsContinue, by induction on the generations: each leaves an auction's own file to the next.
 use Rattle.std.proofs.Common.{◌≡◌, ◌≤◌, inl, inr, ℕ, List, [], ◌∷◌, ◌++◌, length, take, Option, Some, None, Err}
-use Rattle.std.proofs.Common.{refl, sym, ap, ◌∙◌, subst, arith, length-append, append-nil}
+use Rattle.std.proofs.Common.{refl, sym, ap, ◌∙◌, subst, arith, length-append, append-nil, reverse}
 use Rattle.std.proofs.lemmas.List.{take_at}
 use Rattle.clock_terms.specs.Limits.{SetupFields}
 use Rattle.clock_house.specs.House.{HouseFields}
@@ -12,7 +12,6 @@ use Rattle.clock_journal.proofs.Files.{some_head}
 use Rattle.clock_journal.proofs.Starting.{now_left}
 use Rattle.clock_journal.proofs.TakenOver.{left_first}
 use Rattle.clock_server.specs.Accepted.{AreAccepted, IsOwnFile}
-use Rattle.clock_journal.specs.Reading.{onto}
 use Rattle.clock_server.specs.Keeping.{IsAccepted}
 use Rattle.clock_journal.specs.Recovering.{AreTextsOf}
 use Rattle.clock_journal.specs.declared.recovery.Recovered.{Recovered}
@@ -55,7 +54,7 @@ accepted_walk setup digest first (one ∷ others) last (next, step, walks) has =
 -- from accepted texts on the disk, the file at the end has these, and at most one more
 abbrev EndsWith : SetupFields → List ℕ → JournalState → HouseFields → JournalState → Type 0
 EndsWith setup digest before house last = (texts : List (List ℕ))
-    → HasAccepted setup digest (state texts before None) → StandsForTexts (onto texts []) house
+    → HasAccepted setup digest (state texts before None) → StandsForTexts (reverse texts) house
     → (more : List (List ℕ)) × (length more ≤ 1) × IsOwnFile setup digest (texts ++ more) (length texts) last
 
 -- all connections were served
@@ -78,8 +77,8 @@ one_unlogged setup digest before last house one same unlogged texts has stands =
   unlogged.text ∷ [],
   omega arith,
   record {
-    accepted = accepted_push setup [] texts unlogged.text has.0 (subst (λ (of_setup : SetupFields).
-        IsAccepted of_setup (onto texts []) unlogged.text) same (unlogged.accepted (onto texts []) stands));
+    accepted = accepted_push setup texts unlogged.text has.0 (subst (λ (of_setup : SetupFields).
+        IsAccepted of_setup (reverse texts) unlogged.text) same (unlogged.accepted (reverse texts) stands));
     leaves = λ left may. inl ((unlogged.moments digest texts has.1).at_end left
         (subst (λ (bytes : Option (List ℕ)). MayBeLeft bytes last.written left) unlogged.on_disk may));
   },
@@ -95,7 +94,7 @@ own_left setup digest texts least journal synced bytes is written own =
 -- the texts of the file, which the auction stands for; all are on the disk, if contracts see its bytes
 abbrev IsResumed : List ℕ → List ℕ → Option (List ℕ) → JournalState → HouseFields → Recovered → Type 0
 IsResumed digest bytes written journal house recovered = (texts : List (List ℕ))
-    × AreTextsOf digest bytes texts recovered × StandsForTexts (onto texts []) house
+    × AreTextsOf digest bytes texts recovered × StandsForTexts (reverse texts) house
     × (written ≡ Some bytes → HasTexts digest texts journal)
 
 module _ (setup : SetupFields) (found first : JournalState) (bytes : List ℕ) (old : HouseFields) (same : old.setup
@@ -110,7 +109,7 @@ module _ (setup : SetupFields) (found first : JournalState) (bytes : List ℕ) (
       (own_left setup found.chain texts least found synced bytes is written own) in
       let has = subst (λ (all : List (List ℕ)). HasTexts found.chain all first) those.3 (resumes.3 written) in
       let ends = are (take those.0 texts)
-      (subst (λ (all : List (List ℕ)). StandsForTexts (onto all []) old) those.3 resumes.2) in
+      (subst (λ (all : List (List ℕ)). StandsForTexts (reverse all) old) those.3 resumes.2) in
       let walks = subst (λ (of_setup : SetupFields). Walks of_setup (state (take those.0 texts) first None) exchanges
       (state ends.0 before rounds)) same ends.1 in
       let own_end = ends_with ends.0 (accepted_walk setup found.chain (state (take those.0 texts) first None) exchanges

@@ -1,5 +1,5 @@
 -- A run continues with one connection that was served.
-use Rattle.std.proofs.Common.{◌≡◌, inl, inr, ℕ, List, [], ◌∷◌, ◌++◌, Option, Some, None, length}
+use Rattle.std.proofs.Common.{◌≡◌, inl, inr, ℕ, List, [], ◌∷◌, ◌++◌, Option, Some, None, length, reverse}
 use Rattle.std.proofs.Common.{refl, sym, ap, ◌∙◌, subst}
 use Rattle.clock_terms.specs.Limits.{SetupFields}
 use Rattle.clock_house.specs.House.{HouseFields}
@@ -11,13 +11,13 @@ use Rattle.clock_front.specs.declared.front.response.Response.{Response}
 use Rattle.clock_front.proofs.AnswerLaws.{stands_still}
 use Rattle.clock_journal.specs.Crash.{LeavesSince, LeavesTexts}
 use Rattle.clock_journal.specs.Logged.{HasTexts, IsAppended, JournalState}
-use Rattle.clock_journal.specs.Reading.{onto}
+use Rattle.clock_journal.proofs.Lists.{reverse-push}
 use Rattle.clock_journal.proofs.Passing.{leave_none}
 use Rattle.clock_server.specs.Exchanges.{Exchange, Sends}
 use Rattle.clock_server.specs.Keeping.{GrowsBy, LogsChange, is_change, round_closed}
 use Rattle.clock_server.specs.Serving.{AreServed, EndsUnanswered, LogsText, RepliesTo, ServerState}
 use Rattle.clock_server.specs.inside.Served.{IsAnswered, IsReported, IsServed, bytes_of, effect_of}
-use Rattle.clock_server.proofs.EffectLaws.{logged_when, onto-push, right_after}
+use Rattle.clock_server.proofs.EffectLaws.{logged_when, right_after}
 use Rattle.clock_server.proofs.Untouched.{left_all}
 use Rattle.clock_server.proofs.Walking.{grown_none, walks_on}
 
@@ -44,10 +44,10 @@ pub record HasNext (setup : SetupFields) (past : List (List ℕ)) (one : Exchang
     (rounds_old rounds_new : Option (List ℕ)) (new : HouseFields) : Type 0 where
   pub next : List (List ℕ)
   pub logs : LogsText setup (state past journal_old rounds_old) one (state next journal_new rounds_new)
-  pub stands : StandsForTexts (onto next []) new
+  pub stands : StandsForTexts (reverse next) new
 
 module _ (one : Exchange) (journal_old journal_new : JournalState) (rounds_old rounds_new : Option (List ℕ))
-    (old new : HouseFields) (past : List (List ℕ)) (stands : StandsForTexts (onto past []) old) where
+    (old new : HouseFields) (past : List (List ℕ)) (stands : StandsForTexts (reverse past) old) where
   abbrev before : ServerState
   before = state past journal_old rounds_old
 
@@ -62,7 +62,7 @@ module _ (one : Exchange) (journal_old journal_new : JournalState) (rounds_old r
   )
 
   -- it changed nothing
-  unchanged : journal_new ≡ journal_old → StandsForTexts (onto past []) new
+  unchanged : journal_new ≡ journal_old → StandsForTexts (reverse past) new
       → RepliesTo old.setup before one (state past journal_new rounds_new)
       → HasNext old.setup past one journal_old journal_new rounds_old rounds_new new
   unchanged same stands_now replies = record {
@@ -86,14 +86,14 @@ module _ (one : Exchange) (journal_old journal_new : JournalState) (rounds_old r
     right_reply : (changed : Effect) → response.effect ≡ changed → RepliesTo old.setup before one
         (state (logged_when (is_change changed) past reported.text) journal_new rounds_new)
     right_reply changed is =
-        let after = right_after (onto past []) reported.text response old new stands fits in
+        let after = right_after (reverse past) reported.text response old new stands fits in
         inl (
           reported.text,
           response.reply,
           reported.arrived,
           sends,
           inl (
-            fits.answer.after (onto past []) stands,
+            fits.answer.after (reverse past) stands,
             ap (λ (e : Effect). logged_when (is_change e) past reported.text) (sym is ∙ after.changed),
             subst (λ (e : Effect). GrowsBy rounds_old rounds_new (round_closed e)) after.changed
                 (reported_as response.effect rounds_old rounds_new told),
@@ -105,14 +105,14 @@ module _ (one : Exchange) (journal_old journal_new : JournalState) (rounds_old r
         → RepliesTo old.setup before one (state (past ++ reported.text ∷ []) journal_new rounds_new)
         → HasNext old.setup past one journal_old journal_new rounds_old rounds_new new
     appended appends replies =
-        let after = right_after (onto past []) reported.text response old new stands fits in
+        let after = right_after (reverse past) reported.text response old new stands fits in
         record {
           next = past ++ reported.text ∷ [];
           logs = record {
             replies = replies;
             logs = λ digest has. (appends digest past has, reported.moments digest past has);
           };
-          stands = subst (λ (texts : List (List ℕ)). StandsForTexts texts new) (sym (onto-push past reported.text []))
+          stands = subst (λ (texts : List (List ℕ)). StandsForTexts texts new) (sym (reverse-push past reported.text))
               after.stands;
         }
 
@@ -120,7 +120,7 @@ module _ (one : Exchange) (journal_old journal_new : JournalState) (rounds_old r
         → LogsChange changed reported.text journal_old journal_new
         → HasNext old.setup past one journal_old journal_new rounds_old rounds_new new
     answered Nothing is logged = unchanged logged
-        (stands_still (onto past []) old new stands (fits.still is)) (right_reply Nothing is)
+        (stands_still (reverse past) old new stands (fits.still is)) (right_reply Nothing is)
     answered Sheet is logged = appended logged (right_reply Sheet is)
     answered (Closing round) is logged = appended logged (right_reply (Closing round) is)
 
@@ -133,7 +133,7 @@ module _ (one : Exchange) (journal_old journal_new : JournalState) (rounds_old r
   responded response sends reported told (inr (left_out, nothing, still)) =
       let same = subst (λ (e : Effect). LogsChange e reported.text journal_old journal_new) nothing reported.logged in
       let same_rounds = subst (IsReported rounds_old rounds_new) nothing told in
-      unchanged same (stands_still (onto past []) old new stands still) (inl (
+      unchanged same (stands_still (reverse past) old new stands still) (inl (
         reported.text,
         response.reply,
         reported.arrived,
@@ -145,7 +145,7 @@ module _ (one : Exchange) (journal_old journal_new : JournalState) (rounds_old r
   unanswered : EndsUnanswered one journal_new → journal_new ≡ journal_old → rounds_new ≡ rounds_old → new ≡ old
       → HasNext old.setup past one journal_old journal_new rounds_old rounds_new new
   unanswered ends same same_rounds still =
-      unchanged same (subst (λ (house : HouseFields). StandsForTexts (onto past []) house) (sym still) stands)
+      unchanged same (subst (λ (house : HouseFields). StandsForTexts (reverse past) house) (sym still) stands)
       (inr (ends, still_so same same_rounds))
 
   served_one : (served : Option Response) → IsServed one.reading served journal_old journal_new old new

@@ -9,13 +9,12 @@
 --     GrowsBy old new more      exactly these were appended, if contracts see the list
 --     no_journal      the journal of a server that logs nothing
 use Rattle.std.specs.Prelude.{◌≡◌, ◌++◌, ℕ, Bool, true, false, List, [], ◌∷◌, Option, Some, None}
-use Rattle.std.specs.Prelude.{if◌then◌else◌}
+use Rattle.std.specs.Prelude.{if◌then◌else◌, reverse}
 use Rattle.clock_terms.specs.Limits.{SetupFields}
 use Rattle.clock_front.specs.Effects.{effect}
 use Rattle.clock_front.specs.declared.front.response.Effect.{Effect}
 use Rattle.clock_front.specs.declared.front.response.Effect.TheVariants.{Nothing, Closing}
 use Rattle.clock_journal.specs.Logged.{IsAppended, JournalState}
-use Rattle.clock_journal.specs.Reading.{onto}
 
 -- a sheet was put in force, or a round was closed
 abbrev pub is_change : Effect → Bool
@@ -38,7 +37,7 @@ IsRefused setup texts text = is_change (effect setup texts text) ≡ false
 -- a text that changes the auction is appended to the accepted ones, the oldest first
 abbrev pub logged_after : SetupFields → List (List ℕ) → List ℕ → List (List ℕ)
 logged_after setup past text =
-    if is_change (effect setup (onto past []) text) then past ++ text ∷ [] else past
+    if is_change (effect setup (reverse past) text) then past ++ text ∷ [] else past
 
 -- a text that changes the auction is appended to the journal; any other leaves it as it is
 abbrev pub LogsChange : Effect → List ℕ → JournalState → JournalState → Type 0

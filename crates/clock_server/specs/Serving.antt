@@ -10,7 +10,7 @@
 --     is_accept_fault result      a connection could not be accepted
 --     EndsServing count exchanges .. result      how serving `count` connections ends
 use Rattle.std.specs.Prelude.{◌≡◌, ◌<◌, ◌≤◌, ◌⊎◌, ◌++◌, ℕ, Bool, true, false, List, [], ◌∷◌, length}
-use Rattle.std.specs.Prelude.{Option, Result, Ok, Err}
+use Rattle.std.specs.Prelude.{Option, Result, Ok, Err, reverse}
 use Rattle.clock_terms.specs.Limits.{SetupFields}
 use Rattle.clock_house.specs.House.{HouseFields}
 use Rattle.clock_http.specs.Replies.{Answer}
@@ -22,7 +22,6 @@ use Rattle.clock_front.specs.Fronts.{IsOutOfMemoryReply, StandsForTexts}
 use Rattle.clock_front.specs.Headline.{IsRight}
 use Rattle.clock_journal.specs.Crash.{LeavesOneMore, LeavesSince, LeavesTexts}
 use Rattle.clock_journal.specs.Logged.{HasTexts, JournalState}
-use Rattle.clock_journal.specs.Reading.{onto}
 use Rattle.clock_server.specs.Keeping.{GrowsBy, IsAccepted, logged_after, round_closed}
 use Rattle.clock_server.specs.Exchanges.{Exchange, Sends}
 use Rattle.clock_server.specs.declared.serving.ServeFault.{ServeFault}
@@ -45,9 +44,9 @@ pub record ServerState : Type 0 where
 abbrev pub RepliesTo : SetupFields → ServerState → Exchange → ServerState → Type 0
 RepliesTo setup before one after =
     ((text : List ℕ) × (answer : Answer) × HasArrived one.reading text
-    × Sends one answer.bytes after.journal × ((IsRight setup (onto before.texts []) text answer
+    × Sends one answer.bytes after.journal × ((IsRight setup (reverse before.texts) text answer
     × (after.texts ≡ logged_after setup before.texts text) × GrowsBy before.rounds after.rounds
-    (round_closed (effect setup (onto before.texts []) text)))
+    (round_closed (effect setup (reverse before.texts) text)))
     ⊎ (IsOutOfMemoryReply text answer × (after ≡ before))))
     ⊎ (EndsUnanswered one after.journal × (after ≡ before))
 
@@ -70,10 +69,10 @@ Walks setup before (one ∷ others) after =
 abbrev pub AreServed : List Exchange → Option (List ℕ) → Option (List ℕ) → JournalState
     → JournalState → HouseFields → HouseFields → Type 0
 AreServed exchanges rounds_old rounds_new journal_old journal_new old new =
-    (past : List (List ℕ)) → StandsForTexts (onto past []) old → (end : List (List ℕ))
+    (past : List (List ℕ)) → StandsForTexts (reverse past) old → (end : List (List ℕ))
     × Walks old.setup (record { texts = past; journal = journal_old; rounds = rounds_old })
     exchanges (record { texts = end; journal = journal_new; rounds = rounds_new })
-    × StandsForTexts (onto end []) new
+    × StandsForTexts (reverse end) new
 
 -- an accepted text could not be logged, since a call of the disk has failed. A crash leaves the
 -- texts before, and at most this one more

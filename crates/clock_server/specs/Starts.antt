@@ -2,12 +2,11 @@
 --     IsNotResumed setup digest bytes house fault      the file has this fault, or a call of the
 --         disk failed after the replay
 --     IsLeftBy old new fault      what a call that did not resume did to the file
-use Rattle.std.specs.Prelude.{◌≡◌, ℕ, List, [], true}
+use Rattle.std.specs.Prelude.{◌≡◌, ℕ, List, true, reverse}
 use Rattle.clock_terms.specs.Limits.{SetupFields}
 use Rattle.clock_house.specs.House.{HouseFields}
 use Rattle.clock_front.specs.Fronts.{StandsForTexts}
 use Rattle.clock_journal.specs.Logged.{JournalState}
-use Rattle.clock_journal.specs.Reading.{onto}
 use Rattle.clock_journal.specs.Recovering.{AreTextsOf, IsFound}
 use Rattle.clock_journal.specs.declared.recovery.Recovered.{Recovered}
 use Rattle.clock_server.specs.Keeping.{IsRefused}
@@ -20,7 +19,7 @@ IsNotResumed setup digest bytes house (Refused fault) =
     IsFound (IsRefused setup) digest bytes fault
 IsNotResumed setup digest bytes house Failed =
     (recovered : Recovered) × (texts : List (List ℕ)) × AreTextsOf digest bytes texts recovered
-    × StandsForTexts (onto texts []) house
+    × StandsForTexts (reverse texts) house
 
 -- a refused file is unchanged, and so are its moments; otherwise a call of the disk has failed
 abbrev pub IsLeftBy : JournalState → JournalState → ResumeFault → Type 0

@@ -1,6 +1,6 @@
-ghost use Rattle.std.specs.Prelude.{◌≡◌, [], ◌∷◌, List, ℕ, Err, IfErr, IfOk, OnOk, Some, false};
+ghost use Rattle.std.specs.Prelude.{◌≡◌, [], ◌∷◌, List, ℕ, Err, IfErr, IfOk, OnOk, Some, false, reverse};
 ghost use Rattle.clock_journal.specs.Crash.{BeginsWithTexts, LeavesJournal, StaysSo};
-ghost use Rattle.clock_journal.specs.{Logged.{HasTexts}, Reading.{onto}, Recovering.{AreTextsOf}};
+ghost use Rattle.clock_journal.specs.{Logged.{HasTexts}, Recovering.{AreTextsOf}};
 ghost use Rattle.clock_terms.specs.Limits.{SetupFields};
 ghost use Rattle.clock_front.specs.{Effects.{effect as effect_of}, Fronts.{StandsForTexts}};
 ghost use Rattle.clock_server.specs.{Accepted.{OwnStarts}, Keeping.{IsRefused}};
@@ -98,7 +98,7 @@ pub fn resume_auction<P: Processor, D: Durable, F: FnOnce(Recovered)>(
     requires callable { F.IsAlwaysCallable tell }
     ensures ok { IfOk result (λ recovered. (texts : List (List ℕ))
         × AreTextsOf journal.old.chain bytes.now texts recovered
-        × StandsForTexts (onto texts []) auction.new.front
+        × StandsForTexts (reverse texts) auction.new.front
         × (journal.old.written ≡ Some bytes.now → HasTexts journal.old.chain texts journal.new)) }
     ensures err { IfErr result (IsNotResumed auction.old.front.setup journal.old.chain bytes.now
         auction.new.front) }

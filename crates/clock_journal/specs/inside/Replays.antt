@@ -1,10 +1,9 @@
 -- How a machine takes the texts of a journal, one after the other.
 --     IsOnWay new digest bytes chain count rest      `count` texts were taken, and `rest` is
 --         left
-use Rattle.std.specs.Prelude.{◌≡◌, ◌++◌, ℕ, List, [], length, All}
+use Rattle.std.specs.Prelude.{◌≡◌, ◌++◌, ℕ, List, length, All, reverse}
 use Rattle.clock_journal.specs.Format.{last_link, Fits}
 use Rattle.clock_journal.specs.Logged.{file_of}
-use Rattle.clock_journal.specs.Reading.{onto}
 
 -- the file is the journal of `count` texts, which were taken, and `rest` is left
 pub record IsOnWay (new : List ℕ → List (List ℕ) → Type 0) (digest bytes chain : List ℕ)
@@ -14,4 +13,4 @@ pub record IsOnWay (new : List ℕ → List (List ℕ) → Type 0) (digest bytes
   pub file : bytes ≡ file_of digest texts ++ rest
   pub chain_is : chain ≡ last_link digest texts
   pub count_is : count ≡ length texts
-  pub stands : new digest (onto texts [])
+  pub stands : new digest (reverse texts)

@@ -1,6 +1,5 @@
-use Rattle.std.proofs.Common.{List, [], ℕ, subst}
+use Rattle.std.proofs.Common.{List, ℕ, subst, reverse}
 use Rattle.std.proofs.lemmas.Result.{err_from_is_err_and}
-use Rattle.clock_journal.specs.Reading.{onto}
 use Rattle.clock_journal.specs.declared.recovery.JournalFault.TheVariants.{NoMemory}
 use Rattle.clock_files.specs.Audits.{IsAuditFault}
 use Rattle.clock_files.proofs.AuditLaws.{audit_is}
@@ -21,7 +20,7 @@ returns-in_err-recovered-clause-err c =
 pub rounds_of-requires : goal.rounds_of-requires
 rounds_of-requires c =
     let all = c.in_ok-recovered.ensures.ok in
-    (c.args.first.now, onto all.0 [], all.2)
+    (c.args.first.now, reverse all.0, all.2)
 
 pub returns-in_err-text-clause-err : goal.returns-in_err-text-clause-err
 returns-in_err-text-clause-err c =
@@ -37,4 +36,4 @@ returns-clause-ok c =
     let all = c.in_ok-recovered.ensures.ok in
     audit_is c.args.recount.now.front.setup c.recover.new.machine.front.setup c.args.first.now c.args.bytes.items
     c.as_slice.result.now _ all.0 c.in_ok-recovered.recovered c.as_slice.ensures.value c.recover.ensures.rules
-    all.1 (c.in_ok-text.ensures c.args.first.now (onto all.0 []) all.2)
+    all.1 (c.in_ok-text.ensures c.args.first.now (reverse all.0) all.2)

@@ -1,17 +1,18 @@
 use Rattle.std.proofs.Common.{◌≡◌, ◌≤◌, ◌+◌, ◌-◌, ◌++◌, List, [], ◌∷◌, ℕ, length, take, drop, refl, sym, ap, ◌∙◌}
 use Rattle.std.proofs.Common.{inl, inr, subst, arith, length-append, get_or, ◌<◌, rules, Bool, true, false, bytes_eq}
-use Rattle.std.proofs.Common.{append-nil}
+use Rattle.std.proofs.Common.{append-nil, reverse}
 use Rattle.std.specs.Prelude.{not}
 use Rattle.std.proofs.lemmas.List.Elements.{All-nil, All-push}
+use Rattle.std.proofs.lemmas.List.{length-reverse, reverse-reverse}
 use Rattle.std.proofs.lemmas.List.{append_assoc, drop_at, get_or-drop, take-append-drop, take_rest}
 use Rattle.clock_journal.specs.Format.{Fits, before_text, head, link, last_link, record_of, records}
 use Rattle.clock_journal.specs.Crash.{IsEnd, IsFile}
-use Rattle.clock_journal.specs.Reading.{Next, next, onto, damaged, whole}
+use Rattle.clock_journal.specs.Reading.{Next, next, damaged, whole}
 use Rattle.clock_journal.specs.Recovering.{HasHead, record_at}
 use Rattle.clock_journal.specs.inside.Replays.{IsOnWay}
 use Rattle.clock_journal.specs.Logged.{file_of}
 use Rattle.clock_journal.specs.declared.recovery.Record.{Record}
-use Rattle.clock_journal.proofs.Lists.{length-onto, many_bytes, onto-onto, onto-push, onto-twice}
+use Rattle.clock_journal.proofs.Lists.{many_bytes, reverse-newest, reverse-push}
 use Rattle.clock_journal.proofs.Moments.{file-push, last_link-push}
 use Rattle.clock_journal.proofs.Files.{file_head_length, kind, length-head}
 use Rattle.clock_journal.proofs.TakenOver.{has_head, kind_of_head, long_head, not_same, other_head, short_headless}
@@ -31,18 +32,18 @@ was_true false is = sym is
 next_entry : (first : List ℕ) (texts : List (List ℕ)) (text chain : List ℕ) (count place : ℕ) (digest : List ℕ)
     → count ≡ length texts → place ≡ length (file_of first texts) → chain ≡ last_link first texts
     → digest ≡ link chain text → (let made : Record = record { number = count + 1; place = place; digest = digest } in
-    made) ≡ record_at first (onto texts []) text
+    made) ≡ record_at first (reverse texts) text
 next_entry first texts text chain count place digest counts places linked is =
     ap (λ (n : ℕ). let made : Record = record { number = n + 1; place = place; digest = digest } in made)
-    (let size = length-onto texts [] in omega (arith, counts, size))
-    ∙ ap (λ (at : ℕ). let made : Record = record { number = length (onto texts []) + 1; place = at; digest = digest } in
-    made) (places ∙ ap (λ (all : List (List ℕ)). length (file_of first all)) (sym (onto-twice texts)))
+    (let size = length-reverse texts in omega (arith, counts, size))
+    ∙ ap (λ (at : ℕ). let made : Record = record { number = length (reverse texts) + 1; place = at; digest = digest } in
+    made) (places ∙ ap (λ (all : List (List ℕ)). length (file_of first all)) (sym (reverse-reverse texts)))
     ∙ ap (λ (last : List ℕ). let made : Record = record {
-      number = length (onto texts []) + 1;
-      place = length (file_of first (onto (onto texts []) []));
+      number = length (reverse texts) + 1;
+      place = length (file_of first (reverse (reverse texts)));
       digest = last;
     } in made) (is ∙ ap (λ (before : List ℕ). link before text) linked ∙ sym (last_link-push first texts text)
-    ∙ ap (last_link first) (sym (onto-onto texts [] (text ∷ []))))
+    ∙ ap (last_link first) (sym (reverse-newest texts text)))
 
 module _ (mid : List ℕ → List (List ℕ) → Type 0) (digest bytes chain : List ℕ) (count : ℕ) (rest : List ℕ)
     (way : IsOnWay mid digest bytes chain count rest) where
@@ -78,7 +79,7 @@ module _ (mid : List ℕ → List (List ℕ) → Type 0) (digest bytes chain : L
   -- one more text was taken, with its record
   on_way_more : (new : List ℕ → List (List ℕ) → Type 0) (text link_is : List ℕ) (record_is : Record)
       → ((place : ℕ) → get_or bytes place 0 < 256) → next chain rest ≡ whole text → link_is ≡ link chain text
-      → record_is ≡ record_at digest (onto way.texts []) text
+      → record_is ≡ record_at digest (reverse way.texts) text
       → ((first : List ℕ) (past : List (List ℕ)) → mid first past → record_is ≡ record_at first past text
       → new first (text ∷ past))
       → IsOnWay new digest bytes link_is (count + 1) (drop (before_text + length text) rest)
@@ -96,8 +97,8 @@ module _ (mid : List ℕ → List (List ℕ) → Type 0) (digest bytes chain : L
         chain_is = linked ∙ (ap (λ (before : List ℕ). link before text) way.chain_is
             ∙ sym (last_link-push digest way.texts text));
         count_is = omega (arith, way.count_is, length-append way.texts (text ∷ []));
-        stands = subst (new digest) (sym (onto-push way.texts text []))
-            (taken digest (onto way.texts []) way.stands same);
+        stands = subst (new digest) (sym (reverse-push way.texts text))
+            (taken digest (reverse way.texts) way.stands same);
       }
 
 pub loop-chain-init : goal.loop-chain-init
@@ -260,9 +261,9 @@ returns-in-Err-Refused-clause-err g c =
       file_at now digest bytes at.chain at.texts at.rest.now way (λ (found : Next). found ≡ whole text)
           (sym c.in-Whole.ensures.next),
       next_place now digest bytes at.chain at.texts at.rest.now way,
-      subst (λ (by : List (List ℕ) → List ℕ → Type 0). by (onto way.texts []) text)
+      subst (λ (by : List (List ℕ) → List ℕ → Type 0). by (reverse way.texts) text)
           (ap g.M.Machine.refuses at.invariant.1)
-          (c.take.ensures.refused digest (onto way.texts []) (search rules) way.stands),
+          (c.take.ensures.refused digest (reverse way.texts) (search rules) way.stands),
     )
 
 pub returns-in-Err-NoMemory-clause-err : goal.returns-in-Err-NoMemory-clause-err
