@@ -1,5 +1,5 @@
 -- What an exchange says of bytes.
---     ReportedBytes      if contracts see the bytes of a connection, its request was their beginning
+--     ReportedBytes      if contracts see a connection's bytes, its request was their beginning
 use Rattle.std.specs.Prelude.{◌≡◌, ◌++◌, ℕ, List, Some}
 use Rattle.clock_device.specs.Reports.{Reading}
 use Rattle.clock_connections.specs.Arrivals.{HasArrived}

@@ -10,9 +10,9 @@ use std::net::{TcpListener, TcpStream};
 
 /// A source of connections, one after the other, each closed before the next.
 ///
-/// In contracts, an acceptor shows the bytes of the connections still to come, and what was read and
-/// sent on each closed one. `None` means that it does not show this. No two connections are open at
-/// once, so each source belongs to one.
+/// In contracts, an acceptor shows the bytes of the connections still to come, and what was read
+/// and sent on each closed one. `None` means that it does not show this. No two connections are
+/// open at once, so each source belongs to one.
 pub trait Acceptor {
     type Reader: Source;
 

@@ -40,7 +40,8 @@ fn serve_one<P: Processor, K: RequestLog, R: Source>(
 ) -> Result<Option<Response>, Failed>
     requires unread { IsUnread (R.report source.old) }
     requires unfailed { (K.journal log.old).has_failed ≡ false }
-    ensures served { EndsTaken (record { before = R.report source.old; after = R.report source.new })
+    ensures served { EndsTaken
+        (record { before = R.report source.old; after = R.report source.new })
         (K.journal log.old) (K.journal log.new) front.old front.new result }
     ensures unfailed { OnOk result ((K.journal log.new).has_failed ≡ false) }
     ensures rounds { K.rounds log.new ≡ K.rounds log.old }
