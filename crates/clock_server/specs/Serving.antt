@@ -7,7 +7,6 @@
 --     Walks setup before exchanges after      this holds of each of these connections, in order
 --     AreServed exchanges ..      all of these connections were served
 --     IsUnlogged reading ..      the text that was read could not be logged
---     is_accept_fault result      a connection could not be accepted
 --     EndsServing count exchanges .. result      how serving `count` connections ends
 use Rattle.std.specs.Prelude.{◌≡◌, ◌<◌, ◌≤◌, ◌⊎◌, ◌++◌, ℕ, Bool, true, false, List, [], ◌∷◌, length}
 use Rattle.std.specs.Prelude.{Option, Result, Ok, Err, reverse}
@@ -85,11 +84,6 @@ pub record IsUnlogged (reading : Reading) (journal_old journal_new : JournalStat
   pub failed : journal_new.has_failed ≡ true
   pub moments : LeavesOneMore text journal_old journal_new
   pub on_disk : journal_new.synced ≡ journal_old.synced
-
--- a connection could not be accepted
-abbrev pub is_accept_fault : {U : Type 0} → Result U ServeFault → Bool
-is_accept_fault (Err fault.Accept) = true
-is_accept_fault result = false
 
 -- all were served; or those before one that could not be accepted; or those before the last one,
 -- whose text could not be logged: it got no reply, and no round that it closed was reported

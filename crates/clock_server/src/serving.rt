@@ -1,11 +1,11 @@
-ghost use Rattle.std.specs.Prelude.{◌≡◌, List, OnOk, None, false};
+ghost use Rattle.std.specs.Prelude.{◌≡◌, ◌↔◌, List, IfErr, OnOk, None, false, true};
 ghost use Rattle.clock_device.specs.Reports.{IsUnread};
 ghost use Rattle.clock_server.specs.Keeping.{GrowsBy, no_journal};
 ghost use Rattle.clock_server.specs.Exchanges.{Came, Exchange, bytes_given};
 ghost use Rattle.clock_server.specs.Laws.{ReportedBytes};
-ghost use Rattle.clock_server.specs.Serving.{EndsServing, is_accept_fault};
+ghost use Rattle.clock_server.specs.Serving.{EndsServing};
 ghost use Rattle.clock_server.specs.inside.Served.{EndsOne, EndsTaken, IsReported, effect_of};
-ghost use Rattle.clock_server.specs.inside.Served.{reply_bytes as reply_bytes_of};
+ghost use Rattle.clock_server.specs.inside.Served.{is_accept_fault, reply_bytes as reply_bytes_of};
 
 use crate::acceptor::{Acceptor, PortAcceptor};
 use crate::keeping::{NoLog, RequestLog};
@@ -137,7 +137,9 @@ pub fn serve_all<P: Processor, K: RequestLog, C: Acceptor>(
         × EndsServing count exchanges (K.rounds log.old) (K.rounds log.new) (K.journal log.old)
         (K.journal log.new) front.old front.new result }
     ensures closed { C.offer connections.new ≡ None }
-    ensures taken { C.has_failed connections.new ≡ is_accept_fault result }
+    ensures taken { OnOk result (C.has_failed connections.new ≡ false) }
+    ensures untaken { IfErr result
+        (λ fault. (C.has_failed connections.new ≡ true) ↔ (fault ≡ ServeFault.Accept)) }
     ensures setup { front.new.setup ≡ front.old.setup }
 {
     for _connection in 0..count {

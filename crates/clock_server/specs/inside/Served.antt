@@ -6,8 +6,10 @@
 --     effect_of served, bytes_of served      what the request changed, and the bytes of its reply
 --     reply_bytes result      the bytes that are sent
 --     IsReported old new effect      the closed round, if any, was reported
+--     is_accept_fault result      a connection could not be accepted
 --     EndsOne coming_old coming_new .. result      how accepting and serving one ends
 use Rattle.std.specs.Prelude.{◌≡◌, ◌⊎◌, ℕ, List, [], ◌∷◌, Option, Some, None, Result, Ok, Err}
+use Rattle.std.specs.Prelude.{Bool, true, false}
 use Rattle.clock_house.specs.House.{HouseFields}
 use Rattle.clock_device.specs.Reports.{Reading}
 use Rattle.clock_connections.specs.Arrivals.{HasArrived, HasNoMemory, IsNotRead}
@@ -70,6 +72,11 @@ reply_bytes (Err failed) = []
 abbrev pub IsReported : Option (List ℕ) → Option (List ℕ) → Effect → Type 0
 IsReported rounds_old rounds_new (Closing round) = GrowsBy rounds_old rounds_new (round ∷ [])
 IsReported rounds_old rounds_new effect = rounds_new ≡ rounds_old
+
+-- a connection could not be accepted
+abbrev pub is_accept_fault : {U : Type 0} → Result U ServeFault → Bool
+is_accept_fault (Err fault.Accept) = true
+is_accept_fault result = false
 
 -- how serving one connection ends: it was served, and its closing reported; or it could not be
 -- accepted, and nothing changed; or its text could not be logged
