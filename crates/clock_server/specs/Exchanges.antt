@@ -28,9 +28,8 @@ pub record Sends (one : Exchange) (reply : List ℕ) (journal : JournalState) : 
 
 -- these were the first of the connections to come, in order; the rest is still to come
 abbrev pub Came : Option (List (List ℕ)) → Option (List (List ℕ)) → List (Option (List ℕ)) → Type 0
-Came None left given = Unit {0}
-Came (Some coming) left given =
-    (rest : List (List ℕ)) × (left ≡ Some rest) × (map Some coming ≡ given ++ map Some rest)
+Came coming left given = IfSome coming (λ all. (rest : List (List ℕ)) × (left ≡ Some rest)
+    × (map Some all ≡ given ++ map Some rest))
 
 -- what the source of each had when the connection was accepted
 abbrev pub bytes_given : List Exchange → List (Option (List ℕ))

@@ -9,7 +9,7 @@
 --     GrowsBy old new more      exactly these were appended, if contracts see the list
 --     no_journal      the journal of a server that logs nothing
 use Rattle.std.specs.Prelude.{◌≡◌, ◌++◌, ℕ, Bool, true, false, List, [], ◌∷◌, Option, Some, None}
-use Rattle.std.specs.Prelude.{if◌then◌else◌, reverse}
+use Rattle.std.specs.Prelude.{IfSome, if◌then◌else◌, reverse}
 use Rattle.clock_terms.specs.Limits.{SetupFields}
 use Rattle.clock_front.specs.Effects.{effect}
 use Rattle.clock_front.specs.declared.front.response.Effect.{Effect}
@@ -46,8 +46,7 @@ LogsChange effect text old new = IsAppended text old new
 
 -- exactly these were appended, in order, if contracts see the list
 abbrev pub GrowsBy : {A : Type 0} → Option (List A) → Option (List A) → List A → Type 0
-GrowsBy (Some old) new more = new ≡ Some (old ++ more)
-GrowsBy None new more = Unit {0}
+GrowsBy old new more = IfSome old (λ list. new ≡ Some (list ++ more))
 
 -- a journal that shows nothing and has not failed: nothing is logged
 abbrev pub no_journal : JournalState
