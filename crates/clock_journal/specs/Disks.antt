@@ -13,8 +13,7 @@ use Rattle.std.specs.Prelude.{None, Result, Ok, Err, option_map}
 abbrev pub MayBeLeft : Option (List ℕ) → Option (List ℕ) → List ℕ → Type 0
 MayBeLeft (Some synced) (Some written) left =
     (count : ℕ) × (length synced ≤ count) × (left ≡ take count written)
-MayBeLeft (Some synced) None left = ⊥
-MayBeLeft None written left = ⊥
+MayBeLeft synced written left = ⊥
 
 -- a moment: what is on the disk, and all that was written
 pub record Moment : Type 0 where

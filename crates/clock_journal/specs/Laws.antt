@@ -15,8 +15,7 @@ EveryFront = (digest bytes : List ℕ) (texts : List (List ℕ)) (least count : 
     → length (file_of digest (take least texts)) ≤ count
     → LeavesTexts digest (take count bytes) texts least
 
--- what is read of a file, up to what is no whole record, begins with the texts of every journal
--- that the file begins with. So a file is that of one list of texts only
+-- if a file begins with a journal, it has its texts first: so it has one list of texts only
 abbrev pub WhateverFollows : Type 0
 WhateverFollows = (digest bytes : List ℕ) (first texts : List (List ℕ))
     → BeginsWithTexts digest bytes first

@@ -15,8 +15,7 @@ use Rattle.clock_journal.specs.declared.recovery.Recovered.{Recovered}
 use Rattle.clock_journal.specs.declared.recovery.JournalFault.{JournalFault}
 use Rattle.clock_journal.specs.declared.recovery.JournalFault.TheVariants as fault
 
--- up to the end that was recovered, the file is the journal of the texts; what follows is nothing
--- or a torn record. Or the file is less than a head, and the journal begins again
+-- the file is the journal of the texts up to `end`; or it is less than a head, and begins again
 pub record AreTextsOf (digest bytes : List ℕ) (texts : List (List ℕ)) (recovered : Recovered)
     : Type 0 where
   pub chain_is : recovered.chain ≡ last_link digest texts

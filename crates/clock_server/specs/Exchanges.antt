@@ -10,16 +10,14 @@ use Rattle.std.specs.Prelude.{Option, Some, None, IfSome}
 use Rattle.clock_device.specs.Reports.{Reading}
 use Rattle.clock_journal.specs.Logged.{JournalState}
 
--- all reads; the bytes that were sent, if contracts see them; whether sending failed; and the
--- journal when the first byte was sent, if contracts see it
+-- what was read, what was sent, whether that failed, and the journal when the first byte was sent
 pub record Exchange : Type 0 where
   pub reading : Reading
   pub sent : Option (List ℕ)
   pub has_failed : Bool
   pub logged : Option JournalState
 
--- the reply was sent, or a prefix of it if that failed, and nothing else; this was the journal when
--- the first byte was sent. An empty reply is none
+-- the reply was sent, or a prefix if that failed, over this journal; an empty reply is none
 pub record Sends (one : Exchange) (reply : List ℕ) (journal : JournalState) : Type 0 where
   pub count : ℕ
   pub sent : IfSome one.sent (λ sent. sent ≡ take count reply)

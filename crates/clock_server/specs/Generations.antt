@@ -59,8 +59,7 @@ pub record ServesFrom (setup : SetupFields) (digest : List ℕ) (texts : List (L
   pub few : length more ≤ 1
   pub own : IsOwnFile setup digest (last.texts ++ more) (length last.texts) end
 
--- on an auction's own file a start fails only because of memory or the disk, and a crash since
--- leaves the same texts; or it serves from these texts
+-- on an auction's own file it serves; or memory or the disk failed, and a crash leaves the same
 abbrev pub IsGeneration : SetupFields → List ℕ → Generation → Type 0
 IsGeneration setup digest (failed found fault end) =
     (texts : List (List ℕ)) (least : ℕ) (synced : List ℕ) → found.synced ≡ Some synced

@@ -73,8 +73,7 @@ AreServed exchanges rounds_old rounds_new journal_old journal_new old new =
     exchanges (record { texts = end; journal = journal_new; rounds = rounds_new })
     × StandsForTexts (reverse end) new
 
--- an accepted text could not be logged, since a call of the disk has failed. A crash leaves the
--- texts before, and at most this one more
+-- an accepted text was not logged, since the disk failed; a crash leaves at most this one more
 pub record IsUnlogged (reading : Reading) (journal_old journal_new : JournalState)
     (old : HouseFields) : Type 0 where
   pub text : List ℕ
