@@ -39,8 +39,7 @@ HasHead digest bytes = take (length (head digest)) bytes ≡ take (length bytes)
 abbrev pub HasSomeHead : List ℕ → Type 0
 HasSomeHead bytes = (digest rest : List ℕ) × (length digest ≡ 32) × (bytes ≡ head digest ++ rest)
 
--- the file has no head, or that of another set-up; or at `place`, after some texts, comes damage,
--- or a text that the machine refuses after those
+-- it has another head; or after some texts, at `place`, comes damage, or a text that is refused
 abbrev pub IsFound : (List (List ℕ) → List ℕ → Type 0) → List ℕ → List ℕ → JournalFault → Type 0
 IsFound refuses digest bytes fault.Unknown = (HasHead digest bytes → ⊥) × (HasSomeHead bytes → ⊥)
 IsFound refuses digest bytes fault.Setup = (HasHead digest bytes → ⊥) × HasSomeHead bytes

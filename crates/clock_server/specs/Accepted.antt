@@ -3,7 +3,6 @@
 --     IsOwnFile setup digest texts least journal      a crash leaves the first of these accepted
 --         texts, at least `least`
 --     IsNotRefused fault      memory ran out, or a call of the disk has failed
---     OwnStarts      a start on an auction's own file fails for no other reason
 use Rattle.std.specs.Prelude.{◌≡◌, ◌⊎◌, ℕ, List, [], ◌∷◌}
 use Rattle.clock_terms.specs.Limits.{SetupFields}
 use Rattle.clock_house.specs.House.{HouseFields}
@@ -32,10 +31,3 @@ pub record IsOwnFile (setup : SetupFields) (digest : List ℕ) (texts : List (Li
 -- memory ran out, or a call of the disk has failed
 abbrev pub IsNotRefused : ResumeFault → Type 0
 IsNotRefused fault = (fault ≡ Refused NoMemory) ⊎ (fault ≡ Failed)
-
--- if a crash left the journal of accepted texts, a start fails only because of memory or the disk
-abbrev pub OwnStarts : Type 0
-OwnStarts = (setup : SetupFields) (digest bytes : List ℕ) (texts : List (List ℕ)) (least : ℕ)
-    (house : HouseFields) (fault : ResumeFault) → AreAccepted setup [] texts
-    → LeavesJournal digest bytes texts least → IsNotResumed setup digest bytes house fault
-    → IsNotRefused fault

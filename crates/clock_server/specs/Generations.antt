@@ -43,8 +43,7 @@ pub data Generation : Type 0 where
   failed : JournalState → ResumeFault → JournalState → Generation
   served : JournalState → List Exchange → JournalState → Generation
 
--- it resumes with the first `count` of these texts, and serves these connections. Then a crash
--- leaves all texts that are logged, and at most one more, which is accepted
+-- it resumes with the first texts, and serves; a crash then leaves all that are logged, or one more
 pub record ServesFrom (setup : SetupFields) (digest : List ℕ) (texts : List (List ℕ)) (least : ℕ)
     (exchanges : List Exchange) (end : JournalState) : Type 0 where
   pub count : ℕ

@@ -49,8 +49,7 @@ RepliesTo setup before one after =
     ⊎ (IsOutOfMemoryReply text answer × (after ≡ before))))
     ⊎ (EndsUnanswered one after.journal × (after ≡ before))
 
--- the reply is right. If all texts before were on the disk, all texts after are. Then a crash at
--- any moment since leaves the texts before, and at most the one logged now
+-- the reply is right; a journal with all texts before has those after, and a crash leaves either
 pub record LogsText (setup : SetupFields) (before : ServerState) (one : Exchange)
     (after : ServerState) : Type 0 where
   pub replies : RepliesTo setup before one after

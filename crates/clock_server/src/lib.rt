@@ -18,4 +18,4 @@ pub use acceptor::{Acceptor, PortAcceptor};
 pub use generation::{GenerationFault, law_of_generations, serve_from};
 pub use keeping::{NoLog, RequestLog};
 pub use serving::{ServeFault, law_reported_bytes, serve_all, serve_on};
-pub use taking::{ReplayedAuction, ResumeFault, law_of_starts, resume_auction, take_text};
+pub use taking::{ReplayedAuction, ResumeFault, resume_auction, take_text};

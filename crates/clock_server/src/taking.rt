@@ -3,7 +3,7 @@ ghost use Rattle.clock_journal.specs.Crash.{BeginsWithTexts, LeavesJournal, Stay
 ghost use Rattle.clock_journal.specs.{Logged.{HasTexts}, Recovering.{AreTextsOf}};
 ghost use Rattle.clock_terms.specs.Limits.{SetupFields};
 ghost use Rattle.clock_front.specs.{Effects.{effect as effect_of}, Fronts.{StandsForTexts}};
-ghost use Rattle.clock_server.specs.{Accepted.{OwnStarts}, Keeping.{IsRefused}};
+ghost use Rattle.clock_server.specs.{Accepted.{AreAccepted, IsNotRefused}, Keeping.{IsRefused}};
 ghost use Rattle.clock_server.specs.{Starts.{IsLeftBy, IsNotResumed}};
 ghost use Rattle.clock_server.specs.inside.Taken.{taken_as};
 
@@ -78,10 +78,9 @@ pub enum ResumeFault {
 /// A file has one list of texts only, by [`law_of_journals`](clock_journal::law_of_journals). So of
 /// a file that a crash left, the auction takes every text that was on the disk, and at most the one
 /// that was being appended. If the file begins with a journal, it takes the texts of that first.
-/// What a crash left of this auction's journal is never reported as unknown, as of another set-up,
-/// or as damaged.
 ///
-/// `refused`: a refused file is not changed, and `Failed` means that a call of the disk failed.
+/// `own`: what a crash left of this auction's own journal, with accepted texts only, is not refused.
+/// A start on it fails only if memory runs out or a call of the disk fails. `refused`: a refused file is not changed, and `Failed` means that a call of the disk failed.
 /// `crash`, `any_tail`: if a crash before this call leaves these texts, so does a crash at any
 /// moment of the call, also at `Err`.
 ///
@@ -102,6 +101,9 @@ pub fn resume_auction<P: Processor, D: Durable, F: FnOnce(Recovered)>(
         × (journal.old.written ≡ Some bytes.now → HasTexts journal.old.chain texts journal.new)) }
     ensures err { IfErr result (IsNotResumed auction.old.front.setup journal.old.chain bytes.now
         auction.new.front) }
+    ensures own { (texts : List (List ℕ)) (least : ℕ)
+        → AreAccepted auction.old.front.setup [] texts
+        → LeavesJournal journal.old.chain bytes.now texts least → IfErr result IsNotRefused }
     ensures refused { IfErr result (IsLeftBy journal.old journal.new) }
     ensures crash { (synced : List ℕ) (texts : List (List ℕ)) (least : ℕ)
         → journal.old.written ≡ Some bytes.now → journal.old.synced ≡ Some synced
@@ -124,10 +126,3 @@ pub fn resume_auction<P: Processor, D: Durable, F: FnOnce(Recovered)>(
         Err(Failed) => Err(ResumeFault::Failed),
     }
 }
-
-/// A law, which does nothing when it runs: if each text of a journal was accepted when it was
-/// logged, no start on what a crash left of it is refused. A start fails only if memory runs out or
-/// a call of the disk fails. The last premise is the clause `err` of [`resume_auction`].
-pub fn law_of_starts()
-    ensures { OwnStarts }
-{}

@@ -1,5 +1,4 @@
 use Rattle.std.proofs.Common.{[], refl}
-use Rattle.clock_server.proofs.AcceptedLaws.{own_starts}
 use Rattle.clock_server.proofs.GenerationLaws.{ends_by_fault, own_left, served_all}
 use Rattle.clock_server.proofs.Walking.{came_none, grown_none}
 use Rattle.clock_server.proofs.generation.serve_from.Goals as goal
@@ -19,7 +18,7 @@ returns-in-Err-clause-generation g c =
         now.refused,
         λ written texts least synced is own.
             let leaves = own_left setup found.chain texts least found synced bytes is written own in (
-              own_starts setup found.chain bytes texts least auction.front c.in-Err.fault own.accepted leaves now.err,
+              now.own texts least own.accepted leaves,
               now.crash synced texts least written is own.leaves,
             ),
       ),

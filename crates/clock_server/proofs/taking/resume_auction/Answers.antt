@@ -1,8 +1,10 @@
-use Rattle.std.proofs.Common.{List, ℕ, refl, subst}
+use Rattle.std.proofs.Common.{List, ℕ, inr, refl, subst}
 use Rattle.clock_journal.specs.Crash.{BeginsWithTexts, LeavesJournal}
 use Rattle.clock_journal.specs.Recovering.{IsFound}
 use Rattle.clock_journal.proofs.Passing.{leave_none}
 use Rattle.clock_server.specs.Keeping.{IsRefused}
+use Rattle.clock_server.specs.declared.taking.ResumeFault.TheVariants.{Refused}
+use Rattle.clock_server.proofs.AcceptedLaws.{own_starts}
 use Rattle.clock_server.proofs.TakenUp.{replayed}
 use Rattle.clock_server.proofs.taking.resume_auction.Goals as goal
 
@@ -11,6 +13,11 @@ use Rattle.clock_server.proofs.taking.resume_auction.Goals as goal
 pub returns-in-Err-clause-err : goal.returns-in-Err-clause-err
 returns-in-Err-clause-err g c = subst (λ (digest : List ℕ). IsFound (IsRefused c.args.auction.now.front.setup) digest
     c.args.bytes.now c.in-Err.fault) c.chain.ensures c.in-Err.ensures.err
+
+pub returns-in-Err-clause-own : goal.returns-in-Err-clause-own
+returns-in-Err-clause-own g c texts least accepted leaves =
+    own_starts c.args.auction.now.front.setup c.args.journal.now.chain c.args.bytes.now texts least
+    c.recover.new.machine.front (Refused c.in-Err.fault) accepted leaves (returns-in-Err-clause-err g c)
 
 pub returns-in-Err-clause-refused : goal.returns-in-Err-clause-refused
 returns-in-Err-clause-refused g c = refl
@@ -64,3 +71,9 @@ returns-in-Err-resume-clause-any_tail g c synced texts written on_disk =
     let up = replayed c.recover.new.machine.front c.chain.result.now c.args.journal.now.chain c.args.bytes.now
     c.in-Ok.recovered c.chain.ensures c.in-Ok.ensures.ok in
     c.resume.ensures.any_tail c.args.bytes.now synced up.texts texts written on_disk up.are
+
+pub returns-in-Err-resume-clause-own : goal.returns-in-Err-resume-clause-own
+returns-in-Err-resume-clause-own g c texts least accepted leaves = inr refl
+
+pub returns-in-Ok-resume-clause-own : goal.returns-in-Ok-resume-clause-own
+returns-in-Ok-resume-clause-own g c texts least accepted leaves = tt
