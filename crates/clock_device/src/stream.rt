@@ -1,4 +1,4 @@
-ghost use Rattle.std.specs.Prelude.{◌≡◌, ◌||◌, vec_len, IfOk, is_err};
+ghost use Rattle.std.specs.Prelude.{◌≡◌, ◌≤◌, ◌||◌, length, vec_len, IfOk, OnErr, is_err};
 ghost use Rattle.std.specs.Io.{ReadsAtMost, KnownBytes.{ReadConsumes, WriteAppends}};
 ghost use Rattle.clock_device.specs.Calls.{count_after, interruptions_after, is_failed_read};
 ghost use Rattle.clock_device.specs.Streams.{CountsTaken, WritesText};
@@ -71,10 +71,11 @@ pub trait Sink {
             ≡ ((report self.old).has_failed || is_err result) };
 }
 
-/// Writes all bytes, or a prefix of them if a write fails.
+/// Writes all bytes, or a prefix of them if a write fails. Makes no write if there are none.
 pub fn write_all<W: Sink>(sink: &mut W, bytes: &[u8]) -> Result<(), Failed>
     ensures bytes { WritesText (W.report sink.old).taken
         (W.report sink.new).taken bytes.now result }
+    ensures tried { OnErr result (1 ≤ length bytes.now) }
     ensures failed { (W.report sink.new).has_failed
         ≡ ((W.report sink.old).has_failed || is_err result) }
 {

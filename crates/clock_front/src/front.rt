@@ -14,7 +14,7 @@ mod callers;
 mod replies;
 mod response;
 
-use crate::front::answering::{answer_request, refusing};
+use crate::front::answering::{answer_request, refusal_response};
 use crate::front::callers::{Tokens, caller_of, tokens_of};
 use crate::front::replies::fixed_reply;
 use crate::front::response::unchanged;
@@ -106,7 +106,7 @@ impl<P: Processor> Front<P> {
     {
         self.house.law_of_house();
         match framing {
-            Framing::NeedMore => refusing(self.alloc, Refusal::bare(Code::CutShort)),
+            Framing::NeedMore => refusal_response(self.alloc, Refusal::bare(Code::CutShort)),
             Framing::Refused(code) => Ok(unchanged(fixed_reply(code))),
             Framing::Whole { head, body } => {
                 let caller = caller_of(&self.base.tokens, head.token);

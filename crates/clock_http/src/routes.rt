@@ -1,4 +1,4 @@
-ghost use Rattle.std.specs.Prelude.{◌≡◌, [], OnOk, IsOk};
+ghost use Rattle.std.specs.Prelude.{◌≡◌, [], OnOk};
 ghost use Rattle.clock_http.specs.Heads.{same_bytes};
 ghost use Rattle.clock_http.specs.Routes as spec;
 ghost use Rattle.clock_http.specs.inside.Routing as routing;
@@ -29,17 +29,10 @@ pub enum Page {
     Results,
 }
 
-/// Adds a route, unless one before was refused. Its error stands for any error of the router.
-fn add_route(
-    router: &mut Router<Page>,
-    before: Result<(), NoMemory>,
-    path: &str,
-    page: Page,
-) -> Result<(), NoMemory>
-    ensures { OnOk result
-        (IsOk before × (router.new ≡ routing.with_route path.now page router.old)) }
+/// Adds a route. Its error stands for any error of the router.
+fn add_route(router: &mut Router<Page>, path: &str, page: Page) -> Result<(), NoMemory>
+    ensures { OnOk result (router.new ≡ routing.with_route path.now page router.old) }
 {
-    before?;
     let Ok(()) = router.insert(path, page) else {
         return Err(NoMemory);
     };
@@ -51,14 +44,15 @@ fn add_routes(router: &mut Router<Page>) -> Result<(), NoMemory>
     requires { router.old ≡ [] }
     ensures { OnOk result (router.new ≡ routing.table) }
 {
-    let done = add_route(router, Ok(()), "/v1/status", Page::Status);
-    let done = add_route(router, done, "/v1/products", Page::Products);
-    let done = add_route(router, done, "/v1/rounds/{n}", Page::Sheet);
-    let done = add_route(router, done, "/v1/me", Page::Account);
-    let done = add_route(router, done, "/v1/me/bids", Page::Bids);
-    let done = add_route(router, done, "/v1/me/rounds/{n}", Page::Slip);
-    let done = add_route(router, done, "/v1/close", Page::Close);
-    add_route(router, done, "/v1/results", Page::Results)
+    add_route(router, "/v1/status", Page::Status)?;
+    add_route(router, "/v1/products", Page::Products)?;
+    add_route(router, "/v1/rounds/{n}", Page::Sheet)?;
+    add_route(router, "/v1/me", Page::Account)?;
+    add_route(router, "/v1/me/bids", Page::Bids)?;
+    add_route(router, "/v1/me/rounds/{n}", Page::Slip)?;
+    add_route(router, "/v1/close", Page::Close)?;
+    add_route(router, "/v1/results", Page::Results)?;
+    Ok(())
 }
 
 /// Returns whether `method` is `wanted`. Methods are case-sensitive.
@@ -95,6 +89,7 @@ impl Routes {
         match add_routes(&mut router) {
             Ok(()) => Ok(Routes { router }),
             Err(refused) => {
+                // `drop` here keeps the proof small: at the end of the scope, each field is proved
                 drop(router);
                 Err(refused)
             }
@@ -105,13 +100,13 @@ impl Routes {
     pub fn page_of(&self, path: &[u8]) -> Option<Page>
         ensures { result ≡ spec.page_of path.now }
     {
-        match std::str::from_utf8(path) {
-            Ok(text) => match self.router.at(text) {
-                Ok(found) => Some(*found.value),
-                Err(_) => None,
-            },
-            Err(_) => None,
-        }
+        let Ok(text) = std::str::from_utf8(path) else {
+            return None;
+        };
+        let Ok(found) = self.router.at(text) else {
+            return None;
+        };
+        Some(*found.value)
     }
 }
 

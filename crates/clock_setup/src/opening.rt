@@ -144,6 +144,7 @@ fn opening_grid(
         push(&mut rows, row)?;
     }
     if !is_within(LEAST_INCREMENT, MOST_INCREMENT, increment) {
+        // each `drop` of this file keeps the proof small: at a scope's end each field is proved
         drop(rows);
         return Err(OpeningFault::Increment);
     }

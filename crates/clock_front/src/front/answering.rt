@@ -19,8 +19,8 @@ ghost use Rattle.clock_front.specs.inside.Changes.{change_asked};
 use crate::front::FixedParts;
 use crate::front::callers::Caller;
 use crate::front::replies::{
-    AnswerError, accepted, account, bids, closed, products, refusal, refused, results, sheet, slip,
-    status,
+    AnswerError, accepted, account, bare_refusal, bids, closed, products, refusal, results, sheet,
+    slip, status,
 };
 use crate::front::response::{Effect, Response, unchanged};
 use clock_bodies::{BodyFault, CloseBody, is_of_version, read_close, read_put};
@@ -33,7 +33,7 @@ use clock_views::Refusal;
 use std::alloc::Global;
 
 /// Refuses a request. The refusal fails only if its page could not be allocated.
-pub(crate) fn refusing(alloc: Global, why: Refusal) -> Result<Response, AnswerError>
+pub(crate) fn refusal_response(alloc: Global, why: Refusal) -> Result<Response, AnswerError>
     ensures response { IfOk result (λ response. response ≡ record {
       reply = answer_of (refused why);
       effect = Effect.Nothing;
@@ -58,8 +58,8 @@ fn refused_body(alloc: Global, fault: BodyFault) -> Result<Response, AnswerError
         → IfErr result (λ why. why ≡ unanswered.Room refusal_room) }
 {
     match fault {
-        BodyFault::NotJson => refusing(alloc, Refusal::bare(Code::BadJson)),
-        BodyFault::Shape => refusing(alloc, Refusal::bare(Code::Shape)),
+        BodyFault::NotJson => refusal_response(alloc, Refusal::bare(Code::BadJson)),
+        BodyFault::Shape => refusal_response(alloc, Refusal::bare(Code::Shape)),
         BodyFault::NoMemory => Err(AnswerError::Change),
     }
 }
@@ -96,7 +96,7 @@ fn put_sheet<P: Processor>(
             }
         },
         Err(PutFault::NoMemory) => Err(AnswerError::Change),
-        Err(fault) => refusing(alloc, Refusal::from(fault)),
+        Err(fault) => refusal_response(alloc, Refusal::from(fault)),
     }
 }
 
@@ -148,7 +148,7 @@ fn close_round<P: Processor>(
             }
         },
         Err(CloseFault::NoMemory) => Err(AnswerError::Change),
-        Err(why) => refusing(alloc, Refusal::from(why)),
+        Err(why) => refusal_response(alloc, Refusal::from(why)),
     }
 }
 
@@ -189,7 +189,7 @@ fn reply_without_change<P>(
         (asked.ask_by_route page (shown_head head.now) body) house.now result }
 {
     let Some(page) = page else {
-        return refused(alloc, Code::NoPage);
+        return bare_refusal(alloc, Code::NoPage);
     };
     if !page.has_method(head.method) {
         return refusal(alloc, Refusal::bare(Code::Method), Some(page));
@@ -204,8 +204,8 @@ fn reply_without_change<P>(
             slip(alloc, house, bidder, last_segment(head.path))
         }
         (Page::Results, Caller::Operator) => results(alloc, house),
-        (_, Caller::Nobody) => refused(alloc, Code::Token),
-        (_, _) => refused(alloc, Code::Role),
+        (_, Caller::Nobody) => bare_refusal(alloc, Code::Token),
+        (_, _) => bare_refusal(alloc, Code::Role),
     }
 }
 

@@ -81,7 +81,7 @@ pub(crate) fn refusal(alloc: Global, why: Refusal, page: Option<Page>) -> Result
 }
 
 /// Refuses a request with a code that shows no index and no round.
-pub(crate) fn refused(alloc: Global, code: Code) -> Result<Reply, NoRoom>
+pub(crate) fn bare_refusal(alloc: Global, code: Code) -> Result<Reply, NoRoom>
     requires { IsTrue (is_bare code) }
     ensures { IsPageIn (refusal_of code) refusal_room result }
 {
@@ -125,10 +125,10 @@ pub(crate) fn sheet<P>(alloc: Global, house: &House<P>, segment: &[u8]) -> Resul
     ensures { IsReplyOrFailure house.now who.Nobody (asked.sheet segment.now) result }
 {
     let Some(round) = plain_number(segment) else {
-        return refused(alloc, Code::NoRound);
+        return bare_refusal(alloc, Code::NoRound);
     };
     let Some(sheet) = house.sheet(round) else {
-        return refused(alloc, Code::NoRound);
+        return bare_refusal(alloc, Code::NoRound);
     };
     page_reply(headed_sheet(alloc, HEADROOM, house.setup(), sheet))
 }
@@ -169,10 +169,10 @@ pub(crate) fn slip<P>(
     ensures { IsReplyOrFailure house.now (who.Bidder bidder) (asked.slip segment.now) result }
 {
     let Some(round) = plain_number(segment) else {
-        return refused(alloc, Code::NoRound);
+        return bare_refusal(alloc, Code::NoRound);
     };
     let Some(slip) = house.slip(bidder, round) else {
-        return refused(alloc, Code::NoRound);
+        return bare_refusal(alloc, Code::NoRound);
     };
     page_reply(headed_slip(alloc, HEADROOM, slip))
 }

@@ -1,7 +1,6 @@
 -- An insert that succeeds sorts the route in.
-use Rattle.std.proofs.Common.{rules}
 use Rattle.clock_http.proofs.RouteLaws.{added}
 use Rattle.clock_http.proofs.routes.add_route.Goals as goal
 
 pub returns : goal.returns
-returns c = (search rules, added _ _ _ _ _ c.in-Ok.ensures)
+returns c = added _ _ _ _ _ c.in-Ok.ensures

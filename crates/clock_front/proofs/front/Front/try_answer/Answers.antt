@@ -30,23 +30,23 @@ returns-in-NeedMore-clause-response g c = λ text is.
     let who = caller house.setup (request_of text).token in
     let limits = subst (λ (h : HouseFields). IsSetup h.setup) c.self.view_is c.law_of_house.ensures.limits in
     let framed = ap shown_framing (sym c.in-NeedMore.is) ∙ is in
-    if_right c.refusing.result text house house limits
-    (refusal_right c.refusing.result who (request_of text).ask house c.bare.result c.refusing.ensures.response
-    (ap (λ (shown : Shown). answer_of (refused shown)) c.bare.ensures
-    ∙ away_reported house who text incomplete CutShort framed refl)
+    if_right c.refusal_response.result text house house limits (refusal_right c.refusal_response.result who
+    (request_of text).ask house c.bare.result c.refusal_response.ensures.response (ap (λ (shown : Shown).
+    answer_of (refused shown)) c.bare.ensures ∙ away_reported house who text incomplete CutShort framed refl)
     (away_command house.setup who text incomplete CutShort framed refl))
 
 pub returns-in-NeedMore-clause-wanted : goal.returns-in-NeedMore-clause-wanted
 returns-in-NeedMore-clause-wanted g c = λ text is.
     let house = c.args.self.now in
-    want_as c.refusing.result (λ why. why ≡ Room refusal_room) (FailsByAllocation text house)
+    want_as c.refusal_response.result (λ why. why ≡ Room refusal_room) (FailsByAllocation text house)
     (λ why wants. cut_short_want house text why (ap shown_framing (sym c.in-NeedMore.is) ∙ is) wants)
-    c.refusing.ensures.wanted
+    c.refusal_response.ensures.wanted
 
 pub returns-in-NeedMore-clause-wanted_privately : goal.returns-in-NeedMore-clause-wanted_privately
 returns-in-NeedMore-clause-wanted_privately g c = λ text is.
     let limits = subst (λ (h : HouseFields). IsSetup h.setup) c.self.view_is c.law_of_house.ensures.limits in
-    if_private_want c.refusing.result c.args.self.now text limits (returns-in-NeedMore-clause-wanted g c text is)
+    if_private_want c.refusal_response.result c.args.self.now text limits
+    (returns-in-NeedMore-clause-wanted g c text is)
 
 pub returns-in-Refused-clause-response : goal.returns-in-Refused-clause-response
 returns-in-Refused-clause-response g c = λ text is.

@@ -40,7 +40,7 @@ returns-in-Err-settled-clause-done g c =
     let judged = c.in-Err-settled.ensures in
     let faulty : closing_in house closing.round closing.increments closing.ties ≡ Err c.in-Err-settled.why =
     ap (closing_in house closing.round closing.increments) (sym c.as_slice.ensures) ∙ judged.answer (search rules) in
-    closing_refused c.refusing.result house c.prepare-settled.new.self (close_body c.args.body.now) closing
-    c.in-Err-settled.why (subst (λ (setup : SetupFields). in_version setup.version (close_body c.args.body.now)
-    ≡ Ok closing) c.setup.ensures c.in-Ok.ensures.ok) faulty c.from.result c.from.ensures c.refusing.ensures.response
-    (rw (← c.as_slice.ensures) (judged.followed (search rules))) judged.stands
+    closing_refused c.refusal_response.result house c.prepare-settled.new.self
+    (close_body c.args.body.now) closing c.in-Err-settled.why (subst (λ (setup : SetupFields). in_version setup.version
+    (close_body c.args.body.now) ≡ Ok closing) c.setup.ensures c.in-Ok.ensures.ok) faulty c.from.result c.from.ensures
+    c.refusal_response.ensures.response (rw (← c.as_slice.ensures) (judged.followed (search rules))) judged.stands

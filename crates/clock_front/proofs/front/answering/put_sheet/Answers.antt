@@ -29,6 +29,6 @@ returns-in-Err-accepted-clause-still g c = same_stands c.args.house.now
 pub returns-in-Err-prepare_sheet-clause-done : goal.returns-in-Err-prepare_sheet-clause-done
 returns-in-Err-prepare_sheet-clause-done g c =
     let judged = c.in-Err-prepare_sheet.ensures in
-    sheet_refused c.refusing.result c.args.house.now c.args.bidder (put_body c.args.body.now) c.in-Ok.sheet
-    c.in-Err-prepare_sheet.fault c.in-Ok.ensures.ok c.from.result c.from.ensures c.refusing.ensures.response
+    sheet_refused c.refusal_response.result c.args.house.now c.args.bidder (put_body c.args.body.now) c.in-Ok.sheet
+    c.in-Err-prepare_sheet.fault c.in-Ok.ensures.ok c.from.result c.from.ensures c.refusal_response.ensures.response
     (judged.answer (search rules)) (judged.followed (search rules))

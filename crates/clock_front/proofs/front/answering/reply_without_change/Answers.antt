@@ -15,7 +15,7 @@ use Rattle.clock_front.proofs.front.answering.reply_without_change.Goals as goal
 pub returns-in_default : goal.returns-in_default
 returns-in_default g c =
     λ body asks. subst (λ (page : Option Page). IsReplyOrFailure c.args.house.now c.args.caller (asked.ask_by_route page
-    (shown_head c.args.head.now) body) c.refused.result) (sym c.in_default.is) c.refused.ensures
+    (shown_head c.args.head.now) body) c.bare_refusal.result) (sym c.in_default.is) c.bare_refusal.ensures
 
 pub returns-in-Status-default : goal.returns-in-Status-default
 returns-in-Status-default g c = λ body asks.

@@ -3,15 +3,15 @@ use Rattle.std.proofs.Common.{None}
 use Rattle.clock_http.proofs.RouteLaws.{page_seen, no_page}
 use Rattle.clock_http.proofs.routes.Routes.page_of.Goals as goal
 
-pub returns-in-Err : goal.returns-in-Err
-returns-in-Err c = no_page _ c.in-Err.ensures.cases.0
+pub returns-in_default : goal.returns-in_default
+returns-in_default c = no_page _ c.in_default.ensures.cases.0
 
-pub returns-in-Err-at : goal.returns-in-Err-at
-returns-in-Err-at c =
+pub returns-in_default-at : goal.returns-in_default-at
+returns-in_default-at c =
     let text = c.in-Ok.ensures.cases in
-    page_seen _ _ _ None text.0 text.1 c.args.self.now.routed c.in-Err-at.ensures.missing
+    page_seen _ _ _ None text.0 text.1 c.args.self.now.routed c.in_default-at.ensures.missing
 
-pub returns-in-Ok-at : goal.returns-in-Ok-at
-returns-in-Ok-at c =
+pub returns : goal.returns
+returns c =
     let text = c.in-Ok.ensures.cases in
     page_seen _ _ _ _ text.0 text.1 c.args.self.now.routed c.in-Ok-at.ensures.found

@@ -7,7 +7,7 @@ use Rattle.clock_front.specs.Outcomes.{with_page}
 use Rattle.clock_front.specs.Rooms.{refusal_room}
 use Rattle.clock_front.specs.inside.Replies.{IsPageIn}
 use Rattle.clock_front.proofs.PageLaws.{both}
-use Rattle.clock_front.proofs.front.replies.refused.Goals as goal
+use Rattle.clock_front.proofs.front.replies.bare_refusal.Goals as goal
 
 pub bare-requires-clause-refused : goal.bare-requires-clause-refused
 bare-requires-clause-refused c =
