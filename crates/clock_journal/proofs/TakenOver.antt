@@ -1,7 +1,9 @@
 -- How a file begins, by what is compared, and what is read of what a crash left.
-use Rattle.std.proofs.Common.{◌≡◌, ◌≤◌, ◌<◌, ◌++◌, ℕ, true, false, List, [], ◌∷◌, length, take, drop, length-append, length-drop}
+use Rattle.std.proofs.Common.{◌≡◌, ◌≤◌, ◌<◌, ◌++◌, ℕ, true, false, List, [], ◌∷◌, length, take, drop, length-append}
+use Rattle.std.proofs.Common.{length-drop}
 use Rattle.std.proofs.Common.{bytes_eq, refl, sym, ap, ◌∙◌, subst, arith, inl, inr}
-use Rattle.std.proofs.lemmas.List.{append_assoc, length-take, length-take-le, take_all, take_at, take-append-drop, take-take}
+use Rattle.std.proofs.lemmas.List.{append_assoc, length-take, length-take-le, take_all, take_at, take-append-drop}
+use Rattle.std.proofs.lemmas.List.{take-take}
 use Rattle.clock_journal.specs.Format.{head, records, last_link}
 use Rattle.clock_journal.specs.Reading.{Next, damaged, ended, next}
 use Rattle.clock_journal.specs.Logged.{file_of}

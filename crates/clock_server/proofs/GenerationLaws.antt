@@ -197,7 +197,8 @@ continue_from setup digest texts least Leaves (served found exchanges end ∷ ot
     )
 
 empty_left : (digest left : List ℕ) → left ≡ [] → LeavesJournal digest left [] 0
-empty_left digest [] none = inr (refl, record { short = let some = some_head digest in omega (arith, some); front = refl })
+empty_left digest [] none =
+    inr (refl, record { short = let some = some_head digest in omega (arith, some); front = refl })
 empty_left digest (byte ∷ rest) none = let no : byte ∷ rest ≡ [] = none in absurd (let bad : ⊥ = cc in bad)
 
 pub generations : GenerationsContinue

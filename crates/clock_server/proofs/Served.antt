@@ -40,8 +40,8 @@ reported_as Sheet rounds_old rounds_new same =
 reported_as (Closing round) rounds_old rounds_new grows = grows
 
 -- what one connection made of the state before it
-pub record HasNext (setup : SetupFields) (past : List (List ℕ)) (one : Exchange) (journal_old journal_new : JournalState)
-    (rounds_old rounds_new : Option (List ℕ)) (new : HouseFields) : Type 0 where
+pub record HasNext (setup : SetupFields) (past : List (List ℕ)) (one : Exchange) (journal_old
+    journal_new : JournalState) (rounds_old rounds_new : Option (List ℕ)) (new : HouseFields) : Type 0 where
   pub next : List (List ℕ)
   pub logs : LogsText setup (state past journal_old rounds_old) one (state next journal_new rounds_new)
   pub stands : StandsForTexts (reverse next) new

@@ -5,13 +5,11 @@
 --     IsNotRefused fault      memory ran out, or a call of the disk has failed
 use Rattle.std.specs.Prelude.{◌≡◌, ◌⊎◌, ℕ, List, [], ◌∷◌}
 use Rattle.clock_terms.specs.Limits.{SetupFields}
-use Rattle.clock_house.specs.House.{HouseFields}
 use Rattle.clock_journal.specs.Crash.{LeavesJournal}
 use Rattle.clock_journal.specs.Disks.{MayBeLeft}
 use Rattle.clock_journal.specs.Logged.{JournalState}
 use Rattle.clock_journal.specs.declared.recovery.JournalFault.TheVariants.{NoMemory}
 use Rattle.clock_server.specs.Keeping.{IsAccepted}
-use Rattle.clock_server.specs.Starts.{IsNotResumed}
 use Rattle.clock_server.specs.declared.taking.ResumeFault.{ResumeFault}
 use Rattle.clock_server.specs.declared.taking.ResumeFault.TheVariants.{Refused, Failed}
 

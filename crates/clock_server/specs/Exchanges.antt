@@ -5,8 +5,8 @@
 --     Came old new given      connections with these bytes were accepted, in order; the others are
 --         still to come
 --     bytes_given exchanges      what the source of each had before it was read
-use Rattle.std.specs.Prelude.{◌≡◌, ◌≤◌, ◌++◌, ℕ, Bool, false, List, length, map, take}
-use Rattle.std.specs.Prelude.{Option, Some, None, IfSome}
+use Rattle.std.specs.Prelude.{◌≡◌, ◌≤◌, ◌++◌, ℕ, Bool, true, false, List, length, map, take}
+use Rattle.std.specs.Prelude.{Option, Some, IfSome}
 use Rattle.clock_device.specs.Reports.{Reading}
 use Rattle.clock_journal.specs.Logged.{JournalState}
 
@@ -22,6 +22,7 @@ pub record Sends (one : Exchange) (reply : List ℕ) (journal : JournalState) : 
   pub count : ℕ
   pub sent : IfSome one.sent (λ sent. sent ≡ take count reply)
   pub whole : one.has_failed ≡ false → length reply ≤ count
+  pub tried : one.has_failed ≡ true → 1 ≤ length reply
   pub logged : IfSome one.logged (λ logged. logged ≡ journal)
 
 -- these were the first of the connections to come, in order; the rest is still to come

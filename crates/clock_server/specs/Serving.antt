@@ -8,7 +8,7 @@
 --     AreServed exchanges ..      all of these connections were served
 --     IsUnlogged reading ..      the text that was read could not be logged
 --     EndsServing count exchanges .. result      how serving `count` connections ends
-use Rattle.std.specs.Prelude.{◌≡◌, ◌<◌, ◌≤◌, ◌⊎◌, ◌++◌, ℕ, Bool, true, false, List, [], ◌∷◌, length}
+use Rattle.std.specs.Prelude.{◌≡◌, ◌<◌, ◌≤◌, ◌⊎◌, ◌++◌, ℕ, true, List, [], ◌∷◌, length}
 use Rattle.std.specs.Prelude.{Option, Result, Ok, Err, reverse}
 use Rattle.clock_terms.specs.Limits.{SetupFields}
 use Rattle.clock_house.specs.House.{HouseFields}
@@ -83,7 +83,7 @@ pub record IsUnlogged (reading : Reading) (journal_old journal_new : JournalStat
   pub moments : LeavesOneMore text journal_old journal_new
   pub on_disk : journal_new.synced ≡ journal_old.synced
 
--- all were served; or those before one that could not be accepted; or those before the last one,
+-- all were served; or those before one that could not be accepted. Or those before the last one,
 -- whose text could not be logged: it got no reply, and no round that it closed was reported
 abbrev pub EndsServing : {U : Type 0} → ℕ → List Exchange → Option (List ℕ) → Option (List ℕ)
     → JournalState → JournalState → HouseFields → HouseFields → Result U ServeFault → Type 0

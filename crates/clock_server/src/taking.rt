@@ -1,11 +1,11 @@
-ghost use Rattle.std.specs.Prelude.{◌≡◌, [], ◌∷◌, List, ℕ, Err, IfErr, IfOk, OnOk, Some, false, reverse};
+ghost use Rattle.std.specs.Prelude.{◌≡◌, [], ◌∷◌, List, ℕ, Err, IfErr, IfOk, OnOk, Some, false};
+ghost use Rattle.std.specs.Prelude.{reverse};
 ghost use Rattle.clock_journal.specs.Crash.{BeginsWithTexts, LeavesJournal, StaysSo};
 ghost use Rattle.clock_journal.specs.{Logged.{HasTexts}, Recovering.{AreTextsOf}};
 ghost use Rattle.clock_terms.specs.Limits.{SetupFields};
 ghost use Rattle.clock_front.specs.{Effects.{effect as effect_of}, Fronts.{StandsForTexts}};
 ghost use Rattle.clock_server.specs.{Accepted.{AreAccepted, IsNotRefused}, Keeping.{IsRefused}};
-ghost use Rattle.clock_server.specs.{Starts.{IsLeftBy, IsNotResumed}};
-ghost use Rattle.clock_server.specs.inside.Taken.{taken_as};
+ghost use Rattle.clock_server.specs.{Starts.{IsLeftBy, IsNotResumed}, inside.Taken.{taken_as}};
 
 use clock_device::Failed;
 use clock_front::{Effect, Front};
@@ -79,10 +79,11 @@ pub enum ResumeFault {
 /// a file that a crash left, the auction takes every text that was on the disk, and at most the one
 /// that was being appended. If the file begins with a journal, it takes the texts of that first.
 ///
-/// `own`: what a crash left of this auction's own journal, with accepted texts only, is not refused.
-/// A start on it fails only if memory runs out or a call of the disk fails. `refused`: a refused file is not changed, and `Failed` means that a call of the disk failed.
-/// `crash`, `any_tail`: if a crash before this call leaves these texts, so does a crash at any
-/// moment of the call, also at `Err`.
+/// - `own`: on what a crash left of this auction's journal, a start fails only if memory runs out
+///   or a call of the disk fails.
+/// - `refused`: a refused file is not changed, and at `Failed` a call of the disk failed.
+/// - `crash`, `any_tail`: if a crash before this call leaves these texts, so does a crash at any
+///   moment of the call, also at `Err`.
 ///
 /// Requires an auction without texts, and a journal that has not failed. Errors, in this order:
 /// `Refused`, as [`recover`]; `Failed`. Do not use auction and journal after an `Err`.

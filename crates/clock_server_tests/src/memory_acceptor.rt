@@ -78,7 +78,7 @@ impl<'a> Model for MemoryAcceptor<'a> {
     ghost invariant = { λ l. (l.next ≤ length l.clients.now)
         × (length l.clients.now ≤ l.next + l.closed.room)
         × MatchBool (is_some l.sink) (length l.clients.now + 1 ≤ l.next + l.closed.room) (Unit {0})
-        × IfSome l.sink (λ sink. sink.taken ≡ []) };
+        × IfSome l.sink (λ sink. (sink.taken ≡ []) × (sink.has_failed ≡ false)) };
 }
 
 impl<'a> MemoryAcceptor<'a> {
