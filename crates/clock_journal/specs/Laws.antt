@@ -1,6 +1,6 @@
 -- Laws of every journal's file, whatever a crash leaves of it.
 --     EveryFront      a prefix of a file has the first of its texts
---     WhateverFollows      a file that begins with a journal has its texts first
+--     WhateverFollows      a file that begins with a journal has that journal's texts first
 --     ReadsBack      what reads as a text is its record, and the other way round
 use Rattle.std.specs.Prelude.{◌≡◌, ◌<◌, ◌≤◌, ◌++◌, ℕ, List, get_or, length, take}
 use Rattle.clock_journal.specs.Crash.{BeginsWithTexts, IsEnd, IsFile, LeavesTexts}
@@ -15,7 +15,7 @@ EveryFront = (digest bytes : List ℕ) (texts : List (List ℕ)) (least count : 
     → length (file_of digest (take least texts)) ≤ count
     → LeavesTexts digest (take count bytes) texts least
 
--- if a file begins with a journal, it has its texts first: so it has one list of texts only
+-- a file that begins with a journal has that journal's texts first: it has one list of texts only
 abbrev pub WhateverFollows : Type 0
 WhateverFollows = (digest bytes : List ℕ) (first texts : List (List ℕ))
     → BeginsWithTexts digest bytes first

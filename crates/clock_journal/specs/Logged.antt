@@ -24,7 +24,7 @@ abbrev pub HasTexts : List ℕ → List (List ℕ) → JournalState → Type 0
 HasTexts digest texts journal = (journal.written ≡ Some (file_of digest texts))
     × (journal.synced ≡ journal.written) × (journal.chain ≡ last_link digest texts) × All Fits texts
 
--- a journal that had some texts, all on its disk, has this one after them
+-- if all texts of a journal were on its disk, so are they and this one after them
 abbrev pub IsAppended : List ℕ → JournalState → JournalState → Type 0
 IsAppended text old new = (digest : List ℕ) (texts : List (List ℕ)) → HasTexts digest texts old
     → HasTexts digest (texts ++ text ∷ []) new

@@ -15,7 +15,7 @@ use Rattle.clock_journal.specs.declared.recovery.Recovered.{Recovered}
 use Rattle.clock_journal.specs.declared.recovery.JournalFault.{JournalFault}
 use Rattle.clock_journal.specs.declared.recovery.JournalFault.TheVariants as fault
 
--- the file is the journal of the texts up to `end`; or it is less than a head, and begins again
+-- up to `end` the file is their journal, then it ends or is torn; or it is less than a head
 pub record AreTextsOf (digest bytes : List ℕ) (texts : List (List ℕ)) (recovered : Recovered)
     : Type 0 where
   pub chain_is : recovered.chain ≡ last_link digest texts
@@ -23,7 +23,7 @@ pub record AreTextsOf (digest bytes : List ℕ) (texts : List (List ℕ)) (recov
   pub end_is : (IsFile digest bytes texts IsEnd × (recovered.end ≡ length (file_of digest texts)))
       ⊎ (IsPartOfHead digest bytes × (texts ≡ []) × (recovered.end ≡ 0))
 
--- numbered from 1, it begins where the texts before it (the newest first) end; the last digest
+-- its number from 1, where the texts before it (`past`, the newest first) end, and its digest
 abbrev pub record_at : List ℕ → List (List ℕ) → List ℕ → Record
 record_at digest past text = record {
   number = length past + 1;

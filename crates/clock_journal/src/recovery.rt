@@ -28,8 +28,8 @@ pub struct Record {
 
 /// What takes the texts of a journal, in order.
 ///
-/// In contracts, a machine stands for the texts that it took, the newest first. They are the first
-/// texts in the journal of the set-up document with a digest.
+/// In contracts, a machine stands for the texts that it took, the newest first: the first texts in
+/// the journal of the set-up document whose digest is the first argument.
 pub trait Machine {
     /// What decides whether it refuses a text. No text changes it.
     ghost Rules: { Type 0 } = { Unit {0} };

@@ -17,7 +17,7 @@ pub record Exchange : Type 0 where
   pub has_failed : Bool
   pub logged : Option JournalState
 
--- the reply was sent, or a prefix if that failed, over this journal; an empty reply is none
+-- the reply, or a prefix if a write failed, was sent when this was the journal; if empty, nothing
 pub record Sends (one : Exchange) (reply : List ℕ) (journal : JournalState) : Type 0 where
   pub count : ℕ
   pub sent : IfSome one.sent (λ sent. sent ≡ take count reply)

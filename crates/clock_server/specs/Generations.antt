@@ -43,7 +43,7 @@ pub data Generation : Type 0 where
   failed : JournalState → ResumeFault → JournalState → Generation
   served : JournalState → List Exchange → JournalState → Generation
 
--- it resumes with the first texts, and serves; a crash then leaves all that are logged, or one more
+-- it resumes with `count` texts, and serves; a crash then leaves all logged, and at most one more
 pub record ServesFrom (setup : SetupFields) (digest : List ℕ) (texts : List (List ℕ)) (least : ℕ)
     (exchanges : List Exchange) (end : JournalState) : Type 0 where
   pub count : ℕ
@@ -58,7 +58,7 @@ pub record ServesFrom (setup : SetupFields) (digest : List ℕ) (texts : List (L
   pub few : length more ≤ 1
   pub own : IsOwnFile setup digest (last.texts ++ more) (length last.texts) end
 
--- on an auction's own file it serves; or memory or the disk failed, and a crash leaves the same
+-- on its own file it serves; or memory ran out or the disk failed, and a crash leaves these texts
 abbrev pub IsGeneration : SetupFields → List ℕ → Generation → Type 0
 IsGeneration setup digest (failed found fault end) =
     (texts : List (List ℕ)) (least : ℕ) (synced : List ℕ) → found.synced ≡ Some synced

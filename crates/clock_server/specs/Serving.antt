@@ -37,9 +37,9 @@ pub record ServerState : Type 0 where
   pub journal : JournalState
   pub rounds : Option (List ℕ)
 
--- the request that was read got the right reply. Then it joins the texts if it is accepted, and the
--- round that it closed is reported. Or memory ran out, or no request could be read, and nothing
--- changed. Refused texts are left out: each reply is still right after all requests before it
+-- the request that was read got the right reply. If it is accepted, it joins the texts, and a round
+-- that it closed is reported. Or memory ran out, or no request could be read, and nothing changed.
+-- Refused texts are left out: they change nothing, so a reply is right after all requests before it
 abbrev pub RepliesTo : SetupFields → ServerState → Exchange → ServerState → Type 0
 RepliesTo setup before one after =
     ((text : List ℕ) × (answer : Answer) × HasArrived one.reading text
@@ -49,7 +49,7 @@ RepliesTo setup before one after =
     ⊎ (IsOutOfMemoryReply text answer × (after ≡ before))))
     ⊎ (EndsUnanswered one after.journal × (after ≡ before))
 
--- the reply is right; a journal with all texts before has those after, and a crash leaves either
+-- the reply is right; a journal that had the texts before has those after; a crash leaves either
 pub record LogsText (setup : SetupFields) (before : ServerState) (one : Exchange)
     (after : ServerState) : Type 0 where
   pub replies : RepliesTo setup before one after

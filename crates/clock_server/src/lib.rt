@@ -2,10 +2,9 @@
 //!
 //! [`serve_all`] accepts the connections of an [`Acceptor`] one after the other, and serves one
 //! request on each with a front. [`PortAcceptor`] is the acceptor of a port; clock_server_tests has
-//! one in memory. A [`RequestLog`] logs the accepted texts: a
-//! journal, or [`NoLog`], which logs nothing. [`resume_auction`] replays all texts of a file, and
-//! continues its journal. [`serve_from`] does both, and [`serve_on`] serves a port without a
-//! journal.
+//! one in memory. A [`RequestLog`] logs the accepted texts: a journal, or [`NoLog`], which logs
+//! nothing. [`resume_auction`] replays all texts of a file, and continues its journal.
+//! [`serve_from`] does that and then serves. [`serve_on`] serves a port without a journal.
 #![tactic(auto)]
 
 mod acceptor;

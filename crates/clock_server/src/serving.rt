@@ -30,8 +30,8 @@ pub enum ServeFault {
     Journal,
 }
 
-/// Reads one request, answers it, and logs it if it changed the auction. Returns `None` if no
-/// request could be read.
+/// Reads one request, answers it, and logs it if it changed the auction. Returns the response, or
+/// `None` if reading failed. If memory for the request ran out, the response says so.
 fn serve_one<P: Processor, K: RequestLog, R: Source>(
     alloc: Global,
     front: &mut Front<P>,
@@ -60,8 +60,7 @@ fn serve_one<P: Processor, K: RequestLog, R: Source>(
     }
 }
 
-/// The bytes of the reply. There are none if no request could be read, or if its text could not be
-/// logged.
+/// Returns the bytes of the reply: none if no request could be read, or its text was not logged.
 fn reply_bytes(served: &Result<Option<Response>, Failed>) -> &[u8]
     ensures { result.now ≡ reply_bytes_of served.now }
 {
@@ -138,7 +137,7 @@ pub fn serve_all<P: Processor, K: RequestLog, C: Acceptor>(
         (K.journal log.new) front.old front.new result }
     ensures closed { C.offer connections.new ≡ None }
     ensures taken { OnOk result (C.has_failed connections.new ≡ false) }
-    ensures untaken { IfErr result
+    ensures refused { IfErr result
         (λ fault. (C.has_failed connections.new ≡ true) ↔ (fault ≡ ServeFault.Accept)) }
     ensures setup { front.new.setup ≡ front.old.setup }
 {
