@@ -79,7 +79,7 @@ module _ (one : Exchange) (journal_old journal_new : JournalState) (rounds_old r
   still_so same same_rounds = ap (λ (journal : JournalState). state past journal rounds_new) same
       ∙ ap (state past journal_old) same_rounds
 
-  module _ (response : Response) (sends : Sends one response.reply.bytes journal_new)
+  module _ (response : Response) (sends : Sends one.writing one.logged response.reply.bytes journal_new)
       (reported : IsAnswered one.reading response journal_old journal_new old new)
       (told : IsReported rounds_old rounds_new response.effect)
       (fits : IsRightResponse reported.text old new response) where
@@ -124,7 +124,7 @@ module _ (one : Exchange) (journal_old journal_new : JournalState) (rounds_old r
     answered Sheet is logged = appended logged (right_reply Sheet is)
     answered (Closing round) is logged = appended logged (right_reply (Closing round) is)
 
-  responded : (response : Response) → Sends one response.reply.bytes journal_new
+  responded : (response : Response) → Sends one.writing one.logged response.reply.bytes journal_new
       → (reported : IsAnswered one.reading response journal_old journal_new old new)
       → IsReported rounds_old rounds_new response.effect → RespondsTo reported.text response old new
       → HasNext old.setup past one journal_old journal_new rounds_old rounds_new new
@@ -149,11 +149,11 @@ module _ (one : Exchange) (journal_old journal_new : JournalState) (rounds_old r
       (inr (ends, still_so same same_rounds))
 
   served_one : (served : Option Response) → IsServed one.reading served journal_old journal_new old new
-      → Sends one (bytes_of served) journal_new → IsReported rounds_old rounds_new (effect_of served)
+      → Sends one.writing one.logged (bytes_of served) journal_new → IsReported rounds_old rounds_new (effect_of served)
       → HasNext old.setup past one journal_old journal_new rounds_old rounds_new new
   served_one (Some response) (inl reported) sends told = responded response sends reported told reported.responds
-  served_one (Some response) (inr (memory, is, same, still)) sends told =
-      unanswered (inl (memory, subst (λ (r : Response). Sends one r.reply.bytes journal_new) is sends)) same
+  served_one (Some response) (inr (memory, is, same, still)) sends told = unanswered
+      (inl (memory, subst (λ (r : Response). Sends one.writing one.logged r.reply.bytes journal_new) is sends)) same
       (subst (λ (r : Response). IsReported rounds_old rounds_new r.effect) is told) still
   served_one None (unread, same, still) sends told = unanswered (inr (unread, sends)) same told still
 
@@ -165,10 +165,9 @@ served_none reported journal house past stands = (past, refl, stands)
 -- one more was served
 pub served_more : (exchanges : List Exchange) (one : Exchange) (served : Option Response)
     (rounds_old rounds_mid rounds_new : Option (List ℕ)) (journal_old journal_mid journal_new : JournalState)
-    (old mid new : HouseFields) → mid.setup ≡ old.setup
-    → AreServed exchanges rounds_old rounds_mid journal_old journal_mid old mid
-    → IsServed one.reading served journal_mid journal_new mid new → Sends one (bytes_of served) journal_new
-    → IsReported rounds_mid rounds_new (effect_of served)
+    (old mid new : HouseFields) → mid.setup ≡ old.setup → AreServed exchanges rounds_old rounds_mid journal_old
+    journal_mid old mid → IsServed one.reading served journal_mid journal_new mid new
+    → Sends one.writing one.logged (bytes_of served) journal_new → IsReported rounds_mid rounds_new (effect_of served)
     → AreServed (exchanges ++ one ∷ []) rounds_old rounds_new journal_old journal_new old new
 served_more exchanges one served rounds_old rounds_mid rounds_new journal_old journal_mid journal_new old mid new
     same before ends sends told past stands =

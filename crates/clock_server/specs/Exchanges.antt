@@ -1,29 +1,36 @@
 -- What contracts see of connections that are served one after the other. `None` means that
 -- contracts do not see it.
+--     Offer      what a connection has when it is accepted
 --     Exchange      what was read and sent on a connection until it was closed
---     Sends one reply journal      this reply was sent on it, and this was the journal then
+--     Sends writing logged reply journal      this reply was sent, and this was the journal then
 --     Came old new given      connections with these bytes were accepted, in order; the others are
 --         still to come
 --     bytes_given exchanges      what the source of each had before it was read
-use Rattle.std.specs.Prelude.{◌≡◌, ◌≤◌, ◌++◌, ℕ, Bool, true, false, List, length, map, take}
+use Rattle.std.specs.Prelude.{◌≡◌, ◌≤◌, ◌++◌, ℕ, true, false, List, length, map, take}
 use Rattle.std.specs.Prelude.{Option, Some, IfSome}
-use Rattle.clock_device.specs.Reports.{Reading}
+use Rattle.clock_device.specs.Reports.{Reading, SinkReport, SourceReport, Writing}
+use Rattle.clock_device.specs.Streams.{HasWritten}
 use Rattle.clock_journal.specs.Logged.{JournalState}
 
--- what was read, what was sent, whether that failed, and the journal when the first byte was sent
+-- what its source and its sink had when it was accepted
+pub record Offer : Type 0 where
+  pub source : SourceReport
+  pub sink : SinkReport
+
+-- all reads and writes, and the journal when the first byte was sent, if contracts see it
 pub record Exchange : Type 0 where
   pub reading : Reading
-  pub sent : Option (List ℕ)
-  pub has_failed : Bool
+  pub writing : Writing
   pub logged : Option JournalState
 
 -- the reply, or a prefix if a write failed, was sent when this was the journal; if empty, nothing
-pub record Sends (one : Exchange) (reply : List ℕ) (journal : JournalState) : Type 0 where
+pub record Sends (writing : Writing) (logged : Option JournalState) (reply : List ℕ)
+    (journal : JournalState) : Type 0 where
   pub count : ℕ
-  pub sent : IfSome one.sent (λ sent. sent ≡ take count reply)
-  pub whole : one.has_failed ≡ false → length reply ≤ count
-  pub tried : one.has_failed ≡ true → 1 ≤ length reply
-  pub logged : IfSome one.logged (λ logged. logged ≡ journal)
+  pub bytes : HasWritten writing.before.taken writing.after.taken (take count reply)
+  pub whole : writing.after.has_failed ≡ false → length reply ≤ count
+  pub tried : writing.after.has_failed ≡ true → 1 ≤ length reply
+  pub over : IfSome logged (λ seen. seen ≡ journal)
 
 -- these were the first of the connections to come, in order; the rest is still to come
 abbrev pub Came : Option (List (List ℕ)) → Option (List (List ℕ)) → List (Option (List ℕ)) → Type 0

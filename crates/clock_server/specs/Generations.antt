@@ -109,8 +109,7 @@ GenerationsContinue = (setup : SetupFields) (digest : List ℕ) (generations : L
     → AreRestarts setup digest (λ left. left ≡ []) generations
     → ContinueFrom setup digest [] 0 generations
 
--- if these are all bytes of the file, this was a generation, which served these connections. If a
--- text could not be logged, the last connection is not among them: it got no reply
+-- on these bytes of the file this was a generation; a connection that was not logged got no reply
 abbrev pub EndsGeneration : {U : Type 0} → SetupFields → ℕ → List Exchange → List ℕ
     → JournalState → JournalState → Result U GenerationFault → Type 0
 EndsGeneration setup count exchanges bytes found end (Ok done) = (length exchanges ≡ count)
@@ -123,5 +122,5 @@ EndsGeneration setup count exchanges bytes found end (Err (Serve fault.Accept)) 
     × (found.written ≡ Some bytes → IsGeneration setup found.chain (served found exchanges end))
 EndsGeneration setup count exchanges bytes found end (Err (Serve fault.Journal)) =
     (some : List Exchange) × (last : Exchange) × (exchanges ≡ some ++ last ∷ [])
-    × (length exchanges ≤ count) × Sends last [] end
+    × (length exchanges ≤ count) × Sends last.writing last.logged [] end
     × (found.written ≡ Some bytes → IsGeneration setup found.chain (served found some end))

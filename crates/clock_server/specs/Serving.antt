@@ -28,8 +28,8 @@ use Rattle.clock_server.specs.declared.serving.ServeFault.TheVariants as fault
 
 -- memory ran out, and the reply says so; or no request could be read, and nothing was sent
 abbrev pub EndsUnanswered : Exchange → JournalState → Type 0
-EndsUnanswered one journal = (HasNoMemory one.reading × Sends one no_memory.bytes journal)
-    ⊎ (IsNotRead one.reading × Sends one [] journal)
+EndsUnanswered one journal = (HasNoMemory one.reading × Sends one.writing one.logged no_memory.bytes
+    journal) ⊎ (IsNotRead one.reading × Sends one.writing one.logged [] journal)
 
 -- the accepted texts, the oldest first; the journal; and the reported rounds, if contracts see them
 pub record ServerState : Type 0 where
@@ -37,15 +37,13 @@ pub record ServerState : Type 0 where
   pub journal : JournalState
   pub rounds : Option (List ℕ)
 
--- the request that was read got the right reply. If it is accepted, it joins the texts, and a round
--- that it closed is reported. Or memory ran out, or no request could be read, and nothing changed.
--- Refused texts are left out: they change nothing, so a reply is right after all requests before it
+-- a request got the right reply. If it is accepted, it joins the texts, and what it closed is
+-- reported; else it changes nothing, and is left out. Or memory ran out, or no request was read
 abbrev pub RepliesTo : SetupFields → ServerState → Exchange → ServerState → Type 0
-RepliesTo setup before one after =
-    ((text : List ℕ) × (answer : Answer) × HasArrived one.reading text
-    × Sends one answer.bytes after.journal × ((IsRight setup (reverse before.texts) text answer
-    × (after.texts ≡ logged_after setup before.texts text) × GrowsBy before.rounds after.rounds
-    (round_closed (effect setup (reverse before.texts) text)))
+RepliesTo setup before one after = ((text : List ℕ) × (answer : Answer) × HasArrived one.reading
+    text × Sends one.writing one.logged answer.bytes after.journal × ((IsRight setup
+    (reverse before.texts) text answer × (after.texts ≡ logged_after setup before.texts text)
+    × GrowsBy before.rounds after.rounds (round_closed (effect setup (reverse before.texts) text)))
     ⊎ (IsOutOfMemoryReply text answer × (after ≡ before))))
     ⊎ (EndsUnanswered one after.journal × (after ≡ before))
 
@@ -83,8 +81,7 @@ pub record IsUnlogged (reading : Reading) (journal_old journal_new : JournalStat
   pub moments : LeavesOneMore text journal_old journal_new
   pub on_disk : journal_new.synced ≡ journal_old.synced
 
--- all were served; or those before one that could not be accepted. Or those before the last one,
--- whose text could not be logged: it got no reply, and no round that it closed was reported
+-- all were served, or those before one that was not accepted, or all but one that was not logged
 abbrev pub EndsServing : {U : Type 0} → ℕ → List Exchange → Option (List ℕ) → Option (List ℕ)
     → JournalState → JournalState → HouseFields → HouseFields → Result U ServeFault → Type 0
 EndsServing count exchanges rounds_old rounds_new journal_old journal_new old new (Ok done) =
@@ -98,4 +95,4 @@ EndsServing count exchanges rounds_old rounds_new journal_old journal_new old ne
     × (exchanges ≡ served ++ last ∷ []) × (length exchanges ≤ count) × (before : JournalState)
     × (house : HouseFields) × AreServed served rounds_old rounds_new journal_old before old house
     × (house.setup ≡ old.setup) × IsUnlogged last.reading before journal_new house
-    × Sends last [] journal_new
+    × Sends last.writing last.logged [] journal_new

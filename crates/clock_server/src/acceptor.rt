@@ -1,67 +1,80 @@
-ghost use Rattle.std.specs.Prelude.{◌≡◌, ◌||◌, ◌∷◌, [], ℕ, Bool, List, Option, IfOk, OnErr};
-ghost use Rattle.std.specs.Prelude.{IsSome, is_err, option_map, false, Some, None};
-ghost use Rattle.clock_device.specs.Reports.{IsUnread, SourceReport, unread};
+ghost use Rattle.std.specs.Prelude.{◌≡◌, ◌||◌, ◌∷◌, [], if◌then◌else◌, ℕ, Bool, List, Option};
+ghost use Rattle.std.specs.Prelude.{IfOk, IsSome, OnErr, is_err, false, Some, None};
+ghost use Rattle.clock_device.specs.Reports.{IsUnread, IsUnused, unread, unused};
 ghost use Rattle.clock_server.specs.Keeping.{GrowsBy};
-ghost use Rattle.clock_server.specs.Exchanges.{Came, Exchange, Sends};
+ghost use Rattle.clock_server.specs.Exchanges.{Came, Exchange, Offer};
 
-use crate::keeping::RequestLog;
-use clock_device::{Failed, FromReader, Source, ToWriter, write_all};
+use crate::outlet::Outlet;
+use clock_device::{Failed, FromReader, Source, ToWriter};
 use std::net::{TcpListener, TcpStream};
+
+/// An accepted connection: where its request comes from, and where its reply goes.
+#[derive(Drop)]
+pub struct Connection<R, W> {
+    pub source: R,
+    pub sink: W,
+}
 
 /// A source of connections, one after the other, each closed before the next.
 ///
 /// In contracts, an acceptor shows the bytes of the connections still to come, and what was read
-/// and sent on each closed one. `None` means that it does not show this. No two connections are
-/// open at once, so each source belongs to one.
+/// and sent on each closed one; `None` of `coming` or `closed` means that it does not. No two
+/// connections are open at once, so each source and sink belongs to one.
 pub trait Acceptor {
     type Reader: Source;
 
+    type Writer: Outlet;
+
     ghost coming: { Self → Option (List (List ℕ)) };
 
-    /// What the source of the open connection had when it was accepted, if one is open.
-    ghost offer: { Self → Option SourceReport };
+    /// What the open connection had when it was accepted, if one is open.
+    ghost offer: { Self → Option Offer };
 
     ghost closed: { Self → Option (List Exchange) };
 
     /// Whether accepting a connection has failed.
     ghost has_failed: { Self → Bool };
 
-    /// Accepts the next connection, and waits for it without a limit. Its request comes from the
-    /// source that is returned.
+    /// Accepts the next connection, and waits for it without a limit.
     ///
     /// Requires that no connection is open.
-    fn accept(&mut self) -> Result<Self::Reader, Failed>
+    fn accept(&mut self) -> Result<Connection<Self::Reader, Self::Writer>, Failed>
         requires { offer self.old ≡ None }
-        ensures open { IfOk result (λ source. offer self.new ≡ Some (Self.Reader.report source)) }
-        ensures unread { IfOk result (λ source. IsUnread (Self.Reader.report source)) }
-        ensures came { IfOk result (λ source. Came (coming self.old) (coming self.new)
-            ((Self.Reader.report source).left ∷ [])) }
+        ensures open { IfOk result (λ one. offer self.new ≡ Some (record {
+          source = Self.Reader.report one.source;
+          sink = Self.Writer.report one.sink;
+        })) }
+        ensures unread { IfOk result (λ one. IsUnread (Self.Reader.report one.source)) }
+        ensures unused { IfOk result (λ one. IsUnused (Self.Writer.report one.sink)) }
+        ensures came { IfOk result (λ one. Came (coming self.old) (coming self.new)
+            ((Self.Reader.report one.source).left ∷ [])) }
         ensures still { OnErr result (coming self.new ≡ coming self.old) }
         ensures none { OnErr result (offer self.new ≡ None) }
         ensures closed { closed self.new ≡ closed self.old }
         ensures failed { has_failed self.new ≡ (has_failed self.old || is_err result) };
 
-    /// Sends the reply, or a prefix of it if a write fails, and closes the open connection. An
-    /// empty reply is none. `log` has what is logged at that time.
-    ///
-    /// Requires that a connection is open, and its source.
-    fn close<K: RequestLog>(&mut self, source: Self::Reader, reply: &[u8], log: &K)
+    /// Closes the open connection.
+    fn close(&mut self, connection: Connection<Self::Reader, Self::Writer>)
         requires { IsSome (offer self.old) }
         ensures open { offer self.new ≡ None }
         ensures coming { coming self.new ≡ coming self.old }
         ensures failed { has_failed self.new ≡ has_failed self.old }
-        ensures closed { (one : Exchange) × GrowsBy (closed self.old) (closed self.new) (one ∷ [])
-            × (offer self.old ≡ Some one.reading.before)
-            × (one.reading.after ≡ Self.Reader.report source)
-            × Sends one reply.now (K.journal log.now) };
+        ensures closed { (given : Offer) → offer self.old ≡ Some given
+            → GrowsBy (closed self.old) (closed self.new) (record {
+              reading = record {
+                before = given.source;
+                after = Self.Reader.report connection.source;
+              };
+              writing = record { before = given.sink; after = Self.Writer.report connection.sink };
+              logged = Self.Writer.logged connection.sink;
+            } ∷ []) };
 }
 
 /// The connections of a TCP port. In contracts, it shows no bytes, since sockets show none.
 #[derive(Drop)]
 pub struct PortAcceptor<'a> {
     listener: &'a TcpListener,
-    /// Where the reply of the open connection goes.
-    sink: Option<ToWriter<TcpStream>>,
+    is_open: bool,
     has_failed: bool,
 }
 
@@ -74,7 +87,7 @@ impl<'a> PortAcceptor<'a> {
     {
         PortAcceptor {
             listener,
-            sink: None,
+            is_open: false,
             has_failed: false,
         }
     }
@@ -83,15 +96,20 @@ impl<'a> PortAcceptor<'a> {
 impl Acceptor for PortAcceptor<'_> {
     type Reader = FromReader<TcpStream>;
 
+    type Writer = ToWriter<TcpStream>;
+
     ghost coming = { λ listening. None };
 
-    ghost offer = { λ listening. option_map (λ sink. unread None) listening.sink };
+    ghost offer = { λ listening. if listening.is_open then Some (record {
+      source = unread None;
+      sink = unused None;
+    }) else None };
 
     ghost closed = { λ listening. None };
 
     ghost has_failed = { λ listening. listening.has_failed };
 
-    fn accept(&mut self) -> Result<FromReader<TcpStream>, Failed> {
+    fn accept(&mut self) -> Result<Connection<FromReader<TcpStream>, ToWriter<TcpStream>>, Failed> {
         let Ok((stream, _peer)) = self.listener.accept() else {
             self.has_failed = true;
             return Err(Failed);
@@ -100,15 +118,16 @@ impl Acceptor for PortAcceptor<'_> {
             self.has_failed = true;
             return Err(Failed);
         };
-        self.sink = Some(ToWriter::new(stream));
-        Ok(FromReader::new(reader))
+        self.is_open = true;
+        let (source, sink) = (FromReader::new(reader), ToWriter::new(stream));
+        Ok(Connection { source, sink })
     }
 
-    fn close<K: RequestLog>(&mut self, source: FromReader<TcpStream>, reply: &[u8], _log: &K) {
-        if let Some(mut sink) = self.sink.take() {
-            // a failed write ends only this connection
-            let _fault = write_all(&mut sink, reply);
-            drop(source);
-        }
+    fn close(&mut self, connection: Connection<FromReader<TcpStream>, ToWriter<TcpStream>>)
+        ensures open { self.new.is_open ≡ false }
+        ensures failed { self.new.has_failed ≡ self.old.has_failed }
+    {
+        self.is_open = false;
+        drop(connection);
     }
 }

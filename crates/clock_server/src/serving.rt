@@ -9,6 +9,7 @@ ghost use Rattle.clock_server.specs.inside.Served.{is_accept_fault, reply_bytes 
 
 use crate::acceptor::{Acceptor, PortAcceptor};
 use crate::keeping::{NoLog, RequestLog};
+use crate::outlet::Outlet;
 use clock_connections::{RequestReadError, read_request};
 use clock_device::{Failed, Source};
 use clock_front::{Effect, Front, Response, no_memory_reply};
@@ -88,11 +89,12 @@ fn serve_next<P: Processor, K: RequestLog, C: Acceptor>(
     ensures taken { C.has_failed connections.new ≡ is_accept_fault result }
     ensures setup { front.new.setup ≡ front.old.setup }
 {
-    let Ok(mut source) = connections.accept() else {
+    let Ok(mut one) = connections.accept() else {
         return Err(ServeFault::Accept);
     };
-    let served = serve_one(alloc, front, log, &mut source);
-    connections.close(source, reply_bytes(&served), log);
+    let served = serve_one(alloc, front, log, &mut one.source);
+    one.sink.reply(log, reply_bytes(&served));
+    connections.close(one);
     let Ok(served) = served else {
         return Err(ServeFault::Journal);
     };

@@ -1,2 +1,1 @@
 mod Moments
-mod Sent

@@ -1,11 +1,12 @@
-ghost use Rattle.std.specs.Prelude.{◌≡◌, ◌≤◌, ◌+◌, [], ◌∷◌, drop, length, map, IfOk, IfSome};
-ghost use Rattle.std.specs.Prelude.{IsSome, MatchBool, None, Some, is_some, option_map, false};
-ghost use Rattle.clock_device.specs.{Reports.{unread}, SourceState.{source_report}};
-ghost use Rattle.clock_server.specs.{Exchanges.{Exchange, Sends}, Keeping.{GrowsBy}};
+ghost use Rattle.std.specs.Prelude.{◌≡◌, ◌≤◌, ◌+◌, [], ◌∷◌, drop, length, map, IfOk, MatchBool};
+ghost use Rattle.std.specs.Prelude.{IsSome, None, Some, false, if◌then◌else◌};
+ghost use Rattle.clock_device.specs.{Reports.{unread, unused}, SourceState.{source_report}};
+ghost use Rattle.clock_device.specs.SinkState.{sink_report};
+ghost use Rattle.clock_server.specs.{Exchanges.{Exchange, Offer}, Keeping.{GrowsBy}};
 ghost use Rattle.clock_server_tests.specs.MemoryAcceptor.{MemoryAcceptorState};
 
-use clock_device::{Bounded, Failed, Items, ListSink, ListSource, NoMemory, Stop, write_all};
-use clock_server::{Acceptor, RequestLog};
+use clock_device::{Bounded, Failed, Items, ListSink, ListSource, NoMemory, Stop};
+use clock_server::{Acceptor, Connection};
 use std::alloc::Global;
 use std::marker::Model;
 
@@ -37,8 +38,7 @@ impl<'a> Model for Closed<'a> {
 
     ghost view = { λ c. record {
       reading = record { before = unread (Some c.offered.now); after = source_report c.source };
-      sent = Some c.sink.taken;
-      has_failed = c.sink.has_failed;
+      writing = record { before = unused (Some []); after = sink_report c.sink };
       logged = None;
     } };
 }
@@ -46,7 +46,7 @@ impl<'a> Model for Closed<'a> {
 impl<'a> Closed<'a> {
     /// The bytes that were written on it.
     pub fn written(&self) -> &[u8]
-        ensures { Some result.now ≡ self.now.sent }
+        ensures { Some result.now ≡ self.now.writing.after.taken }
     {
         self.sink.bytes()
     }
@@ -59,7 +59,7 @@ pub struct MemoryAcceptor<'a> {
     alloc: Global,
     clients: &'a [Client<'a>],
     next: usize,
-    sink: Option<ListSink>,
+    is_open: bool,
     offered: &'a [u8],
     closed: Bounded<Closed<'a>>,
     has_failed: bool,
@@ -70,15 +70,17 @@ impl<'a> Model for MemoryAcceptor<'a> {
 
     ghost view = { λ l. record {
       coming = map (λ client. client.bytes.now) (drop l.next l.clients.now);
-      offered = option_map (λ sink. l.offered.now) l.sink;
+      offer = if l.is_open then Some (record {
+        source = unread (Some l.offered.now);
+        sink = unused (Some []);
+      }) else None;
       closed = l.closed.items;
       has_failed = l.has_failed;
     } };
 
     ghost invariant = { λ l. (l.next ≤ length l.clients.now)
         × (length l.clients.now ≤ l.next + l.closed.room)
-        × MatchBool (is_some l.sink) (length l.clients.now + 1 ≤ l.next + l.closed.room) (Unit {0})
-        × IfSome l.sink (λ sink. (sink.taken ≡ []) × (sink.has_failed ≡ false)) };
+        × MatchBool l.is_open (length l.clients.now + 1 ≤ l.next + l.closed.room) (Unit {0}) };
 }
 
 impl<'a> MemoryAcceptor<'a> {
@@ -86,7 +88,7 @@ impl<'a> MemoryAcceptor<'a> {
     pub fn new(alloc: Global, clients: &'a [Client<'a>]) -> Result<MemoryAcceptor<'a>, NoMemory>
         ensures { IfOk result (λ listed. listed ≡ record {
           coming = map (λ client. client.bytes.now) clients.now;
-          offered = None;
+          offer = None;
           closed = [];
           has_failed = false;
         }) }
@@ -95,7 +97,7 @@ impl<'a> MemoryAcceptor<'a> {
             alloc,
             clients,
             next: 0,
-            sink: None,
+            is_open: false,
             offered: &[],
             closed: Items::with_capacity(alloc, clients.len())?,
             has_failed: false,
@@ -113,15 +115,17 @@ impl<'a> MemoryAcceptor<'a> {
 impl<'a> Acceptor for MemoryAcceptor<'a> {
     type Reader = ListSource<'a>;
 
+    type Writer = ListSink;
+
     ghost coming = { λ listed. Some listed.coming };
 
-    ghost offer = { λ listed. option_map (λ bytes. unread (Some bytes)) listed.offered };
+    ghost offer = { λ listed. listed.offer };
 
     ghost closed = { λ listed. Some listed.closed };
 
     ghost has_failed = { λ listed. listed.has_failed };
 
-    fn accept(&mut self) -> Result<ListSource<'a>, Failed> {
+    fn accept(&mut self) -> Result<Connection<ListSource<'a>, ListSink>, Failed> {
         let Some(client) = self.clients.get(self.next) else {
             self.has_failed = true;
             return Err(Failed);
@@ -132,20 +136,34 @@ impl<'a> Acceptor for MemoryAcceptor<'a> {
             return Err(Failed);
         };
         self.next += 1;
-        self.sink = Some(sink);
+        self.is_open = true;
         self.offered = client.bytes;
-        Ok(ListSource::new(client.bytes, client.read.max(1), client.read_stop))
+        Ok(Connection {
+            source: ListSource::new(client.bytes, client.read.max(1), client.read_stop),
+            sink,
+        })
     }
 
-    fn close<K: RequestLog>(&mut self, source: ListSource<'a>, reply: &[u8], _log: &K) {
-        if let Some(mut sink) = self.sink.take() {
-            // a failed write ends only this connection
-            let _fault = write_all(&mut sink, reply);
-            self.closed.push(Closed {
-                offered: self.offered,
-                source,
-                sink,
-            });
-        }
+    fn close(&mut self, connection: Connection<ListSource<'a>, ListSink>)
+        requires { IsSome self.old.offer }
+        ensures open { self.new.offer ≡ None }
+        ensures coming { self.new.coming ≡ self.old.coming }
+        ensures failed { self.new.has_failed ≡ self.old.has_failed }
+        ensures closed { (given : Offer) → self.old.offer ≡ Some given
+            → GrowsBy (Some self.old.closed) (Some self.new.closed) (record {
+              reading = record {
+                before = given.source;
+                after = source_report connection.entry.source;
+              };
+              writing = record { before = given.sink; after = sink_report connection.entry.sink };
+              logged = None;
+            } ∷ []) }
+    {
+        self.is_open = false;
+        self.closed.push(Closed {
+            offered: self.offered,
+            source: connection.source,
+            sink: connection.sink,
+        });
     }
 }

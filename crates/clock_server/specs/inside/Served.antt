@@ -87,13 +87,12 @@ EndsOne coming_old coming_new closed_old closed_new rounds_old rounds_new journa
     old new (Ok done) = (one : Exchange) × GrowsBy closed_old closed_new (one ∷ [])
     × Came coming_old coming_new (bytes_given (one ∷ [])) × ((served : Option Response)
     × IsServed one.reading served journal_old journal_new old new
-    × Sends one (bytes_of served) journal_new
+    × Sends one.writing one.logged (bytes_of served) journal_new
     × IsReported rounds_old rounds_new (effect_of served))
 EndsOne coming_old coming_new closed_old closed_new rounds_old rounds_new journal_old journal_new
     old new (Err fault.Accept) = (closed_new ≡ closed_old) × (coming_new ≡ coming_old)
     × (journal_new ≡ journal_old) × (new ≡ old) × (rounds_new ≡ rounds_old)
 EndsOne coming_old coming_new closed_old closed_new rounds_old rounds_new journal_old journal_new
     old new (Err fault.Journal) = (one : Exchange) × GrowsBy closed_old closed_new (one ∷ [])
-    × Came coming_old coming_new (bytes_given (one ∷ []))
-    × IsUnlogged one.reading journal_old journal_new old × Sends one [] journal_new
-    × (rounds_new ≡ rounds_old)
+    × Came coming_old coming_new (bytes_given (one ∷ [])) × IsUnlogged one.reading journal_old
+    journal_new old × Sends one.writing one.logged [] journal_new × (rounds_new ≡ rounds_old)

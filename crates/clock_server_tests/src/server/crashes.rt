@@ -73,7 +73,7 @@ fn generation<R: Abort>(
     count: u64,
 ) -> Option<&'static str>
     requires unfailed { journal.old.has_failed ≡ false }
-    requires closed { listed.old.offered ≡ None }
+    requires closed { listed.old.offer ≡ None }
     requires taken { listed.old.has_failed ≡ false }
 {
     let Ok(mut auction) = auction(alloc) else {
