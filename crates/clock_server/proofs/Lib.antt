@@ -4,6 +4,7 @@ mod Untouched
 pub mod TakenUp
 mod AcceptedLaws
 mod Walking
+mod Closed
 pub mod Telling
 mod Served
 mod Ends
