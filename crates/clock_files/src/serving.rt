@@ -161,8 +161,6 @@ struct Telling<'a, R, D: Durable> {
 impl<R: Print, D: Durable> RequestLog for Telling<'_, R, D> {
     ghost journal = { λ telling. telling.journal };
 
-    ghost rounds = { λ telling. None };
-
     fn answer<P: Processor>(
         &mut self,
         front: &mut Front<P>,

@@ -48,8 +48,6 @@ impl Durable for MemoryDisk {
 
     ghost has_failed = { λ disk. disk.has_failed };
 
-    ghost moments = { λ disk. None };
-
     fn append(&mut self, bytes: &[u8]) -> Result<(), Failed> {
         let free = self.room.saturating_sub(self.bytes.len());
         let count = free.min(bytes.len());

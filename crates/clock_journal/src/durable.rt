@@ -19,7 +19,7 @@ pub trait Durable {
 
     ghost has_failed: { Self → Bool };
 
-    ghost moments: { Self → Option (List Moment) };
+    ghost moments: { Self → Option (List Moment) } = { λ disk. None };
 
     /// Appends `bytes`, or a prefix of them at `Err`.
     fn append(&mut self, bytes: &[u8]) -> Result<(), Failed>
@@ -73,8 +73,6 @@ impl<F: Write + OpenFile> Durable for FileDisk<F> {
     ghost synced = { λ disk. None };
 
     ghost has_failed = { λ disk. disk.has_failed };
-
-    ghost moments = { λ disk. None };
 
     fn append(&mut self, bytes: &[u8]) -> Result<(), Failed> {
         let done = self.file.write_all(bytes).or(Err(Failed));

@@ -20,7 +20,7 @@ use clock_processor::Processor;
 pub trait RequestLog {
     ghost journal: { Self → JournalState };
 
-    ghost rounds: { Self → Option (List ℕ) };
+    ghost rounds: { Self → Option (List ℕ) } = { λ log. None };
 
     /// Responds to a text, after which the input has ended. If the text changed the auction, it is
     /// in the journal, and on the disk.
@@ -61,8 +61,6 @@ pub trait RequestLog {
 impl<D: Durable> RequestLog for Journal<D> {
     ghost journal = { λ journal. journal };
 
-    ghost rounds = { λ journal. None };
-
     fn answer<P: Processor>(
         &mut self,
         front: &mut Front<P>,
@@ -89,8 +87,6 @@ pub struct NoLog;
 
 impl RequestLog for NoLog {
     ghost journal = { λ log. no_journal };
-
-    ghost rounds = { λ log. None };
 
     fn answer<P: Processor>(
         &mut self,
