@@ -1,7 +1,7 @@
 -- The one line that reports a fault (own format).
 --     fault_line fault     `fault: WORDS` and a line feed
 --     of_setup fault, of_opening fault, of_script fault      the fault of a document
---     of_journal fault      the fault of a file that is not accepted as the journal
+--     of_journal fault      the fault of a file that is not accepted as the journal, or of its disk
 use Rattle.std.specs.Prelude.{ℕ, List, ◌++◌, codes, decimal}
 use Rattle.clock_setup.specs.declared.fault.Place.{Place}
 use Rattle.clock_setup.specs.declared.fault.Place.TheVariants as place
@@ -91,18 +91,20 @@ abbrev pub of_script : ScriptFault → Fault
 of_script in_script.NoMemory = fault.Memory
 of_script other = fault.Script other
 
--- the fault of a file that is not accepted as the journal
+-- the fault of a file that is not accepted as the journal, or of its disk
 abbrev pub of_journal : JournalFault → Fault
 of_journal in_journal.NoMemory = fault.Memory
+of_journal in_journal.Failed = fault.Journal
 of_journal other = fault.Recovery other
 
--- the words for a file that is not accepted as the journal
+-- the words for a file that is not accepted as the journal, or for its disk
 abbrev pub recovery_words : JournalFault → List ℕ
 recovery_words in_journal.Unknown = codes "journal_unknown"
 recovery_words in_journal.Setup = codes "journal_setup"
 recovery_words (in_journal.Damaged place) = codes "journal_damaged " ++ decimal place
 recovery_words (in_journal.Refused place) = codes "journal_refused " ++ decimal place
 recovery_words in_journal.NoMemory = codes "memory"
+recovery_words in_journal.Failed = codes "journal"
 
 -- a fault of a document has the document's words
 abbrev pub fault_words : Fault → List ℕ

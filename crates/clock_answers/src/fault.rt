@@ -98,6 +98,7 @@ impl From<JournalFault> for Fault {
     fn from(fault: JournalFault) -> Fault {
         match fault {
             JournalFault::NoMemory => Fault::Memory,
+            JournalFault::Failed => Fault::Journal,
             _ => Fault::Recovery(fault),
         }
     }
@@ -188,6 +189,7 @@ fn words_of(fault: Fault) -> Words
         Fault::Recovery(JournalFault::Damaged(place)) => { words!("journal_damaged", place as u64) }
         Fault::Recovery(JournalFault::Refused(place)) => { words!("journal_refused", place as u64) }
         Fault::Recovery(JournalFault::NoMemory) => words!("memory"),
+        Fault::Recovery(JournalFault::Failed) => words!("journal"),
         Fault::Bind => words!("bind"),
         Fault::Output => words!("output"),
         Fault::Accept => words!("accept"),

@@ -8,13 +8,11 @@ use Rattle.clock_terms.specs.Limits.{SetupFields}
 use Rattle.clock_closing.specs.declared.closed_round.ClosedRound.{ClosedRound}
 use Rattle.clock_house.specs.House.{HouseFields}
 use Rattle.clock_front.specs.Effects.{effect}
-use Rattle.clock_front.specs.Fronts.{StandsForTexts}
 use Rattle.clock_front.specs.declared.front.response.Effect.{Effect}
 use Rattle.clock_front.specs.declared.front.response.Effect.TheVariants.{Nothing, Sheet, Closing}
 use Rattle.clock_reports.specs.FinalReport.{report_of}
 use Rattle.clock_reports.specs.Reports.{ReportFields}
 use Rattle.clock_journal.specs.Recovering.{AreTextsOf, record_at}
-use Rattle.clock_journal.specs.declared.recovery.Record.{Record}
 use Rattle.clock_journal.specs.declared.recovery.Recovered.{Recovered}
 use Rattle.clock_server.proofs.Telling.{CountsOn, counts_text}
 use Rattle.clock_files.specs.Audits.{IsAuditOf, IsRecounted, audited, closed_after, closing_digests, with_digest}
@@ -64,19 +62,3 @@ audit_is setup setup_new first bytes given shown texts recovered same same_setup
   are = subst (λ (file : List ℕ). AreTextsOf first file texts recovered) same are;
   shown_is = is ∙ ap (λ (of_setup : SetupFields). audited of_setup first (reverse texts)) same_setup;
 }
-
--- one more text is counted
-pub recounted_on : (first : List ℕ) (texts : List (List ℕ)) (at : Record) (text : List ℕ) (changed : Effect)
-    (old new : HouseFields) (digests digests_new : List (List ℕ)) → IsRecounted first texts old digests
-    → at ≡ record_at first texts text → changed ≡ effect old.setup texts text → StandsForTexts (text ∷ texts) new
-    → new.setup ≡ old.setup → digests_new ≡ with_digest changed digests at.digest
-    → IsRecounted first (text ∷ texts) new digests_new
-recounted_on first texts at text changed old new digests digests_new is its right stands same added =
-    let before = closing_digests old.setup first texts in
-    record {
-      stands = stands;
-      digests_are = added ∙ ap (λ (all : List (List ℕ)). with_digest changed all at.digest) is.digests_are
-          ∙ ap (λ (one : Effect). with_digest one before at.digest) right
-          ∙ ap (λ (one : Record). with_digest (effect old.setup texts text) before one.digest) its
-          ∙ ap (λ (setup : SetupFields). closing_digests setup first (text ∷ texts)) (sym same);
-    }

@@ -1,3 +1,3 @@
 pub mod Audits
 pub mod Listings
-pub mod Starts
+pub mod Serving

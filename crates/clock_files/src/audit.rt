@@ -1,9 +1,8 @@
 //! `audit`: an auction that is counted again, from its set-up document and its journal only.
-ghost use Rattle.std.specs.Prelude.{◌≡◌, [], List, ℕ, IfOk, IfErr, OnOk};
+ghost use Rattle.std.specs.Prelude.{◌≡◌, [], List, ℕ, IfOk, IfErr};
 ghost use Rattle.clock_terms.specs.Limits.{SetupFields};
 ghost use Rattle.clock_server.specs.Keeping.{IsRefused};
 ghost use Rattle.clock_files.specs.Audits.{IsAuditOf, IsRecounted, IsAuditFault, audited};
-ghost use Rattle.clock_files.specs.Audits.{with_digest};
 
 use crate::files::{digits_of, file_bytes, journal_bytes, tell_all};
 use crate::serving::front_in;
@@ -36,7 +35,7 @@ where
     // `drop` here keeps the proof small: at the end of the scope, each field is proved
     drop(recount);
     let (text, recovered) = made?;
-    tell_all(rt, out, text, recovered)
+    tell_all(rt, out, text.as_slice(), recovered)
 }
 
 /// An auction that takes the texts of a journal, and the digest of each closing.
@@ -57,18 +56,11 @@ impl Machine for Recount {
     ghost refuses = { λ setup texts text. IsRefused setup texts text };
 
     fn take(&mut self, text: &[u8], at: &Record) -> Result<(), TakeError> {
-        let effect = take_text(&mut self.front, text)?;
-        remember(&mut self.digests, effect, &at.digest).or(Err(TakeError::NoMemory))
-    }
-}
-
-/// Appends the digest of a text, if the text closed a round.
-fn remember(digests: &mut Vec<Digits>, effect: Effect, digest: &Link) -> Result<(), NoMemory>
-    ensures { OnOk result (digests.new.items ≡ with_digest effect digests.old.items digest.now) }
-{
-    match effect {
-        Effect::Closing(_) => digests.push(digits_of(digest)).or(Err(NoMemory)),
-        Effect::Nothing | Effect::Sheet => Ok(()),
+        if let Effect::Closing(_) = take_text(&mut self.front, text)? {
+            let digits = digits_of(&at.digest);
+            self.digests.push(digits).or(Err(TakeError::NoMemory))?;
+        }
+        Ok(())
     }
 }
 
@@ -105,8 +97,5 @@ fn rounds_of(alloc: Global, recount: &Recount) -> Result<Text, NoMemory>
         return Ok(Text::new(alloc));
     }
     let report = report_so_far(alloc, house)?;
-    let text = audit_text(alloc, &report, recount.digests.as_slice());
-    // like the `drop` in `tell_audit`
-    drop(report);
-    text
+    audit_text(alloc, &report, recount.digests.as_slice())
 }

@@ -8,7 +8,6 @@ use clock_journal::{Link, Recovered};
 use clock_reports::Digits;
 use hex::encode_to_slice;
 use std::alloc::Global;
-use std::fmt::{self, Display, Formatter};
 use std::fs::{File, TryLockError};
 use std::io::{self, Read};
 use std::os::fd::AsRawFd;
@@ -73,18 +72,18 @@ fn bytes_of(alloc: Global, file: &File) -> Result<Vec<u8>, Fault> {
 pub fn tell_all<R: Print>(
     rt: &R,
     out: &mut impl Sink,
-    text: Text,
+    text: &[u8],
     recovered: Recovered,
 ) -> Result<(), Fault> {
-    write_all(out, text.as_slice()).or(Err(Fault::Output))?;
-    drop(text);
+    write_all(out, text).or(Err(Fault::Output))?;
     tell_journal(rt, recovered)
 }
 
 /// Prints the number of texts in a journal, and the digest of the last.
 pub fn tell_journal<R: Print>(rt: &R, recovered: Recovered) -> Result<(), Fault> {
     let texts = recovered.texts;
-    let digest = Hex(recovered.chain);
+    let digits = digits_of(&recovered.chain);
+    let digest = digits.escape_ascii();
     println!(rt; "journal {texts} {digest}").or(Err(Fault::Output))
 }
 
@@ -95,17 +94,4 @@ pub fn digits_of(digest: &Link) -> Digits
     let mut digits = [0; 64];
     encode_to_slice(digest.as_slice(), &mut digits).unwrap();
     digits
-}
-
-/// A digest that is printed in digits.
-#[derive(Clone, Copy)]
-pub struct Hex(pub Link);
-
-impl Display for Hex {
-    fn fmt<W: fmt::Write>(&self, f: &mut Formatter<W>) -> fmt::Result {
-        for digit in digits_of(&self.0).as_slice() {
-            f.write_char(*digit as char)?;
-        }
-        Ok(())
-    }
 }

@@ -17,13 +17,10 @@ pub fn tell_texts<R>(rt: &R, out: &mut impl Sink, named: &NamedFiles) -> Result<
 where
     R: Files<File = File> + Print + Alloc<A = Global>,
 {
-    let document = file_bytes(rt, named.setup)?;
-    let first = digest_of(document.as_slice());
-    drop(document);
+    let first = digest_of(file_bytes(rt, named.setup)?.as_slice());
     let bytes = journal_bytes(rt, named.journal)?;
     let (text, recovered) = listing_of(rt.alloc(), first, bytes.as_slice())?;
-    drop(bytes);
-    tell_all(rt, out, text, recovered)
+    tell_all(rt, out, text.as_slice(), recovered)
 }
 
 /// The lines of the texts so far.
@@ -40,7 +37,8 @@ impl Machine for Listing {
     ghost refuses = { λ rules texts text. ⊥ };
 
     fn take(&mut self, text: &[u8], at: &Record) -> Result<(), TakeError> {
-        push_text(&mut self.text, text, at).or(Err(TakeError::NoMemory))
+        push_text(&mut self.text, text, at).or(Err(TakeError::NoMemory))?;
+        Ok(())
     }
 }
 

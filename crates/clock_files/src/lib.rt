@@ -9,4 +9,4 @@ mod serving;
 
 pub use audit::{Recount, audit_of, tell_audit};
 pub use journal_text::{listing_of, tell_texts};
-pub use serving::{front_in, serve, serve_fault, start_fault};
+pub use serving::{front_in, serve, serve_fault};

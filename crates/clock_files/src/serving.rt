@@ -4,20 +4,15 @@ ghost use Rattle.clock_terms.specs.Faults.{IsRefusal};
 ghost use Rattle.clock_front.specs.Fronts.{StandsForTexts};
 ghost use Rattle.clock_setup.specs.SetupDocument.{document_setup};
 ghost use Rattle.clock_answers.specs.Answers.{read_in};
-ghost use Rattle.clock_files.specs.Starts.{of_serving, of_start};
+ghost use Rattle.clock_files.specs.Serving.{of_serving};
 
-use crate::files::{Hex, file_bytes, locked_bytes, tell_journal};
+use crate::files::{digits_of, file_bytes, locked_bytes, tell_journal};
 use clock_answers::{Fault, setup_in};
 use clock_device::{Failed, Text};
-use clock_front::{Front, Response};
-use clock_http::Progress;
+use clock_front::Front;
 use clock_journal::{Durable, FileDisk, Journal, Link, Recovered, digest_of};
-use clock_processor::Processor;
 use clock_queue::Woken;
-use clock_server::{
-    NoLog, PortAcceptor, ReplayedAuction, RequestLog, ResumeFault, ServeFault, resume_auction,
-    serve_all,
-};
+use clock_server::{NoLog, PortAcceptor, ReplayedAuction, RequestLog, ServeFault, serve_all};
 use clock_words::Serving;
 use std::alloc::Global;
 use std::fs::{File, OpenOptions};
@@ -80,36 +75,20 @@ where
     how.read(true).append(true).create(true).mode(0o600);
     let file = how.open(rt, path).or(Err(Fault::Journal))?;
     let bytes = locked_bytes(rt.alloc(), &file)?;
-    let bytes = bytes.as_slice();
-    let tell = |recovered: Recovered| tell_cut(rt, recovered.end, bytes.len());
-    let mut journal = Journal::new(FileDisk::new(file), digest);
-    match resume_auction(auction, &mut journal, bytes, tell) {
-        Ok(recovered) => {
-            sync_folder(rt, path)?;
-            tell_journal(rt, recovered)?;
-            Ok(Telling { rt, journal })
+    // reports bytes after the last text, which will be truncated
+    let tell = |recovered: Recovered| {
+        let end = recovered.end;
+        if end < bytes.len() {
+            let cut = bytes.len() - end;
+            // only the operator reads it: the auction continues if it cannot be printed
+            let _unprinted = eprintln!(rt; "cut {cut} bytes at {end}");
         }
-        Err(fault) => Err(start_fault(fault)),
-    }
-}
-
-/// Returns the fault of a journal that cannot be continued.
-pub fn start_fault(fault: ResumeFault) -> Fault
-    ensures { result ≡ of_start fault }
-{
-    match fault {
-        ResumeFault::Refused(fault) => Fault::from(fault),
-        ResumeFault::Failed => Fault::Journal,
-    }
-}
-
-/// Reports bytes after the last text, which will be truncated.
-fn tell_cut<R: Eprint>(rt: &R, end: usize, size: usize) {
-    if end < size {
-        let cut = size - end;
-        // only the operator reads it: the auction continues if it cannot be printed
-        let _unprinted = eprintln!(rt; "cut {cut} bytes at {end}");
-    }
+    };
+    let mut journal = Journal::new(FileDisk::new(file), digest);
+    let recovered = journal.resume(auction, bytes.as_slice(), tell)?;
+    sync_folder(rt, path)?;
+    tell_journal(rt, recovered)?;
+    Ok(Telling { rt, journal })
 }
 
 /// Puts the name of a file on the disk: syncs its folder.
@@ -161,19 +140,14 @@ struct Telling<'a, R, D: Durable> {
 impl<R: Print, D: Durable> RequestLog for Telling<'_, R, D> {
     ghost journal = { λ telling. telling.journal };
 
-    fn answer<P: Processor>(
-        &mut self,
-        front: &mut Front<P>,
-        text: &[u8],
-        progress: Progress,
-    ) -> Result<Response, Failed> {
-        self.journal.answer(front, text, progress)
+    fn log(&mut self, text: &[u8]) -> Result<(), Failed> {
+        self.journal.log(text)
     }
 
     /// The reply was written before, so a reader of the output cannot delay it.
     fn round_closed(&mut self, round: u64) {
-        let rt = self.rt;
-        let digest = Hex(*self.journal.chain());
-        let _unprinted = println!(rt; "closed {round} {digest}");
+        let digits = digits_of(self.journal.chain());
+        let digest = digits.escape_ascii();
+        let _unprinted = println!(self.rt; "closed {round} {digest}");
     }
 }

@@ -1,11 +1,13 @@
 //! What the tests of several crates share: documents of small set-ups, requests with their replies,
-//! and a journal's disk in memory.
+//! and, for journals, a disk in memory and a machine.
 #![tactic(auto)]
 
+mod count;
 mod documents;
 mod memory_disk;
 mod texts;
 
+pub use count::Count;
 pub use documents::{
     ACTIVITY_LIMIT, AT_THE_HIGHEST, BELOW_THE_HIGHEST, GRANULES_AND_INCREMENTS, NO_HIGHER_LIMIT,
     ONE_PRODUCT, PRICE_EDGES, SEVEN_BLOCKS, TWO_PRODUCTS,

@@ -1,6 +1,6 @@
 ghost use Rattle.std.specs.Prelude.{◌≡◌, ◌+◌, ◌≤◌, ◌++◌, ℕ, List, [], false, length, take, IfOk};
 ghost use Rattle.std.specs.Prelude.{IfSome, OnErr, OnOk, OnSome};
-ghost use Rattle.clock_http.specs.{Framing.{needs_more}, Shown.{IsFramed, Knows}};
+ghost use Rattle.clock_http.specs.{Framing.{needs_more}, Shown.{IsFramed}};
 ghost use Rattle.clock_http.specs.inside.Followed.{IsFollowed};
 
 use crate::progress::{Framing, Progress, head_in};
@@ -158,12 +158,5 @@ impl Arriving {
         ensures { result.now ≡ self.now }
     {
         &self.room[..self.count]
-    }
-
-    /// Returns what is known of the bytes.
-    pub fn progress(&self) -> Progress
-        ensures { Knows self.now result }
-    {
-        self.progress
     }
 }

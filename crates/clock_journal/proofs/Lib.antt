@@ -6,8 +6,8 @@ pub mod TakenOver
 pub mod Chains
 pub mod Whole
 pub mod Cuts
-pub mod Placed
 pub mod Files
 pub mod Passing
 pub mod Starting
 pub mod Lists
+pub mod OwnStarts

@@ -47,8 +47,3 @@ pub leave_then : (old mid new : Option (List Moment)) (Leaves : List ℕ → Typ
 leave_then (Some old) mid new Leaves first then_ = leave_both old first.0 new Leaves first.2
     (subst (λ (at : Option (List Moment)). LeaveOnly at new Leaves) first.1 then_)
 leave_then None mid new Leaves first then_ = tt
-
-pub leave_more : (old new : Option (List Moment)) (Leaves Others : List ℕ → Type 0)
-    → ((left : List ℕ) → Leaves left → Others left) → LeaveOnly old new Leaves → LeaveOnly old new Others
-leave_more (Some old) new Leaves Others weaker only = (only.0, only.1, λ left could. weaker left (only.2 left could))
-leave_more None new Leaves Others weaker only = tt

@@ -1,22 +1,25 @@
--- What a crash leaves while a journal is begun, or resumed from a file: by cases on the moments of the calls.
+-- What a crash leaves while a journal is resumed from a file, or begins in it: by cases on the moments of the calls.
 use Rattle.std.proofs.Common.{◌≡◌, ◌≤◌, ◌<◌, ◌+◌, inl, inr, ◌++◌, ℕ, List, [], Option, Some, None, length, take}
+use Rattle.std.proofs.Common.{Result, Ok, Err, OnOk}
+use Rattle.std.specs.Result.{result_or}
 use Rattle.std.proofs.Common.{refl, sym, ap, ◌∙◌, subst, arith, length-append}
 use Rattle.std.specs.Prelude.{option_map}
 use Rattle.std.proofs.lemmas.List.{append-nil, take_all, length-take, length-take-le}
 use Rattle.std.proofs.lemmas.Bool.{cases_lt}
 use Rattle.std.proofs.lemmas.List.Elements.{All-nil}
-use Rattle.clock_device.specs.Streams.{HasWrittenFront}
-use Rattle.clock_journal.specs.Disks.{LeaveOnly, MayBeLeft, Moment, Passes}
+use Rattle.clock_device.specs.Streams.{HasWrittenFront, WritesText}
+use Rattle.clock_journal.specs.Disks.{CutsTo, LeaveOnly, MayBeLeft, Moment, Passes}
 use Rattle.clock_journal.specs.Format.{head, Fits}
-use Rattle.clock_journal.specs.Logged.{file_of}
+use Rattle.clock_journal.specs.Logged.{JournalState, file_of}
 use Rattle.clock_journal.specs.Reading.{Next}
 use Rattle.clock_journal.specs.Crash.{BeginsWithTexts, IsEnd, IsFile, IsPartOfHead, LeavesJournal, LeavesTexts}
 use Rattle.clock_journal.specs.Recovering.{AreTextsOf}
+use Rattle.clock_journal.specs.declared.durable.Durable.{Ghosts}
 use Rattle.clock_journal.specs.declared.recovery.Recovered.{Recovered}
 use Rattle.clock_journal.proofs.Cuts.{cut_leaves, cut_within}
 use Rattle.clock_journal.proofs.Files.{length-head, long_file, shorter, texts_first}
 use Rattle.clock_journal.proofs.Fronts.{end_is_none, take_none}
-use Rattle.clock_journal.proofs.Moments.{front_leaves, take_of_take}
+use Rattle.clock_journal.proofs.Moments.{all_is_front, front_leaves, take_of_take}
 use Rattle.clock_journal.proofs.Passing.{leave_one, leave_then}
 
 -- ---- the head
@@ -31,7 +34,7 @@ part_is digest left n is short =
           absurd (omega (arith, same, short)))
     ]
 
-pub front_of_head : (digest left : List ℕ) (n : ℕ) → length digest ≡ 32 → left ≡ take n (head digest)
+front_of_head : (digest left : List ℕ) (n : ℕ) → length digest ≡ 32 → left ≡ take n (head digest)
     → LeavesJournal digest left [] 0
 front_of_head digest left n size is =
     elim (cases_lt (length left) (length (head digest))) [
@@ -58,7 +61,7 @@ head_known digest synced (Some written) size front left may = head_left digest w
 head_known digest synced None size front left may = absurd front.1
 
 -- while the head, or a prefix of it, was appended to an empty file
-pub head_reads : (digest bytes : List ℕ) (old synced written : Option (List ℕ)) → length digest ≡ 32 → old ≡ Some []
+head_reads : (digest bytes : List ℕ) (old synced written : Option (List ℕ)) → length digest ≡ 32 → old ≡ Some []
     → bytes ≡ head digest → HasWrittenFront old written bytes → (left : List ℕ) → MayBeLeft synced written left
     → LeavesJournal digest left [] 0
 head_reads digest bytes old synced written size empty is front =
@@ -75,7 +78,7 @@ cut_passes old new synced written was bytes place same still is passes =
     (subst (λ (s : Option (List ℕ)). Passes old new (option_map (take place) s) written) (same ∙ is) passes)
 
 -- through a sync and a truncation after it
-pub through_cut : (first mid last : Option (List Moment)) (synced written synced_then written_then : Option (List ℕ))
+through_cut : (first mid last : Option (List Moment)) (synced written synced_then written_then : Option (List ℕ))
     (bytes : List ℕ) (place : ℕ) (Leaves : List ℕ → Type 0) → Passes first mid synced written → ((left : List ℕ)
     → MayBeLeft synced written left → Leaves left) → Passes mid last (option_map (take place) synced_then) written_then
     → synced_then ≡ written → written_then ≡ written → written ≡ Some bytes → ((left : List ℕ)
@@ -93,7 +96,7 @@ now_left synced written on_disk bytes same is =
     (subst (λ (w : Option (List ℕ)). MayBeLeft (Some on_disk) w bytes) (sym is)
     (length on_disk + length bytes, omega arith, sym (take_all (length on_disk + length bytes) bytes (omega arith))))
 
-pub crash_cut : (digest bytes : List ℕ) (texts read : List (List ℕ)) (least : ℕ) (recovered : Recovered) (left : List ℕ)
+crash_cut : (digest bytes : List ℕ) (texts read : List (List ℕ)) (least : ℕ) (recovered : Recovered) (left : List ℕ)
     → length digest ≡ 32 → LeavesJournal digest bytes texts least → AreTextsOf digest bytes read recovered
     → MayBeLeft (Some (take recovered.end bytes)) (Some bytes) left → LeavesJournal digest left texts least
 crash_cut digest bytes texts read least recovered left size (inl leaves) placed may =
@@ -108,7 +111,7 @@ crash_cut digest bytes texts read least recovered left size (inr part) placed ma
           (omega (arith, shorter, short)),
     )
 
-pub tail_cut : (digest bytes : List ℕ) (texts read : List (List ℕ)) (recovered : Recovered) (left : List ℕ)
+tail_cut : (digest bytes : List ℕ) (texts read : List (List ℕ)) (recovered : Recovered) (left : List ℕ)
     → length digest ≡ 32 → BeginsWithTexts digest bytes texts → AreTextsOf digest bytes read recovered
     → MayBeLeft (Some (take recovered.end bytes)) (Some bytes) left → BeginsWithTexts digest left texts
 tail_cut digest bytes texts read recovered left size begins placed may =
@@ -152,7 +155,7 @@ none_of_any digest left texts leaves = record {
 }
 
 -- so none of its texts had a reply: what a crash leaves of an empty journal, it may leave of these texts
-pub anew_leaves : (digest bytes : List ℕ) (texts read : List (List ℕ)) (least : ℕ) (recovered : Recovered)
+anew_leaves : (digest bytes : List ℕ) (texts read : List (List ℕ)) (least : ℕ) (recovered : Recovered)
     (left : List ℕ) → length digest ≡ 32 → recovered.end ≡ 0 → LeavesJournal digest bytes texts least
     → AreTextsOf digest bytes read recovered → LeavesJournal digest left [] 0 → LeavesJournal digest left texts least
 anew_leaves digest bytes texts read least recovered left size nowhere leaves placed now =
@@ -164,9 +167,119 @@ anew_leaves digest bytes texts read least recovered left size nowhere leaves pla
       | inr part ↦ inr (none, part.1)
     ]
 
-pub none_first : (digest bytes : List ℕ) (texts read : List (List ℕ)) (recovered : Recovered) → length digest ≡ 32
+none_first : (digest bytes : List ℕ) (texts read : List (List ℕ)) (recovered : Recovered) → length digest ≡ 32
     → recovered.end ≡ 0 → BeginsWithTexts digest bytes texts → AreTextsOf digest bytes read recovered → ⊥
 none_first digest bytes texts read recovered size nowhere begins placed =
     let long = long_file digest bytes texts (λ (found : Next). Unit {0}) begins in
     let short = begun_anew digest bytes read recovered size nowhere placed in
     omega (arith, long.0, long.1, short)
+
+-- ---- a start, moment by moment
+
+-- a result whose error was mapped, and that is `Ok`, was `Ok` before
+was_ok : {T E D : Type 0} (result : Result T E) (other : D) (value : T) → Ok value ≡ result_or result (Err other)
+    → result ≡ Ok value
+was_ok (Ok given) other value is = cc
+was_ok (Err refused) other value is = absurd (cc)
+
+-- a file that is truncated to nothing is empty
+pub emptied : {U E D : Type 0} (old mid new : Option (List ℕ)) (bytes : List ℕ) (place : ℕ) (end : Result U E)
+    (other : D) (done : U) → Ok done ≡ result_or end (Err other) → CutsTo mid new place end → mid ≡ old → place ≡ 0
+    → old ≡ Some bytes → new ≡ Some []
+emptied old mid new bytes place end other done fine cuts same nowhere is =
+    subst (λ (e : Result _ _). CutsTo mid new place e) (was_ok end other done fine) cuts
+    ∙ (ap (option_map (take place)) (same ∙ is) ∙ ap (λ (n : ℕ). Some (take n bytes)) nowhere)
+
+written_front : {U E : Type 0} (old new : Option (List ℕ)) (text : List ℕ) (end : Result U E)
+    → WritesText old new text end → HasWrittenFront old new text
+written_front old new text (Ok done) written = all_is_front old new text written
+written_front old new text (Err failed) front = front
+
+-- what holds of a file still does when its torn end is cut off, and when its journal begins again
+pub record Lasts (digest bytes : List ℕ) (recovered : Recovered) (Leaves : List ℕ → Type 0) : Type 0 where
+  pub cut : (left : List ℕ) → Leaves bytes → MayBeLeft (Some (take recovered.end bytes)) (Some bytes) left
+      → Leaves left
+  pub anew : (left : List ℕ) → recovered.end ≡ 0 → Leaves bytes → LeavesJournal digest left [] 0 → Leaves left
+
+pub crash_lasts : {digest bytes : List ℕ} {read : List (List ℕ)} {recovered : Recovered} (texts : List (List ℕ))
+    (least : ℕ) → length digest ≡ 32 → AreTextsOf digest bytes read recovered
+    → Lasts digest bytes recovered (λ left. LeavesJournal digest left texts least)
+crash_lasts {digest} {bytes} {read} {recovered} texts least size placed = record {
+  cut = λ left leaves may. crash_cut digest bytes texts read least recovered left size leaves placed may;
+  anew = λ left nowhere leaves now.
+      anew_leaves digest bytes texts read least recovered left size nowhere leaves placed now;
+}
+
+pub tail_lasts : {digest bytes : List ℕ} {read : List (List ℕ)} {recovered : Recovered} (texts : List (List ℕ))
+    → length digest ≡ 32 → AreTextsOf digest bytes read recovered
+    → Lasts digest bytes recovered (λ left. BeginsWithTexts digest left texts)
+tail_lasts {digest} {bytes} {read} {recovered} texts size placed = record {
+  cut = λ left begins may. tail_cut digest bytes texts read recovered left size begins placed may;
+  anew = λ left nowhere begins now. absurd (none_first digest bytes texts read recovered size nowhere begins placed);
+}
+
+-- if contracts see these bytes: what holds of all that a crash before could have left holds of what one since could
+abbrev pub Stays : JournalState → List ℕ → List ℕ → Option (List Moment) → (List ℕ → List ℕ → Type 0) → Type 0
+Stays at bytes on_disk new Leaves = at.written ≡ Some bytes → at.synced ≡ Some on_disk
+    → ((left : List ℕ) → MayBeLeft at.synced at.written left → Leaves at.chain left)
+    → LeaveOnly at.moments new (Leaves at.chain)
+
+module _ {D : Type 0} (disk : Ghosts D) (at now : JournalState) (view : at ≡ now) (bytes on_disk : List ℕ)
+    (Leaves : List ℕ → List ℕ → Type 0) (first : D)
+    (passes : Passes at.moments (disk.moments first) at.synced at.written) where
+  synced_there : Stays at bytes on_disk (disk.moments first) Leaves
+  synced_there is same before =
+      leave_one at.moments (disk.moments first) at.synced at.written (Leaves at.chain) passes before
+
+  -- after the sync
+  pub stays_synced : Stays now bytes on_disk (disk.moments first) Leaves
+  stays_synced = subst (λ (one : JournalState). Stays one bytes on_disk (disk.moments first) Leaves) view synced_there
+
+  module _ {U E F : Type 0} (end : Result U E) (other : F) (done : U) (fine : Ok done ≡ result_or end (Err other))
+      (all : OnOk end (disk.synced first ≡ at.written)) (still : disk.written first ≡ at.written)
+      (recovered : Recovered) (lasts : Lasts at.chain bytes recovered (Leaves at.chain)) (cut : D)
+      (cuts : Passes (disk.moments first) (disk.moments cut) (option_map (take recovered.end) (disk.synced first))
+      (disk.written first)) where
+    cut_there : Stays at bytes on_disk (disk.moments cut) Leaves
+    cut_there is same before = through_cut at.moments (disk.moments first) (disk.moments cut) at.synced at.written
+        (disk.synced first) (disk.written first) bytes recovered.end (Leaves at.chain) passes before cuts
+        (subst (λ (e : Result U E). OnOk e (disk.synced first ≡ at.written)) (was_ok end other done fine) all) still is
+        (λ left may. lasts.cut left (before bytes (now_left at.synced at.written on_disk bytes same is)) may)
+
+    -- after the truncation
+    pub stays_cut : Stays now bytes on_disk (disk.moments cut) Leaves
+    stays_cut = subst (λ (one : JournalState). Stays one bytes on_disk (disk.moments cut) Leaves) view cut_there
+
+    module _ (empty : at.written ≡ Some bytes → disk.written cut ≡ Some []) (nowhere : recovered.end ≡ 0)
+        (size : length at.chain ≡ 32) (text : List ℕ) (text_is : text ≡ head at.chain) {V G : Type 0} (how : Result V G)
+        (begun : D) (writes : WritesText (disk.written cut) (disk.written begun) text how)
+        (appends : Passes (disk.moments cut) (disk.moments begun) (disk.synced cut) (disk.written begun)) where
+      -- the file is a prefix of the head
+      begun_leaves : at.written ≡ Some bytes → at.synced ≡ Some on_disk
+          → ((left : List ℕ) → MayBeLeft at.synced at.written left → Leaves at.chain left)
+          → (one : Option (List ℕ)) (left : List ℕ) → MayBeLeft one (disk.written begun) left → Leaves at.chain left
+      begun_leaves is same before one left may =
+          lasts.anew left nowhere (before bytes (now_left at.synced at.written on_disk bytes same is))
+          (head_reads at.chain text (disk.written cut) one (disk.written begun) size (empty is) text_is
+          (written_front (disk.written cut) (disk.written begun) text how writes) left may)
+
+      begun_there : Stays at bytes on_disk (disk.moments begun) Leaves
+      begun_there is same before =
+          leave_then at.moments (disk.moments cut) (disk.moments begun) (Leaves at.chain) (cut_there is same before)
+          (leave_one (disk.moments cut) (disk.moments begun) (disk.synced cut) (disk.written begun) (Leaves at.chain)
+          appends (begun_leaves is same before (disk.synced cut)))
+
+      -- after the head, or a prefix of it, was appended
+      pub stays_begun : Stays now bytes on_disk (disk.moments begun) Leaves
+      stays_begun = subst (λ (one : JournalState). Stays one bytes on_disk (disk.moments begun) Leaves) view begun_there
+
+      module _ (last : D)
+          (syncs : Passes (disk.moments begun) (disk.moments last) (disk.synced begun) (disk.written begun)) where
+        last_there : Stays at bytes on_disk (disk.moments last) Leaves
+        last_there is same before = leave_then at.moments (disk.moments begun) (disk.moments last) (Leaves at.chain)
+            (begun_there is same before) (leave_one (disk.moments begun) (disk.moments last) (disk.synced begun)
+            (disk.written begun) (Leaves at.chain) syncs (begun_leaves is same before (disk.synced begun)))
+
+        -- after the last sync
+        pub stays_last : Stays now bytes on_disk (disk.moments last) Leaves
+        stays_last = subst (λ (one : JournalState). Stays one bytes on_disk (disk.moments last) Leaves) view last_there

@@ -4,6 +4,7 @@ pub mod Crash
 pub mod Disks
 pub mod Logged
 pub mod Recovering
+pub mod Resuming
 pub mod Chain
 pub mod Laws
 pub mod inside

@@ -15,7 +15,8 @@ use Rattle.clock_journal.specs.declared.recovery.Recovered.{Recovered}
 use Rattle.clock_journal.specs.declared.recovery.JournalFault.{JournalFault}
 use Rattle.clock_journal.specs.declared.recovery.JournalFault.TheVariants as fault
 
--- up to `end` the file is their journal, then it ends or is torn; or it is less than a head
+-- the last digest and the number of these texts. Up to `end` the file is their journal, and then it
+-- ends or is torn; or it is less than a head, and has no text
 pub record AreTextsOf (digest bytes : List ℕ) (texts : List (List ℕ)) (recovered : Recovered)
     : Type 0 where
   pub chain_is : recovered.chain ≡ last_link digest texts
@@ -49,3 +50,4 @@ IsFound refuses digest bytes (fault.Refused place) = (texts : List (List ℕ)) �
     × IsFile digest bytes texts (λ found. found ≡ whole text)
     × (place ≡ length (file_of digest texts)) × refuses (reverse texts) text
 IsFound refuses digest bytes fault.NoMemory = Unit {0}
+IsFound refuses digest bytes fault.Failed = ⊥

@@ -1,17 +1,19 @@
-ghost use Rattle.std.specs.Prelude.{◌≡◌, [], List, ℕ, OnOk, OnErr, Some, false, is_err};
-ghost use Rattle.clock_journal.specs.{Disks.{LeaveOnly}, Format.{Fits, link}};
+ghost use Rattle.std.specs.Prelude.{◌≡◌, [], List, ℕ, IfErr, IfOk, OnOk, OnErr, Some, false};
+ghost use Rattle.std.specs.Prelude.{is_err, reverse};
+ghost use Rattle.clock_journal.specs.Format.{Fits, link};
 ghost use Rattle.clock_journal.specs.Logged.{HasTexts, IsAppended, JournalState};
 ghost use Rattle.clock_journal.specs.Crash.{BeginsWithTexts, LeavesJournal, LeavesOneMore, StaysSo};
 ghost use Rattle.clock_journal.specs.{Chain.{ChainBinds, JournalsBind}, Recovering.{AreTextsOf}};
 ghost use Rattle.clock_journal.specs.Laws.{EveryFront, ReadsBack, WhateverFollows};
+ghost use Rattle.clock_journal.specs.Resuming.{IsLeftBy, IsNotRefused, IsNotResumed, NoneRefused};
 
 use crate::durable::Durable;
 use crate::format::{Link, front_of, head_of, link_of};
-use crate::recovery::Recovered;
+use crate::recovery::{JournalFault, Machine, Recovered, recover};
 use clock_device::Failed;
 use std::marker::Model;
 
-/// A journal on a disk. Begin it on an empty disk, or resume it, before the first text.
+/// A journal on a disk. Call [`Journal::resume`] before the first text.
 ///
 /// In contracts, a journal is what contracts see of its disk, and the digest of its last text.
 #[derive(Drop)]
@@ -45,54 +47,61 @@ impl<D: Durable> Journal<D> {
         Journal { disk, chain }
     }
 
-    /// Begins the journal on an empty disk. At `Ok`, its head is on the disk. A crash at any
-    /// moment leaves a prefix of the head.
+    /// Replays `bytes`, which are all bytes of the disk, with `machine`, like [`recover`].
+    /// Continues the journal there: syncs the file, and truncates what is torn. On an empty file,
+    /// or one with a torn head, it begins the journal. Calls `tell` before the disk is changed.
     ///
-    /// Requires that no call of the disk has failed.
-    pub fn begin(&mut self) -> Result<(), Failed>
+    /// - `own`: on what a crash left of a journal with no text that the machine refuses, it fails
+    ///   only if memory runs out or a call of the disk fails.
+    /// - `left`: at `Failed`, a call of the disk failed; at any other fault, the disk is unchanged.
+    /// - `crash`, `any_tail`: if a crash before this call leaves these texts, so does a crash at
+    ///   any moment of the call, also at `Err`.
+    ///
+    /// Requires a machine without texts, and a journal as [`Journal::new`] made it, of whose disk
+    /// no call has failed. Errors, in this order: as [`recover`]; `Failed`. Do not use the machine
+    /// and the journal after an `Err`.
+    pub fn resume<M: Machine, F: FnOnce(Recovered)>(
+        &mut self,
+        machine: &mut M,
+        bytes: &[u8],
+        tell: F,
+    ) -> Result<Recovered, JournalFault>
+        requires fresh { M.stands_for machine.old self.old.chain [] }
         requires unfailed { self.old.has_failed ≡ false }
-        ensures logged { self.old.written ≡ Some []
-            → OnOk result (HasTexts self.old.chain [] self.new) }
-        ensures moments { self.old.written ≡ Some [] → LeaveOnly self.old.moments self.new.moments
-            (λ left. LeavesJournal self.old.chain left [] 0) }
-        ensures failed { self.new.has_failed ≡ is_err result }
-    {
-        let head = head_of(&self.chain);
-        self.disk.append(&head)?;
-        self.disk.sync()
-    }
-
-    /// Continues the journal of a file that was recovered: syncs it, and truncates what is torn.
-    ///
-    /// `crash`, `any_tail`: if a crash before this call leaves these texts, so does a crash at any
-    /// moment of the call, also at `Err`.
-    ///
-    /// Requires that no call of the disk has failed.
-    pub fn resume(&mut self, recovered: Recovered) -> Result<(), Failed>
-        requires unfailed { self.old.has_failed ≡ false }
-        ensures logged { (bytes : List ℕ) (texts : List (List ℕ))
-            → self.old.written ≡ Some bytes → AreTextsOf self.old.chain bytes texts recovered
-            → OnOk result (HasTexts self.old.chain texts self.new) }
-        ensures crash { (bytes synced : List ℕ) (read texts : List (List ℕ)) (least : ℕ)
-            → self.old.written ≡ Some bytes → self.old.synced ≡ Some synced
-            → AreTextsOf self.old.chain bytes read recovered
+        requires callable { F.IsAlwaysCallable tell }
+        ensures ok { IfOk result (λ recovered. (texts : List (List ℕ))
+            × AreTextsOf self.old.chain bytes.now texts recovered
+            × M.stands_for machine.new self.old.chain (reverse texts)
+            × (self.old.written ≡ Some bytes.now → HasTexts self.old.chain texts self.new)) }
+        ensures err { IfErr result (IsNotResumed (M.refuses (M.rules machine.old))
+            (M.stands_for machine.new self.old.chain) self.old.chain bytes.now) }
+        ensures own { (texts : List (List ℕ)) (least : ℕ)
+            → NoneRefused (M.refuses (M.rules machine.old)) [] texts
+            → LeavesJournal self.old.chain bytes.now texts least → IfErr result IsNotRefused }
+        ensures left { IfErr result (IsLeftBy self.old self.new) }
+        ensures crash { (synced : List ℕ) (texts : List (List ℕ)) (least : ℕ)
+            → self.old.written ≡ Some bytes.now → self.old.synced ≡ Some synced
             → StaysSo self.old self.new
             (λ left. LeavesJournal self.old.chain left texts least) }
-        ensures any_tail { (bytes synced : List ℕ) (read texts : List (List ℕ))
-            → self.old.written ≡ Some bytes → self.old.synced ≡ Some synced
-            → AreTextsOf self.old.chain bytes read recovered
+        ensures any_tail { (synced : List ℕ) (texts : List (List ℕ))
+            → self.old.written ≡ Some bytes.now → self.old.synced ≡ Some synced
             → StaysSo self.old self.new (λ left. BeginsWithTexts self.old.chain left texts) }
-        ensures failed { self.new.has_failed ≡ is_err result }
+        ensures unfailed { OnOk result (self.new.has_failed ≡ false) }
+        ensures rules { M.rules machine.new ≡ M.rules machine.old }
     {
+        let recovered = recover(machine, &self.chain, bytes)?;
+        tell(recovered);
         // only synced bytes survive a crash during the truncation
-        self.disk.sync()?;
-        self.disk.cut(recovered.end)?;
+        self.disk.sync().or(Err(JournalFault::Failed))?;
+        self.disk.cut(recovered.end).or(Err(JournalFault::Failed))?;
         if recovered.end == 0 {
-            return self.begin();
+            let head = head_of(&self.chain);
+            self.disk.append(&head).or(Err(JournalFault::Failed))?;
+            self.disk.sync().or(Err(JournalFault::Failed))?;
         }
         let chain = recovered.chain;
         self.chain = chain;
-        Ok(())
+        Ok(recovered)
     }
 
     /// Appends a text. At `Ok`, it is on the disk and survives a crash. At `Err`, it may be there

@@ -71,6 +71,8 @@ pub struct Recovered {
 /// - `Damaged`: at this place it has what no crash leaves.
 /// - `Refused`: the machine refuses the text whose record begins at this place.
 /// - `NoMemory`: the machine is out of memory.
+/// - `Failed`: a call of the disk failed, after all texts were taken. Only
+///   [`Journal::resume`](crate::Journal::resume) returns it.
 #[derive(Clone, Copy, Debug, PartialEq, Eq)]
 pub enum JournalFault {
     Unknown,
@@ -78,6 +80,7 @@ pub enum JournalFault {
     Damaged(usize),
     Refused(usize),
     NoMemory,
+    Failed,
 }
 
 /// Gives a machine all texts of a file, in order, each with its record. `digest` is that of the

@@ -3,31 +3,12 @@
 ghost use Rattle.std.specs.Prelude.{◌≡◌, IsTrue, false};
 
 use crate::comparing::{assert_is, assert_is_at};
-use clock_fixtures::MemoryDisk;
-use clock_journal::{
-    Durable, FileDisk, Journal, JournalFault, Link, Machine, Record, TakeError, recover,
-};
+use clock_fixtures::{Count, MemoryDisk};
+use clock_journal::{Durable, FileDisk, Journal, JournalFault, Link, recover};
 use std::alloc::Global;
 use std::fs::{self, File, OpenOptions};
 use std::io::Write;
 use std::process::Abort;
-
-/// A machine that counts the requests of its journal.
-#[derive(Drop)]
-struct Count(u64);
-
-impl Machine for Count {
-    ghost rules = { λ count. tt };
-
-    ghost stands_for = { λ count first texts. Unit {0} };
-
-    ghost refuses = { λ rules texts text. ⊥ };
-
-    fn take(&mut self, _text: &[u8], _at: &Record) -> Result<(), TakeError> {
-        self.0 = self.0.saturating_add(1);
-        Ok(())
-    }
-}
 
 const SETUP: Link = [7; 32];
 
@@ -42,12 +23,12 @@ fn taken(bytes: &[u8], setup: &Link) -> Result<(u64, usize), JournalFault> {
     }
 }
 
-/// Begins a journal. Returns whether it did.
+/// Begins a journal on an empty disk. Returns whether it did.
 fn begins<D: Durable>(journal: &mut Journal<D>) -> bool
     requires { journal.old.has_failed ≡ false }
     ensures { IsTrue result → journal.new.has_failed ≡ false }
 {
-    journal.begin().is_ok()
+    journal.resume(&mut Count(0), b"", |_recovered| {}).is_ok()
 }
 
 /// Appends two requests, of 5 and 3 bytes. Returns whether both were appended.
@@ -171,16 +152,13 @@ fn a_full_disk_is_reported(rt: HostRuntime) {
 /// Resumes a journal of these bytes on a disk of its own, and appends a request. None if it is not
 /// appended.
 fn resumed(alloc: Global, bytes: &[u8]) -> Vec<u8> {
-    let mut count = Count(0);
-    let Ok(recovered) = recover(&mut count, &SETUP, bytes) else {
-        return Vec::new(alloc);
-    };
     let mut disk = MemoryDisk::new(alloc, 1000, 100);
     if disk.append(bytes).is_err() {
         return Vec::new(alloc);
     }
     let mut journal = Journal::new(disk, SETUP);
-    let is_taken = journal.resume(recovered).is_ok() && journal.append(b"more").is_ok();
+    let resumed = journal.resume(&mut Count(0), bytes, |_recovered| {});
+    let is_taken = resumed.is_ok() && journal.append(b"more").is_ok();
     let bytes = bytes_if(alloc, &journal, is_taken);
     drop(journal);
     bytes

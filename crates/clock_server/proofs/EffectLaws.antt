@@ -1,5 +1,5 @@
 -- What a text changes, after the texts that a house stands for.
-use Rattle.std.proofs.Common.{◌≡◌, ◌≤◌, inl, inr, ℕ, true, false, List, [], ◌∷◌, Option, refl, sym, ap, ◌∙◌}
+use Rattle.std.proofs.Common.{◌≡◌, ◌≢◌, ◌≤◌, inl, inr, ℕ, true, false, List, [], ◌∷◌, Option, refl, sym, ap, ◌∙◌}
 use Rattle.std.proofs.Common.{length, arith, ◌++◌, Bool}
 use Rattle.std.specs.Prelude.{if◌then◌else◌}
 use Rattle.clock_terms.specs.Limits.{SetupFields, public_setup}
@@ -22,7 +22,8 @@ use Rattle.clock_front.specs.declared.front.response.Response.{Response}
 use Rattle.clock_front.proofs.AnswerLaws.{stands_after}
 use Rattle.clock_front.proofs.FrontLaws.{away_command, needs_by_test}
 use Rattle.clock_journal.specs.Logged.{IsAppended, JournalState}
-use Rattle.clock_server.specs.Keeping.{IsAccepted, LogsChange, is_change}
+use Rattle.clock_server.specs.Keeping.{IsAccepted, is_change}
+use Rattle.clock_server.specs.inside.Served.{LogsChange}
 
 -- a command changes the same in a house and after the commands that the house stands for
 effect_after : (house : HouseFields) (commands : List Command) (command : Command) → StandsFor commands house
@@ -56,10 +57,16 @@ right_after texts text response old new stands right = record {
 abbrev pub logged_when : Bool → List (List ℕ) → List ℕ → List (List ℕ)
 logged_when changes past text = if changes then past ++ text ∷ [] else past
 
-pub nothing_where : (one : Effect) → is_change one ≡ false → one ≡ Nothing
-nothing_where Nothing is = refl
-nothing_where Sheet is = absurd (let no : ⊥ = cc in no)
-nothing_where (Closing round) is = absurd (let no : ⊥ = cc in no)
+pub change_where : (one : Effect) → one ≢ Nothing → is_change one ≡ true
+change_where Nothing differs = absurd (differs refl)
+change_where Sheet differs = refl
+change_where (Closing round) differs = refl
+
+pub logs_none : (one : Effect) (text : List ℕ) (journal : JournalState) → one ≡ Nothing
+    → LogsChange one text journal journal
+logs_none Nothing text journal is = refl
+logs_none Sheet text journal is = absurd (let no : ⊥ = cc in no)
+logs_none (Closing round) text journal is = absurd (let no : ⊥ = cc in no)
 
 pub logs_where : (one : Effect) (text : List ℕ) (old new : JournalState) → is_change one ≡ true
     → IsAppended text old new → LogsChange one text old new

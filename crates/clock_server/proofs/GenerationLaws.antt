@@ -1,5 +1,6 @@
 -- GenerationsContinue, by induction on the generations: each leaves an auction's own file to the next.
-use Rattle.std.proofs.Common.{◌≡◌, ◌≤◌, inl, inr, ℕ, List, [], ◌∷◌, ◌++◌, length, take, Option, Some, None, Err}
+use Rattle.std.proofs.Common.{◌≡◌, ◌≤◌, inl, inr, ℕ, List, [], ◌∷◌, ◌++◌, length, take, Option, Some, None, Result, Ok}
+use Rattle.std.proofs.Common.{Err}
 use Rattle.std.proofs.Common.{refl, sym, ap, ◌∙◌, subst, arith, length-append, append-nil, reverse}
 use Rattle.std.proofs.lemmas.List.{take_at}
 use Rattle.clock_terms.specs.Limits.{SetupFields}
@@ -11,15 +12,16 @@ use Rattle.clock_journal.specs.Logged.{HasTexts, JournalState}
 use Rattle.clock_journal.proofs.Files.{some_head}
 use Rattle.clock_journal.proofs.Starting.{now_left}
 use Rattle.clock_journal.proofs.TakenOver.{left_first}
-use Rattle.clock_server.specs.Accepted.{AreAccepted, IsOwnFile}
-use Rattle.clock_server.specs.Keeping.{IsAccepted}
 use Rattle.clock_journal.specs.Recovering.{AreTextsOf}
+use Rattle.clock_journal.specs.Resuming.{NoneRefused}
 use Rattle.clock_journal.specs.declared.recovery.Recovered.{Recovered}
-use Rattle.clock_server.proofs.AcceptedLaws.{accepted_after, accepted_push, accepted_take}
+use Rattle.clock_journal.proofs.OwnStarts.{not_refused_take}
+use Rattle.clock_server.specs.Accepted.{IsOwnFile}
+use Rattle.clock_server.specs.Keeping.{IsAccepted, IsRefused}
+use Rattle.clock_server.proofs.AcceptedLaws.{accepted_after, accepted_push}
 use Rattle.clock_server.specs.Exchanges.{Exchange}
 use Rattle.clock_server.specs.Generations.{AreRestarts, ContinueFrom, EndsGeneration, Generation, GenerationsContinue}
 use Rattle.clock_server.specs.Generations.{IsGeneration, LeftSince, MayLeave, failed, served}
-use Rattle.clock_server.specs.declared.generation.GenerationFault.TheVariants.{Serve}
 use Rattle.clock_server.specs.declared.serving.ServeFault.{ServeFault}
 use Rattle.clock_server.specs.declared.serving.ServeFault.TheVariants as fault
 use Rattle.clock_server.specs.Serving.{ServerState, AreServed, EndsServing, IsUnlogged, RepliesTo}
@@ -30,16 +32,18 @@ use Rattle.clock_server.proofs.Untouched.{left_all}
 -- ---- accepted texts that are on the disk
 
 abbrev HasAccepted : SetupFields → List ℕ → ServerState → Type 0
-HasAccepted setup digest at = AreAccepted setup [] at.texts × HasTexts digest at.texts at.journal
+HasAccepted setup digest at =
+    NoneRefused (IsRefused setup) [] at.texts × HasTexts digest at.texts at.journal
 
 accepted_step : (setup : SetupFields) (before : ServerState) (one : Exchange) (after : ServerState)
-    → RepliesTo setup before one after → AreAccepted setup [] before.texts → AreAccepted setup [] after.texts
+    → RepliesTo setup before one after → NoneRefused (IsRefused setup) [] before.texts
+    → NoneRefused (IsRefused setup) [] after.texts
 accepted_step setup before one after (inl (text, answer, arrived, sends, inl (right, is, reported))) accepted =
-    subst (AreAccepted setup []) (sym is) (accepted_after setup before.texts text accepted)
+    subst (NoneRefused (IsRefused setup) []) (sym is) (accepted_after setup before.texts text accepted)
 accepted_step setup before one after (inl (text, answer, arrived, sends, inr (left_out, is))) accepted =
-    subst (λ (now : ServerState). AreAccepted setup [] now.texts) (sym is) accepted
+    subst (λ (now : ServerState). NoneRefused (IsRefused setup) [] now.texts) (sym is) accepted
 accepted_step setup before one after (inr (unanswered, is)) accepted =
-    subst (λ (now : ServerState). AreAccepted setup [] now.texts) (sym is) accepted
+    subst (λ (now : ServerState). NoneRefused (IsRefused setup) [] now.texts) (sym is) accepted
 
 accepted_walk : (setup : SetupFields) (digest : List ℕ) (first : ServerState) (exchanges : List Exchange)
     (last : ServerState) → Walks setup first exchanges last → HasAccepted setup digest first
@@ -112,8 +116,9 @@ module _ (setup : SetupFields) (found first : JournalState) (bytes : List ℕ) (
       (subst (λ (all : List (List ℕ)). StandsForTexts (reverse all) old) those.3 resumes.2) in
       let walks = subst (λ (of_setup : SetupFields). Walks of_setup (state (take those.0 texts) first None) exchanges
       (state ends.0 before rounds)) same ends.1 in
-      let own_end = ends_with ends.0 (accepted_walk setup found.chain (state (take those.0 texts) first None) exchanges
-      (state ends.0 before rounds) walks (accepted_take setup [] texts those.0 own.accepted, has)) ends.2 in
+      let own_end =
+      ends_with ends.0 (accepted_walk setup found.chain (state (take those.0 texts) first None) exchanges (state ends.0
+      before rounds) walks (not_refused_take (IsRefused setup) [] texts those.0 own.accepted, has)) ends.2 in
       record {
         count = those.0;
         enough = those.1;
@@ -127,26 +132,28 @@ module _ (setup : SetupFields) (found first : JournalState) (bytes : List ℕ) (
         own = own_end.2;
       }
 
-  pub served_all : (exchanges : List Exchange) (rounds : Option (List ℕ)) (last : JournalState)
+  served_all : (exchanges : List Exchange) (rounds : Option (List ℕ)) (last : JournalState)
       (new : HouseFields) → AreServed exchanges None rounds first last old new
       → found.written ≡ Some bytes → IsGeneration setup found.chain (served found exchanges last)
   served_all exchanges rounds last new are =
       serves exchanges rounds last last new are (all_logged setup found.chain last new)
 
-  pub ends_by_fault : (U : Type 0) (count : ℕ) (exchanges : List Exchange) (rounds : Option (List ℕ))
-      (last : JournalState) (new : HouseFields) (why : ServeFault)
-      → EndsServing {U = U} count exchanges None rounds first last old new (Err why)
-      → EndsGeneration {U = U} setup count exchanges bytes found last (Err (Serve why))
-  ends_by_fault U count exchanges rounds last new fault.Accept ends =
+  pub ends_by : (U : Type 0) (count : ℕ) (exchanges : List Exchange) (rounds : Option (List ℕ))
+      (last : JournalState) (new : HouseFields) (end : Result U ServeFault)
+      → EndsServing count exchanges None rounds first last old new end
+      → EndsGeneration setup count exchanges bytes found last (Ok end)
+  ends_by U count exchanges rounds last new (Ok done) ends =
       (ends.0, served_all exchanges rounds last new ends.1)
-  ends_by_fault U count exchanges rounds last new fault.Journal ends = (
+  ends_by U count exchanges rounds last new (Err fault.Accept) ends =
+      (ends.0, served_all exchanges rounds last new ends.1)
+  ends_by U count exchanges rounds last new (Err fault.Journal) ends = (
     ends.0,
     ends.1,
     ends.2,
     ends.3,
-    ends.9,
+    ends.7,
     serves ends.0 rounds ends.4 last ends.5 ends.6
-        (one_unlogged setup found.chain ends.4 last ends.5 ends.1 (ends.7 ∙ same) ends.8),
+        (one_unlogged setup found.chain ends.4 last ends.5 ends.1 (ends.8 ∙ same) ends.9),
   )
 
 -- ---- generations
@@ -170,7 +177,7 @@ since_left (Some old) new Leaves left only since =
 since_left None new Leaves left only since = absurd since
 
 continue_from : (setup : SetupFields) (digest : List ℕ) (texts : List (List ℕ)) (least : ℕ) (Leaves : List ℕ → Type 0)
-    (generations : List Generation) → AreAccepted setup [] texts
+    (generations : List Generation) → NoneRefused (IsRefused setup) [] texts
     → ((left : List ℕ) → Leaves left → LeavesJournal digest left texts least)
     → AreRestarts setup digest Leaves generations → ContinueFrom setup digest texts least generations
 continue_from setup digest texts least Leaves [] accepted safe follow = tt

@@ -1,7 +1,6 @@
 mod EffectLaws
 mod TakenTexts
 mod Untouched
-pub mod TakenUp
 mod AcceptedLaws
 mod Walking
 mod Closed

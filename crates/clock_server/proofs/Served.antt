@@ -1,5 +1,5 @@
 -- A run continues with one connection that was served.
-use Rattle.std.proofs.Common.{◌≡◌, inl, inr, ℕ, List, [], ◌∷◌, ◌++◌, Option, Some, None, length, reverse}
+use Rattle.std.proofs.Common.{◌≡◌, inl, inr, ℕ, List, [], ◌∷◌, ◌++◌, Option, length, reverse}
 use Rattle.std.proofs.Common.{refl, sym, ap, ◌∙◌, subst}
 use Rattle.clock_terms.specs.Limits.{SetupFields}
 use Rattle.clock_house.specs.House.{HouseFields}
@@ -13,10 +13,10 @@ use Rattle.clock_journal.specs.Crash.{LeavesSince, LeavesTexts}
 use Rattle.clock_journal.specs.Logged.{HasTexts, IsAppended, JournalState}
 use Rattle.clock_journal.proofs.Lists.{reverse-push}
 use Rattle.clock_journal.proofs.Passing.{leave_none}
-use Rattle.clock_server.specs.Exchanges.{Exchange, Sends}
-use Rattle.clock_server.specs.Keeping.{GrowsBy, LogsChange, is_change, round_closed}
-use Rattle.clock_server.specs.Serving.{AreServed, EndsUnanswered, LogsText, RepliesTo, ServerState}
-use Rattle.clock_server.specs.inside.Served.{IsAnswered, IsReported, IsServed, bytes_of, effect_of}
+use Rattle.clock_server.specs.Exchanges.{Exchange}
+use Rattle.clock_server.specs.Keeping.{GrowsBy, is_change, round_closed}
+use Rattle.clock_server.specs.Serving.{AreServed, LogsText, RepliesTo, ServerState}
+use Rattle.clock_server.specs.inside.Served.{IsAnswered, IsReported, IsServed, LogsChange}
 use Rattle.clock_server.proofs.EffectLaws.{logged_when, right_after}
 use Rattle.clock_server.proofs.Untouched.{left_all}
 use Rattle.clock_server.proofs.Walking.{grown_none, walks_on}
@@ -79,32 +79,33 @@ module _ (one : Exchange) (journal_old journal_new : JournalState) (rounds_old r
   still_so same same_rounds = ap (λ (journal : JournalState). state past journal rounds_new) same
       ∙ ap (state past journal_old) same_rounds
 
-  module _ (response : Response) (sends : Sends one.writing one.logged response.reply.bytes journal_new)
-      (reported : IsAnswered one.reading response journal_old journal_new old new)
-      (told : IsReported rounds_old rounds_new response.effect)
-      (fits : IsRightResponse reported.text old new response) where
-    right_reply : (changed : Effect) → response.effect ≡ changed → RepliesTo old.setup before one
+  module _ (changed : Effect) (reported : IsAnswered one changed journal_old journal_new old new) where
+    abbrev response : Response
+    response = record { reply = reported.reply; effect = changed }
+
+    right_reply : IsRightResponse reported.text old new response → IsReported rounds_old rounds_new changed
+        → RepliesTo old.setup before one
         (state (logged_when (is_change changed) past reported.text) journal_new rounds_new)
-    right_reply changed is =
+    right_reply fits told =
         let after = right_after (reverse past) reported.text response old new stands fits in
         inl (
           reported.text,
-          response.reply,
+          reported.reply,
           reported.arrived,
-          sends,
+          reported.sends,
           inl (
             fits.answer.after (reverse past) stands,
-            ap (λ (e : Effect). logged_when (is_change e) past reported.text) (sym is ∙ after.changed),
+            ap (λ (e : Effect). logged_when (is_change e) past reported.text) after.changed,
             subst (λ (e : Effect). GrowsBy rounds_old rounds_new (round_closed e)) after.changed
-                (reported_as response.effect rounds_old rounds_new told),
+                (reported_as changed rounds_old rounds_new told),
           ),
         )
 
     -- its text was accepted and logged
-    appended : IsAppended reported.text journal_old journal_new
+    appended : IsRightResponse reported.text old new response → IsAppended reported.text journal_old journal_new
         → RepliesTo old.setup before one (state (past ++ reported.text ∷ []) journal_new rounds_new)
         → HasNext old.setup past one journal_old journal_new rounds_old rounds_new new
-    appended appends replies =
+    appended fits appends replies =
         let after = right_after (reverse past) reported.text response old new stands fits in
         record {
           next = past ++ reported.text ∷ [];
@@ -116,46 +117,38 @@ module _ (one : Exchange) (journal_old journal_new : JournalState) (rounds_old r
               after.stands;
         }
 
-    answered : (changed : Effect) → response.effect ≡ changed
-        → LogsChange changed reported.text journal_old journal_new
-        → HasNext old.setup past one journal_old journal_new rounds_old rounds_new new
-    answered Nothing is logged = unchanged logged
-        (stands_still (reverse past) old new stands (fits.still is)) (right_reply Nothing is)
-    answered Sheet is logged = appended logged (right_reply Sheet is)
-    answered (Closing round) is logged = appended logged (right_reply (Closing round) is)
-
-  responded : (response : Response) → Sends one.writing one.logged response.reply.bytes journal_new
-      → (reported : IsAnswered one.reading response journal_old journal_new old new)
-      → IsReported rounds_old rounds_new response.effect → RespondsTo reported.text response old new
+  answered : (changed : Effect) (reported : IsAnswered one changed journal_old journal_new old new)
+      → IsReported rounds_old rounds_new changed → IsRightResponse reported.text old new (response changed reported)
       → HasNext old.setup past one journal_old journal_new rounds_old rounds_new new
-  responded response sends reported told (inl fits) =
-      answered response sends reported told fits response.effect refl reported.logged
-  responded response sends reported told (inr (left_out, nothing, still)) =
+  answered Nothing reported told fits = unchanged reported.logged
+      (stands_still (reverse past) old new stands (fits.still refl)) (right_reply Nothing reported fits told)
+  answered Sheet reported told fits =
+      appended Sheet reported fits reported.logged (right_reply Sheet reported fits told)
+  answered (Closing round) reported told fits =
+      appended (Closing round) reported fits reported.logged (right_reply (Closing round) reported fits told)
+
+  responded : (changed : Effect) (reported : IsAnswered one changed journal_old journal_new old new)
+      → IsReported rounds_old rounds_new changed → RespondsTo reported.text (response changed reported) old new
+      → HasNext old.setup past one journal_old journal_new rounds_old rounds_new new
+  responded changed reported told (inl fits) = answered changed reported told fits
+  responded changed reported told (inr (left_out, nothing, still)) =
       let same = subst (λ (e : Effect). LogsChange e reported.text journal_old journal_new) nothing reported.logged in
       let same_rounds = subst (IsReported rounds_old rounds_new) nothing told in
       unchanged same (stands_still (reverse past) old new stands still) (inl (
         reported.text,
-        response.reply,
+        reported.reply,
         reported.arrived,
-        sends,
+        reported.sends,
         inr (left_out, still_so same same_rounds),
       ))
 
-  -- no text was read that could be answered
-  unanswered : EndsUnanswered one journal_new → journal_new ≡ journal_old → rounds_new ≡ rounds_old → new ≡ old
+  served_one : (changed : Effect) → IsServed one changed journal_old journal_new old new
+      → IsReported rounds_old rounds_new changed
       → HasNext old.setup past one journal_old journal_new rounds_old rounds_new new
-  unanswered ends same same_rounds still =
+  served_one changed (inl reported) told = responded changed reported told reported.responds
+  served_one changed (inr (ends, nothing, same, still)) told =
       unchanged same (subst (λ (house : HouseFields). StandsForTexts (reverse past) house) (sym still) stands)
-      (inr (ends, still_so same same_rounds))
-
-  served_one : (served : Option Response) → IsServed one.reading served journal_old journal_new old new
-      → Sends one.writing one.logged (bytes_of served) journal_new → IsReported rounds_old rounds_new (effect_of served)
-      → HasNext old.setup past one journal_old journal_new rounds_old rounds_new new
-  served_one (Some response) (inl reported) sends told = responded response sends reported told reported.responds
-  served_one (Some response) (inr (memory, is, same, still)) sends told = unanswered
-      (inl (memory, subst (λ (r : Response). Sends one.writing one.logged r.reply.bytes journal_new) is sends)) same
-      (subst (λ (r : Response). IsReported rounds_old rounds_new r.effect) is told) still
-  served_one None (unread, same, still) sends told = unanswered (inr (unread, sends)) same told still
+      (inr (ends, still_so same (subst (IsReported rounds_old rounds_new) nothing told)))
 
 -- no connection was served yet
 pub served_none : (reported : Option (List ℕ)) (journal : JournalState) (house : HouseFields)
@@ -163,17 +156,17 @@ pub served_none : (reported : Option (List ℕ)) (journal : JournalState) (house
 served_none reported journal house past stands = (past, refl, stands)
 
 -- one more was served
-pub served_more : (exchanges : List Exchange) (one : Exchange) (served : Option Response)
+pub served_more : (exchanges : List Exchange) (one : Exchange) (changed : Effect)
     (rounds_old rounds_mid rounds_new : Option (List ℕ)) (journal_old journal_mid journal_new : JournalState)
     (old mid new : HouseFields) → mid.setup ≡ old.setup → AreServed exchanges rounds_old rounds_mid journal_old
-    journal_mid old mid → IsServed one.reading served journal_mid journal_new mid new
-    → Sends one.writing one.logged (bytes_of served) journal_new → IsReported rounds_mid rounds_new (effect_of served)
+    journal_mid old mid → IsServed one changed journal_mid journal_new mid new
+    → IsReported rounds_mid rounds_new changed
     → AreServed (exchanges ++ one ∷ []) rounds_old rounds_new journal_old journal_new old new
-served_more exchanges one served rounds_old rounds_mid rounds_new journal_old journal_mid journal_new old mid new
-    same before ends sends told past stands =
+served_more exchanges one changed rounds_old rounds_mid rounds_new journal_old journal_mid journal_new old mid new
+    same before served told past stands =
     let so_far = before past stands in
     let next = subst (λ (setup : SetupFields). HasNext setup so_far.0 one journal_mid journal_new rounds_mid rounds_new
-    new) same (served_one one journal_mid journal_new rounds_mid rounds_new mid new so_far.0 so_far.2 served ends sends
+    new) same (served_one one journal_mid journal_new rounds_mid rounds_new mid new so_far.0 so_far.2 changed served
     told) in (
       next.next,
       walks_on old.setup (state past journal_old rounds_old) exchanges (state so_far.0 journal_mid rounds_mid) one

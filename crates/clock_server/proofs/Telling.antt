@@ -1,5 +1,5 @@
 -- Each text closes the next round or none.
-use Rattle.std.proofs.Common.{◌≡◌, ◌==◌, ◌+◌, ◌-◌, ℕ, true, suc, List, ◌∷◌, Option, Some, None}
+use Rattle.std.proofs.Common.{◌≡◌, ◌==◌, ◌+◌, ℕ, true, suc, List, ◌∷◌, Option, Some, None}
 use Rattle.std.proofs.Common.{Result, Ok, Err}
 use Rattle.std.proofs.Common.{length, refl, arith}
 use Rattle.clock_terms.specs.declared.increments.Increments.{Increments}

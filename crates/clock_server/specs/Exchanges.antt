@@ -1,14 +1,15 @@
 -- What contracts see of connections that are served one after the other. `None` means that
--- contracts do not see it.
+-- contracts do not see it; `None` of `logged` may also mean that nothing was sent.
 --     Offer      what a connection has when it is accepted
 --     Exchange      what was read and sent on a connection until it was closed
 --     Sends writing logged reply journal      this reply was sent, and this was the journal then
+--     SendsNothing one      no reply was sent
 --     Came old new given      connections with these bytes were accepted, in order; the others are
 --         still to come
 --     bytes_given exchanges      what the source of each had before it was read
-use Rattle.std.specs.Prelude.{◌≡◌, ◌≤◌, ◌++◌, ℕ, true, false, List, length, map, take}
-use Rattle.std.specs.Prelude.{Option, Some, IfSome}
-use Rattle.clock_device.specs.Reports.{Reading, SinkReport, SourceReport, Writing}
+use Rattle.std.specs.Prelude.{◌≡◌, ◌≤◌, ◌++◌, ℕ, true, false, List, length, map, take, Option, Some}
+use Rattle.std.specs.Prelude.{None, IfSome}
+use Rattle.clock_device.specs.Reports.{Reading, SinkReport, SourceReport, Writing, unused}
 use Rattle.clock_device.specs.Streams.{HasWritten}
 use Rattle.clock_journal.specs.Logged.{JournalState}
 
@@ -23,7 +24,7 @@ pub record Exchange : Type 0 where
   pub writing : Writing
   pub logged : Option JournalState
 
--- the reply, or a prefix if a write failed, was sent when this was the journal; if empty, nothing
+-- the reply, or a prefix if a write failed, was sent when this was the journal
 pub record Sends (writing : Writing) (logged : Option JournalState) (reply : List ℕ)
     (journal : JournalState) : Type 0 where
   pub count : ℕ
@@ -31,6 +32,10 @@ pub record Sends (writing : Writing) (logged : Option JournalState) (reply : Lis
   pub whole : writing.after.has_failed ≡ false → length reply ≤ count
   pub tried : writing.after.has_failed ≡ true → 1 ≤ length reply
   pub over : IfSome logged (λ seen. seen ≡ journal)
+
+-- nothing was sent: the sink reports what it does before the first write, and no journal was seen
+abbrev pub SendsNothing : Exchange → Type 0
+SendsNothing one = (one.writing.after ≡ unused one.writing.before.taken) × (one.logged ≡ None)
 
 -- these were the first of the connections to come, in order; the rest is still to come
 abbrev pub Came : Option (List (List ℕ)) → Option (List (List ℕ)) → List (Option (List ℕ)) → Type 0

@@ -18,6 +18,7 @@
 --     IsGeneration setup digest one      what one generation does with an auction's own file
 --     LeftSince old new left      a crash at a moment between two states of a disk may leave this
 --     MayLeave one left      a crash of this generation may leave this
+--     found_by one      the journal before its first call
 --     AreRestarts setup digest Leaves generations      each starts on what a crash may have left of
 --         the one before
 --     ContinueFrom setup digest texts least generations      each continues after the one before
@@ -29,18 +30,17 @@ use Rattle.clock_terms.specs.Limits.{SetupFields}
 use Rattle.clock_journal.specs.Crash.{LeavesJournal}
 use Rattle.clock_journal.specs.Disks.{CouldBeLeft, LeaveOnly, MayBeLeft, Moment}
 use Rattle.clock_journal.specs.Logged.{HasTexts, JournalState}
-use Rattle.clock_server.specs.Accepted.{IsNotRefused, IsOwnFile}
-use Rattle.clock_server.specs.Starts.{IsLeftBy}
-use Rattle.clock_server.specs.declared.taking.ResumeFault.{ResumeFault}
-use Rattle.clock_server.specs.Exchanges.{Exchange, Sends}
+use Rattle.clock_journal.specs.Resuming.{IsLeftBy, IsNotRefused}
+use Rattle.clock_journal.specs.declared.recovery.JournalFault.{JournalFault}
+use Rattle.clock_server.specs.Accepted.{IsOwnFile}
+use Rattle.clock_server.specs.Exchanges.{Exchange, SendsNothing}
 use Rattle.clock_server.specs.Serving.{ServerState, Walks}
-use Rattle.clock_server.specs.declared.generation.GenerationFault.{GenerationFault}
-use Rattle.clock_server.specs.declared.generation.GenerationFault.TheVariants.{Start, Serve}
-use Rattle.clock_server.specs.declared.serving.ServeFault.TheVariants as fault
+use Rattle.clock_server.specs.declared.serving.ServeFault.{ServeFault}
+use Rattle.clock_server.specs.declared.serving.ServeFault.TheVariants.{Accept, Journal}
 
 -- a failed start, or a start and then these connections, between the journals before and at the end
 pub data Generation : Type 0 where
-  failed : JournalState → ResumeFault → JournalState → Generation
+  failed : JournalState → JournalFault → JournalState → Generation
   served : JournalState → List Exchange → JournalState → Generation
 
 -- it resumes with `count` texts, and serves; a crash then leaves all logged, and at most one more
@@ -58,7 +58,8 @@ pub record ServesFrom (setup : SetupFields) (digest : List ℕ) (texts : List (L
   pub few : length more ≤ 1
   pub own : IsOwnFile setup digest (last.texts ++ more) (length last.texts) end
 
--- on its own file it serves; or memory ran out or the disk failed, and a crash leaves these texts
+-- if it found its own file: it serves from the first of these texts. Or its start failed for memory
+-- or the disk, and what a crash left since is a file of these texts
 abbrev pub IsGeneration : SetupFields → List ℕ → Generation → Type 0
 IsGeneration setup digest (failed found fault end) =
     (texts : List (List ℕ)) (least : ℕ) (synced : List ℕ) → found.synced ≡ Some synced
@@ -109,18 +110,18 @@ GenerationsContinue = (setup : SetupFields) (digest : List ℕ) (generations : L
     → AreRestarts setup digest (λ left. left ≡ []) generations
     → ContinueFrom setup digest [] 0 generations
 
--- on these bytes of the file this was a generation; a connection that was not logged got no reply
+-- if `bytes` was the whole file, this was a generation: its start failed; or it served all, or
+-- until one was not accepted, or not logged. A connection that was not logged got no reply
 abbrev pub EndsGeneration : {U : Type 0} → SetupFields → ℕ → List Exchange → List ℕ
-    → JournalState → JournalState → Result U GenerationFault → Type 0
-EndsGeneration setup count exchanges bytes found end (Ok done) = (length exchanges ≡ count)
-    × (found.written ≡ Some bytes → IsGeneration setup found.chain (served found exchanges end))
-EndsGeneration setup count exchanges bytes found end (Err (Start fault)) = (exchanges ≡ [])
+    → JournalState → JournalState → Result (Result U ServeFault) JournalFault → Type 0
+EndsGeneration setup count exchanges bytes found end (Err fault) = (exchanges ≡ [])
     × IsLeftBy found end fault
     × (found.written ≡ Some bytes → IsGeneration setup found.chain (failed found fault end))
-EndsGeneration setup count exchanges bytes found end (Err (Serve fault.Accept)) =
-    (length exchanges < count)
+EndsGeneration setup count exchanges bytes found end (Ok (Ok done)) = (length exchanges ≡ count)
     × (found.written ≡ Some bytes → IsGeneration setup found.chain (served found exchanges end))
-EndsGeneration setup count exchanges bytes found end (Err (Serve fault.Journal)) =
+EndsGeneration setup count exchanges bytes found end (Ok (Err Accept)) = (length exchanges < count)
+    × (found.written ≡ Some bytes → IsGeneration setup found.chain (served found exchanges end))
+EndsGeneration setup count exchanges bytes found end (Ok (Err Journal)) =
     (some : List Exchange) × (last : Exchange) × (exchanges ≡ some ++ last ∷ [])
-    × (length exchanges ≤ count) × Sends last.writing last.logged [] end
+    × (length exchanges ≤ count) × SendsNothing last
     × (found.written ≡ Some bytes → IsGeneration setup found.chain (served found some end))

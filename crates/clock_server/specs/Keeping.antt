@@ -5,7 +5,6 @@
 --     IsAccepted setup texts text, IsRefused setup texts text      after these texts, a text
 --         changes the auction, or not
 --     logged_after setup past text      the accepted texts after one more text
---     LogsChange effect text old new      a text is logged if it changes the auction
 --     GrowsBy old new more      exactly these were appended, if contracts see the list
 --     no_journal      the journal of a server that logs nothing
 use Rattle.std.specs.Prelude.{◌≡◌, ◌++◌, ℕ, Bool, true, false, List, [], ◌∷◌, Option, Some, None}
@@ -14,7 +13,7 @@ use Rattle.clock_terms.specs.Limits.{SetupFields}
 use Rattle.clock_front.specs.Effects.{effect}
 use Rattle.clock_front.specs.declared.front.response.Effect.{Effect}
 use Rattle.clock_front.specs.declared.front.response.Effect.TheVariants.{Nothing, Closing}
-use Rattle.clock_journal.specs.Logged.{IsAppended, JournalState}
+use Rattle.clock_journal.specs.Logged.{JournalState}
 
 -- a sheet was put in force, or a round was closed
 abbrev pub is_change : Effect → Bool
@@ -38,11 +37,6 @@ IsRefused setup texts text = is_change (effect setup texts text) ≡ false
 abbrev pub logged_after : SetupFields → List (List ℕ) → List ℕ → List (List ℕ)
 logged_after setup past text =
     if is_change (effect setup (reverse past) text) then past ++ text ∷ [] else past
-
--- a text that changes the auction is appended to the journal; any other leaves it as it is
-abbrev pub LogsChange : Effect → List ℕ → JournalState → JournalState → Type 0
-LogsChange Nothing text old new = new ≡ old
-LogsChange effect text old new = IsAppended text old new
 
 -- exactly these were appended, in order, if contracts see the list
 abbrev pub GrowsBy : {A : Type 0} → Option (List A) → Option (List A) → List A → Type 0

@@ -1,5 +1,4 @@
 pub mod Keeping
-pub mod Starts
 pub mod Accepted
 pub mod Exchanges
 pub mod Serving

@@ -22,14 +22,14 @@ use Rattle.clock_front.specs.Headline.{IsRight}
 use Rattle.clock_journal.specs.Crash.{LeavesOneMore, LeavesSince, LeavesTexts}
 use Rattle.clock_journal.specs.Logged.{HasTexts, JournalState}
 use Rattle.clock_server.specs.Keeping.{GrowsBy, IsAccepted, logged_after, round_closed}
-use Rattle.clock_server.specs.Exchanges.{Exchange, Sends}
+use Rattle.clock_server.specs.Exchanges.{Exchange, Sends, SendsNothing}
 use Rattle.clock_server.specs.declared.serving.ServeFault.{ServeFault}
-use Rattle.clock_server.specs.declared.serving.ServeFault.TheVariants as fault
+use Rattle.clock_server.specs.declared.serving.ServeFault.TheVariants.{Accept, Journal}
 
 -- memory ran out, and the reply says so; or no request could be read, and nothing was sent
 abbrev pub EndsUnanswered : Exchange → JournalState → Type 0
 EndsUnanswered one journal = (HasNoMemory one.reading × Sends one.writing one.logged no_memory.bytes
-    journal) ⊎ (IsNotRead one.reading × Sends one.writing one.logged [] journal)
+    journal) ⊎ (IsNotRead one.reading × SendsNothing one)
 
 -- the accepted texts, the oldest first; the journal; and the reported rounds, if contracts see them
 pub record ServerState : Type 0 where
@@ -75,8 +75,7 @@ pub record IsUnlogged (reading : Reading) (journal_old journal_new : JournalStat
     (old : HouseFields) : Type 0 where
   pub text : List ℕ
   pub arrived : HasArrived reading text
-  pub accepted : (texts : List (List ℕ)) → StandsForTexts texts old
-      → IsAccepted old.setup texts text
+  pub accepted : (past : List (List ℕ)) → StandsForTexts past old → IsAccepted old.setup past text
   pub failed : journal_new.has_failed ≡ true
   pub moments : LeavesOneMore text journal_old journal_new
   pub on_disk : journal_new.synced ≡ journal_old.synced
@@ -87,12 +86,11 @@ abbrev pub EndsServing : {U : Type 0} → ℕ → List Exchange → Option (List
 EndsServing count exchanges rounds_old rounds_new journal_old journal_new old new (Ok done) =
     (length exchanges ≡ count)
     × AreServed exchanges rounds_old rounds_new journal_old journal_new old new
-EndsServing count exchanges rounds_old rounds_new journal_old journal_new old new
-    (Err fault.Accept) = (length exchanges < count)
+EndsServing count exchanges rounds_old rounds_new journal_old journal_new old new (Err Accept) =
+    (length exchanges < count)
     × AreServed exchanges rounds_old rounds_new journal_old journal_new old new
-EndsServing count exchanges rounds_old rounds_new journal_old journal_new old new
-    (Err fault.Journal) = (served : List Exchange) × (last : Exchange)
-    × (exchanges ≡ served ++ last ∷ []) × (length exchanges ≤ count) × (before : JournalState)
-    × (house : HouseFields) × AreServed served rounds_old rounds_new journal_old before old house
+EndsServing count exchanges rounds_old rounds_new journal_old journal_new old new (Err Journal) =
+    (served : List Exchange) × (last : Exchange) × (exchanges ≡ served ++ last ∷ [])
+    × (length exchanges ≤ count) × (before : JournalState) × (house : HouseFields)
+    × AreServed served rounds_old rounds_new journal_old before old house × SendsNothing last
     × (house.setup ≡ old.setup) × IsUnlogged last.reading before journal_new house
-    × Sends last.writing last.logged [] journal_new

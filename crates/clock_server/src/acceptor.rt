@@ -1,12 +1,43 @@
 ghost use Rattle.std.specs.Prelude.{◌≡◌, ◌||◌, ◌∷◌, [], if◌then◌else◌, ℕ, Bool, List, Option};
 ghost use Rattle.std.specs.Prelude.{IfOk, IsSome, OnErr, is_err, false, Some, None};
-ghost use Rattle.clock_device.specs.Reports.{IsUnread, IsUnused, unread, unused};
+ghost use Rattle.clock_device.specs.Reports.{IsUnread, IsUnused, SinkReport, unread, unused};
+ghost use Rattle.clock_journal.specs.Logged.{JournalState};
 ghost use Rattle.clock_server.specs.Keeping.{GrowsBy};
-ghost use Rattle.clock_server.specs.Exchanges.{Came, Exchange, Offer};
+ghost use Rattle.clock_server.specs.Exchanges.{Came, Exchange, Offer, Sends};
 
-use crate::outlet::Outlet;
-use clock_device::{Failed, FromReader, Source, ToWriter};
+use crate::request_log::RequestLog;
+use clock_device::{Failed, FromReader, Sink, Source, ToWriter, write_all};
 use std::net::{TcpListener, TcpStream};
+
+/// The receiver of the reply on one connection, sent in a single call.
+///
+/// In contracts, an outlet shows what was written, and the journal when the first byte was sent. It
+/// shows no journal before that, and need not show it then.
+pub trait Outlet {
+    ghost report: { Self → SinkReport };
+
+    ghost logged: { Self → Option JournalState };
+
+    /// Sends a reply, or a prefix of it if a write fails. `log` has what is logged at that time.
+    ///
+    /// Requires that nothing was sent yet.
+    fn reply<K: RequestLog>(&mut self, log: &K, bytes: &[u8])
+        requires { IsUnused (report self.old) }
+        ensures { Sends (record { before = report self.old; after = report self.new })
+            (logged self.new) bytes.now (K.journal log.now) };
+}
+
+/// Any sink is an outlet, and does not show the journal.
+impl<W: Sink> Outlet for W {
+    ghost report = { λ sink. W.report sink };
+
+    ghost logged = { λ sink. None };
+
+    fn reply<K: RequestLog>(&mut self, _log: &K, bytes: &[u8]) {
+        // a failed write ends only this connection
+        let _fault = write_all(self, bytes);
+    }
+}
 
 /// An accepted connection: where its request comes from, and where its reply goes.
 #[derive(Drop)]
@@ -46,6 +77,7 @@ pub trait Acceptor {
         })) }
         ensures unread { IfOk result (λ one. IsUnread (Self.Reader.report one.source)) }
         ensures unused { IfOk result (λ one. IsUnused (Self.Writer.report one.sink)) }
+        ensures unlogged { IfOk result (λ one. Self.Writer.logged one.sink ≡ None) }
         ensures came { IfOk result (λ one. Came (coming self.old) (coming self.new)
             ((Self.Reader.report one.source).left ∷ [])) }
         ensures still { OnErr result (coming self.new ≡ coming self.old) }

@@ -1,32 +1,73 @@
-ghost use Rattle.std.specs.Prelude.{◌≡◌, [], List, Err, None, true, false};
-ghost use Rattle.clock_front.specs.Fronts.{StandsForTexts};
-ghost use Rattle.clock_server.specs.Keeping.{GrowsBy};
+//! One generation of a server: it replays the texts of its journal, and serves.
+ghost use Rattle.std.specs.Prelude.{◌≡◌, [], ◌∷◌, List, ℕ, Err, IfOk, None, Ok, true, false};
+ghost use Rattle.clock_terms.specs.Limits.{SetupFields};
+ghost use Rattle.clock_front.specs.{Effects.{effect as effect_of}, Fronts.{StandsForTexts}};
+ghost use Rattle.clock_server.specs.Keeping.{GrowsBy, IsRefused};
 ghost use Rattle.clock_server.specs.Exchanges.{Came, Exchange, bytes_given};
 ghost use Rattle.clock_server.specs.Generations.{EndsGeneration, GenerationsContinue};
 
 use crate::acceptor::Acceptor;
 use crate::serving::{ServeFault, serve_all};
-use crate::taking::{ReplayedAuction, ResumeFault, resume_auction};
-use clock_journal::{Durable, Journal, Recovered};
+use clock_front::{Effect, Front};
+use clock_http::{Code, frame};
+use clock_journal::{Durable, Journal, JournalFault, Machine, Record, Recovered, TakeError};
 use clock_processor::Processor;
 use std::alloc::Global;
 
-/// Why a server ended before it served all connections: its start failed, or the loop did.
-#[derive(Clone, Copy)]
-pub enum GenerationFault {
-    Start(ResumeFault),
-    Serve(ServeFault),
+/// A front that takes the texts of a journal, as a [`Machine`]. It refuses a text that changes
+/// nothing.
+#[derive(Drop)]
+pub struct ReplayedAuction<P> {
+    pub front: Front<P>,
 }
 
-/// Runs one generation of a server: resumes the journal of a file with [`resume_auction`], and
-/// serves `count` connections with [`serve_all`]. The program makes these two calls itself.
+impl<P: Processor> Machine for ReplayedAuction<P> {
+    ghost Rules = { SetupFields };
+
+    ghost rules = { λ auction. auction.front.setup };
+
+    ghost stands_for = { λ auction digest texts. StandsForTexts texts auction.front };
+
+    ghost refuses = { λ setup texts text. IsRefused setup texts text };
+
+    fn take(&mut self, text: &[u8], _at: &Record) -> Result<(), TakeError> {
+        take_text(&mut self.front, text)?;
+        Ok(())
+    }
+}
+
+/// Gives a front the next text of its journal, and returns what the text changed. Errors:
+/// `NoMemory` if the reply says so; `Refused` for any other text that changes nothing, since no
+/// server logged it.
+pub fn take_text<P: Processor>(front: &mut Front<P>, text: &[u8]) -> Result<Effect, TakeError>
+    ensures taken { (texts : List (List ℕ)) → StandsForTexts texts front.old
+        → IfOk result (λ effect. effect ≡ effect_of front.old.setup texts text.now) }
+    ensures stands { (texts : List (List ℕ)) → StandsForTexts texts front.old
+        → IfOk result (λ effect. StandsForTexts (text.now ∷ texts) front.new) }
+    ensures refused { (texts : List (List ℕ)) → result ≡ Err TakeError.Refused
+        → StandsForTexts texts front.old → IsRefused front.old.setup texts text.now }
+    ensures setup { front.new.setup ≡ front.old.setup }
+{
+    let response = front.respond(frame(text));
+    if response.effect != Effect::Nothing {
+        return Ok(response.effect);
+    }
+    match response.reply.code() {
+        Code::Memory => Err(TakeError::NoMemory),
+        _ => Err(TakeError::Refused),
+    }
+}
+
+/// Runs one generation of a server: resumes the journal of a file with [`Journal::resume`], and
+/// serves `count` connections with [`serve_all`]. The program makes these two calls itself. `Err`
+/// is a start that failed, and `Ok` has what [`serve_all`] returned.
 ///
 /// If the file is what a crash left of this auction's journal, the start is not refused, and each
 /// reply is the right one after the logged texts. What a crash leaves after that is this auction's
 /// journal again. [`law_of_generations`] says what follows for any number of crashes.
 ///
 /// Requires an auction without texts, a journal that has not failed, and connections of which none
-/// is open and none has failed. Errors, in this order: `Start`, `Serve`.
+/// is open and none has failed.
 pub fn serve_from<P: Processor, D: Durable, C: Acceptor, F: FnOnce(Recovered)>(
     alloc: Global,
     auction: &mut ReplayedAuction<P>,
@@ -35,7 +76,7 @@ pub fn serve_from<P: Processor, D: Durable, C: Acceptor, F: FnOnce(Recovered)>(
     tell: F,
     connections: &mut C,
     count: u64,
-) -> Result<(), GenerationFault>
+) -> Result<Result<(), ServeFault>, JournalFault>
     requires fresh { StandsForTexts [] auction.old.front }
     requires unfailed { journal.old.has_failed ≡ false }
     requires callable { F.IsAlwaysCallable tell }
@@ -47,16 +88,10 @@ pub fn serve_from<P: Processor, D: Durable, C: Acceptor, F: FnOnce(Recovered)>(
         × EndsGeneration auction.old.front.setup count exchanges bytes.now journal.old journal.new
         result }
     ensures closed { C.offer connections.new ≡ None }
-    ensures taken { result ≡ Err (GenerationFault.Serve ServeFault.Accept)
-        → C.has_failed connections.new ≡ true }
+    ensures taken { result ≡ Ok (Err ServeFault.Accept) → C.has_failed connections.new ≡ true }
 {
-    if let Err(fault) = resume_auction(auction, journal, bytes, tell) {
-        return Err(GenerationFault::Start(fault));
-    }
-    match serve_all(alloc, &mut auction.front, journal, connections, count) {
-        Ok(()) => Ok(()),
-        Err(fault) => Err(GenerationFault::Serve(fault)),
-    }
+    journal.resume(auction, bytes, tell)?;
+    Ok(serve_all(alloc, &mut auction.front, journal, connections, count))
 }
 
 /// The second headline, a law, which does nothing when it runs: generations that start on what a

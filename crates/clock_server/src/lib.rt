@@ -3,21 +3,17 @@
 //! [`serve_all`] accepts the connections of an [`Acceptor`] one after the other, serves one request
 //! on each with a front, and sends each reply to an [`Outlet`]. [`PortAcceptor`] is the acceptor of
 //! a port; clock_server_tests has one in memory. A [`RequestLog`] logs the accepted texts: a
-//! journal, or [`NoLog`], which logs nothing. [`resume_auction`] replays all texts of a file, and
-//! continues its journal. [`serve_from`] does that and then serves. [`serve_on`] serves a port
-//! without a journal.
+//! journal, or [`NoLog`], which logs nothing. [`ReplayedAuction`] takes the texts of a file.
+//! [`serve_from`] resumes a journal with it, and then serves. [`serve_on`] serves a port without a
+//! journal.
 #![tactic(auto)]
 
 mod acceptor;
 mod generation;
-mod keeping;
-mod outlet;
+mod request_log;
 mod serving;
-mod taking;
 
-pub use acceptor::{Acceptor, Connection, PortAcceptor};
-pub use generation::{GenerationFault, law_of_generations, serve_from};
-pub use keeping::{NoLog, RequestLog};
-pub use outlet::Outlet;
+pub use acceptor::{Acceptor, Connection, Outlet, PortAcceptor};
+pub use generation::{ReplayedAuction, law_of_generations, serve_from, take_text};
+pub use request_log::{NoLog, RequestLog};
 pub use serving::{ServeFault, law_reported_bytes, serve_all, serve_on};
-pub use taking::{ReplayedAuction, ResumeFault, resume_auction, take_text};

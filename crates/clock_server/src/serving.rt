@@ -1,15 +1,13 @@
 ghost use Rattle.std.specs.Prelude.{◌≡◌, ◌↔◌, List, IfErr, OnOk, None, false, true};
-ghost use Rattle.clock_device.specs.Reports.{IsUnread};
+ghost use Rattle.clock_device.specs.Reports.{IsUnread, IsUnused};
 ghost use Rattle.clock_server.specs.Keeping.{GrowsBy, no_journal};
 ghost use Rattle.clock_server.specs.Exchanges.{Came, Exchange, bytes_given};
 ghost use Rattle.clock_server.specs.Laws.{ReportedBytes};
 ghost use Rattle.clock_server.specs.Serving.{EndsServing};
-ghost use Rattle.clock_server.specs.inside.Served.{EndsOne, EndsTaken, IsReported, effect_of};
-ghost use Rattle.clock_server.specs.inside.Served.{is_accept_fault, reply_bytes as reply_bytes_of};
+ghost use Rattle.clock_server.specs.inside.Served.{EndsTaken};
 
-use crate::acceptor::{Acceptor, PortAcceptor};
-use crate::keeping::{NoLog, RequestLog};
-use crate::outlet::Outlet;
+use crate::acceptor::{Acceptor, Connection, Outlet, PortAcceptor};
+use crate::request_log::{NoLog, RequestLog};
 use clock_connections::{RequestReadError, read_request};
 use clock_device::{Failed, Source};
 use clock_front::{Effect, Front, Response, no_memory_reply};
@@ -31,87 +29,44 @@ pub enum ServeFault {
     Journal,
 }
 
-/// Reads one request, answers it, and logs it if it changed the auction. Returns the response, or
-/// `None` if reading failed. If memory for the request ran out, the response says so.
-fn serve_one<P: Processor, K: RequestLog, R: Source>(
+/// Reads one request, answers it, logs it if it changed the auction, and sends the reply. Returns
+/// what the request changed. If memory for the request ran out, the reply says so. If reading
+/// failed, or the text could not be logged, nothing is sent.
+fn serve_one<P: Processor, K: RequestLog, R: Source, W: Outlet>(
     alloc: Global,
     front: &mut Front<P>,
     log: &mut K,
-    source: &mut R,
-) -> Result<Option<Response>, Failed>
-    requires unread { IsUnread (R.report source.old) }
+    one: &mut Connection<R, W>,
+) -> Result<Effect, Failed>
+    requires unread { IsUnread (R.report one.old.source) }
+    requires unused { IsUnused (W.report one.old.sink) }
+    requires unlogged { W.logged one.old.sink ≡ None }
     requires unfailed { (K.journal log.old).has_failed ≡ false }
-    ensures served { EndsTaken
-        (record { before = R.report source.old; after = R.report source.new })
-        (K.journal log.old) (K.journal log.new) front.old front.new result }
+    ensures served { EndsTaken (record {
+      reading = record { before = R.report one.old.source; after = R.report one.new.source };
+      writing = record { before = W.report one.old.sink; after = W.report one.new.sink };
+      logged = W.logged one.new.sink;
+    }) (K.journal log.old) (K.journal log.new) front.old front.new result }
     ensures unfailed { OnOk result ((K.journal log.new).has_failed ≡ false) }
     ensures rounds { K.rounds log.new ≡ K.rounds log.old }
     ensures setup { front.new.setup ≡ front.old.setup }
 {
-    match read_request(alloc, source) {
+    let response = match read_request(alloc, &mut one.source) {
         Ok(request) => {
-            let response = log.answer(front, request.as_slice(), request.progress())?;
-            Ok(Some(response))
+            let response = front.respond(request.framing());
+            if response.effect != Effect::Nothing {
+                log.log(request.as_slice())?;
+            }
+            response
         }
-        Err(RequestReadError::Memory) => {
-            let (reply, effect) = (no_memory_reply(), Effect::Nothing);
-            Ok(Some(Response { reply, effect }))
-        }
-        Err(RequestReadError::Read) => Ok(None),
-    }
-}
-
-/// Returns the bytes of the reply: none if no request could be read, or its text was not logged.
-fn reply_bytes(served: &Result<Option<Response>, Failed>) -> &[u8]
-    ensures { result.now ≡ reply_bytes_of served.now }
-{
-    match served {
-        Ok(Some(response)) => response.reply.bytes(),
-        Ok(None) | Err(Failed) => b"",
-    }
-}
-
-/// Accepts the next connection, serves it, and closes it with its reply.
-fn serve_next<P: Processor, K: RequestLog, C: Acceptor>(
-    alloc: Global,
-    front: &mut Front<P>,
-    log: &mut K,
-    connections: &mut C,
-) -> Result<(), ServeFault>
-    requires unfailed { (K.journal log.old).has_failed ≡ false }
-    requires closed { C.offer connections.old ≡ None }
-    requires taken { C.has_failed connections.old ≡ false }
-    ensures ends { EndsOne (C.coming connections.old) (C.coming connections.new)
-        (C.closed connections.old) (C.closed connections.new) (K.rounds log.old) (K.rounds log.new)
-        (K.journal log.old) (K.journal log.new) front.old front.new result }
-    ensures unfailed { OnOk result ((K.journal log.new).has_failed ≡ false) }
-    ensures closed { C.offer connections.new ≡ None }
-    ensures taken { C.has_failed connections.new ≡ is_accept_fault result }
-    ensures setup { front.new.setup ≡ front.old.setup }
-{
-    let Ok(mut one) = connections.accept() else {
-        return Err(ServeFault::Accept);
+        Err(RequestReadError::Memory) => Response {
+            reply: no_memory_reply(),
+            effect: Effect::Nothing,
+        },
+        Err(RequestReadError::Read) => return Ok(Effect::Nothing),
     };
-    let served = serve_one(alloc, front, log, &mut one.source);
-    one.sink.reply(log, reply_bytes(&served));
-    connections.close(one);
-    let Ok(served) = served else {
-        return Err(ServeFault::Journal);
-    };
-    tell_closing(log, served);
-    Ok(())
-}
-
-/// Reports the round that a request closed, if any, to the log.
-fn tell_closing<K: RequestLog>(log: &mut K, served: Option<Response>)
-    ensures logged { K.journal log.new ≡ K.journal log.old }
-    ensures rounds { IsReported (K.rounds log.old) (K.rounds log.new) (effect_of served) }
-{
-    if let Some(response) = served {
-        if let Effect::Closing(round) = response.effect {
-            log.round_closed(round);
-        }
-    }
+    one.sink.reply(log, response.reply.bytes());
+    Ok(response.effect)
 }
 
 /// Serves `count` connections, one after the other, with one request each. If reading or writing
@@ -144,7 +99,17 @@ pub fn serve_all<P: Processor, K: RequestLog, C: Acceptor>(
     ensures setup { front.new.setup ≡ front.old.setup }
 {
     for _connection in 0..count {
-        serve_next(alloc, front, log, connections)?;
+        let Ok(mut one) = connections.accept() else {
+            return Err(ServeFault::Accept);
+        };
+        let served = serve_one(alloc, front, log, &mut one);
+        connections.close(one);
+        let Ok(changed) = served else {
+            return Err(ServeFault::Journal);
+        };
+        if let Effect::Closing(round) = changed {
+            log.round_closed(round);
+        }
     }
     Ok(())
 }

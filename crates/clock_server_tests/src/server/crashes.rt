@@ -9,9 +9,9 @@ use crate::comparing::{assert_is, assert_is_at, made_at};
 use crate::memory_acceptor::MemoryAcceptor;
 use clock_fixtures::{ACCEPTED, BIDS_OF_X, FIRST_ROUND, NO_BIDS, ONE_PRODUCT, PUT, STATUS};
 use clock_front::Front;
-use clock_journal::{Journal, Link, Recovered};
+use clock_journal::{Journal, JournalFault, Link, Recovered};
 use clock_processor::Plain;
-use clock_server::{GenerationFault, ReplayedAuction, ServeFault, serve_from};
+use clock_server::{ReplayedAuction, ServeFault, serve_from};
 use clock_setup::{SetupFault, read_setup};
 use std::alloc::Global;
 use std::process::Abort;
@@ -55,12 +55,12 @@ const NOT_STARTED: &str = "not started";
 const NOT_LOGGED: &str = "not logged";
 
 /// How a generation ended, by its result.
-fn ended_by(end: Result<(), GenerationFault>) -> &'static str {
+fn ended_by(end: Result<Result<(), ServeFault>, JournalFault>) -> &'static str {
     match end {
-        Ok(()) => SERVED,
-        Err(GenerationFault::Start(_)) => NOT_STARTED,
-        Err(GenerationFault::Serve(ServeFault::Accept)) => "not accepted",
-        Err(GenerationFault::Serve(ServeFault::Journal)) => NOT_LOGGED,
+        Err(_) => NOT_STARTED,
+        Ok(Ok(())) => SERVED,
+        Ok(Err(ServeFault::Accept)) => "not accepted",
+        Ok(Err(ServeFault::Journal)) => NOT_LOGGED,
     }
 }
 

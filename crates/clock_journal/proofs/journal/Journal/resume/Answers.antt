@@ -1,184 +1,126 @@
-use Rattle.std.proofs.Common.{◌≡◌, ℕ, List, [], Option, Some, OnOk, length, take, sym, ap, ◌∙◌, subst, rules}
+use Rattle.std.proofs.Common.{◌≡◌, ℕ, List, subst, rules}
+use Rattle.std.proofs.lemmas.Result.{err_from_is_err_and}
 use Rattle.clock_journal.specs.Crash.{BeginsWithTexts, LeavesJournal}
-use Rattle.clock_journal.specs.Disks.{LeaveOnly, MayBeLeft, Moment}
-use Rattle.clock_journal.specs.Logged.{HasTexts, JournalState}
-use Rattle.clock_journal.specs.Recovering.{AreTextsOf}
-use Rattle.clock_journal.specs.declared.recovery.Recovered.{Recovered}
-use Rattle.clock_journal.proofs.Moments.{Keeps}
-use Rattle.clock_journal.proofs.Passing.{leave_more, leave_one, leave_then}
-use Rattle.clock_journal.proofs.Placed.{placed_empty, cut_is, logged_when_cut}
-use Rattle.clock_journal.proofs.Starting.{anew_leaves, crash_cut, none_first, now_left, tail_cut, through_cut}
+use Rattle.clock_journal.specs.Logged.{JournalState}
+use Rattle.clock_journal.specs.Recovering.{IsFound}
+use Rattle.clock_journal.proofs.OwnStarts.{own_starts}
+use Rattle.clock_journal.proofs.Starting.{Lasts, Stays, crash_lasts, emptied, stays_begun, stays_cut, stays_last}
+use Rattle.clock_journal.proofs.Starting.{stays_synced, tail_lasts}
+use Rattle.clock_journal.proofs.journal.Journal.resume.Given.{Over}
+use Rattle.clock_journal.proofs.journal.Journal.resume.Goals.{then-recovered-eq0+in_ok-or-3+in_ok-or-4}
+use Rattle.clock_journal.proofs.journal.Journal.resume.Goals.{else-recovered-eq0}
 use Rattle.clock_journal.proofs.journal.Journal.resume.Goals as goal
 
--- what holds of a journal before the call, and of the moments of its disk
-abbrev Logged : JournalState → Recovered → (List ℕ → List (List ℕ) → Type 0) → Type 0
-Logged at recovered Has = (bytes : List ℕ) (texts : List (List ℕ)) → at.written ≡ Some bytes
-    → AreTextsOf at.chain bytes texts recovered → Has at.chain texts
+pub returns-in_err-recovered-clause-own : goal.returns-in_err-recovered-clause-own
+returns-in_err-recovered-clause-own g c texts least fine leaves =
+    let refuses = g.M.Machine.refuses (g.M.Machine.rules c.args.machine.now) in
+    let reported = err_from_is_err_and c.from_residual.result c.from_residual.ensures.1 in
+    rw (reported.1, reported.2) (own_starts refuses c.args.self.now.chain c.args.bytes.now texts least
+    c.in_err-recovered.field-0.0 fine leaves (subst (λ (at : JournalState).
+    IsFound refuses at.chain c.args.bytes.now c.in_err-recovered.field-0.0) c.self.view_is
+    c.in_err-recovered.ensures.err))
 
-abbrev Crash : JournalState → Recovered → Option (List Moment) → Type 0
-Crash at recovered new = (bytes synced : List ℕ) (read texts : List (List ℕ)) (least : ℕ)
-    → at.written ≡ Some bytes → at.synced ≡ Some synced → AreTextsOf at.chain bytes read recovered
-    → ((left : List ℕ) → MayBeLeft at.synced at.written left → LeavesJournal at.chain left texts least)
-    → LeaveOnly at.moments new (λ left. LeavesJournal at.chain left texts least)
+pub returns-in_err-or-clause-crash : goal.returns-in_err-or-clause-crash
+returns-in_err-or-clause-crash g c synced texts least =
+    stays_synced g.D.Durable _ _ c.self.view_is c.args.bytes.now synced
+    (λ chain left. LeavesJournal chain left texts least) c.sync.new.self c.sync.ensures.moments
 
-abbrev Tail : JournalState → Recovered → Option (List Moment) → Type 0
-Tail at recovered new = (bytes synced : List ℕ) (read texts : List (List ℕ))
-    → at.written ≡ Some bytes → at.synced ≡ Some synced → AreTextsOf at.chain bytes read recovered
-    → ((left : List ℕ) → MayBeLeft at.synced at.written left → BeginsWithTexts at.chain left texts)
-    → LeaveOnly at.moments new (λ left. BeginsWithTexts at.chain left texts)
+pub returns-in_err-or-clause-any_tail : goal.returns-in_err-or-clause-any_tail
+returns-in_err-or-clause-any_tail g c synced texts =
+    stays_synced g.D.Durable _ _ c.self.view_is c.args.bytes.now synced
+    (λ chain left. BeginsWithTexts chain left texts) c.sync.new.self c.sync.ensures.moments
 
-pub cut-requires : goal.cut-requires
-cut-requires g c = c.in_ok-sync.ensures.ok ∙ sym c.sync.ensures.written
+-- at each exit, what a crash may leave: if the truncation fails
+at_cut : (g : Over) (c : goal.After-from_residual-in_err-or-2 g) (synced : List ℕ) (Leaves : List ℕ → List ℕ → Type 0)
+    → Lasts c.self.inside.chain c.args.bytes.now c.in_ok-recovered.recovered (Leaves c.self.inside.chain)
+    → Stays c.args.self.now c.args.bytes.now synced (g.D.Durable.moments c.cut.new.self) Leaves
+at_cut g c synced Leaves lasts =
+    stays_cut g.D.Durable _ _ c.self.view_is c.args.bytes.now synced Leaves c.sync.new.self
+    c.sync.ensures.moments c.sync.result _ _ c.in_ok-or.ensures c.sync.ensures.ok c.sync.ensures.written
+    c.in_ok-recovered.recovered lasts c.cut.new.self c.cut.ensures.moments
 
-pub returns-in_err-sync-clause-crash : goal.returns-in_err-sync-clause-crash
-returns-in_err-sync-clause-crash g c =
-    let disk = c.self.inside.disk in
-    subst (λ (at : JournalState). Crash at c.args.recovered (g.D.Durable.moments c.sync.new.self)) c.self.view_is
-    (λ bytes synced read texts least is on_disk placed before. leave_one (g.D.Durable.moments disk)
-    (g.D.Durable.moments c.sync.new.self) (g.D.Durable.synced disk) (g.D.Durable.written disk)
-    (λ left. LeavesJournal c.self.inside.chain left texts least) c.sync.ensures.moments before)
+pub returns-in_err-or-2-clause-crash : goal.returns-in_err-or-2-clause-crash
+returns-in_err-or-2-clause-crash g c synced texts least =
+    at_cut g c synced (λ chain left. LeavesJournal chain left texts least)
+    (crash_lasts texts least (search rules) c.in_ok-recovered.ensures.ok.1)
 
-pub returns-in_err-sync-clause-any_tail : goal.returns-in_err-sync-clause-any_tail
-returns-in_err-sync-clause-any_tail g c =
-    let disk = c.self.inside.disk in
-    subst (λ (at : JournalState). Tail at c.args.recovered (g.D.Durable.moments c.sync.new.self)) c.self.view_is
-    (λ bytes synced read texts is on_disk placed before. leave_one (g.D.Durable.moments disk)
-    (g.D.Durable.moments c.sync.new.self) (g.D.Durable.synced disk) (g.D.Durable.written disk)
-    (λ left. BeginsWithTexts c.self.inside.chain left texts) c.sync.ensures.moments before)
+pub returns-in_err-or-2-clause-any_tail : goal.returns-in_err-or-2-clause-any_tail
+returns-in_err-or-2-clause-any_tail g c synced texts =
+    at_cut g c synced (λ chain left. BeginsWithTexts chain left texts)
+    (tail_lasts texts (search rules) c.in_ok-recovered.ensures.ok.1)
 
-pub returns-in_err-cut-clause-crash : goal.returns-in_err-cut-clause-crash
-returns-in_err-cut-clause-crash g c =
-    let disk = c.self.inside.disk in
-    let chain = c.self.inside.chain in
-    let passed = g.D.Durable.moments in
-    let on_disk = g.D.Durable.synced in
-    let reported = g.D.Durable.written in
-    let long : length chain ≡ 32 = search rules in
-    subst (λ (at : JournalState). Crash at c.args.recovered (passed c.cut.new.self)) c.self.view_is
-    (λ bytes synced read texts least is same placed before.
-    through_cut (passed disk) (passed c.sync.new.self) (passed c.cut.new.self) (on_disk disk) (reported disk)
-    (on_disk c.sync.new.self) (reported c.sync.new.self) bytes c.args.recovered.end
-    (λ left. LeavesJournal chain left texts least) c.sync.ensures.moments before c.cut.ensures.moments
-    c.in_ok-sync.ensures.ok c.sync.ensures.written is
-    (λ left may. crash_cut chain bytes texts read least c.args.recovered left long
-    (before bytes (now_left (on_disk disk) (reported disk) synced bytes same is)) placed may))
+-- if the append of the head fails
+at_append : (g : Over) (c : goal.After-from_residual-in_err-or-3 g) (synced : List ℕ) (Leaves : List ℕ → List ℕ
+    → Type 0) → Lasts c.self.inside.chain c.args.bytes.now c.in_ok-recovered.recovered (Leaves c.self.inside.chain)
+    → Stays c.args.self.now c.args.bytes.now synced (g.D.Durable.moments c.append.new.self) Leaves
+at_append g c synced Leaves lasts =
+    let nowhere : c.in_ok-recovered.recovered.end ≡ 0 = search rules in
+    stays_begun g.D.Durable _ _ c.self.view_is c.args.bytes.now synced Leaves c.sync.new.self
+    c.sync.ensures.moments c.sync.result _ _ c.in_ok-or.ensures c.sync.ensures.ok c.sync.ensures.written
+    c.in_ok-recovered.recovered lasts c.cut.new.self c.cut.ensures.moments (emptied _ _ _ c.args.bytes.now
+    c.in_ok-recovered.recovered.end c.cut.result _ _ c.in_ok-or-2.ensures c.cut.ensures.written c.sync.ensures.written
+    nowhere) nowhere (search rules) c.head_of-head.result c.head_of-head.ensures c.append.result
+    c.append.new.self c.append.ensures.written c.append.ensures.moments
 
-pub returns-in_err-cut-clause-any_tail : goal.returns-in_err-cut-clause-any_tail
-returns-in_err-cut-clause-any_tail g c =
-    let disk = c.self.inside.disk in
-    let chain = c.self.inside.chain in
-    let passed = g.D.Durable.moments in
-    let on_disk = g.D.Durable.synced in
-    let reported = g.D.Durable.written in
-    let long : length chain ≡ 32 = search rules in
-    subst (λ (at : JournalState). Tail at c.args.recovered (passed c.cut.new.self)) c.self.view_is
-    (λ bytes synced read texts is same placed before.
-    through_cut (passed disk) (passed c.sync.new.self) (passed c.cut.new.self) (on_disk disk) (reported disk)
-    (on_disk c.sync.new.self) (reported c.sync.new.self) bytes c.args.recovered.end
-    (λ left. BeginsWithTexts chain left texts) c.sync.ensures.moments before c.cut.ensures.moments
-    c.in_ok-sync.ensures.ok c.sync.ensures.written is
-    (λ left may. tail_cut chain bytes texts read c.args.recovered left long
-    (before bytes (now_left (on_disk disk) (reported disk) synced bytes same is)) placed may))
+pub returns-in_err-or-3-clause-crash : goal.returns-in_err-or-3-clause-crash
+returns-in_err-or-3-clause-crash g c synced texts least =
+    at_append g c synced (λ chain left. LeavesJournal chain left texts least)
+    (crash_lasts texts least (search rules) c.in_ok-recovered.ensures.ok.1)
+
+pub returns-in_err-or-3-clause-any_tail : goal.returns-in_err-or-3-clause-any_tail
+returns-in_err-or-3-clause-any_tail g c synced texts =
+    at_append g c synced (λ chain left. BeginsWithTexts chain left texts)
+    (tail_lasts texts (search rules) c.in_ok-recovered.ensures.ok.1)
+
+-- if the sync of the head fails
+at_sync : (g : Over) (c : goal.After-from_residual-in_err-or-4 g) (synced : List ℕ) (Leaves : List ℕ → List ℕ
+    → Type 0) → Lasts c.self.inside.chain c.args.bytes.now c.in_ok-recovered.recovered (Leaves c.self.inside.chain)
+    → Stays c.args.self.now c.args.bytes.now synced (g.D.Durable.moments c.sync-then-recovered-eq0.new.self) Leaves
+at_sync g c synced Leaves lasts =
+    let nowhere : c.in_ok-recovered.recovered.end ≡ 0 = search rules in
+    stays_last g.D.Durable _ _ c.self.view_is c.args.bytes.now synced Leaves c.sync.new.self c.sync.ensures.moments
+    c.sync.result _ _ c.in_ok-or.ensures c.sync.ensures.ok c.sync.ensures.written c.in_ok-recovered.recovered lasts
+    c.cut.new.self c.cut.ensures.moments (emptied _ _ _ c.args.bytes.now c.in_ok-recovered.recovered.end c.cut.result _
+    _ c.in_ok-or-2.ensures c.cut.ensures.written c.sync.ensures.written nowhere) nowhere (search rules)
+    c.head_of-head.result c.head_of-head.ensures c.append.result c.append.new.self c.append.ensures.written
+    c.append.ensures.moments c.sync-then-recovered-eq0.new.self c.sync-then-recovered-eq0.ensures.moments
+
+pub returns-in_err-or-4-clause-crash : goal.returns-in_err-or-4-clause-crash
+returns-in_err-or-4-clause-crash g c synced texts least =
+    at_sync g c synced (λ chain left. LeavesJournal chain left texts least)
+    (crash_lasts texts least (search rules) c.in_ok-recovered.ensures.ok.1)
+
+pub returns-in_err-or-4-clause-any_tail : goal.returns-in_err-or-4-clause-any_tail
+returns-in_err-or-4-clause-any_tail g c synced texts =
+    at_sync g c synced (λ chain left. BeginsWithTexts chain left texts)
+    (tail_lasts texts (search rules) c.in_ok-recovered.ensures.ok.1)
+
+-- at the end
+at_end : (g : Over) (c : goal.After-chain-2-1 g) (synced : List ℕ) (Leaves : List ℕ → List ℕ → Type 0)
+    → Lasts c.self.inside.chain c.args.bytes.now c.in_ok-recovered.recovered (Leaves c.self.inside.chain)
+    → Stays c.args.self.now c.args.bytes.now synced (g.D.Durable.moments c.if-recovered-eq0.self-inside.disk) Leaves
+at_end g c synced Leaves lasts =
+    elim c.if-recovered-eq0.branch [
+      | then-recovered-eq0+in_ok-or-3+in_ok-or-4 w ↦
+          (let nowhere : c.in_ok-recovered.recovered.end ≡ 0 = search rules in
+          rw (w.self-inside-is) (stays_last g.D.Durable _ _ c.self.view_is c.args.bytes.now synced Leaves
+          c.sync.new.self c.sync.ensures.moments c.sync.result _ _ c.in_ok-or.ensures c.sync.ensures.ok
+          c.sync.ensures.written c.in_ok-recovered.recovered lasts c.cut.new.self c.cut.ensures.moments
+          (emptied _ _ _ c.args.bytes.now c.in_ok-recovered.recovered.end c.cut.result _ _ c.in_ok-or-2.ensures
+          c.cut.ensures.written c.sync.ensures.written nowhere) nowhere (search rules) w.head_of-head.result
+          w.head_of-head.ensures w.append.result w.append.new.self w.append.ensures.written w.append.ensures.moments
+          w.sync-then-recovered-eq0.new.self w.sync-then-recovered-eq0.ensures.moments))
+      | else-recovered-eq0 w ↦ rw (w.self-inside-is) (stays_cut g.D.Durable _ _ c.self.view_is c.args.bytes.now synced
+          Leaves c.sync.new.self c.sync.ensures.moments c.sync.result _ _ c.in_ok-or.ensures c.sync.ensures.ok
+          c.sync.ensures.written c.in_ok-recovered.recovered lasts c.cut.new.self c.cut.ensures.moments)
+    ]
 
 pub returns-clause-crash : goal.returns-clause-crash
-returns-clause-crash g c =
-    let disk = c.self.inside.disk in
-    let chain = c.self.inside.chain in
-    let passed = g.D.Durable.moments in
-    let on_disk = g.D.Durable.synced in
-    let reported = g.D.Durable.written in
-    let long : length chain ≡ 32 = search rules in
-    subst (λ (at : JournalState). Crash at c.args.recovered (passed c.cut.new.self)) c.self.view_is
-    (λ bytes synced read texts least is same placed before.
-    through_cut (passed disk) (passed c.sync.new.self) (passed c.cut.new.self) (on_disk disk) (reported disk)
-    (on_disk c.sync.new.self) (reported c.sync.new.self) bytes c.args.recovered.end
-    (λ left. LeavesJournal chain left texts least) c.sync.ensures.moments before c.cut.ensures.moments
-    c.in_ok-sync.ensures.ok c.sync.ensures.written is
-    (λ left may. crash_cut chain bytes texts read least c.args.recovered left long
-    (before bytes (now_left (on_disk disk) (reported disk) synced bytes same is)) placed may))
+returns-clause-crash g c synced texts least =
+    at_end g c synced (λ chain left. LeavesJournal chain left texts least)
+    (crash_lasts texts least (search rules) c.in_ok-recovered.ensures.ok.1)
 
 pub returns-clause-any_tail : goal.returns-clause-any_tail
-returns-clause-any_tail g c =
-    let disk = c.self.inside.disk in
-    let chain = c.self.inside.chain in
-    let passed = g.D.Durable.moments in
-    let on_disk = g.D.Durable.synced in
-    let reported = g.D.Durable.written in
-    let long : length chain ≡ 32 = search rules in
-    subst (λ (at : JournalState). Tail at c.args.recovered (passed c.cut.new.self)) c.self.view_is
-    (λ bytes synced read texts is same placed before.
-    through_cut (passed disk) (passed c.sync.new.self) (passed c.cut.new.self) (on_disk disk) (reported disk)
-    (on_disk c.sync.new.self) (reported c.sync.new.self) bytes c.args.recovered.end
-    (λ left. BeginsWithTexts chain left texts) c.sync.ensures.moments before c.cut.ensures.moments
-    c.in_ok-sync.ensures.ok c.sync.ensures.written is
-    (λ left may. tail_cut chain bytes texts read c.args.recovered left long
-    (before bytes (now_left (on_disk disk) (reported disk) synced bytes same is)) placed may))
-
-pub returns-then-recovered-eq0-clause-crash : goal.returns-then-recovered-eq0-clause-crash
-returns-then-recovered-eq0-clause-crash g c =
-    let disk = c.self.inside.disk in
-    let chain = c.self.inside.chain in
-    let passed = g.D.Durable.moments in
-    let on_disk = g.D.Durable.synced in
-    let reported = g.D.Durable.written in
-    let long : length chain ≡ 32 = search rules in
-    let nowhere : c.args.recovered.end ≡ 0 = search rules in
-    subst (λ (at : JournalState). Crash at c.args.recovered c.begin.new.self.moments) c.self.view_is
-    (λ bytes synced read texts least is same placed before.
-    let now = before bytes (now_left (on_disk disk) (reported disk) synced bytes same is) in
-    let cut = cut_is (reported disk) (reported c.sync.new.self) (reported c.cut.new.self) bytes c.args.recovered.end
-    c.sync.ensures.written is c.in_ok-cut.ensures.written in
-    leave_then (passed disk) (passed c.cut.new.self) c.begin.new.self.moments (λ left. LeavesJournal chain left texts
-    least) (through_cut (passed disk) (passed c.sync.new.self) (passed c.cut.new.self) (on_disk disk) (reported disk)
-    (on_disk c.sync.new.self) (reported c.sync.new.self) bytes c.args.recovered.end (λ left. LeavesJournal chain left
-    texts least) c.sync.ensures.moments before c.cut.ensures.moments c.in_ok-sync.ensures.ok c.sync.ensures.written is
-    (λ left may. crash_cut chain bytes texts read least c.args.recovered left long (before bytes
-    (now_left (on_disk disk) (reported disk) synced bytes same is)) placed may)) (leave_more (passed c.cut.new.self)
-    c.begin.new.self.moments (λ left. LeavesJournal chain left [] 0) (λ left. LeavesJournal chain left texts least)
-    (λ left anew. anew_leaves chain bytes texts read least c.args.recovered left long nowhere now placed anew)
-    (c.begin.ensures.moments (cut ∙ ap (λ (n : ℕ). Some (take n bytes)) nowhere))))
-
-pub returns-then-recovered-eq0-clause-any_tail : goal.returns-then-recovered-eq0-clause-any_tail
-returns-then-recovered-eq0-clause-any_tail g c =
-    let disk = c.self.inside.disk in
-    let chain = c.self.inside.chain in
-    let passed = g.D.Durable.moments in
-    let on_disk = g.D.Durable.synced in
-    let reported = g.D.Durable.written in
-    let long : length chain ≡ 32 = search rules in
-    let nowhere : c.args.recovered.end ≡ 0 = search rules in
-    subst (λ (at : JournalState). Tail at c.args.recovered c.begin.new.self.moments) c.self.view_is
-    (λ bytes synced read texts is same placed before.
-    absurd (none_first chain bytes texts read c.args.recovered long nowhere
-    (before bytes (now_left (on_disk disk) (reported disk) synced bytes same is)) placed))
-
-pub returns-then-recovered-eq0-clause-logged : goal.returns-then-recovered-eq0-clause-logged
-returns-then-recovered-eq0-clause-logged g c =
-    let disk = c.self.inside.disk in
-    let chain = c.self.inside.chain in
-    let passed = g.D.Durable.moments in
-    let on_disk = g.D.Durable.synced in
-    let reported = g.D.Durable.written in
-    let long : length chain ≡ 32 = search rules in
-    let nowhere : c.args.recovered.end ≡ 0 = search rules in
-    subst (λ (at : JournalState). Logged at c.args.recovered (λ chain texts. OnOk c.begin.result
-    (HasTexts chain texts c.begin.new.self))) c.self.view_is (λ bytes texts is placed.
-    let none = placed_empty chain bytes texts c.args.recovered long nowhere placed in
-    let cut = cut_is (reported disk) (reported c.sync.new.self) (reported c.cut.new.self) bytes c.args.recovered.end
-    c.sync.ensures.written is c.in_ok-cut.ensures.written in
-    subst (λ (all : List (List ℕ)). OnOk c.begin.result (HasTexts chain all c.begin.new.self)) (sym none)
-    (c.begin.ensures.logged (cut ∙ ap (λ (n : ℕ). Some (take n bytes)) nowhere)))
-
-pub returns-clause-logged : goal.returns-clause-logged
-returns-clause-logged g c =
-    let disk = c.self.inside.disk in
-    let chain = c.self.inside.chain in
-    let passed = g.D.Durable.moments in
-    let on_disk = g.D.Durable.synced in
-    let reported = g.D.Durable.written in
-    let long : length chain ≡ 32 = search rules in
-    subst (λ (at : JournalState). Logged at c.args.recovered (λ chain texts. Keeps chain texts (reported c.cut.new.self)
-    (on_disk c.cut.new.self) c.args.recovered.chain)) c.self.view_is (λ bytes texts is placed. logged_when_cut chain
-    bytes texts c.args.recovered (reported c.cut.new.self) (on_disk c.cut.new.self) c.if-recovered-eq0.false placed
-    (cut_is (reported disk) (reported c.sync.new.self) (reported c.cut.new.self) bytes c.args.recovered.end
-    c.sync.ensures.written is c.in_ok-cut.ensures.written) c.in_ok-cut.ensures.synced)
+returns-clause-any_tail g c synced texts =
+    at_end g c synced (λ chain left. BeginsWithTexts chain left texts)
+    (tail_lasts texts (search rules) c.in_ok-recovered.ensures.ok.1)

@@ -7,7 +7,7 @@ use Rattle.clock_device.specs.Reports.{Writing}
 use Rattle.clock_device.specs.Streams.{HasWritten, WritesText}
 use Rattle.clock_journal.specs.Logged.{JournalState}
 use Rattle.clock_server.specs.Exchanges.{Sends}
-use Rattle.clock_server.proofs.outlet.AnyOutlet.reply.Goals as goal
+use Rattle.clock_server.proofs.acceptor.AnyOutlet.reply.Goals as goal
 
 sends : {U E : Type 0} (writing : Writing) (reply : List ℕ) (journal : JournalState) (result : Result U E)
     → WritesText writing.before.taken writing.after.taken reply result → OnErr result (1 ≤ length reply)
