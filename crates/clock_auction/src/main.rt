@@ -20,7 +20,7 @@ fn main(rt: HostRuntime) -> io::Result<ExitCode> {
         Err(error) if error.kind() == io::ErrorKind::OutOfMemory => {
             fault_status(&rt, Fault::Memory)
         }
-        // only the words return another error
+        // any other error is of a word of the command line
         Err(_) => {
             let _ = rt.eprintln("error: a word is not UTF-8");
             2
