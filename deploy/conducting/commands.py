@@ -74,7 +74,7 @@ def check(office: Office, path: Path) -> None:
 
 def pause(office: Office, words: str) -> None:
     """Shuts the gate at once, and says why. Nothing opens or closes until `resume`."""
-    office.gate.shut()  # before it waits for a conductor that is closing a round
+    office.gate.shut(office.clock.wall())  # before it waits for a conductor that is closing a round
     with office.changing() as changed:
         if changed.paused:
             raise CommandFault(f"the auction is paused already: {changed.paused.words}")
@@ -82,7 +82,7 @@ def pause(office: Office, words: str) -> None:
         changed.paused = Pause(office.clock.wall(), words)
         changed.announce(f"The auction is paused. {words}")
         office.plan_file.store(changed)
-        office.gate.shut()
+        office.gate.shut(office.clock.wall())
 
 
 def resume(office: Office, minutes: float) -> None:
@@ -121,7 +121,8 @@ def extend(office: Office, minutes: float) -> None:
         changed.announce(f"Round {number} is open until {in_words(window.closes)}, longer than announced before.")
         office.plan_file.store(changed)
         if window.opened is not None:
-            office.gate.open(now, window.closes)  # without a pause until the conductor looks
+            # without a pause until the conductor looks
+            office.gate.open(now, window.closes, office.settings.shuts(window), office.settings.lifts(window))
 
 
 def announce(office: Office, words: str) -> None:

@@ -10,12 +10,14 @@ from .closing import NotClosed, Origin, Outcome, Ties, last_closed
 from .increments import increments_for
 from .journal import JournalFault
 from .office import Office
-from .plan import Doubt, Plan
+from .pending import pending
+from .plan import Doubt, Plan, StrangePlan
 from .report import Report, State, show
 from .server import NoReply, Refused
-from .timetable import Window, move_later, put_off
+from .timetable import Window, move_later, put_off, whole_ten
 from .watch import Watch, pause_for
 
+LONGEST = 10  # seconds that a closing may take
 LATE = 60  # seconds after its announced time at which a window that opens is no more as announced
 
 
@@ -34,6 +36,7 @@ class Conductor:
         self.office = Office(folder, **office)
         self.watch = Watch(self.office.folders, self.office.clock)
         self.number: int | None = None
+        self.marked: tuple[int, frozenset[str]] | None = None
 
     def run(self) -> None:
         """Runs the auction until it is stopped."""
@@ -51,6 +54,9 @@ class Conductor:
         try:
             with self.office.changing() as plan:
                 report = self.step(plan)
+        except StrangePlan as fault:
+            self.office.gate.shut(self.watch.now)
+            report = Report(State.MISMATCH, f"Nothing is opened or closed: {fault}")
         except (NoReply, Refused, JournalFault, NotClosed, OSError, ValueError) as fault:
             report = Report(State.GONE, f"The conductor cannot continue, and tries again each second: {fault}")
         self.show(report)
@@ -70,11 +76,11 @@ class Conductor:
         """One look: at the clock, the server, the journal, and then at what the plan says."""
         self.look_at_clock(plan)
         if plan.paused:
-            self.office.gate.shut()  # also if the server is gone
+            self.office.gate.shut(self.watch.now)  # also if the server is gone
         status = self.office.status()
         self.number, closed = status["round"], last_closed(status)
         if closed < self.office.board.published():
-            self.office.gate.shut()
+            self.office.gate.shut(self.watch.now)
             return Report(
                 State.MISMATCH,
                 (
@@ -86,6 +92,8 @@ class Conductor:
         self.office.journal.read_on()
         if doubt := self.watch.answered(plan, self.number):
             self.doubt(plan, doubt)
+        if lifts := self.withheld(closed):
+            return Report(State.CURTAIN, f"Round {closed} is closed. Its results are shown at {in_words(lifts)}.", lifts)
         self.publish(plan, closed, status["ended"])
         return self.close_as_asked(plan, self.number, status["ended"]) or self.follow(
             plan, self.number, status["ended"]
@@ -96,7 +104,7 @@ class Conductor:
         before = self.watch.now
         jump = self.watch.look()
         if jump is not None and not plan.paused and not self.office.board.has_ended():
-            self.office.gate.shut()
+            self.office.gate.shut(self.watch.now)
             plan.paused = pause_for(jump, before)
             plan.announce(f"The auction is paused. {plan.paused.words}")
             self.office.plan_file.store(plan)
@@ -114,7 +122,11 @@ class Conductor:
         now, window, gate = self.watch.now, plan.windows.get(number), self.office.gate
         if not ended and not plan.paused and window and window.opens <= now < window.closes:
             return self.open(plan, number, window)
-        gate.shut()
+        shuts = self.office.settings.shuts(window) if window else 0
+        if not ended and not plan.paused and window and window.opened is not None and window.closes <= now < shuts:
+            gate.drain(now)
+            return Report(State.DRAINING, f"Round {number} is shut. Requests that began in time may still end.", shuts)
+        gate.shut(now)
         if ended:
             return Report(State.ENDED, f"The auction ended after round {number}.")
         if plan.paused:
@@ -124,14 +136,24 @@ class Conductor:
             return Report(State.UNPLANNED, f"Round {number} has no window. To give it one: plan FILE.{doubt}")
         if now < window.opens:
             return Report(State.BEFORE, f"Round {number} opens at {in_words(window.opens)}.", window.opens)
-        closes = window.closes + self.office.settings.drain
-        if now < closes:
-            return Report(State.DRAINING, f"Round {number} is shut. Requests that began in time may still end.", closes)
+        if self.is_pending(number):
+            return Report(State.DRAINING, f"Round {number} is shut. Requests are on their way to the server.")
+        self.office.journal.read_on()
         return self.close(plan, number, window)
+
+    def is_pending(self, number: int) -> bool:
+        """Whether a connection that was there when the inner door was shut is still open. The first look after that, and
+        after a start, notes which there are.
+        """
+        there = pending(self.office.settings.port)
+        if self.marked is None or self.marked[0] != number:
+            self.marked = number, there
+        return bool(self.marked[1] & there)
 
     def open(self, plan: Plan, number: int, window: Window) -> Report:
         """Opens the gate, then notes that it is open, then announces it."""
-        self.office.gate.open(self.watch.now, window.closes)
+        settings, self.marked = self.office.settings, None
+        self.office.gate.open(self.watch.now, window.closes, settings.shuts(window), settings.lifts(window))
         if window.opened is None:
             window.opened = self.watch.now
             self.office.plan_file.store(plan)
@@ -146,20 +168,20 @@ class Conductor:
     def reason_to_wait(self, plan: Plan, number: int, window: Window) -> str | None:
         """Why this round is not closed without a word, or None."""
         word = plan.word if plan.word and plan.word.round == number else None
-        if not self.office.journal.sheets and not (word and word.without_sheets):
-            return "nobody has a sheet in force"
+        nobody = None if self.office.journal.sheets else "nobody has a sheet in force"
         if word:
-            return None
+            return None if word.without_sheets else nobody
         if plan.doubt and plan.doubt.round == number:
             return plan.doubt.words
         if window.opened is None or window.opened > window.opens + LATE:
             return "its window was not open as announced"
-        return None
+        return nobody
 
     def close(self, plan: Plan, number: int, window: Window) -> Report:
         """Closes the round unless something speaks against it, and publishes it at once."""
         self.check_journal(number)
         if reason := self.reason_to_wait(plan, number, window):
+            self.doubt(plan, Doubt(number, reason))  # latched: no sheet releases it, only a person
             word = f"next {number}" + ("" if self.office.journal.sheets else " --without-sheets")
             return Report(
                 State.HELD,
@@ -194,7 +216,10 @@ class Conductor:
             office.asked.remove()  # it was carried out before a kill, or comes too late
             return None
         self.check_journal(number)
-        office.gate.shut()
+        office.gate.shut(self.watch.now)
+        if self.is_pending(number):
+            return Report(State.DRAINING, f"Round {number} is shut. Requests are on their way to the server.")
+        office.journal.read_on()
         try:
             if not office.journal.sheets and not asked.without_sheets:
                 raise NotClosed("nobody has a sheet in force")
@@ -208,7 +233,11 @@ class Conductor:
 
     def send(self, plan: Plan, number: int, increments: closing.Increments) -> Report:
         """Closes the round, unless the server refuses, and publishes it at once."""
-        auction = self.office.auction
+        auction, settings, now = self.office.auction, self.office.settings, self.watch.now
+        if settings.publish and self.office.gate.lifts(now) < now + LONGEST:
+            self.office.gate.draw(now, whole_ten(now + settings.publish))
+            self.marked = None  # pages that passed before the curtain was drawn
+            return Report(State.DRAINING, f"Round {number} is shut, and the curtain is drawn.")
         with disk.locked(auction.lock()):
             origin: Origin = closing.fix(auction, number, increments, Ties.OF_CHAIN)
             answer = closing.send(auction, number, origin)
@@ -218,10 +247,15 @@ class Conductor:
         plan.word = plan.doubt = None
         self.office.plan_file.store(plan)
         page = answer.page if answer.outcome is Outcome.CLOSED else self.office.status()
-        self.publish(plan, number, page["ended"])
+        if not self.withheld(number):
+            self.publish(plan, number, page["ended"])
         return Report(State.CLOSED, f"Round {number} is closed.", self.watch.now)
 
     # -- publishing
+
+    def withheld(self, closed: int) -> int:
+        """Until when a closed round that is not published is behind the curtain, or 0."""
+        return self.office.gate.lifts(self.watch.now) if closed > self.office.board.published() else 0
 
     def publish(self, plan: Plan, closed: int, ended: bool) -> None:
         """Stores and publishes each closed round that is not published, and announces it."""

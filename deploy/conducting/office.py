@@ -1,5 +1,6 @@
 """What the conductor and the operator's commands share: settings, folders, clock, plan, and the public files."""
 import contextlib
+import hashlib
 from collections.abc import Callable, Iterator
 from pathlib import Path
 
@@ -32,10 +33,15 @@ class Office:
         self.auction.chain()  # there must be one
         self.asked = Asked(self.folders.asked / "close.json", self.setup)
         self.plan_file, self.board, self.gate = (
-            PlanFile(self.folders.state / "plan.json"),
+            PlanFile(self.folders.state / "plan.json", self.identity()),
             Board(self.folders),
             Gate(self.folders.gate),
         )
+
+    def identity(self) -> str:
+        """The digest of what no two auctions share: the set-up and the commitment. A rehearsal has the set-up only."""
+        commitment = (self.folders.public / "commitment.json").read_bytes()
+        return hashlib.sha256(self.setup.document + commitment).hexdigest()
 
     @contextlib.contextmanager
     def changing(self) -> Iterator[Plan]:

@@ -48,6 +48,7 @@ class Notice:
 class Plan:
     """The windows by round, the rules of increments, and what a person or the conductor has decided."""
 
+    auction: str  # the digest of the set-up and the commitment that it is for
     windows: dict[int, Window] = dataclasses.field(default_factory=dict)
     increments: list[Rule] = dataclasses.field(default_factory=lambda: [Rule(DEFAULT)])
     paused: Pause | None = None
@@ -61,6 +62,7 @@ class Plan:
             return part and kind(**part)
 
         return cls(
+            value.get("auction", ""),
             {int(number): Window(**part) for number, part in value["windows"].items()},
             [Rule(**part) for part in value["increments"]],
             one(Pause, value["paused"]),
@@ -74,15 +76,27 @@ class Plan:
         self.notices.append(Notice(secrets.token_hex(8), text))
 
 
+class StrangePlan(ValueError):
+    """The plan on disk is another auction's."""
+
+
 class PlanFile:
     """The plan on disk."""
 
-    def __init__(self, path: Path) -> None:
-        self.path = path
+    def __init__(self, path: Path, auction: str) -> None:
+        self.path, self.auction = path, auction
 
     def read(self) -> Plan:
-        """The plan, or one without windows if there is none yet."""
-        return Plan.of(json.loads(self.path.read_text(encoding="utf-8"))) if self.path.exists() else Plan()
+        """The plan, or one without windows if there is none yet. A StrangePlan if it is another auction's."""
+        if not self.path.exists():
+            return Plan(self.auction)
+        plan = Plan.of(json.loads(self.path.read_text(encoding="utf-8")))
+        if plan.auction != self.auction:
+            raise StrangePlan(
+                f"{self.path} is of another auction, or of an earlier commitment. Put the folders state, operator, asked, "
+                "kept, public and receipts of that auction away."
+            )
+        return plan
 
     def store(self, plan: Plan) -> None:
         """Stores the plan if it is another one than before."""

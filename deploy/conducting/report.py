@@ -20,6 +20,7 @@ class State(enum.Enum):
     DRAINING = "draining"
     HELD = "held"
     CLOSED = "closed"
+    CURTAIN = "curtain"
     PAUSED = "paused"
     UNPLANNED = "unplanned"
     GONE = "gone"

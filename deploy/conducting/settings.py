@@ -11,6 +11,7 @@ from pathlib import Path
 from typing import Self
 
 from . import disk
+from .timetable import Window, whole_ten
 
 
 class SettingsFault(Exception):
@@ -34,7 +35,9 @@ class Settings:
     setup: Path
     token: Path  # a file with the operator's token
     journal: Path  # the server's own
-    drain: int = 5  # from a window's end to the closing, for requests that began in time
+    port: int = 8105  # the server's, at which the conductor counts connections on their way
+    drain: int = 10  # from a window's end until the inner door shuts, for requests that began in time
+    publish: int = 30  # from a window's end until the curtain lifts, longer than `drain` and the longest closing; 0 for none
     between: int = 300  # at the least from results to the next opening
     notice: int = 900  # a window that begins within this time is not brought forward or shortened
     readers: str = ""  # the group of nginx's workers, which read the report to the operator's page; "" asks nginx.conf
@@ -52,11 +55,20 @@ class Settings:
             settings = cls(**files, **value)
         except (OSError, ValueError, AttributeError, KeyError, TypeError) as error:
             raise SettingsFault(f"{path}: {error!r}") from error
-        times = {"drain": settings.drain, "between": settings.between, "notice": settings.notice}
+        times = {name: getattr(settings, name) for name in ("port", "drain", "publish", "between", "notice")}
         for name, seconds in times.items():
             if type(seconds) is not int or seconds < 0:
                 raise SettingsFault(f"{path}: {name} must be whole seconds, 0 or more")
         return dataclasses.replace(settings, readers=settings.readers or group_of_workers(folder / "nginx.conf"))
+
+
+    def shuts(self, window: Window) -> int:
+        """When the inner door shuts after a window."""
+        return window.closes + whole_ten(self.drain)
+
+    def lifts(self, window: Window) -> int:
+        """When the curtain lifts after a window."""
+        return window.closes + whole_ten(self.publish)
 
 
 @dataclasses.dataclass(frozen=True)

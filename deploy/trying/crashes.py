@@ -8,7 +8,7 @@ from collections.abc import Iterator
 from trying.stage import Stage, ensure
 
 WINDOWS = [(30, 60), (120, 150), (210, 240)]
-CLOSED = [65, 155, 245]  # five seconds after the windows
+CLOSED = [70, 160, 250]  # ten seconds after the windows
 
 
 def played_once(program: pathlib.Path) -> tuple[list[str], int]:
@@ -17,7 +17,7 @@ def played_once(program: pathlib.Path) -> tuple[list[str], int]:
     try:
         stage.disk.count = 0
         stage.play(step=15)
-        ensure("closings are five seconds after their windows", stage.closed_at() == CLOSED, stage.states)
+        ensure("closings are ten seconds after their windows", stage.closed_at() == CLOSED, stage.states)
         return stage.check(), stage.disk.count
     finally:
         stage.stop()
@@ -31,7 +31,7 @@ def check_gate(stage: Stage) -> None:
     for number, time in stage.opens:
         ensure("a sheet out of its window", windows[number][0] <= time < windows[number][1], (number, time, windows))
     for time, (_, closes) in zip(stage.closed_at(), windows.values()):
-        ensure("a round closed early", time >= closes + 5, (stage.closed_at(), windows))
+        ensure("a round closed early", time >= closes + 10, (stage.closed_at(), windows))
 
 
 def check_moment(stage: Stage) -> None:

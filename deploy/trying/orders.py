@@ -99,8 +99,8 @@ def try_pause_in_a_look(program: pathlib.Path) -> str:
         office = stage.office()
         shut, looks = office.gate.shut, []
 
-        def shut_and_look() -> None:
-            shut()
+        def shut_and_look(now: float) -> None:
+            shut(now)
             if not looks:
                 looks.append(stage.look())
 

@@ -81,7 +81,9 @@ class Place:
                 "daemon off;",
             ]
             with open(self.folder / "nginx.words", "wb") as said:
-                self.nginx = self.keep(subprocess.Popen(words, stdin=subprocess.DEVNULL, stdout=said, stderr=said))
+                self.nginx = self.keep(
+                    subprocess.Popen(words, stdin=subprocess.DEVNULL, stdout=said, stderr=said, cwd=self.folder)
+                )
             wait_for("nginx listens", lambda: listens(self.outside) or self.nginx.poll() is not None, 30)
             if self.nginx.poll() is not None:
                 raise Failed("nginx ended: " + (self.folder / "nginx.words").read_text().strip())
@@ -127,6 +129,11 @@ class Place:
             (self.folder / name).mkdir(0o755)
         (self.folder / "log" / "access.log").touch(0o600)
         (self.folder / "gate" / "open").touch()  # sheets are taken at any time
+        inner = self.folder / "inner"
+        inner.mkdir()
+        if os.geteuid() == 0:  # else nginx's workers are this user
+            shutil.chown(inner, group=worker or "nogroup")
+        inner.chmod(0o710)
         setup = self.folder / "setup.json"
         setup.touch(0o600)
         setup.write_text(setup_text)

@@ -190,6 +190,7 @@ class Stage:
                     "setup": "setup.json",
                     "token": "operator.token",
                     "journal": "auction.journal",
+                    "publish": 0,
                     "between": 30,
                     "notice": 60,
                     **settings,

@@ -50,6 +50,24 @@ def try_no_sheets(program: pathlib.Path) -> str:
     )
 
 
+def try_strange_plan(program: pathlib.Path) -> str:
+    """The plan of another auction or rehearsal closes nothing, also if its window is over and a sheet is in force."""
+    with stage_of(program) as stage, stage_of(program) as other:
+        for file in ("plan.json", "look.json"):
+            if (other.folder / "state" / file).exists():
+                (stage.folder / "state" / file).write_bytes((other.folder / "state" / file).read_bytes())
+        text = (stage.folder / "state/plan.json").read_text()
+        (stage.folder / "state/plan.json").write_text(text.replace('"auction": "', '"auction": "0'))
+        ensure("a sheet", stage.put("X", 1, 2, 100))
+        for seconds in (0, 70, 400):
+            stage.time.sleep(seconds)
+            stage.look()
+            ensure("another auction's plan", stage.is_in(State.MISMATCH, "is of another auction"), stage.words())
+            ensure("nothing is opened", not stage.is_open())
+        ensure("nothing is closed", stage.operator().page("/v1/status")["round"] == 1)
+    return "another auction's plan: nothing is opened or closed by it, and it is named"
+
+
 def try_missed_window(program: pathlib.Path) -> str:
     """A window that nobody opened, or opened late, is none."""
     with stage_of(program) as stage:
@@ -57,7 +75,7 @@ def try_missed_window(program: pathlib.Path) -> str:
         stage.time.sleep(900)  # nobody runs while the window of round 2 comes and goes
         stage.conductor = stage.fresh()
         stage.play(State.HELD)
-        ensure("no sheets in a window that nobody opened", "nobody has a sheet" in stage.words(), stage.words())
+        ensure("a window that nobody opened", "not open as announced" in stage.words(), stage.words())
         stage.put("X", 2, 2, 110)  # straight at the server
         stage.look()
         ensure(
@@ -228,6 +246,7 @@ def try_refused_closing(program: pathlib.Path) -> str:
 def try_waits(program: pathlib.Path) -> Iterator[str]:
     for part in (
         try_no_sheets,
+        try_strange_plan,
         try_missed_window,
         try_unseen_server,
         try_unseen_window,

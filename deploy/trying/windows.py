@@ -5,11 +5,16 @@ import concurrent.futures
 import http.client
 import json
 import os
+import re
 import shutil
+import socket
 import time
 
+from conducting.pending import pending
 from trying.client import ADDRESSES, Client, ensure, is_refusal
+from trying.http2 import Http2
 from trying.limits import connected
+from trying.place import wait_for
 
 BIDDER, OTHER = "0NEBIDDERST0KEN1", "0THERBIDDERST0KEN"
 SHEET = b'{"bids":[],"round":1}'
@@ -25,20 +30,186 @@ def ten(after=0):
     return str(int(time.time()) // 10 + after)
 
 
-def let_through(place, token, names):
-    """While gate/ has these names, a sheet passes. One whose head has come by then passes after they are gone."""
-    gate, client, late = place.folder / "gate", Client(place.outside), Client(place.outside)
+def half_sent(place, token, body=SHEET, address=None):
+    """A client that has sent a sheet but for its last bytes, and has them left."""
+    client = Client(place.outside, address)
+    head = f"PUT /v1/me/bids HTTP/1.1\r\nhost: localhost\r\nauthorization: Bearer {token}\r\ncontent-length: {len(body)}"
+    client.send(f"{head}\r\n\r\n".encode() + body[:5])
+    return client
+
+
+def without_time(head):
+    """The head of a reply without its date."""
+    return re.sub(r"\ndate: [^\r]*", "", head)
+
+
+def let_through(place, token, outer, inner):
+    """While gate/ has these names, a sheet passes.
+
+    Once those of the outer door are gone, one whose head came by then passes until those of the inner door are gone
+    too. A sheet that becomes whole later is refused as one whose head comes later is, byte for byte.
+    """
+    gate, client, drained, late = place.folder / "gate", Client(place.outside), None, None
+    for name in (*outer, *inner):
+        (gate / name).touch()
+    drained, late = half_sent(place, token), half_sent(place, token)
+    ensure(f"a sheet with {outer}", put(client, token)[0] == 200)
+    time.sleep(0.2)
+    for name in outer:
+        (gate / name).unlink()
+    drained.send(SHEET[5:])
+    if inner:
+        refused = put(client, token)
+        ensure("a sheet after the window", is_refusal(refused, 409, "window"))
+        ensure("a sheet whose head came in the window", drained.reply()[0] == 200)
+        for name in inner:
+            (gate / name).unlink()
+    else:
+        refused = drained.reply()
+    late.send(SHEET[5:])
+    found = late.reply()
+    ensure("a sheet that is whole after the inner door was shut", is_refusal(found, 409, "window"), found)
+    for one in (found, put(client, token)):
+        same = without_time(one[1]), one[2]
+        ensure("it is refused as at the outer door", same == (without_time(refused[1]), refused[2]), set(one[1].split("\r\n")) ^ set(refused[1].split("\r\n")))
+
+
+def try_slow_bodies(place, server, bidder):
+    """A body by chunks, one that waits over the next window's opening, and one over HTTP/2."""
+    gate, body = place.folder / "gate", b'{"bids":[],"round":2}'
+    names = [*(f"{kind}{ten(after)}" for kind in ("", "late-") for after in (0, 1))]
+    before = server.count("PUT /v1/me/bids")
+    (gate / "open").unlink()
     for name in names:
         (gate / name).touch()
-    head = f"PUT /v1/me/bids HTTP/1.1\r\nhost: x\r\nauthorization: Bearer {token}\r\ncontent-length: {len(SHEET)}"
-    late.send(f"{head}\r\n\r\n".encode() + SHEET[:5])
-    ensure(f"a sheet with {names}", put(client, token)[0] == 200)
-    time.sleep(0.2)
+    early, paused = half_sent(place, bidder, body), half_sent(place, bidder)
+    chunks = Client(place.outside)
+    head = f"PUT /v1/me/bids HTTP/1.1\r\nhost: localhost\r\nauthorization: Bearer {bidder}\r\ntransfer-encoding: chunked"
+    chunks.send(f"{head}\r\n\r\n5\r\n".encode() + SHEET[:5] + b"\r\n")
+    second = Http2(place.outside, next(ADDRESSES))
+    second.put("/v1/me/bids", bidder, SHEET[:5])
+    time.sleep(0.3)
     for name in names:
-        (gate / name).unlink()
-    ensure("a sheet after the window", is_refusal(put(client, token), 409, "window"))
-    late.send(SHEET[5:])
-    ensure("a sheet whose head came in the window", late.reply()[0] == 200)
+        (gate / name).unlink()  # a pause
+    paused.send(SHEET[5:])
+    chunks.send(b"%x\r\n%s\r\n0\r\n\r\n" % (len(SHEET) - 5, SHEET[5:]))
+    second.end(SHEET[5:])
+    for what, found in (("in a pause", paused.reply()), ("in chunks", chunks.reply())):
+        ensure(f"a body that ends {what}", is_refusal(found, 409, "window"), found)
+    found = second.reply()
+    ensure("a body over HTTP/2", found == (409, b'{"code":"window","status":409}'), found)
+    ensure("none of them reached the server", server.count("PUT /v1/me/bids") == before)
+    early.send(body[5:-1])
+    for name in (ten(), "late-" + ten(), ten(1), "late-" + ten(1)):
+        (gate / name).touch()  # the next window
+    early.send(body[-1:])
+    ensure("a body that ends in the next window", early.reply()[0] == 200)
+    for file in gate.iterdir():
+        file.unlink()
+    print("slow bodies: one that ends in a pause, in chunks, or over HTTP/2 is refused; one of the next round passes in its "
+          "window only")
+
+
+def try_curtain(place, server, bidder):
+    """While gate/ has curtain-TEN, no page that could show a new state is shown, and none reaches the server, also if
+    the head came before; a sheet is judged by the inner door alone; what everyone may see of files is shown.
+    """
+    gate, client = place.folder / "gate", Client(place.outside)
+    pages = ("/v1/status", "/v1/products", "/v1/rounds/1", "/v1/rounds/7", "/v1/me", "/v1/me/bids", "/v1/me/rounds/1")
+    (gate / "open").unlink(missing_ok=True)
+    server.closed = 6
+    shown = [client.ask("GET", page, bidder)[0] for page in pages]
+    ensure("pages without a curtain", shown == [200, 200, 200, 404, 200, 200, 200], shown)
+    slow = {}
+    for page in ("/v1/rounds/7", "/v1/me", "/v1/status"):
+        slow[page] = Client(place.outside)
+        head = f"GET {page} HTTP/1.1\r\nhost: localhost\r\nauthorization: Bearer {bidder}\r\ntransfer-encoding: chunked\r\n\r\n"
+        slow[page].send(head.encode() + b"1\r\n")
+    for after in (0, 1):
+        (gate / f"curtain-{ten(after)}").touch()
+        (gate / f"late-{ten(after)}").touch()
+    before, answers = len(server.seen), set()
+    server.closed = 7
+    asked_inside(place, "/v1/rounds/7", None)  # as the conductor does
+    ensure("the conductor sees the round", len(server.seen) == before + 1)
+    for page in pages:
+        status, head, text = client.ask("GET", page, bidder)
+        answers.add((status, without_time(head), text))
+    for page, waiting in slow.items():
+        waiting.send(b"x\r\n0\r\n\r\n")
+        status, head, text = waiting.reply()
+        answers.add((status, without_time(head), text))
+    ensure("one answer for all", len(answers) == 1, answers)
+    (status, head, text), = answers
+    ensure("the answer", (status, text) == (503, b'{"code":"closing","status":503}'), answers)
+    ensure("the answer says when to ask again", "\nretry-after: 1" in head, head)
+    ensure("no line of the inner door", "x-door" not in head, head)
+    ensure("nobody but the conductor reached the server", len(server.seen) == before + 1, server.seen[before:])
+    ensure("a file", client.ask("GET", "/index.html")[0] == 200)
+    (gate / ten()).touch()
+    (gate / ten(1)).touch()
+    ensure("a sheet while the curtain is drawn", put(client, bidder)[0] == 200)
+    for file in gate.iterdir():
+        file.unlink()
+    before = len(server.seen)
+    ensure("the new round once it is lifted", client.ask("GET", "/v1/rounds/7", bidder)[0] == 200)
+    ensure("it is there for all at once, from the cache", len(server.seen) == before, server.seen[before:])
+    (gate / "open").touch()
+    print(f"curtain: {len(pages)} pages have one answer, 503 closing, also {len(slow)} whose head came before; nobody but the "
+          "conductor reaches the server; the new round is in the cache when it is lifted")
+
+
+def try_inner_log(place):
+    """A sheet that the inner door refused is no connection of the server in the log."""
+    lines = [json.loads(line) for line in (place.folder / "log/access.log").read_text().splitlines()]
+    refused = [line for line in lines if line["status"] == 409 and line["request"].startswith("PUT /v1/me/bids")]
+    ensure("refused sheets in the log", refused and all(line["server"] == "" for line in refused), refused[:3])
+    withheld = [line for line in lines if line["status"] == 503]
+    ensure("withheld pages in the log", withheld and all(line["server"] == "" for line in withheld), withheld[:3])
+    cached = [line["server"] for line in lines if line["request"].startswith("GET /v1/products") and line["status"] == 200]
+    ensure("of a page in the cache one line has a time of the server", sum(took != "" for took in cached) == 1, cached)
+    ensure("each request has one line", not any(line["from"].startswith("unix") for line in lines))
+
+
+def try_pending(place, server, token):
+    """What is on its way to the server is seen: a sheet until its reply is there, and one more that nginx's end
+    left.
+    """
+
+    def at_server():
+        return {one for one in pending(place.server_port) if one.startswith("from")}
+
+    wait_for("nothing is on its way", lambda: not at_server(), 20)
+    server.may_go.clear()
+    client = Client(place.outside)
+    head = f"PUT /v1/me/bids HTTP/1.1\r\nhost: localhost\r\nauthorization: Bearer {token}\r\ncontent-length: {len(SHEET)}\r\n\r\n"
+    client.send(head.encode() + SHEET)
+    wait_for("a sheet is on its way", at_server, 20)
+    marked = pending(place.server_port)
+    ensure("it is seen at the inner door too", any(one.startswith("door") for one in marked), marked)
+    with socket.create_connection(("127.0.0.1", place.server_port)) as straight:  # as if nginx had been killed after it
+        straight.sendall(b"GET /v1/status HTTP/1.0\r\n\r\n")
+        straight.shutdown(socket.SHUT_WR)
+        wait_for("a connection whose client is gone", lambda: len(at_server()) == 2, 20)
+        # another nginx of this machine has a socket file of the same name
+        ensure("others come and go", at_server() > {one for one in marked if one.startswith("from")})
+        server.may_go.set()
+        ensure("the sheet", client.reply()[0] == 200)
+        straight.recv(65_536)
+    wait_for("what was on its way has its reply", lambda: not marked & pending(place.server_port), 20)
+    print("pending: a sheet on its way is seen at the inner door and at the server's port until its reply is there")
+
+
+def try_many_at_once(place, server, tokens):
+    """A burst of sheets passes both doors: the socket file's queue refuses none."""
+    clients = [(Client(place.outside), token) for token in tokens for _ in range(6)]
+    before = server.count("PUT /v1/me/bids")
+    head = lambda token: f"PUT /v1/me/bids HTTP/1.1\r\nhost: localhost\r\nauthorization: Bearer {token}\r\ncontent-length: {len(SHEET)}\r\n\r\n"
+    for client, token in clients:
+        client.send(head(token).encode() + SHEET)
+    found = [client.reply()[0] for client, _ in clients]
+    ensure("a burst of sheets", set(found) == {200}, found)
+    ensure("a burst of sheets", server.count("PUT /v1/me/bids") == before + len(found))
 
 
 def try_windows(place, server, bidder, often):
@@ -63,15 +234,22 @@ def try_windows(place, server, bidder, often):
     ensure("without a token", is_refusal(client.ask("PUT", "/v1/me/bids", body=SHEET), 401, "token"))
     ensure("the page that refuses", is_refusal(client.ask("PUT", "/window", bidder, body=SHEET), 404, "no_page"))
     ensure("a sheet out of the window reached the server", server.count("PUT /v1/me/bids") == before)
-    let_through(place, bidder, (ten(), ten(1)))
-    let_through(place, bidder, ("open",))
-    ensure("four sheets reached the server", server.count("PUT /v1/me/bids") == before + 4)
+    let_through(place, bidder, (ten(), ten(1)), (f"late-{ten()}", f"late-{ten(1)}"))
+    let_through(place, bidder, ("open",), ())
+    ensure("three sheets reached the server", server.count("PUT /v1/me/bids") == before + 3)
+    for names in ((ten(), ten(1)), (f"late-{ten()}", f"late-{ten(1)}")):  # a door alone
+        for name in names:
+            (gate / name).touch()
+        ensure(f"a sheet with {names}", is_refusal(put(client, bidder), 409, "window"))
+        for name in names:
+            (gate / name).unlink()
+    ensure("a door alone lets no sheet pass", server.count("PUT /v1/me/bids") == before + 3)
     refused = [put(client, often)[0] for _ in range(80)]
     ensure("sheets out of the window count against the rate", set(refused) == {409, 429}, refused)
     (gate / "open").touch()
     print(
         "windows: a sheet passes while gate/ has its ten seconds or `open`, else 409 window; a body that came later "
-        "passes if its head came in time; the sheet in force is shown at any time"
+        "passes if its head came in time and the inner door is open, and is else refused by the same bytes"
     )
 
 
