@@ -1,0 +1,1 @@
+"""The commands of `auction`, one subject a file."""

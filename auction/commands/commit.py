@@ -1,0 +1,44 @@
+"""Fixes tie-breaking numbers and the key of receipts before round 1, and publishes what everyone needs to check both.
+
+FOLDER is the folder of `auction close` or of the conductor. It gets chain.json, with the secret of the seeds, and
+receipts.pem, with the secret key, both for their owner only. PUBLIC is the folder `public` of nginx. It gets
+commitment.json, for everyone (docs/formats.md). What is there already stays, so call it again after a crash.
+
+With --no-ties, closings have no tie-breaking numbers. With --draw, called once more after commitment.json is
+published, the numbers also depend on these words: the result of a public draw that was announced before. So nobody
+could have made many chains and chosen one. The words are up to 200 letters of printable ASCII.
+
+It prints the commitment. Give it to bidders, and keep FOLDER secret: anyone who has the seeds knows
+all tie-breaking numbers.
+"""
+import argparse
+import json
+import os
+import pathlib
+import sys
+
+from auction.command import Command
+from auction.conductor import commitment
+from auction.formats.setup import Setup
+
+
+def arguments(parser: argparse.ArgumentParser) -> None:
+    parser.add_argument("setup", metavar="SETUP", type=pathlib.Path)
+    parser.add_argument("folder", metavar="FOLDER", type=pathlib.Path)
+    parser.add_argument("public", metavar="PUBLIC", type=pathlib.Path)
+    parser.add_argument("--no-ties", action="store_true", help="close without tie-breaking numbers")
+    parser.add_argument("--draw", metavar="WORDS", help="the result of a public draw")
+
+
+def run(given: argparse.Namespace) -> int:
+    os.umask(0o022)
+    try:
+        places = commitment.Places(given.folder, given.public)
+        made = commitment.make(places, Setup.read(given.setup), not given.no_ties, given.draw)
+    except commitment.FAULTS as fault:
+        sys.exit(f"auction commit: {fault}")
+    print(json.dumps(made.value(), separators=(",", ":")))
+    return 0
+
+
+COMMAND = Command.of("commit", __doc__, arguments, run)

@@ -1,0 +1,190 @@
+"""The commands of the conductor, which runs an auction by its timetable.
+
+FOLDER is nginx's, with conductor.json in it (docs/formats.md). A command and its announcement are one write.
+"""
+import argparse
+import fcntl
+import os
+import pathlib
+import sys
+import time
+from collections.abc import Callable
+
+from auction.command import Command
+from auction.conductor import commands, report
+from auction.conductor.commands import CommandFault
+from auction.conductor.conductor import Conductor
+from auction.conductor.office import Office
+from auction.conductor.settings import SettingsFault
+from auction.conductor.timetable import TimetableFault
+
+FOLDER = "FOLDER is nginx's, with conductor.json in it (docs/formats.md)."
+RUN = f"""{FOLDER} The conductor opens and shuts the window,
+closes each round once, publishes it, and continues. It remembers no step: what is next follows
+from its plan, the server, and the files that are there. So it may be killed at any moment and started again. A closing
+is on disk before it is sent, as with `auction close`.
+
+A round waits for your word, `auction next` or `auction extend`, in four cases:
+- nobody has a sheet in force;
+- its window opened a minute late;
+- the server did not answer for a minute of it;
+- the server refused its closing.
+If the clock was set, the conductor pauses until you say `auction resume`."""
+
+Action = Callable[[Office, argparse.Namespace], None]
+
+
+def run_auction(folder: pathlib.Path) -> None:
+    """Runs the auction, unless another process does."""
+    conductor = Conductor(folder, say=lambda line: print(line, flush=True))
+    with open(conductor.office.folders.state / "run.lock", "w", encoding="utf-8") as lock:
+        try:
+            fcntl.flock(lock, fcntl.LOCK_EX | fcntl.LOCK_NB)
+        except OSError:
+            sys.exit("another conductor runs this auction")
+        conductor.run()
+
+
+def status(office: Office, _: argparse.Namespace) -> None:
+    """Prints the last report. The exit status is 0, 3 if it waits for a person, and 1 if nobody writes the report."""
+    shown = report.shown(office.folders)
+    if not shown:
+        sys.exit("no conductor has run yet")
+    print(f"{shown['state']}: {shown['waits_for']}")
+    if shown["sheets"] is not None and shown["state"] != report.State.ENDED.value:
+        missing = [name for name in office.setup.bidders if name not in shown["sheets"]]
+        others = f"; not: {', '.join(missing)}" if missing else ""
+        print(
+            f"{len(shown['sheets'])} of {len(office.setup.bidders)} bidders have a sheet in force{others}"
+        )
+    age = time.time() - report.time_of(shown)
+    if age > report.STALE:
+        sys.exit(
+            f"this was written {age:.0f} s ago: no conductor is running, or a closing takes long"
+        )
+    if report.State(shown["state"]) in report.WAITS_FOR_A_PERSON:
+        sys.exit(3)
+
+
+def guarded(
+    name: str, action: Callable[[argparse.Namespace], None]
+) -> Callable[[argparse.Namespace], int]:
+    """An action that ends with one line if it fails."""
+
+    def run(given: argparse.Namespace) -> int:
+        try:
+            action(given)
+        except (CommandFault, SettingsFault, TimetableFault, OSError, ValueError) as fault:
+            sys.exit(f"auction {name}: {fault}")
+        return 0
+
+    return run
+
+
+def add_folder(parser: argparse.ArgumentParser) -> None:
+    parser.add_argument("folder", metavar="FOLDER", type=pathlib.Path)
+
+
+def add_file(parser: argparse.ArgumentParser) -> None:
+    add_folder(parser)
+    parser.add_argument("file", metavar="FILE", type=pathlib.Path)
+
+
+def add_words(parser: argparse.ArgumentParser) -> None:
+    add_folder(parser)
+    parser.add_argument("words", metavar="WORDS", nargs="+")
+
+
+def add_minutes(parser: argparse.ArgumentParser) -> None:
+    add_folder(parser)
+    parser.add_argument("minutes", metavar="MINUTES", type=float)
+
+
+def add_minutes_or_ten(parser: argparse.ArgumentParser) -> None:
+    add_folder(parser)
+    parser.add_argument("minutes", metavar="MINUTES", nargs="?", type=float, default=10.0)
+
+
+def add_round(parser: argparse.ArgumentParser) -> None:
+    add_folder(parser)
+    parser.add_argument("round", metavar="ROUND", type=int)
+    parser.add_argument(
+        "--without-sheets", action="store_true", help="close though nobody has a sheet in force"
+    )
+
+
+def command(
+    name: str, summary: str, arguments: Callable[[argparse.ArgumentParser], None], action: Action
+) -> Command:
+    """A command about the auction of a folder."""
+
+    def run(given: argparse.Namespace) -> None:
+        os.umask(0o022)
+        action(Office(given.folder.absolute()), given)
+
+    return Command(name, summary, FOLDER, arguments, guarded(name, run))
+
+
+COMMANDS = (
+    Command(
+        "run",
+        "Runs an auction by its timetable, as the systemd unit does.",
+        RUN,
+        add_folder,
+        guarded("run", lambda given: run_auction(given.folder.absolute())),
+    ),
+    command(
+        "status",
+        "Prints what the conductor waits for; status 3 if that is a person.",
+        add_folder,
+        status,
+    ),
+    command(
+        "plan",
+        "Takes a timetable for the rounds that have not begun.",
+        add_file,
+        lambda office, given: commands.plan(office, given.file),
+    ),
+    command(
+        "check",
+        "Prints the windows of a timetable in UTC, and changes nothing.",
+        add_file,
+        lambda office, given: commands.check(office, given.file),
+    ),
+    command(
+        "pause",
+        "Takes no more sheets, and says why.",
+        add_words,
+        lambda office, given: commands.pause(office, " ".join(given.words)),
+    ),
+    command(
+        "resume",
+        "Continues in MINUTES, or 10, for the time that was left.",
+        add_minutes_or_ten,
+        lambda office, given: commands.resume(office, given.minutes),
+    ),
+    command(
+        "extend",
+        "Adds time to the current window, or opens it again.",
+        add_minutes,
+        lambda office, given: commands.extend(office, given.minutes),
+    ),
+    command(
+        "announce",
+        "Announces something to everyone.",
+        add_words,
+        lambda office, given: commands.announce(office, " ".join(given.words)),
+    ),
+    command(
+        "next",
+        "Closes a round that waits for your word.",
+        add_round,
+        lambda office, given: commands.close_next(office, given.round, given.without_sheets),
+    ),
+    command(
+        "winners",
+        "Publishes what each bidder has won, after the end.",
+        add_folder,
+        lambda office, _: commands.winners(office),
+    ),
+)

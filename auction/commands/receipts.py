@@ -1,0 +1,55 @@
+"""Signs a receipt for each accepted sheet, and puts it where nginx gives it to its bidder only.
+
+JOURNAL is the server's journal, which is read as it grows and never written. FOLDER has the secret key receipts.pem,
+which `auction commit` made before round 1. RECEIPTS is the folder `receipts` of nginx. It must be there, and nginx's
+workers must be its group: install -d -m 2750 -g auction-nginx receipts. What is made in it is for its owner and this
+group only.
+
+A receipt is made within a second, and only of a sheet that is on the disk. It is RECEIPTS/BIDDER/ROUND-K.json for the
+K-th sheet of the bidder in the round (docs/formats.md). The same sheet and key always make the same receipt, so this
+may be killed at any moment and started again. With --once it signs what the journal has, and ends. Otherwise it runs on
+until it is stopped.
+
+If the journal cannot be read, it says so, and tries again.
+"""
+import argparse
+import os
+import pathlib
+import sys
+
+from auction.command import Command
+from auction.formats.journal import JournalFault
+from auction.formats.setup import Setup
+from auction.receipts import Desk, Sheets
+from auction.receipts import run as publish_receipts
+
+
+def arguments(parser: argparse.ArgumentParser) -> None:
+    parser.add_argument("setup", metavar="SETUP", type=pathlib.Path)
+    parser.add_argument("journal", metavar="JOURNAL", type=pathlib.Path)
+    parser.add_argument("folder", metavar="FOLDER", type=pathlib.Path)
+    parser.add_argument("receipts", metavar="RECEIPTS", type=pathlib.Path)
+    parser.add_argument("--once", action="store_true", help="sign what the journal has, and end")
+
+
+def say(line: str) -> None:
+    print(line, flush=True)
+
+
+def run(given: argparse.Namespace) -> int:
+    os.umask(0o027)
+    try:
+        if not given.receipts.is_dir():
+            sys.exit(f"auction receipts: there is no folder {given.receipts}")
+        sheets = Sheets(given.journal, Setup.read(given.setup))
+        desk = Desk(sheets, (given.folder / "receipts.pem").read_bytes(), given.receipts)
+        if given.once:
+            say(f"receipts {desk.look()}")
+        else:
+            publish_receipts(desk, say)
+    except (JournalFault, OSError, ValueError) as fault:
+        sys.exit(f"auction receipts: {fault}")
+    return 0
+
+
+COMMAND = Command.of("receipts", __doc__, arguments, run)

@@ -1,0 +1,137 @@
+"""Makes the record of an auction that has ended: everything that an auditor or a bidder needs to count it again.
+
+PUBLISHED is the folder of what was published during the auction, such as the conductor's `public`. FOLDER must not be
+there. It gets the set-up and the journal byte for byte, the published files by their names, and tables of bids, results
+and prices as CSV. An index, SHA256SUMS, lists them. docs/formats.md describes the files and their columns. The same
+files give the same record.
+
+It is written next to its place, synced, and renamed: FOLDER is whole, or not there.
+
+The set-up and the journal have all tokens in clear. So an auction that has not ended is refused. If it was given up,
+stop the server, and add --not-ended. Only the owner of FOLDER can read it, until you publish it.
+
+The last line is the SHA-256 of the index, which identifies the record. `auction verify` checks a record.
+"""
+import argparse
+import hashlib
+import os
+import pathlib
+import re
+import shutil
+import sys
+
+from auction.command import Command
+from auction.conductor import disk
+from auction.formats import tables
+from auction.recount import rules as recount
+from auction.recount.formats import Refused
+
+INDEX = "SHA256SUMS"
+PUBLISHED = re.compile(r"(commitment|timetable|announcements|winners|rounds/[1-9][0-9]*)\.json")
+ABOUT = """The record of an auction of clock_auction. docs/formats.md of its repository lists these files and their
+columns, docs/auditors.md says what they prove.
+
+The sums of all files:    sha256sum -c SHA256SUMS
+The whole auction:        auction verify setup.json auction.journal FOLDER
+
+FOLDER is this folder, or better, all that you saved yourself while the auction was running.
+
+setup.json and auction.journal have the tokens of this auction. They open nothing any more.
+"""
+
+
+class NoRecord(Exception):
+    """Why no record is made."""
+
+
+def arguments(parser: argparse.ArgumentParser) -> None:
+    parser.add_argument("setup", metavar="SETUP", type=pathlib.Path)
+    parser.add_argument("journal", metavar="JOURNAL", type=pathlib.Path)
+    parser.add_argument("published", metavar="PUBLISHED", type=pathlib.Path)
+    parser.add_argument("folder", metavar="FOLDER", type=pathlib.Path)
+    parser.add_argument(
+        "--not-ended", action="store_true", help="make it of an auction that was given up"
+    )
+
+
+def recounted(document: bytes, journal: bytes, may_not_have_ended: bool) -> recount.Recount:
+    """The recounted auction, which must have ended."""
+    try:
+        counted = recount.recounted(document, journal)
+    except Refused as fault:
+        raise NoRecord(f"the set-up or the journal is refused: {fault}") from None
+    if not counted.auction.ended and not may_not_have_ended:
+        raise NoRecord(
+            f"the auction has not ended. {len(counted.auction.rounds)} rounds are closed, and its tokens are valid."
+        )
+    return counted
+
+
+def published_in(folder: pathlib.Path) -> dict[str, bytes]:
+    """The published files, by their names in the folder."""
+    if not folder.is_dir():
+        raise NoRecord(f"{folder} is not a folder")
+    found = {str(path.relative_to(folder)): path for path in sorted(folder.rglob("*.json"))}
+    if strange := [name for name in found if not PUBLISHED.fullmatch(name)]:
+        raise NoRecord(f"{folder} has {strange[0]}, which is never published during an auction")
+    return {name: path.read_bytes() for name, path in found.items()}
+
+
+def files_of(
+    document: bytes, journal: bytes, published: dict[str, bytes], counted: recount.Recount
+) -> dict[str, bytes]:
+    """The files of the record, by name."""
+    made = {
+        **tables.files_of(document, journal, counted),
+        **tables.published_files_of(published),
+        "README.txt": ABOUT,
+    }
+    own = {
+        "setup.json": document,
+        "auction.journal": journal,
+        **{name: made[name].encode() for name in made},
+    }
+    files = {**published, **own}
+    sums = [f"{hashlib.sha256(files[name]).hexdigest()}  {name}\n" for name in sorted(files)]
+    return {**files, INDEX: "".join(sums).encode()}
+
+
+def write(folder: pathlib.Path, files: dict[str, bytes]) -> None:
+    """Writes a folder next to its place, for its owner only, brings it to the disk, and renames it."""
+    fresh = folder.with_name(f"{folder.name}.new")
+    shutil.rmtree(fresh, ignore_errors=True)
+    fresh.mkdir()
+    fresh.chmod(0o700)
+    for name, content in files.items():
+        path = fresh / name
+        path.parent.mkdir(parents=True, exist_ok=True)
+        with open(
+            path, "wb", opener=lambda name, flags: os.open(name, flags, disk.PRIVATE)
+        ) as file:
+            file.write(content)
+            file.flush()
+            os.fsync(file.fileno())
+    for each in [*(path for path in fresh.rglob("*") if path.is_dir()), fresh]:
+        disk.sync_folder(each)
+    os.rename(fresh, folder)
+    disk.sync_folder(folder.parent)
+
+
+def run(given: argparse.Namespace) -> int:
+    try:
+        if os.path.lexists(given.folder):
+            raise NoRecord(f"{given.folder} is there already")
+        document, journal = given.setup.read_bytes(), given.journal.read_bytes()
+        counted = recounted(document, journal, given.not_ended)
+        files = files_of(document, journal, published_in(given.published), counted)
+        write(given.folder, files)
+    except (NoRecord, OSError, ValueError, KeyError, TypeError) as fault:
+        sys.exit(f"no record: {fault}")
+    print(
+        f"{given.folder}: {len(counted.auction.rounds)} rounds, {counted.texts} requests, {len(files)} files"
+    )
+    print(f"index {hashlib.sha256(files[INDEX]).hexdigest()}")
+    return 0
+
+
+COMMAND = Command.of("record", __doc__, arguments, run)

@@ -1,0 +1,42 @@
+"""Checks a published auction, and prints for each check whether it holds.
+
+SETUP and JOURNAL are the auction's, byte for byte. PUBLISHED is a folder with what was published during the auction, by
+the names under /public/: the commitment and all rounds. Best is what you saved yourself during the auction. It may also
+be the record that `auction record` made, whose tables and index are then checked too. Each RECEIPTS is a bidder's file of
+receipts.
+
+Each check prints one line, or one for each thing that is wrong: `ok`, `FAILED`, or `absent` if there is nothing to
+check. The last line counts them. The status is 0 only if nothing failed.
+
+It reads docs/rules.md and docs/formats.md as `auction recount` does, runs none of the auction's programs, and changes
+nothing. docs/auditors.md says what each check proves, and what it does not.
+"""
+import argparse
+import pathlib
+from collections import Counter
+
+from auction.command import Command
+from auction.verify.case import Case
+from auction.verify.findings import ABSENT, FAILED, OK, findings
+
+
+def arguments(parser: argparse.ArgumentParser) -> None:
+    parser.add_argument("setup", metavar="SETUP", type=pathlib.Path)
+    parser.add_argument("journal", metavar="JOURNAL", type=pathlib.Path)
+    parser.add_argument("published", metavar="PUBLISHED", type=pathlib.Path)
+    parser.add_argument("receipts", metavar="RECEIPTS", type=pathlib.Path, nargs="*")
+
+
+def run(given: argparse.Namespace) -> int:
+    counts: Counter[str] = Counter()
+    for found in findings(Case(given.setup, given.journal, given.published, *given.receipts)):
+        counts[found.result] += 1
+        print(f"{found.result:6} {found.subject}: {found.words}", flush=True)
+    verdict = "NOT verified" if counts[FAILED] else "verified"
+    print(
+        f"{verdict}: {counts[OK]} checks hold, {counts[FAILED]} failed, {counts[ABSENT]} had nothing to check"
+    )
+    return 1 if counts[FAILED] else 0
+
+
+COMMAND = Command.of("verify", __doc__, arguments, run)

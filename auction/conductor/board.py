@@ -1,0 +1,106 @@
+"""What everyone sees, as files that nginx serves: timetable, announcements, closed rounds, and winners."""
+import json
+import os
+from pathlib import Path
+from typing import Any
+
+from . import disk
+from .clock import utc
+from .plan import Plan
+from .settings import Folders
+from .server import Page
+
+
+class Board:
+    """The public files. Each is written whole, and only if it has changed."""
+
+    def __init__(self, folders: Folders) -> None:
+        self.folders = folders
+
+    def published(self) -> int:
+        """How many rounds are published, from round 1 on."""
+        number = 0
+        while self.round_file(number + 1).exists():
+            number += 1
+        return number
+
+    def round_file(self, number: int) -> Path:
+        return self.folders.rounds / f"{number}.json"
+
+    def results(self, number: int) -> Page | None:
+        """The round results of a published round."""
+        return json.loads(self.round_file(number).read_text(encoding="utf-8")) if number else None
+
+    def has_ended(self) -> bool:
+        """Whether the last published round is the end of the auction."""
+        results = self.results(self.published())
+        return bool(results and results["ended"])
+
+    def publish_round(self, number: int, results: Page, now: float) -> None:
+        """Publishes what is stored of a closed round, unless it is published."""
+        if not self.round_file(number).exists():
+            self.put(self.round_file(number), {**results, "published": utc(now)})
+
+    def announcements(self) -> list[dict[str, Any]]:
+        file = self.folders.public / "announcements.json"
+        return (
+            json.loads(file.read_text(encoding="utf-8"))["announcements"] if file.exists() else []
+        )
+
+    def announce(self, key: str, text: str, now: float) -> str | None:
+        """Adds an announcement, unless there is one of this key.
+
+        Returns what it says, with its number, if it is new.
+        """
+        made = self.announcements()
+        if any(one["key"] == key for one in made):
+            return None
+        made.append({"key": key, "number": len(made) + 1, "text": text, "time": utc(now)})
+        self.put(self.folders.public / "announcements.json", {"announcements": made})
+        return f"announcement {len(made)}: {text}"
+
+    def show_timetable(self, plan: Plan) -> None:
+        """The timetable as bidders' pages read it. It follows from the plan and from what is published."""
+        last = self.published()
+        results = self.results(last)
+        ended = bool(results and results["ended"])
+        windows = [
+            {"round": number, "opens": utc(window.opens), "closes": utc(window.closes)}
+            for number, window in plan.windows.items()
+        ]
+        self.put(
+            self.folders.public / "timetable.json",
+            {
+                "announcements": len(self.announcements()),
+                "ended": ended,
+                "paused": plan.paused and plan.paused.words,
+                "round": last if ended else last + 1,
+                "windows": windows,
+            },
+        )
+
+    def publish_winners(self, results: Page) -> None:
+        """Publishes what each bidder has won at the end, and pays at the posted prices of the last round."""
+        last = self.published()
+        posted = [product["posted"] for product in (self.results(last) or {})["products"]]
+        bidders = [
+            {
+                "name": bidder["name"],
+                "demands": bidder["demands"],
+                "pays": sum(map(int.__mul__, bidder["demands"], posted)),
+            }
+            for bidder in results["bidders"]
+        ]
+        self.put(self.folders.public / "winners.json", {"bidders": bidders, "round": last})
+
+    def put(self, path: Path, value: Page) -> None:
+        """Writes a file if it has changed, with the time of another second than before: nginx knows its versions
+        by time and length.
+        """
+        text = json.dumps(value, separators=(",", ":")) + "\n"
+        before = path.stat().st_mtime if path.exists() else 0.0
+        if before and path.read_text(encoding="utf-8") == text:
+            return
+        disk.store(path, text, disk.PUBLIC)
+        if int(path.stat().st_mtime) <= int(before):
+            os.utime(path, (before, int(before) + 1))

@@ -1,0 +1,168 @@
+"""The operator's commands to a running auction. Each is one change of the plan, together with its announcement."""
+import json
+from pathlib import Path
+
+from . import report, timetable
+from .clock import in_words, utc
+from .increments import in_words as increments_in_words
+from .office import Office
+from .plan import Pause, Plan, Word
+from .server import NoReply, Refused
+from .timetable import Window, move_later, replaced, whole_ten
+
+LEAST_MINUTES, MOST_MINUTES = 1 / 6, 1440
+LEAST_LEFT = 60  # seconds that a window has at least if it opens again
+
+
+class CommandFault(Exception):
+    """Why a command changes nothing."""
+
+
+def current(office: Office) -> int:
+    """The current round. If the server is gone, it is the one after the last published round."""
+    try:
+        status = office.status()
+    except (NoReply, Refused):
+        last, ended = office.board.published(), office.board.has_ended()
+        status = {"round": last if ended else last + 1, "ended": ended}
+    if status["ended"]:
+        raise CommandFault(f"the auction ended after round {status['round']}")
+    return status["round"]
+
+
+def window_of(office: Office, plan: Plan, number: int) -> Window:
+    """A round's window, of which the times may still change."""
+    if number != office.board.published() + 1:
+        raise CommandFault(
+            f"round {number - 1} is closed, and its results are not published yet: try again"
+        )
+    if number not in plan.windows:
+        raise CommandFault(f"round {number} has no window: give it one by plan FILE")
+    if office.auction.body_file(number).exists():
+        raise CommandFault(f"the closing of round {number} is fixed, and may have been sent")
+    return plan.windows[number]
+
+
+def check_minutes(minutes: float, least: float) -> None:
+    if not least <= minutes <= MOST_MINUTES:
+        raise CommandFault(f"minutes must be {least:g} to {MOST_MINUTES}")
+
+
+def plan(office: Office, path: Path) -> None:
+    """Replaces the windows of the rounds that have not begun, and announces it."""
+    fresh, now, settings = timetable.read(path), office.clock.wall(), office.settings
+    with office.changing() as changed:
+        number = current(office)
+        window = changed.windows.get(number)
+        begun = number if window and window.opens <= now else number - 1
+        changed.windows = replaced(
+            changed.windows, begun, fresh.windows, now, settings.between, settings.notice
+        )
+        later = [changed.windows[number] for number in sorted(changed.windows) if number > begun]
+        first = f" Round {begun + 1} opens at {in_words(later[0].opens)}."
+        increments = ""
+        if fresh.increments not in (None, changed.increments):
+            changed.increments = fresh.increments or []
+            increments = " " + increments_in_words(changed.increments)
+        changed.announce(
+            f"The timetable has {len(later)} {'window' if len(later) == 1 else 'windows'} from now "
+            f"on.{first}{increments}"
+        )
+
+
+def check(office: Office, path: Path) -> None:
+    """Prints the windows of a timetable in UTC, and changes nothing."""
+    for window in timetable.read(path).windows:
+        office.say(f"{utc(window.opens)} {utc(window.closes)}")
+
+
+def pause(office: Office, words: str) -> None:
+    """Shuts the gate at once, and says why. Nothing opens or closes until `resume`."""
+    office.gate.shut(office.clock.wall())  # before it waits for a conductor that is closing a round
+    with office.changing() as changed:
+        if changed.paused:
+            raise CommandFault(f"the auction is paused already: {changed.paused.words}")
+        current(office)  # refuses after the end
+        changed.paused = Pause(office.clock.wall(), words)
+        changed.announce(f"The auction is paused. {words}")
+        office.plan_file.store(changed)
+        office.gate.shut(office.clock.wall())
+
+
+def resume(office: Office, minutes: float) -> None:
+    """Continues. A window that was cut short opens again after these minutes, for the time that was left."""
+    check_minutes(minutes, 0)
+    with office.changing() as changed:
+        if not changed.paused:
+            raise CommandFault("the auction is not paused")
+        since, now, number = changed.paused.since, office.clock.wall(), current(office)
+        changed.paused = None
+        window, begin = changed.windows.get(number), whole_ten(now + 60 * minutes)
+        words = ""
+        if window and since < window.closes and not office.auction.body_file(number).exists():
+            if begin > window.opens:
+                left = max(LEAST_LEFT, window.closes - max(since, window.opens))
+                window.opens, window.closes, window.opened = begin, begin + whole_ten(left), None
+                move_later(changed.windows, number, office.settings.between)
+            words = f" Round {number} is open from {in_words(window.opens)} to {in_words(window.closes)}."
+        changed.announce(f"The auction continues.{words}")
+
+
+def extend(office: Office, minutes: float) -> None:
+    """Adds time to the current window. One that is shut opens again at once."""
+    check_minutes(minutes, LEAST_MINUTES)
+    with office.changing() as changed:
+        if changed.paused:
+            raise CommandFault("the auction is paused: resume it first")
+        now, number = office.clock.wall(), current(office)
+        window = window_of(office, changed, number)
+        if window.closes <= now:
+            window.opens = window.closes = whole_ten(now)
+            window.opened = None
+        window.closes += whole_ten(60 * minutes)
+        changed.doubt = changed.word = None
+        move_later(changed.windows, number, office.settings.between)
+        changed.announce(
+            f"Round {number} is open until {in_words(window.closes)}, longer than announced before."
+        )
+        office.plan_file.store(changed)
+        if window.opened is not None:
+            # without a pause until the conductor looks
+            office.gate.open(
+                now, window.closes, office.settings.shuts(window), office.settings.lifts(window)
+            )
+
+
+def announce(office: Office, words: str) -> None:
+    """Announces something to everyone."""
+    with office.changing() as changed:
+        changed.announce(words)
+
+
+def close_next(office: Office, number: int, without_sheets: bool) -> None:
+    """Gives the word that the conductor waits for, to close this round."""
+    with office.changing() as changed:
+        shown = report.shown(office.folders)
+        if (
+            not shown
+            or shown["state"] != report.State.HELD.value
+            or shown["round"] != number
+            or current(office) != number
+        ):
+            raise CommandFault(
+                f"round {number} does not wait for a word. "
+                + (shown["waits_for"] if shown else "No conductor has run yet.")
+            )
+        changed.word = Word(number, without_sheets)
+
+
+def winners(office: Office) -> None:
+    """Publishes what each bidder won and pays."""
+    with office.changing():
+        last = office.board.published()
+        results = office.board.results(last)
+        if not results or not results["ended"]:
+            raise CommandFault("the auction has not ended")
+        stored = json.loads(office.auction.results_file(last).read_text(encoding="utf-8"))
+        office.board.publish_winners(stored)
+        office.announce("winners", "What each bidder has won is published with the results.")

@@ -1,0 +1,62 @@
+"""Requests to the server in the operator's name."""
+import http.client
+import json
+import urllib.error
+import urllib.request
+from typing import Any
+
+# What a page of the server has: keys and values as docs/formats.md lists them.
+Page = dict[str, Any]
+
+CLOSING_SECONDS = 300  # as long as nginx waits for a closing
+
+
+class NoReply(Exception):
+    """Nobody answered, or only nginx, or a stranger: what was asked may have been done all the same."""
+
+
+class Refused(Exception):
+    """The server refused a page."""
+
+
+class Straight(urllib.request.HTTPRedirectHandler):
+    """Follows no redirection: the token is for one address only."""
+
+    def redirect_request(self, *_: Any) -> None:
+        return None
+
+
+class Operator:
+    """Asks the server in the operator's name, at the operator's port of nginx or at its own."""
+
+    def __init__(self, url: str, token: str) -> None:
+        self.url, self.token = url.rstrip("/"), token
+        # the shell's `http_proxy` would see the token
+        self.opener = urllib.request.build_opener(Straight, urllib.request.ProxyHandler({}))
+
+    def ask(self, path: str, body: bytes | None = None, seconds: float = CLOSING_SECONDS) -> Page:
+        """The page for a path, also if it is a refusal. NoReply if anything else comes."""
+        request = urllib.request.Request(
+            self.url + path, body, {"authorization": "Bearer " + self.token}
+        )
+        try:
+            try:
+                reply = self.opener.open(request, timeout=seconds)
+            except urllib.error.HTTPError as error:
+                if not 400 <= error.code < 500:
+                    raise
+                reply = error
+            with reply:
+                page = json.load(reply)
+            if not isinstance(page, dict) or page.keys().isdisjoint(("code", "ended")):
+                raise ValueError("this is not a page of the server")
+            return page
+        except (OSError, ValueError, http.client.HTTPException) as error:
+            raise NoReply(f"no reply to {path}: {error}") from error
+
+    def page(self, path: str, seconds: float = CLOSING_SECONDS) -> Page:
+        """The page for a path. A refusal is an exception, so that none is stored as if it were a page."""
+        page = self.ask(path, seconds=seconds)
+        if "code" in page:
+            raise Refused(f"the server refuses {path}: {page}")
+        return page

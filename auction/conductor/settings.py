@@ -1,0 +1,150 @@
+"""The conductor's settings and folders: FOLDER/conductor.json, which the operator writes, and what the conductor makes
+next to it.
+"""
+import dataclasses
+import grp
+import json
+import os
+import re
+import stat
+from pathlib import Path
+from typing import Self
+
+from . import disk
+from .timetable import Window, whole_ten
+
+
+class SettingsFault(Exception):
+    """What is wrong in conductor.json."""
+
+
+def group_of_workers(configuration: Path) -> str:
+    """The group of nginx's workers by its line `user USER [GROUP];`, or Debian's default."""
+    try:
+        found = re.search(
+            r"(?m)^user\s+(\w[\w-]*)(?:\s+(\w[\w-]*))?\s*;",
+            configuration.read_text(encoding="utf-8"),
+        )
+    except FileNotFoundError:
+        found = None
+    return (found[2] or found[1]) if found else "nogroup"
+
+
+@dataclasses.dataclass(frozen=True)
+class Settings:
+    """The operator's settings. Paths count from the folder; times are in seconds."""
+
+    url: str  # the operator's port of nginx, so that the conductor notices if nginx is gone
+    setup: Path
+    token: Path  # a file with the operator's token
+    journal: Path  # the server's own
+    port: int = 8105  # the server's, at which the conductor counts connections on their way
+    drain: int = (
+        10  # from a window's end until the inner door shuts, for requests that began in time
+    )
+    publish: int = 30  # from a window's end until the curtain lifts, longer than `drain` and the longest closing; 0 for none
+    between: int = 300  # at the least from results to the next opening
+    notice: int = 900  # a window that begins within this time is not brought forward or shortened
+    readers: str = ""  # the group of nginx's workers, which read the report to the operator's page; "" asks nginx.conf
+
+    @classmethod
+    def read(cls, folder: Path) -> Self:
+        """The settings of a folder. A SettingsFault says what is wrong in them."""
+        path = folder / "conductor.json"
+        try:
+            value = json.loads(path.read_text(encoding="utf-8"))
+            strange = value.keys() - {field.name for field in dataclasses.fields(cls)}
+            if strange:
+                raise ValueError(f"unknown key {', '.join(sorted(strange))}")
+            files = {name: folder / value.pop(name) for name in ("setup", "token", "journal")}
+            settings = cls(**files, **value)
+        except (OSError, ValueError, AttributeError, KeyError, TypeError) as error:
+            raise SettingsFault(f"{path}: {error!r}") from error
+        times = {
+            name: getattr(settings, name)
+            for name in ("port", "drain", "publish", "between", "notice")
+        }
+        for name, seconds in times.items():
+            if type(seconds) is not int or seconds < 0:
+                raise SettingsFault(f"{path}: {name} must be whole seconds, 0 or more")
+        return dataclasses.replace(
+            settings, readers=settings.readers or group_of_workers(folder / "nginx.conf")
+        )
+
+    def shuts(self, window: Window) -> int:
+        """When the inner door shuts after a window."""
+        return window.closes + whole_ten(self.drain)
+
+    def lifts(self, window: Window) -> int:
+        """When the curtain lifts after a window."""
+        return window.closes + whole_ten(self.publish)
+
+
+@dataclasses.dataclass(frozen=True)
+class Folders:
+    """The folders that the conductor writes, in nginx's folder."""
+
+    top: Path
+
+    @property
+    def gate(self) -> Path:
+        """For nginx: when sheets are taken."""
+        return self.top / "gate"
+
+    @property
+    def public(self) -> Path:
+        """For everyone: timetable, announcements, closed rounds, winners."""
+        return self.top / "public"
+
+    @property
+    def rounds(self) -> Path:
+        return self.public / "rounds"
+
+    @property
+    def operator(self) -> Path:
+        """For the operator's page, through nginx: the conductor's report."""
+        return self.top / "operator"
+
+    @property
+    def asked(self) -> Path:
+        """For nginx's workers to write: what the operator's page asks for."""
+        return self.top / "asked"
+
+    @property
+    def kept(self) -> Path:
+        """For the operator: closings and pages, as deploy/close stores them."""
+        return self.top / "kept"
+
+    @property
+    def state(self) -> Path:
+        """For the conductor: its plan, its locks, and its last look at the clock."""
+        return self.top / "state"
+
+    def make(self, readers: str) -> None:
+        """Makes what is missing, with modes that do not depend on the umask, and brings what an earlier process wrote
+        to the disk.
+        """
+        for folder, mode in (
+            (self.gate, 0o755),
+            (self.public, 0o755),
+            (self.rounds, 0o755),
+            (self.operator, 0o750),
+            (self.asked, 0o770),
+            (self.kept, 0o700),
+            (self.state, 0o700),
+        ):
+            disk.make_folder(folder, mode)
+            disk.sync_folder(folder)
+        if os.geteuid() == 0:  # else nginx's workers are this user
+            self.give_to(readers)
+
+    def give_to(self, readers: str) -> None:
+        """Gives the folders of the report and of requests, and the files made in them, to this group."""
+        try:
+            group = grp.getgrnam(readers).gr_gid
+        except KeyError as error:
+            raise SettingsFault(f"conductor.json: no group is called {readers!r}") from error
+        for folder, mode in ((self.operator, 0o2750), (self.asked, 0o2770)):
+            if folder.stat().st_gid != group or not folder.stat().st_mode & stat.S_ISGID:
+                os.chown(folder, -1, group)
+                folder.chmod(mode)

@@ -1,0 +1,9 @@
+"""The formats that the commands share, one subject a file.
+
+- `setup`: the parts of a set-up that the operator's tools read
+- `journal`: the server's journal, read on as it grows
+- `ties`: seeds and tie-breaking numbers
+- `receipts`: receipts, and a bidder's file of them
+- `signatures`: Ed25519 keys and signatures
+- `tables`: the tables of a record
+"""

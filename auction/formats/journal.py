@@ -1,0 +1,137 @@
+"""The server's journal: its format, and a reader that reads on as it grows. It is never written."""
+import dataclasses
+import hashlib
+import json
+import os
+from collections.abc import Iterator
+from pathlib import Path
+from typing import BinaryIO
+
+from .setup import Setup
+
+KIND = b"clock_auction journal 1\n"
+HEAD = len(KIND) + 32  # bytes before the first record: the kind, and the digest of the set-up
+FRONT = 40  # bytes of a record before its text: the length twice, and the digest
+
+
+def head_of(document: bytes) -> bytes:
+    """The head of the journal of a set-up document."""
+    return KIND + hashlib.sha256(document).digest()
+
+
+def token_in(text: bytes) -> str | None:
+    """The bearer token of a request."""
+    for line in text.partition(b"\r\n\r\n")[0].split(b"\r\n")[1:]:
+        name, _, value = line.partition(b":")
+        if name.lower() == b"authorization":
+            return value.split()[1].decode()
+    return None
+
+
+def body_in(text: bytes) -> bytes:
+    """The body of an accepted request, without bytes after it."""
+    head, _, rest = text.partition(b"\r\n\r\n")
+    for line in head.split(b"\r\n")[1:]:
+        name, _, value = line.partition(b":")
+        if name.lower() == b"content-length":
+            return rest[: int(value)]
+    return b""
+
+
+class JournalFault(Exception):
+    """The journal cannot be read, is not this auction's, or is damaged."""
+
+
+@dataclasses.dataclass(frozen=True)
+class Entry:
+    """A text in the journal: where it is, its length, and the digest of all texts up to it."""
+
+    place: int
+    length: int
+    digest: str
+
+
+class Journal:
+    """What the accepted texts come to so far: the current round, its sheets in force by bidder, and all closings."""
+
+    def __init__(self, path: Path, setup: Setup) -> None:
+        self.path, self.setup = path, setup
+        self.end, self.digest = HEAD, hashlib.sha256(setup.document).digest()
+        self.last: Entry | None = None
+        self.sheets: dict[str, Entry] = {}
+        self.closings: list[Entry] = []
+
+    @property
+    def round(self) -> int:
+        """The current round, or the one after the last if the auction has ended."""
+        return len(self.closings) + 1
+
+    def read_on(self) -> None:
+        """Takes in what was added since the last call."""
+        try:
+            with open(self.path, "rb") as file:
+                self.check_what_was_read(file)
+                for entry, text in self.added(file):
+                    self.take(entry, text)
+        except OSError as error:
+            raise JournalFault(f"{self.path}: {error}") from error
+
+    def check_what_was_read(self, file: BinaryIO) -> None:
+        """The file still begins with what was read of it. If the server was started on another journal, it does not."""
+        if self.last is None:
+            if file.read(HEAD) != KIND + self.digest:
+                raise JournalFault(f"{self.path} is no journal of this set-up")
+            return
+        file.seek(self.last.place - 32)  # the digest is just before the text
+        if file.read(32) != self.digest or os.fstat(file.fileno()).st_size < self.end:
+            raise JournalFault(f"{self.path} is another journal than before, or has lost its end")
+
+    def added(self, file: BinaryIO) -> Iterator[tuple[Entry, bytes]]:
+        """The whole texts after what was read.
+
+        The last record may still be in the writing, and is then left for later.
+        """
+        size = os.fstat(file.fileno()).st_size
+        file.seek(self.end)
+        while self.end + FRONT <= size:
+            front = file.read(FRONT)
+            length = int.from_bytes(front[:4], "big")
+            if self.end + FRONT + length > size:
+                return
+            text = file.read(length)
+            digest = hashlib.sha256(self.digest + text).digest()
+            if front[4:8] != front[:4] or front[8:] != digest:
+                raise JournalFault(f"{self.path} is damaged at byte {self.end}")
+            entry = Entry(self.end + FRONT, length, digest.hex())
+            self.end, self.digest, self.last = self.end + FRONT + length, digest, entry
+            yield entry, text
+
+    def take(self, entry: Entry, text: bytes) -> None:
+        """A sheet replaces its bidder's last one; a closing takes all sheets out of force."""
+        if text.startswith(b"PUT "):
+            name = self.setup.tokens.get(token_in(text) or "")
+            if name is None:
+                raise JournalFault(f"{self.path} has a sheet of nobody at byte {entry.place}")
+            self.sheets[name] = entry
+        else:
+            self.closings.append(entry)
+            self.sheets = {}
+
+    def body(self, entry: Entry) -> str:
+        """The body of a sheet or a closing."""
+        with open(self.path, "rb") as file:
+            file.seek(entry.place)
+            return body_in(file.read(entry.length)).decode()
+
+    def in_force(self) -> list[str]:
+        """The bidders with a sheet in force, in the set-up's order."""
+        return [name for name in self.setup.bidders if name in self.sheets]
+
+    def asked(self) -> set[tuple[int, int]]:
+        """The pairs of bidder and product with a bid in force, by number."""
+        return {
+            (bidder, bid["product"])
+            for bidder, name in enumerate(self.setup.bidders)
+            if name in self.sheets
+            for bid in json.loads(self.body(self.sheets[name]))["bids"]
+        }

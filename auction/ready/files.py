@@ -1,0 +1,126 @@
+"""The files of nginx's folder: what they have, and who may read them."""
+import json
+import stat
+import subprocess
+import time
+
+from . import maps
+from .auction import Auction
+from .findings import Check, ensure
+
+STALE = 15  # seconds after which a running conductor has written its report again
+SECRETS = (
+    *("operator.token", "operator.head", "operator.map", "bidders.map", "persons.map", "key.pem"),
+    *("kept/chain.json", "kept/receipts.pem"),
+)
+ANEW = "it is not of this set-up: make it again with deploy/tokens, and reload nginx"
+
+
+def set_up(auction: Auction) -> str:
+    setup = auction.setup
+    ensure(
+        len({setup["operator"], *(bidder["token"] for bidder in setup["bidders"])})
+        == len(setup["bidders"]) + 1,
+        "two tokens are the same",
+    )
+    weak = [bidder["name"] for bidder in setup["bidders"] if len(set(bidder["token"])) < 5]
+    ensure(not weak, f"draw tokens at random: {', '.join(weak[:5])}")
+    return f"{len(setup['products'])} products, {len(setup['bidders'])} bidders, version {setup['version']}"
+
+
+def secrets(auction: Auction) -> str:
+    """Files with tokens, bids, or keys: only their owner may read them, and the owner of what nginx reads is root."""
+    found = [path for name in SECRETS if (path := auction.folder / name).exists()]
+    for path in (auction.setup_file, *found):
+        ensure(path.stat().st_uid == 0, f"{path} is not root's: chown root")
+    files = (auction.setup_file, *found, auction.folder / "log/access.log", auction.journal)
+    for path in files:
+        mode = stat.S_IMODE(path.stat().st_mode)
+        ensure(mode & 0o077 == 0, f"{path} has mode {mode:o}: chmod 600")
+    return f"{len(files)} files that only their owner may read"
+
+
+def bidders_map(auction: Auction) -> str:
+    text = (auction.folder / "bidders.map").read_text(encoding="utf-8")
+    if (auction.folder / "persons.map").exists():
+        absent = [
+            bidder["name"]
+            for bidder in auction.setup["bidders"]
+            if f'" "{bidder["name"]}";' not in text
+        ]
+        ensure(not absent, f"bidders without a line: {', '.join(absent[:5])}")
+        return "each bidder has a line, with outer tokens in persons.map"
+    ensure(text == maps.bidders_map(auction.setup), ANEW)
+    return "the lines of this set-up"
+
+
+def sheet_conf(auction: Auction) -> str:
+    text = (auction.folder / "sheet.conf").read_text(encoding="utf-8")
+    ensure(text == maps.sheet_conf(auction.setup), ANEW)
+    return text.strip()
+
+
+def operators_token(auction: Auction) -> str:
+    operator = auction.setup["operator"]
+    for name, wanted in (
+        ("operator.token", f"{operator}\n"),
+        ("operator.head", f"authorization: Bearer {operator}\n"),
+        ("operator.map", f'"Bearer {operator}" yes;\n'),
+    ):
+        path = auction.folder / name
+        ensure(name != "operator.token" or path.exists(), "operator.token is missing")
+        ensure(
+            not path.exists() or path.read_text(encoding="utf-8") == wanted,
+            f"{name} is not of this set-up",
+        )
+    return "of this set-up"
+
+
+def gate(auction: Auction) -> str:
+    folder = auction.folder / "gate"
+    ensure(folder.is_dir(), "the folder gate is missing, so no sheet is accepted")
+    ensure(
+        stat.S_IMODE(folder.stat().st_mode) & 0o005 == 0o005,
+        "nginx cannot look into gate: chmod 755 gate",
+    )
+    is_open = (folder / "open").exists()
+    if (auction.folder / "conductor.json").exists():
+        ensure(not is_open, "gate/open is there, so the timetable does not count: rm gate/open")
+        return "shut, until the conductor opens it"
+    return (
+        "open: sheets are accepted at any time" if is_open else "shut: `touch gate/open` opens it"
+    )
+
+
+def configuration(auction: Auction) -> str:
+    ran = subprocess.run(
+        ["nginx", "-t", "-p", auction.folder, "-c", "nginx.conf"],
+        capture_output=True,
+        text=True,
+        check=False,
+    )
+    ensure(ran.returncode == 0, ran.stderr.splitlines()[0] if ran.stderr else "nginx refuses it")
+    return "nginx accepts it"
+
+
+def conductor(auction: Auction) -> str:
+    """Whether the conductor runs, if it has settings."""
+    if not (auction.folder / "conductor.json").exists():
+        return "without settings: you close rounds by hand"
+    report = auction.folder / "operator/conductor.json"
+    ensure(report.exists(), "it has settings, but never ran: deploy/conductor FOLDER run")
+    age = time.time() - report.stat().st_mtime
+    ensure(age < STALE, f"its last report is {age:.0f} s old: deploy/conductor FOLDER run")
+    return json.loads(report.read_bytes())["waits_for"]
+
+
+CHECKS = [
+    Check("set-up", set_up),
+    Check("secret files", secrets),
+    Check("bidders.map", bidders_map),
+    Check("sheet.conf", sheet_conf),
+    Check("operator's token", operators_token),
+    Check("gate", gate),
+    Check("nginx.conf", configuration),
+    Check("conductor", conductor),
+]

@@ -1,0 +1,52 @@
+"""Space on the disks, and the clock."""
+import os
+import subprocess
+
+from .auction import Auction
+from .findings import Check, ensure
+
+LOG_SPACE, CACHE_SPACE = 500_000_000, 1_000_000_000
+GB = 1_000_000_000
+
+
+def free(path: object) -> int:
+    """The bytes that are free on the file system of a path."""
+    found = os.statvfs(str(path))
+    return found.f_bavail * found.f_frsize
+
+
+def space(auction: Auction) -> str:
+    places = (
+        ("the journal", auction.journal.parent, auction.space),
+        ("nginx's cache", auction.folder / "tmp", CACHE_SPACE),
+        ("the log", auction.folder / "log", LOG_SPACE),
+    )
+    for what, path, needed in places:
+        ensure(
+            free(path) >= needed,
+            f"{free(path) / GB:.1f} GB are free for {what}, of {needed / GB:.1f} GB",
+        )
+    return ", ".join(f"{free(path) / GB:.1f} GB for {what}" for what, path, _ in places)
+
+
+def file_systems(auction: Auction) -> str:
+    """Whoever fills the log must not fill the journal's disk."""
+    ensure(
+        os.stat(auction.journal).st_dev != os.stat(auction.folder / "log").st_dev,
+        "the journal and the log are on one file system",
+    )
+    return "the journal and the log are on two file systems"
+
+
+def clock(_: Auction) -> str:
+    ran = subprocess.run(
+        ["timedatectl", "show", "-p", "NTPSynchronized", "--value"],
+        capture_output=True,
+        text=True,
+        check=False,
+    )
+    ensure(ran.stdout.strip() == "yes", f"it is not synchronized: run NTP {ran.stderr}")
+    return "synchronized by NTP"
+
+
+CHECKS = [Check("space", space), Check("file systems", file_systems), Check("clock", clock)]

@@ -1,0 +1,161 @@
+"""Checks of a journal, and of what was published of each round."""
+import re
+from typing import Any
+
+from auction.recount.rules import Round
+
+from .case import Absent, Case, Failed
+
+CUT = "requests are missing at the end of the journal"
+CHANGED = (
+    "a request up to this closing was changed, left out, or added after the digest was published"
+)
+
+
+def short(digest: Any) -> str:
+    """The first digits of a digest, for messages."""
+    return f"{str(digest)[:12]}.."
+
+
+def check_setup(case: Case) -> str:
+    """Checks that the set-up document is valid."""
+    setup = case.setup
+    return (
+        f"a valid document of {len(setup.products)} products and {len(setup.bidders)} bidders; "
+        f"its SHA-256 is {case.setup_digest}"
+    )
+
+
+def check_journal(case: Case) -> str:
+    """Checks that each record is whole and follows from the one before, and that the file has nothing else."""
+    last = case.records[-1] if case.records else None
+    end = last.place + 40 + len(last.text) if last else 56
+    if end != len(case.journal):
+        raise Failed(
+            f"{len(case.journal) - end} bytes from byte {end} on are no whole record: a request is cut off, "
+            "or something was added"
+        )
+    digest = last.digest if last else case.setup_digest
+    return f"{len(case.records)} requests, each digest follows from the one before; the last is {digest}"
+
+
+def check_rules(case: Case) -> str:
+    """Checks that the rules accept every request."""
+    auction = case.counted.auction
+    sheets = case.counted.texts - len(auction.rounds)
+    ending = "the auction has ended" if auction.ended else "the auction has not ended"
+    return (
+        f"{sheets} sheets and {len(auction.rounds)} closings, each accepted by the rules; {ending}"
+    )
+
+
+def check_digests(case: Case) -> str:
+    """Compares the published digest of each closing with the journal's.
+
+    Nothing may be published that the journal lacks.
+    """
+    if not case.rounds and not case.closings:
+        raise Absent("no round is closed")
+    if not case.rounds:
+        raise Failed(
+            f"{case.published} has no rounds/N.json: there is nothing with which the journal can be compared"
+        )
+    faults = []
+    for number in sorted({*case.rounds, *range(1, len(case.closings) + 1)}):
+        if number not in case.rounds:
+            faults.append(
+                f"round {number} is closed in the journal, but {case.published} has no such round"
+            )
+        elif number > len(case.closings):
+            faults.append(
+                f"round {number} was published, but the journal has no closing of it: {CUT}"
+            )
+        elif case.rounds[number]["digest"] != case.closings[number - 1]:
+            published, found = short(case.rounds[number]["digest"]), short(
+                case.closings[number - 1]
+            )
+            faults.append(
+                f"round {number} was published with {published}, but the journal has {found}: {CHANGED}"
+            )
+    if faults:
+        raise Failed(*faults)
+    return f"the {len(case.rounds)} published digests are those of the journal, so no request up to them was changed"
+
+
+def page_of(
+    setup_names: list[str], supplies: list[int], number: int, closed: Round
+) -> dict[str, Any]:
+    """The page of a closed round, as the server writes it."""
+    products = [
+        {
+            "clock": line.clock,
+            "demand": line.demand if line.demand > supply else None,
+            "name": name,
+            "next": line.next,
+            "posted": line.posted,
+            "start": line.start,
+        }
+        for name, supply, line in zip(setup_names, supplies, closed.lines)
+    ]
+    return {"ended": closed.ended, "products": products, "round": number}
+
+
+def check_results(case: Case) -> str:
+    """Compares the published results of each round with those of the recount."""
+    names = [product.name for product in case.setup.products]
+    supplies = [product.supply for product in case.setup.products]
+    faults = []
+    for number, closed in enumerate(case.counted.auction.rounds, 1):
+        if number not in case.rounds:
+            faults.append(f"the results of round {number} were not published")
+            continue
+        page = {key: case.rounds[number].get(key) for key in ("ended", "products", "round")}
+        if page != page_of(names, supplies, number, closed):
+            faults.append(
+                f"the published results of round {number} are not those of the journal by the rules"
+            )
+    if faults:
+        raise Failed(*faults)
+    return f"the published results of {len(case.counted.auction.rounds)} rounds are those of the journal by the rules"
+
+
+def check_announcements(case: Case) -> str:
+    """Checks that each round was announced with the digest that was published with it."""
+    made = case.json("announcements.json")["announcements"]
+    announced = {one["key"]: re.findall(r"\b[0-9a-f]{64,}\b", one["text"]) for one in made}
+    faults = [
+        f"round {number} was published with {short(page['digest'])}, and not announced with this digest"
+        for number, page in case.rounds.items()
+        if announced.get(f"closed-{number}") != [page["digest"]]
+    ]
+    if faults:
+        raise Failed(*faults)
+    return f"the digests of {len(case.rounds)} rounds were announced as they were published"
+
+
+def check_winners(case: Case) -> str:
+    """Compares the published winners with those of the recount."""
+    winners, auction = case.json("winners.json"), case.counted.auction
+    if not auction.ended:
+        raise Failed("winners are published, but by the journal the auction has not ended")
+    last = auction.rounds[-1]
+    bidders = [
+        {
+            "name": bidder.name,
+            "demands": slip.demands,
+            "pays": sum(blocks * line.posted for blocks, line in zip(slip.demands, last.lines)),
+        }
+        for bidder, slip in zip(case.setup.bidders, last.slips)
+    ]
+    if winners != {"bidders": bidders, "round": len(auction.rounds)}:
+        raise Failed("the published winners or payments are not those of the journal by the rules")
+    return f"what {len(bidders)} bidders won and pay is what the rules say"
+
+
+FILES = [("set-up", check_setup), ("journal", check_journal), ("rules", check_rules)]
+ROUNDS = [
+    ("digests", check_digests),
+    ("results", check_results),
+    ("announcements", check_announcements),
+    ("winners", check_winners),
+]

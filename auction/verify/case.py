@@ -1,0 +1,76 @@
+"""The files that are checked, and their content."""
+import functools
+import hashlib
+import json
+import re
+from pathlib import Path
+from typing import Any
+
+from auction.recount import rules as recount
+from auction.recount.formats import Record, Setup, records_in, setup_in
+
+
+class Failed(Exception):
+    """Why a check fails: one text for each thing that is wrong."""
+
+
+class Absent(Exception):
+    """Why there is nothing to check."""
+
+
+class Case:
+    """A set-up document, a journal, the folder of what was published, and bidders' files of receipts.
+
+    A check reads each when it needs it.
+    """
+
+    def __init__(self, setup: Path, journal: Path, published: Path, *receipts: Path) -> None:
+        self.paths, self.published, self.receipts = (setup, journal), published, receipts
+
+    @functools.cached_property
+    def document(self) -> bytes:
+        return self.paths[0].read_bytes()
+
+    @functools.cached_property
+    def journal(self) -> bytes:
+        return self.paths[1].read_bytes()
+
+    @functools.cached_property
+    def setup(self) -> Setup:
+        """The set-up of the document. Raises Refused if it is not valid."""
+        return setup_in(self.document)
+
+    @property
+    def setup_digest(self) -> str:
+        return hashlib.sha256(self.document).hexdigest()
+
+    @functools.cached_property
+    def records(self) -> list[Record]:
+        """The whole records of the journal. Each follows from the one before."""
+        return list(records_in(self.document, self.journal))
+
+    @functools.cached_property
+    def closings(self) -> list[str]:
+        """The digest of each closing in the journal, whether or not the rules accept it."""
+        return [record.digest for record in self.records if record.text.startswith(b"POST ")]
+
+    @functools.cached_property
+    def counted(self) -> recount.Recount:
+        """The recount of the journal."""
+        return recount.recounted(self.document, self.journal)
+
+    def json(self, name: str) -> Any:
+        """The value of a published file. Raises Absent if it does not exist."""
+        path = self.published / name
+        if not path.is_file():
+            raise Absent(f"{path} is not there")
+        return json.loads(path.read_bytes())
+
+    @functools.cached_property
+    def rounds(self) -> dict[int, dict[str, Any]]:
+        """The published rounds, by number. Raises Failed if there is a file of another name."""
+        files = list((self.published / "rounds").glob("*.json"))
+        if strange := [file for file in files if not re.fullmatch("[1-9][0-9]{0,15}", file.stem)]:
+            raise Failed(f"{strange[0]} is no round")
+        files.sort(key=lambda file: int(file.stem))
+        return {int(file.stem): json.loads(file.read_bytes()) for file in files}

@@ -1,0 +1,133 @@
+"""Fixtures of all tests, what they need, and the line that counts them.
+
+A test that lacks a command or a module is skipped. The last lines name what was missing, and `--summary FILE` writes the
+counts for the gate. Without `--allow-skips` a skipped test fails the run.
+"""
+import importlib.util
+import json
+import os
+import pathlib
+import shutil
+from collections import Counter
+from collections.abc import Callable, Iterator
+from typing import Any
+
+import pytest
+
+from tests.lib.paths import BUILT, PATHS
+from tests.lib.server import Server
+from tests.lib.site import Site
+
+
+def pytest_addoption(parser: pytest.Parser) -> None:
+    parser.addoption(
+        "--program", type=pathlib.Path, default=BUILT, help="the program that is tried"
+    )
+    parser.addoption(
+        "--allow-skips", action="store_true", help="a skipped test does not fail the run"
+    )
+    parser.addoption("--summary", type=pathlib.Path, help="the file that gets the counts, as JSON")
+
+
+# ---- What a test needs
+
+
+def is_there(name: str) -> bool:
+    """Whether a command, or a Python module, is there."""
+    return shutil.which(name, path=PATHS) is not None or importlib.util.find_spec(name) is not None
+
+
+def pytest_runtest_setup(item: pytest.Item) -> None:
+    for mark in item.iter_markers("needs"):
+        if absent := [name for name in mark.args if not is_there(name)]:
+            pytest.skip(f"needs {', '.join(absent)}")
+    if item.get_closest_marker("root") and os.geteuid() != 0:
+        pytest.skip("needs root")
+
+
+# ---- The counts
+
+
+def reason_of(report: Any) -> str:
+    """What a skipped test needs, in one word or some."""
+    words = report.longrepr[2] if isinstance(report.longrepr, tuple) else str(report.longrepr)
+    return str(words).removeprefix("Skipped: ").removeprefix("needs ")
+
+
+def counts_of(reporter: Any) -> dict[str, Any]:
+    """How many tests passed, failed, and were skipped, and why."""
+    stats = reporter.stats
+    skipped = Counter(reason_of(report) for report in stats.get("skipped", []))
+    return {
+        "passed": len(stats.get("passed", [])),
+        "failed": len(stats.get("failed", [])) + len(stats.get("error", [])),
+        "skipped": sum(skipped.values()),
+        "needed": sorted(skipped),
+    }
+
+
+@pytest.hookimpl(tryfirst=True)
+def pytest_sessionfinish(session: pytest.Session) -> None:
+    reporter = session.config.pluginmanager.get_plugin("terminalreporter")
+    if reporter is None or hasattr(session.config, "workerinput"):
+        return
+    counts = counts_of(reporter)
+    if (
+        counts["skipped"]
+        and not session.config.getoption("--allow-skips")
+        and not session.exitstatus
+    ):
+        session.exitstatus = pytest.ExitCode.TESTS_FAILED
+    if file := session.config.getoption("--summary"):
+        file.write_text(json.dumps(counts) + "\n")
+
+
+def pytest_terminal_summary(terminalreporter: Any) -> None:
+    counts = counts_of(terminalreporter)
+    needed = f" ({', '.join(counts['needed'])})" if counts["needed"] else ""
+    line = f"trials: {counts['passed']} passed, {counts['failed']} failed, {counts['skipped']} skipped{needed}"
+    terminalreporter.write_line(line)
+
+
+# ---- Fixtures
+
+
+@pytest.fixture(scope="session")
+def program(request: pytest.FixtureRequest) -> pathlib.Path:
+    """The program that is tried."""
+    path: pathlib.Path = request.config.getoption("--program").absolute()
+    if not path.is_file():
+        pytest.fail(
+            f"{path} does not exist. Run `rt run` in crates/clock_auction to build the program."
+        )
+    return path
+
+
+@pytest.fixture
+def server(program: pathlib.Path) -> Iterator[Callable[..., Server]]:
+    """Starts servers of the program, each on a port of its own. All end with the test."""
+    started: list[Server] = []
+
+    def start(*files: Any, **options: Any) -> Server:
+        started.append(Server(program, *files, **options))
+        return started[-1]
+
+    yield start
+    for one in started:
+        if one.child.poll() is None:
+            one.kill()
+
+
+@pytest.fixture
+def nginx(program: pathlib.Path, tmp_path: pathlib.Path) -> Iterator[Callable[..., Site]]:
+    """Starts nginx before a server of a set-up, in a folder. All end with the test."""
+    started: list[Site] = []
+
+    def start(setup: object, *, without_program: bool = False, **options: Any) -> Site:
+        folder = tmp_path / f"site{len(started)}"
+        started.append(Site(folder, None if without_program else program, setup, **options))
+        return started[-1]
+
+    yield start
+    for one in started:
+        one.stop()

@@ -1,0 +1,1 @@
+"""What tests share: paths, ports, requests, servers, nginx, set-ups, journals, and waiting."""

@@ -1,0 +1,98 @@
+"""Requests over TLS to nginx, each client from an address of its own."""
+import json
+import re
+import socket
+import ssl
+from collections.abc import Iterator
+from typing import NamedTuple
+
+SECONDS = 20
+
+
+def addresses() -> Iterator[str]:
+    """Addresses of this machine, one for each client, so that none counts against the rate of another."""
+    for part in range(1, 200):
+        for last in range(1, 250):
+            yield f"127.8.{part}.{last}"
+
+
+ADDRESSES = addresses()
+
+
+def connected(
+    port: int, address: str | None = None, protocols: tuple[str, ...] = ("http/1.1",)
+) -> ssl.SSLSocket:
+    """A connection over TLS, from this address or from one that no other client of this process has."""
+    peer = socket.socket()
+    peer.settimeout(SECONDS)
+    peer.bind((address or next(ADDRESSES), 0))
+    peer.connect(("127.0.0.1", port))
+    context = ssl.create_default_context()
+    context.check_hostname, context.verify_mode = False, ssl.CERT_NONE
+    context.set_alpn_protocols(list(protocols))
+    return context.wrap_socket(peer, server_hostname="localhost")
+
+
+class Reply(NamedTuple):
+    """A reply: its status, its head in small letters, and its page."""
+
+    status: int
+    head: str
+    page: bytes
+
+    @property
+    def json(self) -> object:
+        return json.loads(self.page)
+
+    def refuses(self, status: int, code: str) -> bool:
+        """Whether it is exactly this refusal."""
+        return self.status == status and self.json == {"code": code, "status": status}
+
+
+class Client:
+    """An open connection over TLS."""
+
+    def __init__(self, port: int, address: str | None = None) -> None:
+        self.peer, self.rest = connected(port, address), b""
+
+    def ask(
+        self, method: str, path: str, token: str | None = None, *lines: str, body: bytes = b""
+    ) -> Reply:
+        """Sends a request. Returns its reply."""
+        token_line = (f"authorization: Bearer {token}",) if token else ()
+        length = (f"content-length: {len(body)}",) if body else ()
+        head = (
+            f"{method} {path} HTTP/1.1",
+            "host: localhost",
+            *token_line,
+            *length,
+            *lines,
+            "",
+            "",
+        )
+        self.send("\r\n".join(head).encode() + body)
+        return self.reply(method)
+
+    def send(self, text: bytes) -> None:
+        self.peer.sendall(text)
+
+    def reply(self, method: str = "GET") -> Reply:
+        """The next reply."""
+        while b"\r\n\r\n" not in self.rest:
+            self.more()
+        head, _, self.rest = self.rest.partition(b"\r\n\r\n")
+        text = head.decode("latin1").lower()
+        found = re.search(r"\ncontent-length: (\d+)", text)
+        length = int(found[1]) if found and method != "HEAD" else 0
+        while len(self.rest) < length:
+            self.more()
+        page, self.rest = self.rest[:length], self.rest[length:]
+        return Reply(int(text.split()[1]), text, page)
+
+    def more(self) -> None:
+        piece = self.peer.recv(65_536)
+        assert piece, f"the connection ended after {self.rest[:200]!r}"
+        self.rest += piece
+
+    def close(self) -> None:
+        self.peer.close()
