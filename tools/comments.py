@@ -4,7 +4,7 @@ import pathlib
 import re
 from collections.abc import Iterable, Iterator
 
-import prose
+from tools import documents
 
 # A comment, after the strings before it on its line.
 OF_RATTLE = re.compile(r'(?:[^"/]|"(?:[^"\\]|\\.)*"|/(?!/))*?(//[/!]?.*)')
@@ -37,14 +37,14 @@ def blocks(lines: Iterable[tuple[int, str, bool]]) -> Iterator[tuple[int, list[s
         yield begun, gathered
 
 
-def of_block(file: str, begun: int, lines: list[str], lists: bool) -> Iterator[prose.Paragraph]:
+def of_block(file: str, begun: int, lines: list[str], lists: bool) -> Iterator[documents.Paragraph]:
     """The paragraphs of a comment. If `lists`, an indented line is an entry of a list of definitions."""
     plain = [("" if lists and LISTED.match(line) else line) for line in lines]
-    for found in prose.of_markdown(file, "\n".join(plain)):
+    for found in documents.of_markdown(file, "\n".join(plain)):
         yield found._replace(line=begun + found.line - 1)
     for at, line in enumerate(lines if lists else []):
         if found := LISTED.match(line):
-            yield prose.Paragraph(file, begun + at, prose.plain(found[1]))
+            yield documents.Paragraph(file, begun + at, documents.plain(found[1]))
 
 
 def docstrings(text: str) -> Iterator[tuple[int, list[str]]]:
@@ -55,11 +55,15 @@ def docstrings(text: str) -> Iterator[tuple[int, list[str]]]:
                 yield node.body[0].lineno, words.splitlines()
 
 
-def paragraphs(top: pathlib.Path, file: str) -> list[prose.Paragraph]:
+def paragraphs(top: pathlib.Path, file: str) -> list[documents.Paragraph]:
     """The comments of a file."""
     text = (top / file).read_text()
     suffix = pathlib.Path(file).suffix
     python = suffix == ".py" or text.startswith("#!/usr/bin/env python3")
-    comment = {".rt": OF_RATTLE, ".rs": OF_RATTLE, ".antt": OF_PROOFS, ".js": OF_PAGES}.get(suffix, OF_SCRIPTS)
+    comment = {".rt": OF_RATTLE, ".rs": OF_RATTLE, ".antt": OF_PROOFS, ".js": OF_PAGES}.get(
+        suffix, OF_SCRIPTS
+    )
     found = [*blocks(lines_of(text, comment)), *(docstrings(text) if python else [])]
-    return [one for begun, lines in found for one in of_block(file, begun, lines, suffix == ".antt")]
+    return [
+        one for begun, lines in found for one in of_block(file, begun, lines, suffix == ".antt")
+    ]

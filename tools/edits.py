@@ -1,12 +1,12 @@
 """Must-fail edits: wrong bodies that the prover must reject.
 
 An edit is a file with a line `file: PATH`, and then pairs of lines `old: TEXT` and `new: TEXT`. PATH is in the edit's
-crate, and has each old text exactly once. `rt ci` tries the edits of crates/CRATE/must-fail/, and scripts/wrong-bodies
+crate, and has each old text exactly once. `rt ci` tries the edits of crates/CRATE/must-fail/, and tools/wrong-bodies
 those of edits/CRATE/.
 """
 import pathlib
 
-import prose
+from tools import documents
 
 IN_GATE = "crates/*/must-fail"
 BEFORE_RELEASE = "edits/*"
@@ -15,7 +15,7 @@ COMMENTS = ("#", "--", "//")
 
 def edits(top: pathlib.Path, folders: str) -> list[str]:
     """The edits in the folders that match a pattern."""
-    return prose.tracked(top, f"{folders}/*.edit")
+    return documents.tracked(top, f"{folders}/*.edit")
 
 
 def crate_of(edit: str) -> str:

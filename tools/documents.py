@@ -6,7 +6,7 @@ import subprocess
 from collections.abc import Iterator
 from typing import NamedTuple
 
-DOCUMENTS = ["*.md", "docs/*.md", ".ci/README.md", "schemas/README.md"]
+DOCUMENTS = ["*.md", "docs/*.md", "tests/README.md", "schemas/README.md"]
 
 FENCE = re.compile(r"^\s*(```|~~~)")
 ITEM = re.compile(r"^\s*([-*]|\d+\.)\s+")
@@ -84,8 +84,17 @@ def cells(line: str) -> list[str]:
 
 def of_html(file: str, text: str) -> Iterator[Paragraph]:
     """The texts between the tags of a page, and of the attributes that a browser shows or reads aloud."""
-    text = re.sub(r"<!--.*?-->|<(script|style)\b.*?</\1>", lambda gone: "\n" * gone[0].count("\n"), text, flags=re.S)
-    text = re.sub(r"</?(a|b|em|i|kbd|small|span|strong)\b[^<>]*>", " ", re.sub(r"<code>.*?</code>", "CODE", text))
+    text = re.sub(
+        r"<!--.*?-->|<(script|style)\b.*?</\1>",
+        lambda gone: "\n" * gone[0].count("\n"),
+        text,
+        flags=re.S,
+    )
+    text = re.sub(
+        r"</?(a|b|em|i|kbd|small|span|strong)\b[^<>]*>",
+        " ",
+        re.sub(r"<code>.*?</code>", "CODE", text),
+    )
     for found in HTML_TEXT.finditer(text):
         words = html.unescape(found[1] or found[2])
         if len(words.split()) > 1:
@@ -96,7 +105,9 @@ def of_strings(file: str, text: str, strings: re.Pattern[str]) -> Iterator[Parag
     """The strings of a program that look like sentences: those of three words or more."""
     for found in strings.finditer(text):
         words = next(group for group in found.groups() if group is not None)
-        words = re.sub(r"\\\n", "", re.sub(r"\$\{[^{}]*(\{[^{}]*\}[^{}]*)*\}", "CODE", words)).replace("\\n", "\n")
+        words = re.sub(
+            r"\\\n", "", re.sub(r"\$\{[^{}]*(\{[^{}]*\}[^{}]*)*\}", "CODE", words)
+        ).replace("\\n", "\n")
         line = text.count("\n", 0, found.start()) + 1
         for part in re.split(r"\nExample:\n", words)[0].split("\n\n"):
             if len(part.split()) > 2 and "=>" not in part:
