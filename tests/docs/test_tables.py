@@ -1,0 +1,88 @@
+"""Tables of the documents: codes of refusals, definitions, and what a command line may show."""
+import json
+import pathlib
+import re
+from collections.abc import Iterator
+
+import pytest
+
+from tests.docs.texts import text_of
+from tests.lib.documents import typed_lines
+from tests.lib.paths import TOP
+
+pytestmark = pytest.mark.early
+
+Code = tuple[str, str]  # a code and its status
+ROW = re.compile(r"^\| `([a-z_]+)` \| (\d{3}) \|", re.M)
+
+
+def codes_of_nginx(openapi: pathlib.Path) -> Iterator[Code]:
+    """The codes of nginx's port with their statuses."""
+    value = json.loads(openapi.read_text())
+    responses = value["components"]["responses"]
+    for item in value["paths"].values():
+        for method in item.keys() & {"get", "put"}:
+            for status, response in item[method]["responses"].items():
+                name = response.get("$ref", "").rpartition("/")[2]
+                for code in responses.get(name, {}).get("x-codes", []):
+                    yield code, status
+
+
+def codes_of_server() -> dict[str, set[Code]]:
+    """The codes of the server's refusals with their statuses, by who asks."""
+    value = json.loads((TOP / "schemas/server.json").read_text())
+    found: dict[str, set[Code]] = {"public": set(), "bidder": set(), "operator": set()}
+    for item in value["paths"].values():
+        for method in item.keys() - {"parameters"}:
+            tag = item[method].get("tags", ["public"])[0]
+            for status, response in item[method]["responses"].items():
+                if "$ref" in response:
+                    name = response["$ref"].rpartition("/")[2]
+                    refusal = value["components"]["responses"][name]
+                    schema = refusal["content"]["application/json"]["schema"]
+                    found[tag] |= {(code, status) for code in schema["properties"]["code"]["enum"]}
+    return found
+
+
+def codes_in(name: str) -> list[Code]:
+    return [(code, status) for code, status in ROW.findall(text_of(name))]
+
+
+def test_bidders_guide_lists_each_code_that_a_bidder_can_get(openapi: pathlib.Path) -> None:
+    server = codes_of_server()
+    of_nginx = {row for row in codes_of_nginx(openapi) if row[0] != "proxy"}
+    assert sorted(codes_in("bidders.md")) == sorted(server["public"] | server["bidder"] | of_nginx)
+
+
+def test_operators_guide_lists_only_codes_of_closings() -> None:
+    assert not set(codes_in("operators.md")) - codes_of_server()["operator"]
+
+
+def test_each_code_of_a_closing_is_in_a_guide() -> None:
+    known = {*codes_in("operators.md"), *codes_in("bidders.md")}
+    assert not codes_of_server()["operator"] - known
+
+
+def test_bidders_card_lists_codes_of_its_guide() -> None:
+    card = re.findall(r"^\| `([a-z_]+)` \|", text_of("card-bidder.md"), re.M)
+    assert len(card) == 11
+    assert not set(card) - dict(codes_in("bidders.md")).keys()
+
+
+def test_definitions_that_glossary_and_rules_name_exist() -> None:
+    begins = r"(?m)^ *(?:abbrev |unfoldable )?(?:pub )?(?:record |data |mod )?(\w+)"
+    files = TOP.glob("crates/*/specs/**/*.antt")
+    known = {name for file in files for name in re.findall(begins, file.read_text())}
+    cells = re.findall(r"^\|[^|]*\|[^|]*\|([^|]*)\|[^|]*\|$", text_of("glossary.md"), re.M)
+    cells += re.findall(r"\((`\w+`(?:, `\w+`)*)\)", text_of("rules.md"))
+    named = {name for cell in cells for name in re.findall(r"`(\w+)`", cell)}
+    assert len(named) > 50
+    assert not named - known
+
+
+@pytest.mark.parametrize(
+    "name", ["operators.md", "card-operator.md", "deployment.md", "bidders.md"]
+)
+def test_no_command_line_shows_a_token(name: str) -> None:
+    lines = [line for line, _ in typed_lines(text_of(name))]
+    assert not [line for line in lines if re.search(r"Bearer \w|[A-Z0-9]{16}", line)]
