@@ -1,7 +1,8 @@
 """Fixtures of all tests, what they need, and the line that counts them.
 
-A test that lacks a command or a module is skipped. The last lines name what was missing, and `--summary FILE` writes the
-counts for the gate. Without `--allow-skips` a skipped test fails the run.
+A test that lacks a command or a module is skipped. The last lines name what was missing, and
+`--summary FILE` writes the counts for the gate. Without `--allow-skips` a skipped test fails the
+run.
 """
 import importlib.util
 import json
@@ -85,7 +86,8 @@ def pytest_sessionfinish(session: pytest.Session) -> None:
 def pytest_terminal_summary(terminalreporter: Any) -> None:
     counts = counts_of(terminalreporter)
     needed = f" ({', '.join(counts['needed'])})" if counts["needed"] else ""
-    line = f"trials: {counts['passed']} passed, {counts['failed']} failed, {counts['skipped']} skipped{needed}"
+    parts = ", ".join(f"{counts[name]} {name}" for name in ("passed", "failed", "skipped"))
+    line = f"trials: {parts}{needed}"
     terminalreporter.write_line(line)
 
 

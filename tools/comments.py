@@ -1,4 +1,5 @@
-"""The comments of source files, definitions, proofs and scripts, as paragraphs that a person reads."""
+"""The comments of source files, definitions, proofs and scripts, as paragraphs that a person reads.
+"""
 import ast
 import pathlib
 import re
@@ -25,7 +26,7 @@ def lines_of(text: str, comment: re.Pattern[str]) -> Iterator[tuple[int, str, bo
 
 def blocks(lines: Iterable[tuple[int, str, bool]]) -> Iterator[tuple[int, list[str]]]:
     """Comments on lines that follow each other, with the number of the first."""
-    begun, gathered = 0, []
+    begun, gathered = 0, list[str]()
     for number, words, whole in lines:
         if gathered and not (whole and number == begun + len(gathered)):
             yield begun, gathered
@@ -38,13 +39,15 @@ def blocks(lines: Iterable[tuple[int, str, bool]]) -> Iterator[tuple[int, list[s
 
 
 def of_block(file: str, begun: int, lines: list[str], lists: bool) -> Iterator[documents.Paragraph]:
-    """The paragraphs of a comment. If `lists`, an indented line is an entry of a list of definitions."""
+    """The paragraphs of a comment. If `lists`, an indented line is an entry of a list of
+    definitions.
+    """
     plain = [("" if lists and LISTED.match(line) else line) for line in lines]
     for found in documents.of_markdown(file, "\n".join(plain)):
         yield found._replace(line=begun + found.line - 1)
     for at, line in enumerate(lines if lists else []):
-        if found := LISTED.match(line):
-            yield documents.Paragraph(file, begun + at, documents.plain(found[1]))
+        if entry := LISTED.match(line):
+            yield documents.Paragraph(file, begun + at, documents.plain(entry[1]))
 
 
 def docstrings(text: str) -> Iterator[tuple[int, list[str]]]:

@@ -1,4 +1,6 @@
-"""The prose of this repository without code: paragraphs of documents, help texts, and strings of pages."""
+"""The prose of this repository without code: paragraphs of documents, help texts, and strings of
+pages.
+"""
 import html
 import pathlib
 import re
@@ -20,7 +22,9 @@ RUST_STRING = re.compile(r"\"((?:[^\"\\]|\\.)*)\"", re.S)
 
 
 class Paragraph(NamedTuple):
-    """A paragraph, an item of a list, a cell of a table, or a string of a program, and the line on which it begins."""
+    """A paragraph, an item of a list, a cell of a table, or a string of a program, and the line on
+    which it begins.
+    """
 
     file: str
     line: int
@@ -83,7 +87,9 @@ def cells(line: str) -> list[str]:
 
 
 def of_html(file: str, text: str) -> Iterator[Paragraph]:
-    """The texts between the tags of a page, and of the attributes that a browser shows or reads aloud."""
+    """The texts between the tags of a page, and of the attributes that a browser shows or reads
+    aloud.
+    """
     text = re.sub(
         r"<!--.*?-->|<(script|style)\b.*?</\1>",
         lambda gone: "\n" * gone[0].count("\n"),

@@ -1,8 +1,8 @@
 """Must-fail edits: wrong bodies that the prover must reject.
 
-An edit is a file with a line `file: PATH`, and then pairs of lines `old: TEXT` and `new: TEXT`. PATH is in the edit's
-crate, and has each old text exactly once. `rt ci` tries the edits of crates/CRATE/must-fail/, and tools/wrong-bodies
-those of edits/CRATE/.
+An edit is a file with a line `file: PATH`, and then pairs of lines `old: TEXT` and `new: TEXT`.
+PATH is in the edit's crate, and has each old text exactly once. `rt ci` tries the edits of
+crates/CRATE/must-fail/, and tools/wrong-bodies those of edits/CRATE/.
 """
 import pathlib
 
@@ -24,7 +24,9 @@ def crate_of(edit: str) -> str:
 
 
 def fault(top: pathlib.Path, edit: str) -> str | None:
-    """Why an edit does not apply to its crate, or "". Each pair applies to the text after the earlier pairs."""
+    """Why an edit does not apply to its crate, or "". Each pair applies to the text after the
+    earlier pairs.
+    """
     texts: dict[str, str] = {}
     path = old = ""
     for line in (top / edit).read_text().splitlines():

@@ -2,13 +2,14 @@
 
     bash .ci/run [--allow-skips]
 
-`rt ci` repeats every proof, the must-fail edits of the crates, and the tests in Rattle, and builds the program with two
-compilers. During its first proofs, the tests run that need no built program (the marker `early`): they read sources,
-documents, and tools. The other tests begin when the program is proved and built, next to the last proofs and edits.
+`rt ci` repeats every proof, the must-fail edits of the crates, and the tests in Rattle, and builds
+the program with two compilers. During its first proofs, the tests run that need no built program
+(the marker `early`): they read sources, documents, and tools. The other tests begin when the
+program is proved and built, next to the last proofs and edits.
 
-The last lines have the program's SHA-256, the seconds at which each crate was proved and each run of tests ended, the
-machine's pace, and the counts. A test that is skipped, because a package is missing, fails the gate unless it is called
-with --allow-skips.
+The last lines have the program's SHA-256, the seconds at which each crate was proved and each run
+of tests ended, the machine's pace, and the counts. A test that is skipped, because a package is
+missing, fails the gate unless it is called with --allow-skips.
 """
 import argparse
 import atexit
@@ -67,9 +68,9 @@ class Proofs:
         self.proved: list[str] = []
         self.is_decided, self.has_ended = threading.Event(), threading.Event()
         self.is_built = False
-        # One check for each processor. By default, rt ci delays a large crate until several times the memory of its
-        # check is free, and all crates above it wait. The checks have a low priority, so that the tests find a machine
-        # that is as good as idle.
+        # One check for each processor. By default, rt ci delays a large crate until several times
+        # the memory of its check is free, and all crates above it wait. The checks have a low
+        # priority, so that the tests find a machine that is as good as idle.
         jobs = os.environ.get("RT_JOBS", str(PROCESSORS))
         self.child = started(
             ["nice", "rt", "ci"],

@@ -55,7 +55,8 @@ def counts_of_proofs(lines: Sequence[str], status: int) -> Counts:
 
 
 def counts_of_trials(summary: str | None, status: int) -> Counts:
-    """What the summary of a run of pytest says. Without a summary, the run was killed, which is one failure.
+    """What the summary of a run of pytest says. Without a summary, the run was killed, which is one
+    failure.
 
     A run of which no test passed, failed, or was skipped ran nothing, which is a failure, too.
     """

@@ -58,7 +58,9 @@ class Shell:
         )
 
     def make_repository(self, openapi: pathlib.Path) -> None:
-        """Copies what is installed, with other ports in nginx's configuration, for this machine only."""
+        """Copies what is installed, with other ports in nginx's configuration, for this machine
+        only.
+        """
         repository = self.folder / "repository"
         for name in INSTALLED:
             shutil.copytree(TOP / name, repository / name)

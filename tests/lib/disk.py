@@ -21,9 +21,9 @@ class Disk:
     """Stands in for `os` in auction/conductor/disk.py, and counts the calls that change the disk.
 
     It kills its caller before the call with the number `kill_at`, or before any call about a file
-    in the folder `kill_in`. If `is_full`, nothing can be written. It also notes what a loss of power
-    would undo: files and names that were not synced. If `counts_reads`, the opening of folders and
-    locks counts too.
+    in the folder `kill_in`. If `is_full`, nothing can be written. It also notes what a loss of
+    power would undo: files and names that were not synced. If `counts_reads`, the opening of
+    folders and locks counts too.
     """
 
     def __init__(self, kill_at: int = 0, counts_reads: bool = False) -> None:

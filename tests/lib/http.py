@@ -11,7 +11,9 @@ def compact(value: object) -> bytes:
 
 
 def text_of(line: str, token: str = "", body: bytes | None = None, *lines: str) -> bytes:
-    """The bytes of a request: its method and path, its sender's token, its body, and further header lines."""
+    """The bytes of a request: its method and path, its sender's token, its body, and further header
+    lines.
+    """
     head = [f"{line} HTTP/1.1", *lines]
     head += [f"authorization: Bearer {token}"] if token else []
     head += [f"content-length: {len(body)}"] if body is not None else []
@@ -21,8 +23,9 @@ def text_of(line: str, token: str = "", body: bytes | None = None, *lines: str) 
 def reply_to(port: int, text: bytes, cut: int | None = None, seconds: float = SECONDS) -> bytes:
     """Sends a request, and returns the bytes of the reply.
 
-    If `cut`, the request is sent in two pieces. Then the writing side is shut. A server answers as soon as it knows its
-    answer. If bytes are then still unread, the connection is reset after the reply.
+    If `cut`, the request is sent in two pieces. Then the writing side is shut. A server answers as
+    soon as it knows its answer. If bytes are then still unread, the connection is reset after the
+    reply.
     """
     reply = b""
     with socket.create_connection(("127.0.0.1", port), seconds) as client:

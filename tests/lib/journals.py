@@ -1,4 +1,6 @@
-"""A reader and a writer of journals that shares nothing with the program: it follows the format only."""
+"""A reader and a writer of journals that shares nothing with the program: it follows the format
+only.
+"""
 import hashlib
 from collections.abc import Iterable, Iterator
 
@@ -12,7 +14,9 @@ class Wrong(AssertionError):
 
 
 def whole_texts_of(setup: bytes, journal: bytes) -> Iterator[tuple[bytes, str]]:
-    """The whole requests of a journal that a server may be writing, whose last record may be incomplete."""
+    """The whole requests of a journal that a server may be writing, whose last record may be
+    incomplete.
+    """
     place = HEAD
     while place + FRONT <= len(journal) and (
         end := place + FRONT + int.from_bytes(journal[place : place + 4], "big")
@@ -27,7 +31,9 @@ def head_of(setup: bytes) -> bytes:
 
 
 def record_of(digest: bytes, text: bytes) -> bytes:
-    """The record of a request after one of this digest, or after the set-up. Its own digest begins at byte 8."""
+    """The record of a request after one of this digest, or after the set-up. Its own digest begins
+    at byte 8.
+    """
     length = len(text).to_bytes(4, "big")
     return length + length + hashlib.sha256(digest + text).digest() + text
 
@@ -61,12 +67,16 @@ def body_in(text: bytes) -> bytes:
 
 
 def texts_of(setup: bytes, journal: bytes) -> list[tuple[bytes, str]]:
-    """The requests of a whole journal of this set-up, each with its digest. Raises Wrong if it is damaged."""
+    """The requests of a whole journal of this set-up, each with its digest. Raises Wrong if it is
+    damaged.
+    """
     return list(each_text_of(setup, journal, len(journal)))
 
 
 def each_text_of(setup: bytes, journal: bytes, length: int) -> Iterator[tuple[bytes, str]]:
-    """Like texts_of, but yields one request after the other, and reads only the first `length` bytes."""
+    """Like texts_of, but yields one request after the other, and reads only the first `length`
+    bytes.
+    """
     digest = hashlib.sha256(setup).digest()
     if journal[:HEAD] != KIND + digest:
         raise Wrong("no journal of this set-up")

@@ -11,7 +11,9 @@ MOST_CONNECTIONS = 1_000_000
 
 
 class Server:
-    """A running `clock_auction serve` on a port of its own. `lines` are those that it printed up to `ready`."""
+    """A running `clock_auction serve` on a port of its own. `lines` are those that it printed up to
+    `ready`.
+    """
 
     def __init__(
         self,

@@ -1,4 +1,5 @@
 """Set-up documents, as values of JSON."""
+from typing import Any
 
 OPERATOR = "OPERATOROPERATOR"
 
@@ -11,24 +12,24 @@ def product(
     units: int = 1,
     cap: int | None = None,
     granule: int | None = None,
-) -> dict:
+) -> dict[str, Any]:
     """A product. Its cap is its supply unless another is given. In version 2 it has a granule."""
     row = {"name": name, "units": units, "supply": supply, "cap": cap or supply, "opening": opening}
     return row if granule is None else {**row, "granule": granule}
 
 
-def bidder(name: str, token: str, eligibility: int) -> dict:
+def bidder(name: str, token: str, eligibility: int) -> dict[str, Any]:
     """A bidder."""
     return {"name": name, "token": token, "eligibility": eligibility}
 
 
 def setup(
-    products: list[dict],
-    bidders: list[dict],
+    products: list[dict[str, Any]],
+    bidders: list[dict[str, Any]],
     requirement: int = 50,
     operator: str = OPERATOR,
     limit: int | None = None,
-) -> dict:
+) -> dict[str, Any]:
     """A set-up of version 1, or of version 2 if it has an activity limit."""
     version = {"version": 1} if limit is None else {"version": 2, "limit": limit}
     return {

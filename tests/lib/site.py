@@ -1,4 +1,6 @@
-"""Program and nginx in a folder of their own, as docs/operators.md starts them, on free ports of this machine."""
+"""Program and nginx in a folder of their own, as docs/operators.md starts them, on free ports of
+this machine.
+"""
 import json
 import os
 import pathlib
@@ -34,8 +36,9 @@ def commit(folder: pathlib.Path, has_ties: bool = True) -> None:
 class Site:
     """Program and nginx in a folder.
 
-    Without a program only nginx runs, and the caller may listen at `server_port` as its server. `more` has lines for
-    nginx.conf. nginx's workers are of the user `worker`, or of Debian's default.
+    Without a program only nginx runs, and the caller may listen at `server_port` as its server.
+    `more` has lines for nginx.conf. nginx's workers are of the user `worker`, or of Debian's
+    default.
     """
 
     def __init__(

@@ -10,7 +10,9 @@ SECONDS = 20
 
 
 def addresses() -> Iterator[str]:
-    """Addresses of this machine, one for each client, so that none counts against the rate of another."""
+    """Addresses of this machine, one for each client, so that none counts against the rate of
+    another.
+    """
     for part in range(1, 200):
         for last in range(1, 250):
             yield f"127.8.{part}.{last}"
@@ -22,7 +24,9 @@ ADDRESSES = addresses()
 def connected(
     port: int, address: str | None = None, protocols: tuple[str, ...] = ("http/1.1",)
 ) -> ssl.SSLSocket:
-    """A connection over TLS, from this address or from one that no other client of this process has."""
+    """A connection over TLS, from this address or from one that no other client of this process
+    has.
+    """
     peer = socket.socket()
     peer.settimeout(SECONDS)
     peer.bind((address or next(ADDRESSES), 0))

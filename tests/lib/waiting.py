@@ -13,7 +13,9 @@ Item = TypeVar("Item")
 def wait_for(
     what: str, condition: Callable[[], object], seconds: float, every: float = 0.02
 ) -> None:
-    """Waits until a condition holds. Fails if it does not within these seconds. Looks once in each `every` seconds."""
+    """Waits until a condition holds. Fails if it does not within these seconds. Looks once in each
+    `every` seconds.
+    """
     end = time.monotonic() + seconds
     while not condition():
         assert time.monotonic() <= end, f"not within {seconds} s: {what}"

@@ -1,4 +1,6 @@
-"""tools/believed on a small crate: it lists exactly what the public clauses reach, and refuses unknown forms."""
+"""tools/believed on a small crate: it lists exactly what the public clauses reach, and refuses
+unknown forms.
+"""
 import pathlib
 import subprocess
 import sys
@@ -82,7 +84,9 @@ UNKNOWN = (
 
 @pytest.fixture
 def crate(tmp_path: pathlib.Path) -> pathlib.Path:
-    """A repository of the small crate, its documents, and a copy of the tool. Returns the crate's folder."""
+    """A repository of the small crate, its documents, and a copy of the tool. Returns the crate's
+    folder.
+    """
     crate = tmp_path / "crates/clock_one"
     files = {"src/lib.rt": SOURCE} | {f"specs/{name}": text for name, text in SPECS.items()}
     for name, text in files.items():
