@@ -97,6 +97,12 @@ fn first_in(
 /// one product.
 const OF_TWO: (Reduction, Reduction) = ((0, 100, 105, 110), (1, 1000, 1050, 1100));
 
+/// Reductions at price points that differ by about a 2^126th, the second just below the first.
+const CLOSE: (Reduction, Reduction) = (
+    (0, 0, 1 << 62, (1 << 63) + 1),
+    (1, 0, (1 << 62) - 1, (1 << 63) - 1),
+);
+
 const OF_ONE: (Reduction, Reduction) = ((0, 100, 104, 110), (0, 100, 104, 110));
 
 /// A set-up document, the tie-breaking numbers of a list, the reductions, and the bidder whose is
@@ -104,6 +110,7 @@ const OF_ONE: (Reduction, Reduction) = ((0, 100, 104, 110), (0, 100, 104, 110));
 const ORDERS: &[(&str, &[Tie], (Reduction, Reduction), u32)] = &[
     (TWO_PRODUCTS, ties![(0, 0, 2), (1, 1, 1)], OF_TWO, 1),
     (TWO_PRODUCTS, &[], OF_TWO, 0),
+    (TWO_PRODUCTS, &[], CLOSE, 1),
     (ONE_PRODUCT, ties![(0, 0, 9), (1, 0, 3)], OF_ONE, 1),
     (ONE_PRODUCT, &[], OF_ONE, 0),
 ];
