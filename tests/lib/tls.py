@@ -4,7 +4,7 @@ import re
 import socket
 import ssl
 from collections.abc import Iterator
-from typing import NamedTuple
+from typing import Any, NamedTuple
 
 SECONDS = 20
 
@@ -45,7 +45,7 @@ class Reply(NamedTuple):
     page: bytes
 
     @property
-    def json(self) -> object:
+    def json(self) -> Any:
         return json.loads(self.page)
 
     def refuses(self, status: int, code: str) -> bool:

@@ -1,0 +1,107 @@
+"""nginx as services/nginx.conf says, before a stand-in for the server that records what reaches it.
+
+Each module has a site of its own. Each test begins with an empty cache, an open gate, and no
+requests. It takes bidders and addresses that no other test has, so that no test counts against the
+rates of another.
+"""
+import pathlib
+import shutil
+import tempfile
+from collections.abc import Callable, Iterator
+from typing import NamedTuple
+
+import pytest
+
+from tests.lib.site import Site
+from tests.nginx.recorder import Recorder
+from tests.nginx.requests import OPERATOR, UNKNOWN, Bidder
+
+BIDDERS = [Bidder(f"B{number}", f"B1DDERST0KEN{number:05}") for number in range(250)]
+SETUP = {
+    "version": 1,
+    "requirement": 50,
+    "operator": OPERATOR,
+    "products": [{"name": "A", "units": 1, "supply": 2, "cap": 2, "opening": 100}],
+    "bidders": [{**bidder._asdict(), "eligibility": 2} for bidder in BIDDERS],
+}
+# Lines for nginx.conf that let a test come from any address.
+ADDRESS_BY_HEADER = "set_real_ip_from 127.0.0.0/8; real_ip_header x-trial-address;"
+
+
+class Running(NamedTuple):
+    """What runs for a module, and the bidders that no test has taken yet."""
+
+    site: Site
+    recorder: Recorder
+    bidders: Iterator[Bidder]
+
+
+def pytest_collection_modifyitems(items: list[pytest.Item]) -> None:
+    """Each test of this folder needs nginx, and openssl for its certificate."""
+    for item in items:
+        if item.path.parent == pathlib.Path(__file__).parent:
+            item.add_marker(pytest.mark.needs("nginx", "openssl"))
+
+
+@pytest.fixture(scope="module")
+def running() -> Iterator[Running]:
+    """nginx and the stand-in of a module. At the end, no token is in a log."""
+    folder = pathlib.Path(
+        tempfile.mkdtemp(prefix="nginx-")
+    )  # nginx's workers cannot enter pytest's folders
+    site = Site(folder, None, SETUP, ADDRESS_BY_HEADER)
+    recorder = Recorder(site.server_port)
+    try:
+        yield Running(site, recorder, iter(BIDDERS))
+    finally:
+        recorder.stop()
+        site.stop()
+    logs = [file.read_text(errors="replace") for file in (folder / "log").iterdir()]
+    shutil.rmtree(folder)
+    for token in (*(bidder.token for bidder in BIDDERS), OPERATOR, UNKNOWN):
+        assert not any(token in log for log in logs), f"{token} is in a log"
+
+
+@pytest.fixture
+def site(running: Running) -> Site:
+    """nginx with an open gate."""
+    set_gate(running.site, "open")
+    return running.site
+
+
+@pytest.fixture
+def recorder(running: Running, site: Site) -> Recorder:
+    """The stand-in, which no request has reached yet, while nginx has nothing in its cache."""
+    empty_cache(site)
+    running.recorder.reset()
+    return running.recorder
+
+
+@pytest.fixture
+def new_bidder(running: Running) -> Callable[[], Bidder]:
+    """Returns bidders that no test has taken yet."""
+    return lambda: next(running.bidders)
+
+
+@pytest.fixture
+def bidder(new_bidder: Callable[[], Bidder]) -> Bidder:
+    """A bidder that no other test has."""
+    return new_bidder()
+
+
+def set_gate(site: Site, *names: str) -> None:
+    """Makes these files those of the gate."""
+    gate = site.folder / "gate"
+    gate.mkdir(exist_ok=True)
+    for file in gate.iterdir():
+        if file.name not in names:
+            file.unlink()
+    for name in names:
+        (gate / name).touch()
+
+
+def empty_cache(site: Site) -> None:
+    """Removes all pages from nginx's cache, as the server's unit does."""
+    for page in (site.folder / "tmp/cache").rglob("*"):
+        if page.is_file():
+            page.unlink()

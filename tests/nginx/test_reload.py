@@ -1,0 +1,97 @@
+"""What nginx reads again on a reload: tokens of a bidder's persons, and the longest sheet."""
+import json
+import signal
+from collections.abc import Callable, Iterator
+
+import pytest
+
+from tests.lib.paths import auction
+from tests.lib.site import Site
+from tests.lib.waiting import wait_for
+from tests.nginx.conftest import SETUP
+from tests.nginx.recorder import PRIVATE, Recorder
+from tests.nginx.requests import Bidder, get, put
+
+NewBidder = Callable[[], Bidder]
+LOOK = 0.7  # seconds between two requests: a bidder may ask twice a second
+FIRST, SECOND = "FIRSTPERSON00001", "SECONDPERSON0002"
+
+
+@pytest.fixture
+def reload(site: Site) -> Iterator[Callable[..., None]]:
+    """Writes a file and has nginx read it. At the end, the files are as they were."""
+    names = ("bidders.map", "persons.map", "persons.map~", "sheet.conf")
+    before = {
+        name: (site.folder / name).read_text() for name in names if (site.folder / name).exists()
+    }
+
+    def write(name: str, *lines: str) -> None:
+        (site.folder / name).write_text("".join(f"{line}\n" for line in lines))
+        site.nginx.send_signal(signal.SIGHUP)
+
+    yield write
+    for name in names:
+        (site.folder / name).unlink(missing_ok=True)
+    for name, text in before.items():
+        (site.folder / name).write_text(text)
+    site.nginx.send_signal(signal.SIGHUP)
+
+
+def whose(site: Site, token: str) -> str:
+    """The token that nginx hands on instead of this one, or the status of its refusal."""
+    reply = get(site, "/v1/me", token)
+    return reply.json["private"].removeprefix(PRIVATE) if reply.status == 200 else str(reply.status)
+
+
+@pytest.fixture
+def persons(site: Site, recorder: Recorder, bidder: Bidder, reload: Callable[..., None]) -> str:
+    """The file bidders.map without a second person, whose token is known too."""
+    text = (site.folder / "bidders.map").read_text()
+    text = text.replace(f"Bearer {bidder.token}", f"Bearer {FIRST}")
+    both = [f'"Bearer {person}" "Bearer {bidder.token}";' for person in (FIRST, SECOND)]
+    reload("persons.map", *both)
+    reload("bidders.map", text, f'"Bearer {SECOND}" "{bidder.name}";')
+    (site.folder / "persons.map~").write_text("\n".join(both))  # as an editor leaves it
+    wait_for("a person's token is known", lambda: whose(site, SECOND) == bidder.token, 20, LOOK)
+    return text
+
+
+def test_two_persons_of_a_bidder_have_tokens_instead_of_its_own(
+    persons: str, site: Site, bidder: Bidder
+) -> None:
+    found = [whose(site, token) for token in (bidder.token, FIRST, SECOND)]
+    assert found == ["401", bidder.token, bidder.token]
+
+
+def test_a_persons_token_is_taken_back_and_no_other(
+    persons: str, site: Site, bidder: Bidder, new_bidder: NewBidder, reload: Callable[..., None]
+) -> None:
+    reload("bidders.map", persons)
+    wait_for("it is taken back", lambda: whose(site, SECOND) == "401", 20, LOOK)
+    other = new_bidder()
+    assert [whose(site, token) for token in (other.token, FIRST)] == [other.token, bidder.token]
+
+
+def test_with_sheet_conf_a_sheet_is_as_long_as_the_set_up_needs(
+    site: Site, recorder: Recorder, new_bidder: NewBidder, reload: Callable[..., None]
+) -> None:
+    longest = site.bound_sheets()
+    site.nginx.send_signal(signal.SIGHUP)
+    token = new_bidder().token  # each look may count as a large sheet
+    too_long = b" " * (longest + 1)
+    wait_for("a longer one is refused", lambda: put(site, token, too_long).status == 413, 20, 0.2)
+    assert put(site, new_bidder().token, b" " * longest).status == 200
+
+
+def test_two_tokens_that_differ_only_by_case_are_refused_before_nginx_reads_them(
+    site: Site, bidder: Bidder
+) -> None:
+    bidders = [
+        {"name": name, "token": token, "eligibility": 1}
+        for name, token in (("a", bidder.token), ("b", bidder.token.lower()))
+    ]
+    file = site.folder / "twice.json"
+    file.write_text(json.dumps({**SETUP, "bidders": bidders}))
+    ran = auction("maps", file)
+    assert (ran.returncode, ran.stdout) == (1, "")
+    assert "differ by case" in ran.stderr
