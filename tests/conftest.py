@@ -9,11 +9,15 @@ import json
 import os
 import pathlib
 import shutil
+import tempfile
 from collections import Counter
 from collections.abc import Callable, Iterator
 from typing import Any
 
 import pytest
+
+# Before the first import of these modules: a failing `assert` in them shows its values.
+pytest.register_assert_rewrite("tests")
 
 from tests.lib.paths import BUILT, PATHS
 from tests.lib.server import Server
@@ -121,12 +125,21 @@ def server(program: pathlib.Path) -> Iterator[Callable[..., Server]]:
 
 
 @pytest.fixture
-def nginx(program: pathlib.Path, tmp_path: pathlib.Path) -> Iterator[Callable[..., Site]]:
+def open_folder() -> Iterator[pathlib.Path]:
+    """A folder that other users can enter, such as nginx's workers. They cannot enter pytest's."""
+    folder = pathlib.Path(tempfile.mkdtemp(prefix="auction-"))
+    folder.chmod(0o755)
+    yield folder
+    shutil.rmtree(folder, ignore_errors=True)
+
+
+@pytest.fixture
+def nginx(program: pathlib.Path, open_folder: pathlib.Path) -> Iterator[Callable[..., Site]]:
     """Starts nginx before a server of a set-up, in a folder. All end with the test."""
     started: list[Site] = []
 
     def start(setup: object, *, without_program: bool = False, **options: Any) -> Site:
-        folder = tmp_path / f"site{len(started)}"
+        folder = open_folder / f"site{len(started)}"
         started.append(Site(folder, None if without_program else program, setup, **options))
         return started[-1]
 

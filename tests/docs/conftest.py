@@ -19,18 +19,15 @@ def openapi(tmp_path_factory: pytest.TempPathFactory) -> pathlib.Path:
 
 @pytest.fixture
 def shell(
-    program: pathlib.Path, openapi: pathlib.Path, tmp_path: pathlib.Path
+    program: pathlib.Path, openapi: pathlib.Path, open_folder: pathlib.Path
 ) -> Iterator[Callable[[], Shell]]:
     """Starts shells, each in a folder of its own. All end with the test."""
     started: list[Shell] = []
 
     def start() -> Shell:
-        started.append(Shell(tmp_path / f"shell{len(started)}", program, openapi))
+        started.append(Shell(open_folder / f"shell{len(started)}", program, openapi))
         return started[-1]
 
-    # nginx's workers are another user, who must reach the folder
-    for folder in [tmp_path, *list(tmp_path.parents)[:2]]:
-        folder.chmod(0o755)
     yield start
     for one in started:
         one.stop()

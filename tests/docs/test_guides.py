@@ -123,7 +123,7 @@ def times_of_day(first: int) -> dict[str, str]:
     """
     early = 1 <= time.gmtime(first).tm_hour <= 22  # no window may cross midnight
     zone, hours = ("UTC", 0) if early else ("Etc/GMT-12", 12)
-    local = [time.gmtime(first + after + 3600 * hours) for after in (0, 10, 30, 40)]
+    local = [time.gmtime(first + after + 3600 * hours) for after in (0, 10, 60, 70)]
     clocks = [time.strftime("%H:%M:%S", moment) for moment in local]
     typed = {
         "America/New_York": zone,
@@ -131,7 +131,7 @@ def times_of_day(first: int) -> dict[str, str]:
         "10:00-11:00": f"{clocks[0]}-{clocks[1]}",
         "14:00-15:00": f"{clocks[2]}-{clocks[3]}",
     }
-    for shown, after in ((15, 0), (16, 10), (19, 30), (20, 40)):
+    for shown, after in ((15, 0), (16, 10), (19, 60), (20, 70)):
         moment = time.gmtime(first + after)
         clock = time.strftime("%H:%M:%S" if moment.tm_sec else "%H:%M", moment)
         day = f"{time.strftime('%B', moment)} {moment.tm_mday}"
