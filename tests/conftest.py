@@ -32,6 +32,8 @@ def pytest_addoption(parser: pytest.Parser) -> None:
         "--allow-skips", action="store_true", help="a skipped test does not fail the run"
     )
     parser.addoption("--summary", type=pathlib.Path, help="the file that gets the counts, as JSON")
+    parser.addoption("--full", action="store_true", help="tests/load plays the auction in full size")
+    parser.addoption("--debian", help="the folder of a small Debian, for the units under systemd")
 
 
 # ---- What a test needs

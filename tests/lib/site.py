@@ -81,6 +81,7 @@ class Site:
 
     def begin_nginx(self) -> None:
         """Starts nginx, and waits until it listens."""
+        (self.folder / "inner/door.sock").unlink(missing_ok=True)  # a killed nginx leaves it
         nginx = shutil.which("nginx", path=PATHS) or "nginx"
         with open(self.folder / "nginx.words", "wb") as said:
             self.nginx = self.keep(
@@ -89,7 +90,6 @@ class Site:
                     stdin=subprocess.DEVNULL,
                     stdout=said,
                     stderr=said,
-                    cwd=self.folder,
                 )
             )
         wait_for(
@@ -166,7 +166,7 @@ class Site:
         (self.folder / name).write_text(text)
 
     def write_configuration(self, more: str) -> None:
-        """Writes nginx.conf with this site's ports, for this machine only."""
+        """Writes nginx.conf with this site's folder and ports, for this machine only."""
         text = (
             (TOP / "services/nginx.conf")
             .read_text()
@@ -174,7 +174,8 @@ class Site:
         )
         text = re.sub(r"\n *listen \[::\][^\n]*", "", text).replace("\nhttp {", "\nhttp {" + more)
         text = re.sub(r"\nuser [^\n]*", f"\nuser {self.worker};" if self.worker else "", text)
-        (self.folder / "nginx.conf").write_text(self.with_ports(text))
+        text = self.with_ports(text).replace("/srv/auction", str(self.folder))
+        (self.folder / "nginx.conf").write_text(text)
 
     def for_workers(self, path: pathlib.Path) -> None:
         """Gives a path to the group of nginx's workers, which are this user if it is not root."""

@@ -1,6 +1,7 @@
 #!/bin/bash
-# Inside the container of deploy/try_unit: what the units do under systemd, from the first start to the last failure.
-# Prints a line for each thing that is as it must be, and ends at the first that is not.
+# In the container of test_live.py: what the units do under systemd, from the first start to the
+# last failure. Prints a line for each thing that is as it must be, and ends at the first that is
+# not.
 # shellcheck disable=SC2317  # `expect` and `within` call functions by their names
 unit=clock-auction.service
 journal=/var/lib/private/clock_auction/auction.journal
@@ -11,7 +12,8 @@ seen() { echo "seen: $1"; }
 finish() { systemctl poweroff --no-block; exit 0; }
 fail() {
     echo "FAILED: $1"
-    journalctl -b -u $unit -u clock-auction-conductor -u clock-auction-receipts --no-pager -o cat | tail -n 20
+    journalctl -b -u $unit -u clock-auction-conductor -u clock-auction-receipts --no-pager -o cat \
+        | tail -n 20
     finish
 }
 expect() { local what=$1; shift; if "$@"; then seen "$what"; else fail "$what"; fi; }
@@ -37,7 +39,8 @@ within "it answers after the start of the machine" answers
 process=$(main_process)
 expect "it has a user of its own" test "$(stat -c %U "/proc/$process")" = auction-server
 expect "no other user can connect to it" bash -c \
-    '! setpriv --reuid nobody --regid nogroup --clear-groups curl -s -m 5 http://127.0.0.1:8105/v1/status'
+    '! setpriv --reuid nobody --regid nogroup --clear-groups \
+        curl -s -m 5 http://127.0.0.1:8105/v1/status'
 expect "it has no capability" grep -qE '^CapEff:\s0+$' "/proc/$process/status"
 expect "its calls are filtered" grep -qE '^Seccomp:\s2$' "/proc/$process/status"
 expect "its address space is limited to 4 GiB" limit_is "Max address space" 4294967296
@@ -48,15 +51,17 @@ expect "only it reads the journal" test "$(stat -c %a:%u $journal)" = "600:$user
 expect "it reads a copy of the set-up, and no other user does" \
     test "$(stat -c %a:%u /run/credentials/$unit/setup.json)" = "400:$user"
 as_it=(nsenter -t "$process" -m -- setpriv --reuid "$user" --regid "$group" --clear-groups)
-writable=$("${as_it[@]}" find / -path /proc -prune -o -writable ! -type l ! -type c ! -type s -print 2> /dev/null \
-    | sort | paste -sd ' ')
-expect "all that it can write: $writable" test "$writable" = "/var/lib/private/clock_auction $journal"
+writable=$("${as_it[@]}" find / -path /proc -prune \
+    -o -writable ! -type l ! -type c ! -type s -print 2> /dev/null | sort | paste -sd ' ')
+expect "all that it can write: $writable" \
+    test "$writable" = "/var/lib/private/clock_auction $journal"
 for place in /usr /etc /srv/auction /home /root /boot; do
     expect "nothing can be written in $place" cannot_write "$place/x"
 done
 expect "pages of another auction are gone from nginx's cache" test ! -e /srv/auction/tmp/cache/page
 
-expect "a sheet is accepted" test "$(asked /v1/me/bids -X PUT -d "$sheet")" = '{"accepted":true,"bids":1,"round":1}'
+expect "a sheet is accepted" \
+    test "$(asked /v1/me/bids -X PUT -d "$sheet")" = '{"accepted":true,"bids":1,"round":1}'
 kill -KILL "$process"
 within "after SIGKILL it is started again" another_than "$process"
 within "and continues with the sheet" keeps
@@ -68,8 +73,9 @@ expect "its journal was rewritten" test "$(stat -c %i $journal)" != "$inode"
 within "and continues with the sheet" keeps
 systemctl reset-failed $unit
 mkdir -p /etc/systemd/system/$unit.d
-few='s/--connections 1000000/--connections 3/; s/^ExecStart=\(.*\)/[Service]\nExecStart=\nExecStart=\1/p'
-sed -n "$few" /etc/systemd/system/$unit > /etc/systemd/system/$unit.d/few.conf
+few='s/--connections 1000000/--connections 3/; s/^ExecStart=/[Service]\nExecStart=\n&/p'
+sed ':a; /\\$/{ N; s/\\\n *//; ta }' /etc/systemd/system/$unit | sed -n "$few" \
+    > /etc/systemd/system/$unit.d/few.conf
 systemctl daemon-reload
 systemctl restart $unit
 within "with three connections it answers" answers
@@ -93,6 +99,7 @@ sleep 1
 systemctl start $unit
 within "where another has the journal it waits its turn" keeps
 expect "and the file was left until then" told_in_log "journal_busy"
+command=/usr/local/lib/clock_auction/auction/bin/auction
 conductor=clock-auction-conductor.service
 folder=/srv/auction
 cp /etc/clock_auction/setup.json $folder/
@@ -102,9 +109,9 @@ cat > "$folder/conductor.json" << END
 {"url":"http://127.0.0.1:8105","setup":"setup.json","token":"operator.token","journal":"$journal",
  "drain":2,"between":0,"notice":0}
 END
-/usr/local/lib/clock_auction/deploy/commit $folder/setup.json $folder/kept $folder/public > /dev/null \
+"$command" commit $folder/setup.json $folder/kept $folder/public > /dev/null \
     || fail "the commitment"
-tell() { /usr/local/lib/clock_auction/deploy/conductor "$folder" "$@"; }
+tell() { local word=$1; shift; "$command" "$word" "$folder" "$@"; }
 reports() { tell status | grep -qF "$1"; }
 conducting_process() { systemctl show -p MainPID --value $conductor; }
 other_conductor() { local now; now=$(conducting_process); [ "$now" != 0 ] && [ "$now" != "$1" ]; }
@@ -115,10 +122,12 @@ process=$(conducting_process)
 expect "it has one capability" grep -qE '^CapEff:\s0*4$' "/proc/$process/status"
 expect "its calls are filtered" grep -qE '^Seccomp:\s2$' "/proc/$process/status"
 expect "it cannot see nginx's key" cannot_see $folder/key.pem
-expect "it cannot write the set-up" bash -c "! nsenter -t $process -m -- touch $folder/setup.json 2> /dev/null"
+expect "it cannot write the set-up" \
+    bash -c "! nsenter -t $process -m -- touch $folder/setup.json 2> /dev/null"
 expect "its report is for nginx's workers only" \
     test "$(stat -c %a:%G $folder/operator/conductor.json)" = 640:auction-nginx
-expect "nginx's workers write what the page asks for" test "$(stat -c %a:%G $folder/asked)" = 2770:auction-nginx
+expect "nginx's workers write what the page asks for" \
+    test "$(stat -c %a:%G $folder/asked)" = 2770:auction-nginx
 first=$(( $(date +%s) / 10 * 10 + 10 ))
 at() { date -u -d "@$1" +%T; }
 cat > "$folder/timetable.json" << END
@@ -132,8 +141,10 @@ within "after SIGKILL it is started again" other_conductor "$process"
 within "it closes the round, and the auction has ended" reports "The auction ended after round 1."
 digest=$(grep -oE '"digest": ?"[0-9a-f]{64}' $folder/public/rounds/1.json | tail -c 65)
 expect "it publishes the digest of the journal" \
-    grep -qF "$digest" <(/usr/local/bin/clock_auction audit --setup $folder/setup.json --journal $journal)
-modes=$(stat -c %a $folder/public $folder/public/rounds $folder/public/rounds/1.json | paste -sd ' ')
+    grep -qF "$digest" \
+    <(/usr/local/bin/clock_auction audit --setup $folder/setup.json --journal $journal)
+public=$folder/public
+modes=$(stat -c %a $public $public/rounds $public/rounds/1.json | paste -sd ' ')
 expect "everyone may read what is public" test "$modes" = "755 755 644"
 systemctl stop $conductor
 receipts=clock-auction-receipts.service
@@ -141,10 +152,12 @@ systemctl start $receipts
 within "a receipt of the sheet" test -s $folder/receipts/X/1-1.json
 process=$(systemctl show -p MainPID --value $receipts)
 expect "it has one capability" grep -qE '^CapEff:\s0*4$' "/proc/$process/status"
-expect "it has no network" test -z "$(nsenter -t "$process" -n -- ls /sys/class/net 2> /dev/null | grep -v lo)"
+networks=$(nsenter -t "$process" -n -- ls /sys/class/net 2> /dev/null | grep -v lo)
+expect "it has no network" test -z "$networks"
 expect "its receipts are for nginx's workers only" \
     test "$(stat -c %a:%G $folder/receipts/X/1-1.json)" = 640:auction-nginx
-expect "it cannot write the key" bash -c "! nsenter -t $process -m -- touch $folder/kept/receipts.pem 2> /dev/null"
+expect "it cannot write the key" \
+    bash -c "! nsenter -t $process -m -- touch $folder/kept/receipts.pem 2> /dev/null"
 systemctl stop $receipts
 systemctl stop $unit
 
@@ -154,7 +167,8 @@ systemctl start $unit
 within "with a damaged journal it is given up" systemctl is-failed $unit
 within "and somebody is called" test -s /called
 expect "the log tells the fault" told_in_log "fault: journal_unknown"
-exposure=$(systemd-analyze security --no-pager $unit 2> /dev/null | tail -n 1 | grep -oE '[0-9.]+ [A-Z]+')
+exposure=$(systemd-analyze security --no-pager $unit 2> /dev/null | tail -n 1 \
+    | grep -oE '[0-9.]+ [A-Z]+')
 expect "systemd's judgement of what it is exposed to: $exposure" true
 echo "the end"
 finish

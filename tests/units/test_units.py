@@ -1,0 +1,68 @@
+"""The systemd units of services/, as systemd-analyze reads and rates them."""
+import pathlib
+import re
+import subprocess
+
+import pytest
+
+from tests.lib.paths import TOP
+
+UNITS = ("clock-auction", "clock-auction-conductor", "clock-auction-receipts")
+# What the units start, which need not be there: Debian's commands, the program, and the command.
+LIB = "/usr/local/lib/clock_auction"
+PROGRAMS = re.compile(
+    rf"({LIB}/auction/bin/auction|/usr/local/bin/clock_auction|/usr/sbin/nft|/usr/bin/install)\b"
+)
+INSTALLED = re.compile(rf"{LIB}/(\S+)")
+# The highest exposure that systemd may see, of 10.
+MOST = 2.0
+
+pytestmark = pytest.mark.needs("systemd-analyze")
+
+
+def text_of(unit: str) -> str:
+    """The text of a unit."""
+    return (TOP / "services" / f"{unit}.service").read_text()
+
+
+@pytest.fixture
+def folder(tmp_path: pathlib.Path) -> pathlib.Path:
+    """The units, with programs that are there, and the unit that an operator writes."""
+    for unit in UNITS:
+        (tmp_path / f"{unit}.service").write_text(PROGRAMS.sub("/bin/true", text_of(unit)))
+    (tmp_path / "auction-alert@.service").write_text("[Service]\nExecStart=/bin/true\n")
+    return tmp_path
+
+
+def analyze(*words: object) -> tuple[int, str]:
+    """The status of systemd-analyze, and all that it says."""
+    command = ["systemd-analyze", *map(str, words)]
+    ran = subprocess.run(command, capture_output=True, text=True, timeout=60)
+    return ran.returncode, ran.stdout + ran.stderr
+
+
+@pytest.mark.parametrize("unit", UNITS)
+def test_systemd_finds_no_fault_in_a_unit(folder: pathlib.Path, unit: str) -> None:
+    assert analyze("verify", folder / f"{unit}.service") == (0, "")
+
+
+@pytest.mark.parametrize("unit", UNITS)
+def test_a_units_exposure_is_low(folder: pathlib.Path, unit: str) -> None:
+    status, said = analyze("security", "--offline=yes", folder / f"{unit}.service")
+    rating = re.search(r"Overall exposure level for \S+: ([\d.]+) ", said)
+    assert status == 0 and rating, said
+    assert float(rating[1]) <= MOST
+
+
+@pytest.mark.parametrize("unit", UNITS)
+def test_what_a_unit_starts_is_in_the_repository(unit: str) -> None:
+    for path in INSTALLED.findall(text_of(unit)):
+        assert (TOP / path).is_file(), path
+
+
+@pytest.mark.parametrize("service", ["run", "receipts"])
+def test_one_unit_starts_each_command_that_runs(service: str) -> None:
+    started = [
+        line for unit in UNITS for line in text_of(unit).splitlines() if "bin/auction" in line
+    ]
+    assert sum(f"/auction/bin/auction {service} /srv/auction" in line for line in started) == 1
