@@ -1,1 +1,0 @@
-"""The parts of .ci/live: connections of every kind, and bidders that are examples/bidder.py."""
