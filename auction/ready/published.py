@@ -54,15 +54,15 @@ def receipts(auction: Auction) -> str:
 def signs(process: Path, folder: Path) -> bool:
     """Whether a process runs `auction receipts` for this folder, however its words name it."""
     try:
-        words = (process / "cmdline").read_bytes().decode().split("\0")
+        words = (process / "cmdline").read_bytes().decode().rstrip("\0").split("\0")
         place = (process / "cwd").readlink()
     except (OSError, ValueError):
         return False
-    runs = any(
-        Path(program).name == "auction" and command == "receipts"
-        for program, command in itertools.pairwise(words[:MOST_WORDS])
-    )
-    return runs and any((place / word).resolve() == folder.resolve() for word in words)
+    for count, (program, command) in enumerate(itertools.pairwise(words[:MOST_WORDS])):
+        if Path(program).name == "auction" and command == "receipts":
+            others = words[count + 2 :]
+            return any((place / word).resolve() == folder.resolve() for word in others)
+    return False
 
 
 CHECKS = [Check("commitment", commitment), Check("receipts", receipts)]
