@@ -22,7 +22,7 @@ def said(ready: ReadyAuction) -> tuple[int, list[str]]:
 
 def test_a_ready_auction_has_status_0_and_a_line_for_each_check(ready: ReadyAuction) -> None:
     status, lines = said(ready)
-    assert status == 0, lines
+    assert status == 0, "\n".join(lines)
     assert all(line.startswith("ok ") for line in lines[:-1]), lines
     assert len(lines) == len(CHECKS) + 1
     assert lines[-1] == f"ready: {len(CHECKS)} checks found no fault"
@@ -62,4 +62,4 @@ def test_its_check_finds_the_fault_and_finds_none_without_it(
 
 def test_the_auction_is_ready_after_all_faults(ready: ReadyAuction) -> None:
     status, lines = said(ready)
-    assert status == 0, lines
+    assert status == 0, "\n".join(lines)
