@@ -100,7 +100,7 @@ def configuration(auction: Auction) -> str:
         text=True,
         check=False,
     )
-    ensure(ran.returncode == 0, ran.stderr.splitlines()[0] if ran.stderr else "nginx refuses it")
+    ensure(ran.returncode == 0, ran.stderr or "nginx refuses it")
     return "nginx accepts it"
 
 
