@@ -1,1 +1,1 @@
-"""The command `auction`: what an operator, a bidder's clerk, or an auditor runs around the program."""
+"""The command `auction`: what an operator, a bidder's clerk, or an auditor runs."""

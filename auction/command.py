@@ -9,8 +9,8 @@ from typing import Self
 class Command:
     """A command: its name, its help, its arguments, and what it does.
 
-    `summary` is one line, and `text` the rest of the help. `run` returns the exit status. A SystemExit with words ends
-    the command with status 1.
+    `summary` is one line, and `text` the rest of the help. `run` returns the exit status. A
+    SystemExit with words ends the command with status 1.
     """
 
     name: str

@@ -1,4 +1,4 @@
-"""Receipts: each accepted sheet is signed and published for its sender as soon as the journal has it."""
+"""Receipts: each accepted sheet is signed and published as soon as the journal has it."""
 import dataclasses
 import os
 import time
@@ -12,10 +12,8 @@ from auction.formats.receipts import Receipt
 from auction.formats.setup import Setup
 from auction.formats.signatures import sign
 
-FILE, FOLDER = (
-    0o640,
-    0o750,
-)  # nginx's workers read them as the folder's group, and no other user does
+# nginx's workers read them as the folder's group, and no other user does.
+FILE, FOLDER = 0o640, 0o750
 PERIOD = 0.25  # seconds after which the next receipts are published
 
 
@@ -53,8 +51,9 @@ class Desk:
     def look(self, pause: Callable[[], None] = lambda: None) -> int:
         """Signs what the journal has and is not published. Returns how many receipts that is.
 
-        The journal is brought to the disk first: a receipt is never for a sheet that a crash could still take. After
-        the pause all are published at once. So the moment says nothing of how many sheets came from others.
+        The journal is brought to the disk first: a receipt is never for a sheet that a crash could
+        still take. After the pause all are published at once. So the moment says nothing of how
+        many sheets came from others.
         """
         self.sheets.read_on()
         missing = [receipt for receipt in self.sheets.fresh if not self.file(receipt).exists()]
@@ -69,7 +68,10 @@ class Desk:
         return len(missing)
 
     def prepare(self, receipt: Receipt) -> None:
-        """Signs and writes a receipt. After a crash it is there whole, or not at all and is signed again."""
+        """Signs and writes a receipt.
+
+        After a crash it is there whole, or not at all and is signed again.
+        """
         file = self.file(receipt)
         file.parent.mkdir(FOLDER, exist_ok=True)
         disk.prepare(file, receipt.page(sign(self.key, receipt.message())), FILE)

@@ -1,13 +1,16 @@
 """Compares a bidder's receipts with the published journal.
 
-RECEIPTS is the file that examples/bidder.py writes, or that the bidder's page downloads: the commitment as the bidder
-saw it before round 1, then a receipt in each line. JOURNAL is the whole published journal.
+RECEIPTS is the file that examples/bidder.py writes, or that the bidder's page downloads: the
+commitment as the bidder saw it before round 1, then a receipt in each line. JOURNAL is the whole
+published journal.
 
-It checks each signature with the committed key. Then the journal must have each sheet with a receipt in its round, as
-the receipt numbers it, and no other sheet of this bidder. The bidder's sheets are those under the token of TOKEN. If
-TOKEN is not set, they are those under the token of a sheet with a receipt.
+It checks each signature with the committed key. Then the journal must have each sheet with a
+receipt in its round, as the receipt numbers it, and no other sheet of this bidder. The bidder's
+sheets are those under the token of TOKEN. If TOKEN is not set, they are those under the token of a
+sheet with a receipt.
 
-It prints a line for each fault and a last line, and changes nothing. The status is 0 only if there is no fault.
+It prints a line for each fault and a last line, and changes nothing. The status is 0 only if there
+is no fault.
 """
 import argparse
 import os

@@ -1,27 +1,30 @@
 """Closes one round, once, and stores what the server forgets.
 
-URL is the operator's: http://127.0.0.1:8106 behind nginx, or the server's own. TOKENFILE has the operator's token.
-JOURNAL is the server's journal, which is read and never written. INCREMENT is one number, or in version 2 one for all
-products or one for each, with commas between.
+URL is the operator's: http://127.0.0.1:8106 behind nginx, or the server's own. TOKENFILE has the
+operator's token. JOURNAL is the server's journal, which is read and never written. INCREMENT is one
+number, or in version 2 one for all products or one for each, with commas between.
 
-It prints who has a sheet in force and who does not, and asks before it closes the current round: a closing cannot be
-undone. With --yes ROUND it asks nothing, and closes that round or none. A round in which nobody has a sheet in force is
-closed only if the answer says so, or with --without-sheets. The status is 0 if this call closed the round, and else 1.
+It prints who has a sheet in force and who does not, and asks before it closes the current round: a
+closing cannot be undone. With --yes ROUND it asks nothing, and closes that round or none. A round
+in which nobody has a sheet in force is closed only if the answer says so, or with --without-sheets.
+The status is 0 if this call closed the round, and else 1.
 
-FOLDER has the chain of seeds that `auction commit` made before round 1. By the seed of the round each pair of bidder and
-product gets a tie-breaking number. Up to 16,384 pairs all get one. Above that, those with a bid in force or with
-processed demand do. If these are too many, nothing is closed, and with --no-ties the closing has no numbers.
+FOLDER has the chain of seeds that `auction commit` made before round 1. By the seed of the round
+each pair of bidder and product gets a tie-breaking number. Up to 16,384 pairs all get one. Above
+that, those with a bid in force or with processed demand do. If these are too many, nothing is
+closed, and with --no-ties the closing has no numbers.
 
-The closing's body is written to FOLDER/closing-N.json and brought to the disk before it is sent, so that a closing that
-is sent twice is the same one. Then results-N.json is written to FOLDER, round-N.json with the round's digest and seed,
-which is for everyone, and a line to closings.jsonl, all for their owner only.
+The closing's body is written to FOLDER/closing-N.json and brought to the disk before it is sent, so
+that a closing that is sent twice is the same one. Then results-N.json is written to FOLDER,
+round-N.json with the round's digest and seed, which is for everyone, and a line to closings.jsonl,
+all for their owner only.
 
-If the reply to a closing is lost, call it again. If the round is still open, the same closing is sent. If it is closed,
-its pages are stored and nothing else is closed.
+If the reply to a closing is lost, call it again. If the round is still open, the same closing is
+sent. If it is closed, its pages are stored and nothing else is closed.
 
-This also stores rounds that were closed in another way, such as by the operator's page; but the server has only the
-results of the last round. Two calls at once wait for each other. If somebody other than the server answers, it says so
-and ends, and it follows no redirection.
+This also stores rounds that were closed in another way, such as by the operator's page; but the
+server has only the results of the last round. Two calls at once wait for each other. If somebody
+other than the server answers, it says so and ends, and it follows no redirection.
 """
 import argparse
 import json
@@ -80,7 +83,8 @@ def auction_of(given: argparse.Namespace) -> Auction:
 def current_round(auction: Auction) -> int:
     """The round to close.
 
-    If the last closed round's pages are not stored yet, as after a lost reply, stores them and closes nothing.
+    If the last closed round's pages are not stored yet, as after a lost reply, stores them and
+    closes nothing.
     """
     status = auction.operator.page("/v1/status")
     last = last_closed(status)
@@ -88,7 +92,8 @@ def current_round(auction: Auction) -> int:
     if last and not auction.results_file(last).exists():
         keep(auction)
         raise NotClosed(
-            f"round {last} was closed before, and its pages are stored now. No other round is closed."
+            f"round {last} was closed before, and its pages are stored now. "
+            "No other round is closed."
         )
     if status["ended"]:
         raise NotClosed(f"the auction ended after round {last}")
@@ -102,8 +107,8 @@ def sheets_in_force(auction: Auction, number: int) -> list[str]:
         raise NotClosed(f"somebody else has closed round {number}. Call it again.")
     if auction.journal.round < number:
         raise NotClosed(
-            f"the server is in round {number}, and {auction.journal.path} ends in round {auction.journal.round}. "
-            "Is it the server's own, and no copy?"
+            f"the server is in round {number}, and {auction.journal.path} ends in round "
+            f"{auction.journal.round}. Is it the server's own, and no copy?"
         )
     return auction.journal.in_force()
 
@@ -142,7 +147,7 @@ def agree(given: argparse.Namespace, auction: Auction, number: int) -> None:
 
 
 def close(auction: Auction, number: int, increments: Increments, ties: Ties) -> None:
-    """Closes this round by the body that is on disk, or by one that is made now, and stores its pages."""
+    """Closes this round by the body on disk, or by one that is made now, and stores its pages."""
     check_fixed(auction, number, increments)
     if auction.body_file(number).exists():
         print(
@@ -157,7 +162,8 @@ def close(auction: Auction, number: int, increments: Increments, ties: Ties) -> 
     keep(auction)
     if answer.outcome is Outcome.CLOSED_BEFORE:
         raise NotClosed(
-            f"round {number} was closed just before this closing arrived, and its pages are stored: {answer.page}"
+            f"round {number} was closed just before this closing arrived, and its pages are "
+            f"stored: {answer.page}"
         )
 
 
@@ -186,15 +192,18 @@ def run(given: argparse.Namespace) -> int:
         sys.exit(f"{refusal}. Nothing more is closed or stored.")
     except NoReply as fault:
         sys.exit(
-            f"{fault}. Call it again when the server answers: a closing that was sent may have arrived."
+            f"{fault}. Call it again when the server answers: a closing that was sent may have "
+            "arrived."
         )
     except (OSError, ValueError) as fault:
         sys.exit(
-            f"{fault}. What was closed stays closed. Call it again when this is fixed, and it stores the pages."
+            f"{fault}. What was closed stays closed. Call it again when this is fixed, and it "
+            "stores the pages."
         )
     except KeyboardInterrupt:
         sys.exit(
-            "stopped. A closing that was sent may still be done: call it again, or look at the status."
+            "stopped. A closing that was sent may still be done: call it again, or look at the "
+            "status."
         )
     return 0
 

@@ -1,12 +1,14 @@
-"""Fixes tie-breaking numbers and the key of receipts before round 1, and publishes what everyone needs to check both.
+"""Fixes tie-breaking numbers and the key of receipts before round 1, and publishes both.
 
-FOLDER is the folder of `auction close` or of the conductor. It gets chain.json, with the secret of the seeds, and
-receipts.pem, with the secret key, both for their owner only. PUBLIC is the folder `public` of nginx. It gets
-commitment.json, for everyone (docs/formats.md). What is there already stays, so call it again after a crash.
+FOLDER is the folder of `auction close` or of the conductor. It gets chain.json, with the secret of
+the seeds, and receipts.pem, with the secret key, both for their owner only. PUBLIC is the folder
+`public` of nginx. It gets commitment.json, for everyone (docs/formats.md). What is there already
+stays, so call it again after a crash.
 
-With --no-ties, closings have no tie-breaking numbers. With --draw, called once more after commitment.json is
-published, the numbers also depend on these words: the result of a public draw that was announced before. So nobody
-could have made many chains and chosen one. The words are up to 200 letters of printable ASCII.
+With --no-ties, closings have no tie-breaking numbers. With --draw, called once more after
+commitment.json is published, the numbers also depend on these words: the result of a public draw
+that was announced before. So nobody could have made many chains and chosen one. The words are up to
+200 letters of printable ASCII.
 
 It prints the commitment. Give it to bidders, and keep FOLDER secret: anyone who has the seeds knows
 all tie-breaking numbers.

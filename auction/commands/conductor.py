@@ -1,6 +1,7 @@
 """The commands of the conductor, which runs an auction by its timetable.
 
-FOLDER is nginx's, with conductor.json in it (docs/formats.md). A command and its announcement are one write.
+FOLDER is nginx's, with conductor.json in it (docs/formats.md). A command and its announcement are
+one write.
 """
 import argparse
 import fcntl
@@ -21,8 +22,8 @@ from auction.conductor.timetable import TimetableFault
 FOLDER = "FOLDER is nginx's, with conductor.json in it (docs/formats.md)."
 RUN = f"""{FOLDER} The conductor opens and shuts the window,
 closes each round once, publishes it, and continues. It remembers no step: what is next follows
-from its plan, the server, and the files that are there. So it may be killed at any moment and started again. A closing
-is on disk before it is sent, as with `auction close`.
+from its plan, the server, and the files that are there. So it may be killed at any moment and
+started again. A closing is on disk before it is sent, as with `auction close`.
 
 A round waits for your word, `auction next` or `auction extend`, in four cases:
 - nobody has a sheet in force;
@@ -46,7 +47,10 @@ def run_auction(folder: pathlib.Path) -> None:
 
 
 def status(office: Office, _: argparse.Namespace) -> None:
-    """Prints the last report. The exit status is 0, 3 if it waits for a person, and 1 if nobody writes the report."""
+    """Prints the last report.
+
+    The exit status is 0, 3 if it waits for a person, and 1 if nobody writes the report.
+    """
     shown = report.shown(office.folders)
     if not shown:
         sys.exit("no conductor has run yet")
@@ -54,9 +58,8 @@ def status(office: Office, _: argparse.Namespace) -> None:
     if shown["sheets"] is not None and shown["state"] != report.State.ENDED.value:
         missing = [name for name in office.setup.bidders if name not in shown["sheets"]]
         others = f"; not: {', '.join(missing)}" if missing else ""
-        print(
-            f"{len(shown['sheets'])} of {len(office.setup.bidders)} bidders have a sheet in force{others}"
-        )
+        counts = f"{len(shown['sheets'])} of {len(office.setup.bidders)}"
+        print(f"{counts} bidders have a sheet in force{others}")
     age = time.time() - report.time_of(shown)
     if age > report.STALE:
         sys.exit(

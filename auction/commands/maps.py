@@ -1,7 +1,8 @@
 """Prints what nginx reads of a set-up.
 
-Without `--sheet`, bidders.map: a line for each bidder, from token line to name. nginx ignores case when it compares
-these lines, so two tokens that differ only by case are refused. With `--sheet`, sheet.conf: how long a sheet may be.
+Without `--sheet`, bidders.map: a line for each bidder, from token line to name. nginx ignores case
+when it compares these lines, so two tokens that differ only by case are refused. With `--sheet`,
+sheet.conf: how long a sheet may be.
 """
 import argparse
 import json

@@ -1,10 +1,11 @@
 """Looks at an auction before it opens.
 
-FOLDER is nginx's. The set-up and the journal are those of FOLDER/conductor.json, or else setup.json and
-auction.journal. NAME is the host that bidders use. GB is the space that the journal may need.
+FOLDER is nginx's. The set-up and the journal are those of FOLDER/conductor.json, or else setup.json
+and auction.journal. NAME is the host that bidders use. GB is the space that the journal may need.
 
-Run it as root, with server and nginx running. It prints a line for each check, which begins with `ok` or `FAULT`, and
-then whether the auction is ready. The status is 0 if it is, and 1 if it is not. It changes nothing.
+Run it as root, with server and nginx running. It prints a line for each check, which begins with
+`ok` or `FAULT`, and then whether the auction is ready. The status is 0 if it is, and 1 if it is
+not. It changes nothing.
 """
 import argparse
 import json

@@ -1,14 +1,15 @@
 """Signs a receipt for each accepted sheet, and puts it where nginx gives it to its bidder only.
 
-JOURNAL is the server's journal, which is read as it grows and never written. FOLDER has the secret key receipts.pem,
-which `auction commit` made before round 1. RECEIPTS is the folder `receipts` of nginx. It must be there, and nginx's
-workers must be its group: install -d -m 2750 -g auction-nginx receipts. What is made in it is for its owner and this
-group only.
+JOURNAL is the server's journal, which is read as it grows and never written. FOLDER has the secret
+key receipts.pem, which `auction commit` made before round 1. RECEIPTS is the folder `receipts` of
+nginx. It must be there, and nginx's workers must be its group: install -d -m 2750 -g auction-nginx
+receipts. What is made in it is for its owner and this group only.
 
-A receipt is made within a second, and only of a sheet that is on the disk. It is RECEIPTS/BIDDER/ROUND-K.json for the
-K-th sheet of the bidder in the round (docs/formats.md). The same sheet and key always make the same receipt, so this
-may be killed at any moment and started again. With --once it signs what the journal has, and ends. Otherwise it runs on
-until it is stopped.
+A receipt is made within a second, and only of a sheet that is on the disk. It is
+RECEIPTS/BIDDER/ROUND-K.json for the K-th sheet of the bidder in the round (docs/formats.md). The
+same sheet and key always make the same receipt, so this may be killed at any moment and started
+again. With --once it signs what the journal has, and ends. Otherwise it runs on until it is
+stopped.
 
 If the journal cannot be read, it says so, and tries again.
 """

@@ -1,16 +1,18 @@
-"""Makes the record of an auction that has ended: everything that an auditor or a bidder needs to count it again.
+"""Makes the record of an auction that has ended: all that anyone needs to count it again.
 
-PUBLISHED is the folder of what was published during the auction, such as the conductor's `public`. FOLDER must not be
-there. It gets the set-up and the journal byte for byte, the published files by their names, and tables of bids, results
-and prices as CSV. An index, SHA256SUMS, lists them. docs/formats.md describes the files and their columns. The same
-files give the same record.
+PUBLISHED is the folder of what was published during the auction, such as the conductor's `public`.
+FOLDER must not be there. It gets the set-up and the journal byte for byte, the published files by
+their names, and tables of bids, results and prices as CSV. An index, SHA256SUMS, lists them.
+docs/formats.md describes the files and their columns. The same files give the same record.
 
 It is written next to its place, synced, and renamed: FOLDER is whole, or not there.
 
-The set-up and the journal have all tokens in clear. So an auction that has not ended is refused. If it was given up,
-stop the server, and add --not-ended. Only the owner of FOLDER can read it, until you publish it.
+The set-up and the journal have all tokens in clear. So an auction that has not ended is refused. If
+it was given up, stop the server, and add --not-ended. Only the owner of FOLDER can read it, until
+you publish it.
 
-The last line is the SHA-256 of the index, which identifies the record. `auction verify` checks a record.
+The last line is the SHA-256 of the index, which identifies the record. `auction verify` checks a
+record.
 """
 import argparse
 import hashlib
@@ -28,8 +30,8 @@ from auction.recount.formats import Refused
 
 INDEX = "SHA256SUMS"
 PUBLISHED = re.compile(r"(commitment|timetable|announcements|winners|rounds/[1-9][0-9]*)\.json")
-ABOUT = """The record of an auction of clock_auction. docs/formats.md of its repository lists these files and their
-columns, docs/auditors.md says what they prove.
+ABOUT = """The record of an auction of clock_auction. docs/formats.md of its repository lists these
+files and their columns, docs/auditors.md says what they prove.
 
 The sums of all files:    sha256sum -c SHA256SUMS
 The whole auction:        auction verify setup.json auction.journal FOLDER
@@ -62,7 +64,8 @@ def recounted(document: bytes, journal: bytes, may_not_have_ended: bool) -> reco
         raise NoRecord(f"the set-up or the journal is refused: {fault}") from None
     if not counted.auction.ended and not may_not_have_ended:
         raise NoRecord(
-            f"the auction has not ended. {len(counted.auction.rounds)} rounds are closed, and its tokens are valid."
+            f"the auction has not ended. {len(counted.auction.rounds)} rounds are closed, "
+            "and its tokens are valid."
         )
     return counted
 
@@ -97,7 +100,7 @@ def files_of(
 
 
 def write(folder: pathlib.Path, files: dict[str, bytes]) -> None:
-    """Writes a folder next to its place, for its owner only, brings it to the disk, and renames it."""
+    """Writes a folder next to its place, for its owner only, syncs it, and renames it."""
     fresh = folder.with_name(f"{folder.name}.new")
     shutil.rmtree(fresh, ignore_errors=True)
     fresh.mkdir()
@@ -127,9 +130,8 @@ def run(given: argparse.Namespace) -> int:
         write(given.folder, files)
     except (NoRecord, OSError, ValueError, KeyError, TypeError) as fault:
         sys.exit(f"no record: {fault}")
-    print(
-        f"{given.folder}: {len(counted.auction.rounds)} rounds, {counted.texts} requests, {len(files)} files"
-    )
+    rounds = f"{len(counted.auction.rounds)} rounds"
+    print(f"{given.folder}: {rounds}, {counted.texts} requests, {len(files)} files")
     print(f"index {hashlib.sha256(files[INDEX]).hexdigest()}")
     return 0
 

@@ -1,10 +1,12 @@
-"""Recounts an auction from its set-up document and its journal, and prints what `clock_auction audit` prints.
+"""Recounts an auction, and prints what `clock_auction audit` prints.
 
-It shares nothing with the server: its author wrote it from docs/rules.md and docs/formats.md. If its output is the
-program's, two readings of the rules have led to the same auction.
+SETUP is its set-up document, and JOURNAL its journal.
 
-It judges every sheet and every closing in the journal again. A fault is printed as the program prints it, as one line
-`fault: WORDS` on standard error, and the exit status is then 1.
+It shares nothing with the server: its author wrote it from docs/rules.md and docs/formats.md. If
+its output is the program's, two readings of the rules have led to the same auction.
+
+It judges every sheet and every closing in the journal again. A fault is printed as the program
+prints it, as one line `fault: WORDS` on standard error, and the exit status is then 1.
 """
 import argparse
 import sys

@@ -1,15 +1,15 @@
 """Checks a published auction, and prints for each check whether it holds.
 
-SETUP and JOURNAL are the auction's, byte for byte. PUBLISHED is a folder with what was published during the auction, by
-the names under /public/: the commitment and all rounds. Best is what you saved yourself during the auction. It may also
-be the record that `auction record` made, whose tables and index are then checked too. Each RECEIPTS is a bidder's file of
-receipts.
+SETUP and JOURNAL are the auction's, byte for byte. PUBLISHED is a folder with what was published
+during the auction, by the names under /public/: the commitment and all rounds. Best is what you
+saved yourself during the auction. It may also be the record that `auction record` made, whose
+tables and index are then checked too. Each RECEIPTS is a bidder's file of receipts.
 
-Each check prints one line, or one for each thing that is wrong: `ok`, `FAILED`, or `absent` if there is nothing to
-check. The last line counts them. The status is 0 only if nothing failed.
+Each check prints one line, or one for each thing that is wrong: `ok`, `FAILED`, or `absent` if
+there is nothing to check. The last line counts them. The status is 0 only if nothing failed.
 
-It reads docs/rules.md and docs/formats.md as `auction recount` does, runs none of the auction's programs, and changes
-nothing. docs/auditors.md says what each check proves, and what it does not.
+It reads docs/rules.md and docs/formats.md as `auction recount` does, runs none of the auction's
+programs, and changes nothing. docs/auditors.md says what each check proves, and what it does not.
 """
 import argparse
 import pathlib
@@ -33,9 +33,8 @@ def run(given: argparse.Namespace) -> int:
         counts[found.result] += 1
         print(f"{found.result:6} {found.subject}: {found.words}", flush=True)
     verdict = "NOT verified" if counts[FAILED] else "verified"
-    print(
-        f"{verdict}: {counts[OK]} checks hold, {counts[FAILED]} failed, {counts[ABSENT]} had nothing to check"
-    )
+    failed = f"{counts[OK]} checks hold, {counts[FAILED]} failed"
+    print(f"{verdict}: {failed}, {counts[ABSENT]} had nothing to check")
     return 1 if counts[FAILED] else 0
 
 

@@ -52,7 +52,7 @@ class Entry:
 
 
 class Journal:
-    """What the accepted texts come to so far: the current round, its sheets in force by bidder, and all closings."""
+    """What the accepted texts come to: the current round, its sheets in force, and all closings."""
 
     def __init__(self, path: Path, setup: Setup) -> None:
         self.path, self.setup = path, setup
@@ -77,7 +77,10 @@ class Journal:
             raise JournalFault(f"{self.path}: {error}") from error
 
     def check_what_was_read(self, file: BinaryIO) -> None:
-        """The file still begins with what was read of it. If the server was started on another journal, it does not."""
+        """The file still begins with what was read of it.
+
+        If the server was started on another journal, it does not.
+        """
         if self.last is None:
             if file.read(HEAD) != KIND + self.digest:
                 raise JournalFault(f"{self.path} is no journal of this set-up")

@@ -1,4 +1,4 @@
-"""Receipts: what the operator's key signs of an accepted sheet, a bidder's file of them, and their check."""
+"""Receipts: what the operator's key signs, a bidder's file of receipts, and their check."""
 import dataclasses
 import hashlib
 import json
@@ -24,8 +24,8 @@ class ReceiptsFault(ValueError):
 class Receipt:
     """An accepted sheet, as the operator signs it.
 
-    `auction` is the digest of the set-up, and `bidder` the bidder's name. The digests are those of the body and of the
-    whole request. `sheet` numbers this bidder's sheets of the round, from 1.
+    `auction` is the digest of the set-up, and `bidder` the bidder's name. The digests are those of
+    the body and of the whole request. `sheet` numbers this bidder's sheets of the round, from 1.
     """
 
     auction: str
@@ -54,7 +54,7 @@ class Receipt:
 
 @dataclasses.dataclass(frozen=True)
 class Kept:
-    """A receipt as its bidder stores it: with its signature, and with the body that was sent, if that is known."""
+    """A receipt as its bidder stores it, with its signature and, if it is known, the body sent."""
 
     receipt: Receipt
     signature: bytes
@@ -92,7 +92,7 @@ class File(NamedTuple):
 
 
 def read_kept(path: Path) -> File:
-    """Reads a bidder's file: the commitment in its first line, and a receipt in each line after it."""
+    """Reads a bidder's file: the commitment in its first line, then a receipt in each line."""
     try:
         first, *lines = path.read_text(encoding="utf-8").splitlines()
         return File(Commitment.of(json.loads(first)), [Kept.of(json.loads(line)) for line in lines])
@@ -104,7 +104,7 @@ def read_kept(path: Path) -> File:
 
 
 class Sheet(NamedTuple):
-    """A sheet in the journal: its sender's token, its round, its number among the sender's in this round, digests."""
+    """A sheet in the journal. `number` counts its sender's sheets of the round."""
 
     token: str
     round: int
@@ -153,7 +153,8 @@ def sheets_in(journal: bytes) -> list[Sheet]:
 def faults(file: File, journal: bytes, token: str = "") -> list[str]:
     """All differences between a bidder's receipts and a journal, in words.
 
-    The token is the bidder's, if it is known. Otherwise the receipts show which sheets are the bidder's.
+    The token is the bidder's, if it is known. Otherwise the receipts show which sheets are the
+    bidder's.
     """
     commitment, receipts = file
     if journal[24:56].hex() != commitment.auction:
@@ -211,8 +212,8 @@ def without_receipt(receipts: list[Kept], own: list[Sheet]) -> list[str]:
     """The bidder's sheets in the journal that have no receipt."""
     known = {(kept.receipt.round, kept.receipt.text) for kept in receipts}
     return [
-        f"round {sheet.round}, sheet {sheet.number}: the journal has it, and there is no receipt. If you did not "
-        "submit it, it was put in"
+        f"round {sheet.round}, sheet {sheet.number}: the journal has it, and there is no receipt. "
+        "If you did not submit it, it was put in"
         for sheet in own
         if (sheet.round, sheet.text) not in known
     ]

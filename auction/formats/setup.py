@@ -17,8 +17,9 @@ class Product:
 
 @dataclasses.dataclass(frozen=True)
 class Setup:
-    """A set-up: its bytes, which begin the journal's digests, and what is read of it. Bidders and products count from
-    0.
+    """A set-up: its bytes, which begin the journal's digests, and what is read of it.
+
+    Bidders and products count from 0.
     """
 
     document: bytes

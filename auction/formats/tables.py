@@ -1,7 +1,7 @@
 """The tables of an auction, with the columns of docs/formats.md: each is the text of a CSV file.
 
-deploy/record writes them. scripts/verify makes them again and compares. Both read only the set-up document and the
-journal, and count with scripts/recount.py.
+`auction record` writes them. `auction verify` makes them again and compares. Both read only the
+set-up document and the journal, and count as `auction recount` does.
 """
 import csv
 import hashlib
@@ -25,7 +25,7 @@ Row = Iterable[Any]
 
 
 class Sheet(NamedTuple):
-    """An accepted sheet: its number among the requests of the journal, its round, its bidder, and its SHA-256."""
+    """An accepted sheet. `number` counts all requests of the journal."""
 
     number: int
     round: int
@@ -36,7 +36,7 @@ class Sheet(NamedTuple):
 
 
 class Auction(NamedTuple):
-    """A recounted auction, with what the recount does not store: each accepted sheet, and each closing's ties."""
+    """A recounted auction, with each accepted sheet, and the ties of each closing."""
 
     setup: Setup
     rounds: list[recount.Round]
@@ -91,9 +91,8 @@ def bid_rows(auction: Auction) -> Iterator[Row]:
         for place, bid in enumerate(sheet.bids):
             kind = kind_of(bid, demands[bid.product])
             product = auction.setup.products[bid.product].name
-            yield sheet.round, name, product, kind, bid.quantity, bid.price, sheet.number, place, yes(
-                sheet.in_force
-            )
+            asked = kind, bid.quantity, bid.price
+            yield sheet.round, name, product, *asked, sheet.number, place, yes(sheet.in_force)
 
 
 def product_rows(auction: Auction) -> Iterator[Row]:
@@ -121,10 +120,8 @@ def activity_rows(auction: Auction) -> Iterator[Row]:
     eligibilities = [bidder.eligibility for bidder in auction.setup.bidders]
     for number, closed in enumerate(auction.rounds, 1):
         for place, (bidder, slip) in enumerate(zip(auction.setup.bidders, closed.slips)):
-            has_sheet = yes(place in closed.sheets)
-            yield number, bidder.name, has_sheet, eligibilities[
-                place
-            ], slip.activity, slip.eligibility
+            has_sheet, before = yes(place in closed.sheets), eligibilities[place]
+            yield number, bidder.name, has_sheet, before, slip.activity, slip.eligibility
             eligibilities[place] = slip.eligibility
 
 
@@ -132,13 +129,15 @@ def tie_rows(auction: Auction) -> Iterator[Row]:
     """The rows of ties.csv: one for each tie-breaking number of each closing."""
     for number, ties in enumerate(auction.ties, 1):
         for bidder, product, tie in ties:
-            yield number, auction.setup.bidders[bidder].name, auction.setup.products[
-                product
-            ].name, tie
+            names = auction.setup.bidders[bidder].name, auction.setup.products[product].name
+            yield number, *names, tie
 
 
 def winner_rows(auction: Auction) -> Iterator[Row]:
-    """The rows of winners.csv: one for each product that a bidder has won. None if the auction has not ended."""
+    """The rows of winners.csv: one for each product that a bidder has won.
+
+    None if the auction has not ended.
+    """
     last = auction.rounds[-1] if auction.rounds else None
     if last is None or not last.ended:
         return
@@ -153,8 +152,8 @@ TABLES = {
     "sheets.csv": ("sheet,round,bidder,bids,in_force,sha256", sheet_rows),
     "bids.csv": ("round,bidder,product,bid_type,quantity,price,sheet,place,in_force", bid_rows),
     "product_results.csv": (
-        "round,product,supply,aggregate_demand,excess_demand,start_of_round_price,clock_price,posted_price,"
-        "next_clock_price,increment",
+        "round,product,supply,aggregate_demand,excess_demand,start_of_round_price,clock_price,"
+        "posted_price,next_clock_price,increment",
         product_rows,
     ),
     "processed_demands.csv": ("round,bidder,product,processed_demand", demand_rows),
@@ -192,7 +191,7 @@ def files_of(document: bytes, journal: bytes, counted: recount.Recount) -> dict[
 
 
 def published_files_of(published: dict[str, bytes]) -> dict[str, str]:
-    """The files that follow from the published files, by name: digests with their times, and the key of receipts."""
+    """The files that follow from what is published, by name: digests, and the key of receipts."""
     pages = [json.loads(text) for name, text in published.items() if name.startswith("rounds/")]
     rows = [
         [page["round"], page["digest"], page.get("published", ""), page.get("seed") or ""]

@@ -1,11 +1,12 @@
-"""Tie-breaking numbers that are fixed before the auction: a chain of seeds, whose end is published first.
+"""Tie-breaking numbers that are fixed before the auction, by a chain of seeds.
 
-    secret --SHA-256--> .. --SHA-256--> seed of round 2 --SHA-256--> seed of round 1 --SHA-256--> end
+    secret -SHA-256-> .. -SHA-256-> seed of round 2 -SHA-256-> seed of round 1 -SHA-256-> end
 
-The operator draws the secret and publishes the end before round 1 (docs/formats.md, commitment.json). The seed of each
-round is published after its closing. From a seed, anyone can compute those of earlier rounds and the numbers of its
-round, but no later seed. The conductor and deploy/close make closings with these functions, and scripts/verify checks
-published closings with them.
+The operator draws the secret and publishes the end before round 1 (docs/formats.md,
+commitment.json). The seed of each round is published after its closing. From a seed, anyone can
+compute those of earlier rounds and the numbers of its round, but no later seed. The conductor and
+`auction close` make closings with these functions, and `auction verify` checks published closings
+with them.
 """
 import base64
 import binascii
@@ -35,7 +36,7 @@ class TiesFault(ValueError):
 
 @dataclasses.dataclass(frozen=True)
 class Committed:
-    """The published part of a chain: its end, its number of rounds, and the result of a public draw, or nothing."""
+    """The published part of a chain: its end, its rounds, and the result of a draw, or nothing."""
 
     end: bytes
     length: int
@@ -44,7 +45,7 @@ class Committed:
 
 @dataclasses.dataclass(frozen=True)
 class Commitment:
-    """What is published before round 1: the set-up's digest, the chain, and the key of receipts in base64.
+    """What is published before round 1: the set-up's digest, the chain, and the key in base64.
 
     Without a chain, closings have no tie-breaking numbers.
     """
@@ -105,7 +106,10 @@ def bytes_of(text: Any, length: int) -> bytes:
 
 
 def checked_draw(words: Any) -> str:
-    """The result of a draw, at most 200 characters of printable ASCII. Raises ValueError for any other."""
+    """The result of a draw, at most 200 characters of printable ASCII.
+
+    Raises ValueError for any other.
+    """
     if (
         not isinstance(words, str)
         or len(words) > MOST_DRAW
@@ -165,8 +169,8 @@ def ties_of(seed: bytes, draw: str, number: int, pairs: Collection[Pair]) -> lis
 def needed_pairs(number: int, bidders: int, products: int, matter: Collection[Pair]) -> list[Pair]:
     """The pairs that a closing must list.
 
-    In round 1 there are none, because its bids are not processed in order. Later the list has all pairs or, if these
-    are too many for one closing, those that matter.
+    In round 1 there are none, because its bids are not processed in order. Later the list has all
+    pairs or, if these are too many for one closing, those that matter.
     """
     if number == 1:
         return []
@@ -186,14 +190,15 @@ def check_ties(
 ) -> None:
     """Refuses the list of a closing that differs from the commitment.
 
-    `bidders` and `products` are counts. `matter` has the pairs with processed demand before the closing, or with a bid
-    in force. It counts only if a closing cannot list all pairs. Each listed number is checked, so the list may have
-    other pairs too.
+    `bidders` and `products` are counts. `matter` has the pairs with processed demand before the
+    closing, or with a bid in force. It counts only if a closing cannot list all pairs. Each listed
+    number is checked, so the list may have other pairs too.
     """
     if chain is None:
         if ties:
             raise TiesFault(
-                f"round {number} has tie-breaking numbers, but the commitment says that no round has any"
+                f"round {number} has tie-breaking numbers, but the commitment says that no round "
+                "has any"
             )
         return
     if seed is None:
@@ -205,11 +210,12 @@ def check_ties(
     for bidder, product, given in ties:
         if given != (wanted := tie_number(seed, chain.draw, number, bidder, product)):
             raise TiesFault(
-                f"round {number}: bidder {bidder} and product {product} have the tie-breaking number {given}, and by "
-                f"the seed it is {wanted}"
+                f"round {number}: bidder {bidder} and product {product} have the tie-breaking "
+                f"number {given}, and by the seed it is {wanted}"
             )
     if missing := set(needed) - {(bidder, product) for bidder, product, _ in ties}:
         bidder, product = min(missing)
         raise TiesFault(
-            f"round {number}: bidder {bidder} and product {product} have no tie-breaking number, so they come first"
+            f"round {number}: bidder {bidder} and product {product} have no tie-breaking number, "
+            "so they come first"
         )

@@ -1,7 +1,7 @@
-"""What deploy/ready looks at before an auction opens, one subject a file.
+"""What `auction ready` looks at before an auction opens, one subject a file.
 
 - `findings`: a check, and what it found;
 - `auction`: the auction's folder, with the ports of its nginx.conf;
 - `files`, `published`, `ports`, `certificate`, `machine`: the checks;
-- `maps`: what nginx reads of a set-up, which deploy/tokens prints.
+- `maps`: what nginx reads of a set-up, which `auction maps` prints.
 """

@@ -13,8 +13,9 @@ SECONDS = 10
 
 @dataclasses.dataclass(frozen=True)
 class Auction:
-    """nginx's folder, the set-up's file and the server's journal. `host` is the name that bidders use, and `space` the
-    bytes that the journal may need.
+    """nginx's folder, the set-up's file and the server's journal.
+
+    `host` is the name that bidders use, and `space` the bytes that the journal may need.
     """
 
     folder: Path

@@ -26,7 +26,7 @@ def served(port: int) -> str:
 
 
 def certificate(auction: Auction) -> str:
-    """Whether nginx sends cert.pem, a browser trusts it for the host, and it is valid for a week."""
+    """Whether nginx sends cert.pem, browsers trust it for the host, and it is valid for a week."""
     file, key = auction.folder / "cert.pem", auction.folder / "key.pem"
     public = openssl("x509", "-in", file, "-noout", "-pubkey")
     ensure(public == openssl("pkey", "-in", key, "-pubout"), "key.pem is not the key of cert.pem")

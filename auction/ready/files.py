@@ -13,7 +13,7 @@ SECRETS = (
     *("operator.token", "operator.head", "operator.map", "bidders.map", "persons.map", "key.pem"),
     *("kept/chain.json", "kept/receipts.pem"),
 )
-ANEW = "it is not of this set-up: make it again with deploy/tokens, and reload nginx"
+ANEW = "it is not of this set-up: make it again with `auction maps`, and reload nginx"
 
 
 def set_up(auction: Auction) -> str:
@@ -25,11 +25,12 @@ def set_up(auction: Auction) -> str:
     )
     weak = [bidder["name"] for bidder in setup["bidders"] if len(set(bidder["token"])) < 5]
     ensure(not weak, f"draw tokens at random: {', '.join(weak[:5])}")
-    return f"{len(setup['products'])} products, {len(setup['bidders'])} bidders, version {setup['version']}"
+    counts = f"{len(setup['products'])} products, {len(setup['bidders'])} bidders"
+    return f"{counts}, version {setup['version']}"
 
 
 def secrets(auction: Auction) -> str:
-    """Files with tokens, bids, or keys: only their owner may read them, and the owner of what nginx reads is root."""
+    """Files with tokens, bids, or keys: only their owner reads them, and root owns nginx's."""
     found = [path for name in SECRETS if (path := auction.folder / name).exists()]
     for path in (auction.setup_file, *found):
         ensure(path.stat().st_uid == 0, f"{path} is not root's: chown root")
@@ -99,7 +100,7 @@ def configuration(auction: Auction) -> str:
         text=True,
         check=False,
     )
-    ensure(ran.returncode == 0, ran.stderr.splitlines()[0] if ran.stderr else "nginx refuses it")
+    ensure(ran.returncode == 0, ran.stderr or "nginx refuses it")
     return "nginx accepts it"
 
 
@@ -108,9 +109,9 @@ def conductor(auction: Auction) -> str:
     if not (auction.folder / "conductor.json").exists():
         return "without settings: you close rounds by hand"
     report = auction.folder / "operator/conductor.json"
-    ensure(report.exists(), "it has settings, but never ran: deploy/conductor FOLDER run")
+    ensure(report.exists(), "it has settings, but never ran: `auction run FOLDER`")
     age = time.time() - report.stat().st_mtime
-    ensure(age < STALE, f"its last report is {age:.0f} s old: deploy/conductor FOLDER run")
+    ensure(age < STALE, f"its last report is {age:.0f} s old: `auction run FOLDER`")
     return json.loads(report.read_bytes())["waits_for"]
 
 

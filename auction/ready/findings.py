@@ -23,7 +23,10 @@ class Check:
     look: Callable[[Auction], str]
 
     def finding(self, auction: Auction) -> tuple[bool, str]:
-        """Whether all is well, and a line that says so or what is wrong. What a check did not foresee is a fault."""
+        """Whether all is well, and a line that says so or what is wrong.
+
+        What a check did not foresee is a fault.
+        """
         try:
             return True, f"ok     {self.name}: {self.look(auction)}"
         except Fault as fault:

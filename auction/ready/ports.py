@@ -60,7 +60,8 @@ def journal(auction: Auction) -> str:
         try:
             fcntl.flock(file, fcntl.LOCK_SH | fcntl.LOCK_NB)
         except BlockingIOError:
-            return f"of set-up {hashlib.sha256(auction.setup_file.read_bytes()).hexdigest()}, and a server has it"
+            digest = hashlib.sha256(auction.setup_file.read_bytes()).hexdigest()
+            return f"of set-up {digest}, and a server has it"
     raise Fault(f"no server has {auction.journal}: is it the server's own?")
 
 
@@ -119,11 +120,11 @@ def connects(port: int) -> bool:
 
 
 def other_users(auction: Auction) -> str:
-    """Another user of the machine cannot connect to the server; nginx, its neighbor, can be reached."""
+    """Whether another user of the machine cannot connect to the server."""
     port = auction.server_port
     ensure(
         not as_another_user(lambda: connects(port)),
-        f"{OTHER_USER} can connect to port {port}: nft -f deploy/clock-auction.nft",
+        f"{OTHER_USER} can connect to port {port}: nft -f services/clock-auction.nft",
     )
     return f"{OTHER_USER} cannot connect to port {port}"
 

@@ -1,5 +1,6 @@
 """What is published before round 1, and who signs receipts."""
 import grp
+import itertools
 import json
 import stat
 from pathlib import Path
@@ -12,11 +13,13 @@ from auction.formats.ties import Commitment
 from .auction import Auction
 from .findings import Check, Fault, ensure
 
+MOST_WORDS = 6  # of a command line up to `receipts`: Python, its options, and `auction`
+
 
 def commitment(auction: Auction) -> str:
     """Checks that it is of this set-up and of the secrets in `kept/`, and that everyone sees it."""
     file, setup = auction.folder / "public/commitment.json", Setup.read(auction.setup_file)
-    ensure(file.exists(), "it is missing: deploy/commit SETUP kept public")
+    ensure(file.exists(), "it is missing: `auction commit SETUP kept public`")
     found = Commitment.read(file)
     ensure(
         found.auction == setup.digest, "it is of another set-up: use new folders kept and public"
@@ -45,19 +48,21 @@ def receipts(auction: Auction) -> str:
     for process in Path("/proc").glob("[0-9]*"):
         if signs(process, folder):
             return f"process {process.name} signs them"
-    raise Fault("no one signs them: run deploy/receipts, or its unit")
+    raise Fault("no one signs them: run `auction receipts`, or its unit")
 
 
 def signs(process: Path, folder: Path) -> bool:
-    """Whether a process runs deploy/receipts for this folder, however its words name the folder."""
+    """Whether a process runs `auction receipts` for this folder, however its words name it."""
     try:
-        words = (process / "cmdline").read_bytes().decode().split("\0")
+        words = (process / "cmdline").read_bytes().decode().rstrip("\0").split("\0")
         place = (process / "cwd").readlink()
     except (OSError, ValueError):
         return False
-    return any(word.endswith("deploy/receipts") for word in words[:3]) and any(
-        (place / word).resolve() == folder.resolve() for word in words
-    )
+    for count, (program, command) in enumerate(itertools.pairwise(words[:MOST_WORDS])):
+        if Path(program).name == "auction" and command == "receipts":
+            others = words[count + 2 :]
+            return any((place / word).resolve() == folder.resolve() for word in others)
+    return False
 
 
 CHECKS = [Check("commitment", commitment), Check("receipts", receipts)]

@@ -41,7 +41,10 @@ def json_in(text: bytes) -> Any:
 
 
 def number_in(digits: str) -> int | float:
-    """A number. Raises ValueError for NaN and for a number such as 1e400, which Python reads as infinity."""
+    """A number.
+
+    Raises ValueError for NaN and for a number such as 1e400, which Python reads as infinity.
+    """
     if digits.isdigit() and len(digits) <= 20:
         return int(digits)
     if not math.isfinite(value := float(digits)):
@@ -63,7 +66,10 @@ def is_a(kind: Any, value: Any) -> bool:
 
 
 def shaped(shape: type[Shape], value: Any, **given: Any) -> Shape:
-    """The values of a JSON object with exactly the fields of this shape. Refuses any other value."""
+    """The values of a JSON object with exactly the fields of this shape.
+
+    Refuses any other value.
+    """
     kinds = {name: kind for name, kind in shape.__annotations__.items() if name not in given}
     require(isinstance(value, dict) and value.keys() == kinds.keys(), "shape")
     require(all(is_a(kinds[name], field) for name, field in value.items()), "shape")
@@ -242,7 +248,7 @@ KIND = b"clock_auction journal 1\n"
 
 
 class Record(NamedTuple):
-    """A request of a journal, the byte at which its record begins, and the digest of everything up to its end."""
+    """A request of a journal, the byte where its record begins, and the digest up to its end."""
 
     place: int
     text: bytes

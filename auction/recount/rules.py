@@ -1,6 +1,7 @@
 """docs/rules.md as a program, in the order of that document; formats.py is docs/formats.md.
 
-Both need only Python, and share nothing with the server: their author wrote them from these two documents.
+Both need only Python, and share nothing with the server: their author wrote them from these two
+documents.
 """
 import hashlib
 import heapq
@@ -93,7 +94,10 @@ def check_sheet(
 
 
 def check_bid(product: Product, price: Price, demand: int, earlier: list[Bid], bid: Bid) -> None:
-    """Refuses a bid for its first fault. The earlier bids are those of the sheet for this product."""
+    """Refuses a bid for its first fault.
+
+    The earlier bids are those of the sheet for this product.
+    """
     require(price.start <= bid.price <= price.clock, "price_range")
     require(bid.quantity <= product.cap, "over_cap")
     if earlier:
@@ -121,7 +125,10 @@ def check_ties(setup: Setup, ties: list[list[int]]) -> None:
 
 
 class Request(NamedTuple):
-    """A request to change a bidder's demand for a product. The first five fields are the order of processing."""
+    """A request to change a bidder's demand for a product.
+
+    The first five fields are the order of processing.
+    """
 
     point: Fraction
     tie: int
@@ -138,7 +145,10 @@ Ties = dict[tuple[int, int], int]
 def requests_of(
     bidder: int, bids: list[Bid], demands: list[int], prices: list[Price], ties: Ties
 ) -> Iterator[Request]:
-    """The requests of a sheet. A missing bid is a request to reduce demand to 0 at the start-of-round price."""
+    """The requests of a sheet.
+
+    A missing bid is a request to reduce demand to 0 at the start-of-round price.
+    """
     chains = chains_of(bids)
     for product, (start, clock) in enumerate(prices):
         demand = demands[product]
@@ -165,7 +175,7 @@ class Board:
         self.highest: dict[int, int] = {}  # By product, the highest price of an applied reduction.
 
     def room(self, request: Request, left: int) -> int:
-        """The number of blocks of a request that can be applied now, of the `left` that are not applied yet."""
+        """The number of the `left` blocks of a request that can be applied now."""
         if request.change < 0:
             return min(left, max(0, self.excess[request.product]))
         return min(left, self.unused[request.bidder] // self.units[request.product])
@@ -181,11 +191,13 @@ class Board:
 
 
 def process(board: Board, requests: list[Request]) -> None:
-    """Admits the requests in order. While an admitted one has room, applies the first such by its whole room.
+    """Admits the requests in order.
 
-    The rules search the whole list again after each application. The result is the same here: a reduction without room
-    has room again only after an increase for its product, and an increase only after a reduction of its bidder. Until
-    then it waits, with its product or its bidder.
+    While an admitted one has room, applies the first such by its whole room.
+
+    The rules search the whole list again after each application. The result is the same here: a
+    reduction without room has room again only after an increase for its product, and an increase
+    only after a reduction of its bidder. Until then it waits, with its product or its bidder.
     """
     ordered = sorted(requests)
     left = [abs(request.change) for request in ordered]
@@ -217,7 +229,10 @@ def process(board: Board, requests: list[Request]) -> None:
 
 
 class Line(NamedTuple):
-    """The results of a round for a product. There is no next clock price if the auction has ended."""
+    """The results of a round for a product.
+
+    There is no next clock price if the auction has ended.
+    """
 
     start: int
     clock: int
@@ -245,7 +260,10 @@ class Round(NamedTuple):
 
 
 def next_eligibility(eligibility: int, active: int, requirement: int) -> int:
-    """The least number whose required percentage is at least the activity, but at most the old eligibility."""
+    """The least number whose required percentage is at least the activity.
+
+    It is at most the old eligibility.
+    """
     return min(eligibility, up(active * 100, requirement))
 
 
@@ -253,7 +271,10 @@ def next_eligibility(eligibility: int, active: int, requirement: int) -> int:
 
 
 class Auction:
-    """The rounds of an auction. It applies each accepted sheet and closing in order, and refuses any other."""
+    """The rounds of an auction.
+
+    It applies each accepted sheet and closing in order, and refuses any other.
+    """
 
     def __init__(self, setup: Setup) -> None:
         self.setup = setup
@@ -304,7 +325,7 @@ class Auction:
             yield from requests_of(bidder, self.sheets.get(bidder, []), demands, self.prices, ties)
 
     def end_round(self, board: Board, increments: list[int]) -> None:
-        """Posts prices, lowers eligibilities, and begins the next round unless the auction has ended."""
+        """Posts prices, lowers eligibilities, and begins the next round or ends the auction."""
         products, demands = self.setup.products, board.demands
         totals = [sum(row[p] for row in demands) for p in range(len(products))]
         ended = all(total <= product.supply for total, product in zip(totals, products))
@@ -329,7 +350,10 @@ class Auction:
 
 
 def take(auction: Auction, bidders: dict[str, int], text: bytes) -> None:
-    """Applies a request as a bidder's sheet or as the operator's closing. `bidders` has bidders' numbers by token."""
+    """Applies a request as a bidder's sheet or as the operator's closing.
+
+    `bidders` has bidders' numbers by token.
+    """
     method, path, token, body = request_in(text)
     require((method, path) in ((b"PUT", b"/v1/me/bids"), (b"POST", b"/v1/close")), "no_page")
     require(token in bidders or token == auction.setup.operator, "token")
@@ -347,7 +371,7 @@ def take(auction: Auction, bidders: dict[str, int], text: bytes) -> None:
 
 
 class Recount(NamedTuple):
-    """A recounted auction: its rounds, the digest of each closing, the number of requests, and the last digest."""
+    """A recounted auction: its rounds, each closing's digest, its requests, and the last digest."""
 
     auction: Auction
     closings: list[str]
@@ -374,13 +398,14 @@ def recounted(document: bytes, journal: bytes) -> Recount:
 
 
 def report(counted: Recount) -> Iterator[str]:
-    """The lines of all closed rounds, and of what each bidder has won and pays if the auction has ended."""
+    """The lines of all closed rounds, and after the end of what each bidder has won and pays."""
     setup, rounds = counted.auction.setup, counted.auction.rounds
     for number, (closed, digest) in enumerate(zip(rounds, counted.closings), 1):
         yield f"round {number}"
         for product, line in zip(setup.products, closed.lines):
             demand = line.demand if line.demand > product.supply else "-"
-            yield f"{product.name} {line.start} {line.clock} {line.posted} {demand} {line.next or '-'}"
+            prices = f"{line.start} {line.clock} {line.posted}"
+            yield f"{product.name} {prices} {demand} {line.next or '-'}"
         yield f"closed {number} {digest}"
     if counted.auction.ended:
         for bidder, slip in zip(setup.bidders, rounds[-1].slips):

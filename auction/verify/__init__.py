@@ -1,8 +1,8 @@
-"""The parts of scripts/verify.
+"""The parts of `auction verify`.
 
 - `case`: the files that are checked, and their content
 - `auction`: checks of the journal: its records, the rules, what was published of each round
 - `promised`: checks of what was fixed earlier: the commitment, tie-breaking numbers, receipts
-- `folder`: checks of a record that deploy/record made: its tables and its index
+- `folder`: checks of a record that `auction record` made: its tables and its index
 - `findings`: all checks in order, and the result of each
 """

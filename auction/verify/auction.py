@@ -27,16 +27,20 @@ def check_setup(case: Case) -> str:
 
 
 def check_journal(case: Case) -> str:
-    """Checks that each record is whole and follows from the one before, and that the file has nothing else."""
+    """Checks that each record is whole, and follows from the one before.
+
+    The file must have nothing else.
+    """
     last = case.records[-1] if case.records else None
     end = last.place + 40 + len(last.text) if last else 56
     if end != len(case.journal):
         raise Failed(
-            f"{len(case.journal) - end} bytes from byte {end} on are no whole record: a request is cut off, "
-            "or something was added"
+            f"{len(case.journal) - end} bytes from byte {end} on are no whole record: "
+            "a request is cut off, or something was added"
         )
     digest = last.digest if last else case.setup_digest
-    return f"{len(case.records)} requests, each digest follows from the one before; the last is {digest}"
+    count = f"{len(case.records)} requests"
+    return f"{count}, each digest follows from the one before; the last is {digest}"
 
 
 def check_rules(case: Case) -> str:
@@ -58,7 +62,8 @@ def check_digests(case: Case) -> str:
         raise Absent("no round is closed")
     if not case.rounds:
         raise Failed(
-            f"{case.published} has no rounds/N.json: there is nothing with which the journal can be compared"
+            f"{case.published} has no rounds/N.json: there is nothing with which the journal can "
+            "be compared"
         )
     faults = []
     for number in sorted({*case.rounds, *range(1, len(case.closings) + 1)}):
@@ -71,15 +76,18 @@ def check_digests(case: Case) -> str:
                 f"round {number} was published, but the journal has no closing of it: {CUT}"
             )
         elif case.rounds[number]["digest"] != case.closings[number - 1]:
-            published, found = short(case.rounds[number]["digest"]), short(
-                case.closings[number - 1]
-            )
+            published = short(case.rounds[number]["digest"])
+            found = short(case.closings[number - 1])
             faults.append(
-                f"round {number} was published with {published}, but the journal has {found}: {CHANGED}"
+                f"round {number} was published with {published}, but the journal has {found}: "
+                f"{CHANGED}"
             )
     if faults:
         raise Failed(*faults)
-    return f"the {len(case.rounds)} published digests are those of the journal, so no request up to them was changed"
+    return (
+        f"the {len(case.rounds)} published digests are those of the journal, so no request up to "
+        "them was changed"
+    )
 
 
 def page_of(
@@ -116,7 +124,8 @@ def check_results(case: Case) -> str:
             )
     if faults:
         raise Failed(*faults)
-    return f"the published results of {len(case.counted.auction.rounds)} rounds are those of the journal by the rules"
+    count = len(case.counted.auction.rounds)
+    return f"the published results of {count} rounds are those of the journal by the rules"
 
 
 def check_announcements(case: Case) -> str:
@@ -124,7 +133,8 @@ def check_announcements(case: Case) -> str:
     made = case.json("announcements.json")["announcements"]
     announced = {one["key"]: re.findall(r"\b[0-9a-f]{64,}\b", one["text"]) for one in made}
     faults = [
-        f"round {number} was published with {short(page['digest'])}, and not announced with this digest"
+        f"round {number} was published with {short(page['digest'])}, and not announced with this "
+        "digest"
         for number, page in case.rounds.items()
         if announced.get(f"closed-{number}") != [page["digest"]]
     ]

@@ -19,7 +19,7 @@ class Absent(Exception):
 
 
 class Case:
-    """A set-up document, a journal, the folder of what was published, and bidders' files of receipts.
+    """A set-up document, a journal, the folder of what was published, and files of receipts.
 
     A check reads each when it needs it.
     """

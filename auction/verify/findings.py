@@ -22,7 +22,9 @@ MEANINGS = {
     "journal_unknown": "the file is not a journal",
     "journal_setup": "the journal is of another set-up document",
     "journal_damaged": "the file was changed from this byte on",
-    "journal_refused": "the rules refuse the request at this byte, so it was changed, or one before it is missing",
+    "journal_refused": (
+        "the rules refuse the request at this byte, so it was changed, or one before it is missing"
+    ),
 }
 
 

@@ -1,4 +1,4 @@
-"""Checks of a record that deploy/record made: its tables and its index."""
+"""Checks of a record that `auction record` made: its tables and its index."""
 import hashlib
 
 from auction.formats import tables
@@ -9,9 +9,9 @@ INDEX = "SHA256SUMS"
 
 
 def check_tables(case: Case) -> str:
-    """Compares each table of a record with what follows from the set-up, the journal, and what was published."""
+    """Compares each table of a record with what follows from the other files."""
     if not (case.published / INDEX).is_file():
-        raise Absent(f"{case.published} is no record of deploy/record, and has no tables")
+        raise Absent(f"{case.published} is no record of `auction record`, and has no tables")
     published = {
         str(path.relative_to(case.published)): path.read_bytes()
         for path in case.published.rglob("*.json")

@@ -1,4 +1,4 @@
-"""Checks of what was fixed before round 1 or at each reply: the commitment, tie-breaking numbers, and receipts."""
+"""Checks of what was fixed earlier: the commitment, tie-breaking numbers, and receipts."""
 from auction.formats import receipts, ties
 from auction.recount.formats import closing_in, json_in, request_in
 
@@ -21,14 +21,15 @@ def check_commitment(case: Case) -> str:
     commitment = commitment_of(case)
     if commitment.auction != case.setup_digest:
         raise Failed(
-            f"{COMMITMENT} is about the set-up {commitment.auction}, but this one is {case.setup_digest}"
+            f"{COMMITMENT} is about the set-up {commitment.auction}, but this one is "
+            f"{case.setup_digest}"
         )
     chain = "a chain of seeds" if commitment.chain else "closings without tie-breaking numbers"
     return f"it is about this set-up, and fixed {chain} and the key of receipts"
 
 
 def pairs_that_matter(case: Case, number: int) -> set[tuple[int, int]]:
-    """The pairs of bidder and product with processed demand before a closing, or with a bid in force at it."""
+    """The pairs of bidder and product with processed demand before a closing, or a bid in force."""
     rounds = case.counted.auction.rounds
     demands = [slip.demands for slip in rounds[number - 2].slips] if number > 1 else []
     held = {(b, p) for b, row in enumerate(demands) for p, demand in enumerate(row) if demand}
@@ -72,7 +73,8 @@ def check_receipts(case: Case) -> str:
     """
     if not case.receipts:
         raise Absent(
-            "no bidder's receipts are given, and only they show a sheet cut or added before a closing"
+            "no bidder's receipts are given, and only they show a sheet cut or added before a "
+            "closing"
         )
     published, faults, count = commitment_of(case), [], 0
     tokens = {bidder.name: bidder.token for bidder in case.setup.bidders}
@@ -81,14 +83,18 @@ def check_receipts(case: Case) -> str:
         count += len(file.receipts)
         if file.commitment != published:
             faults.append(
-                f"{path.name}: its bidder saw another {COMMITMENT}, of another set-up, chain, or key"
+                f"{path.name}: its bidder saw another {COMMITMENT}, of another set-up, chain, or "
+                "key"
             )
         names = [kept.receipt.bidder for kept in file.receipts[:1]]
         token = tokens.get(names[0], "") if names else ""
         faults += [f"{path.name}: {fault}" for fault in receipts.faults(file, case.journal, token)]
     if faults:
         raise Failed(*faults)
-    return f"{count} receipts of {len(case.receipts)} bidders fit: the journal has these sheets, and no others of them"
+    return (
+        f"{count} receipts of {len(case.receipts)} bidders fit: the journal has these sheets, and "
+        "no others of them"
+    )
 
 
 COMMITMENT_CHECK = ("commitment", check_commitment)

@@ -1,10 +1,9 @@
-"""The tables of the auction that is played, calculated by hand from its sheets and the rules."""
+"""The tables of the played auction, calculated by hand from its sheets and the rules."""
 import csv
 import pathlib
 
-from trial import ensure, expect
-
-# The one product is A, with a supply of 3 and an opening price of 100. Increments are 10 percent, the requirement 50.
+# The one product is A, with a supply of 3 and an opening price of 100. Increments are 10 percent,
+# the requirement 50.
 BIDS = """\
 round,bidder,product,bid_type,quantity,price,sheet,place,in_force
 1,X,A,increase,2,100,1,0,yes
@@ -19,8 +18,8 @@ round,bidder,product,bid_type,quantity,price,sheet,place,in_force
 3,Y,A,reduce,0,115,12,0,yes
 """
 PRODUCTS = """\
-round,product,supply,aggregate_demand,excess_demand,start_of_round_price,clock_price,posted_price,next_clock_price,\
-increment
+round,product,supply,aggregate_demand,excess_demand,start_of_round_price,clock_price,posted_price,\
+next_clock_price,increment
 1,A,3,4,1,100,100,100,110,10
 2,A,3,4,1,100,110,110,121,10
 3,A,3,3,0,110,121,115,,10
@@ -31,9 +30,15 @@ SHEETS = [
     *(["7", "2", "Z", "1", "yes"], ["8", "2", "Y", "1", "yes"]),
     *(["10", "3", "X", "1", "yes"], ["11", "3", "Z", "1", "yes"], ["12", "3", "Y", "1", "yes"]),
 ]
-# By the tie-breaking numbers of round 3, either X or Y gives up a block: the rows of that round, for each case.
-DEMANDS = [["1", "X", "2"], ["1", "Y", "1"], ["1", "Z", "1"], ["2", "X", "2"], ["2", "Y", "1"], ["2", "Z", "1"]]
-LAST_DEMANDS = [[["3", "X", "1"], ["3", "Y", "1"], ["3", "Z", "1"]], [["3", "X", "2"], ["3", "Z", "1"]]]
+# By the tie-breaking numbers of round 3, either X or Y gives up a block: case 0 is that X does.
+DEMANDS = [
+    *(["1", "X", "2"], ["1", "Y", "1"], ["1", "Z", "1"]),
+    *(["2", "X", "2"], ["2", "Y", "1"], ["2", "Z", "1"]),
+]
+LAST_DEMANDS = [
+    [["3", "X", "1"], ["3", "Y", "1"], ["3", "Z", "1"]],
+    [["3", "X", "2"], ["3", "Z", "1"]],
+]
 ACTIVITY = [
     *(["1", "X", "4", "2", "4"], ["1", "Y", "4", "1", "2"], ["1", "Z", "4", "1", "2"]),
     *(["2", "X", "4", "2", "4"], ["2", "Y", "2", "1", "2"], ["2", "Z", "2", "1", "2"]),
@@ -46,6 +51,7 @@ WINNERS = [
     [["X", "A", "1", "115", "115"], ["Y", "A", "1", "115", "115"], ["Z", "A", "1", "115", "115"]],
     [["X", "A", "2", "115", "230"], ["Z", "A", "1", "115", "115"]],
 ]
+TIES = [(number, bidder) for number in "23" for bidder in "XYZ"]
 
 
 def rows_of(file: pathlib.Path, *left_out: int) -> list[list[str]]:
@@ -55,16 +61,13 @@ def rows_of(file: pathlib.Path, *left_out: int) -> list[list[str]]:
     return [[cell for column, cell in enumerate(row) if column not in left_out] for row in rows]
 
 
-def check(record: pathlib.Path) -> None:
-    """Compares each table of a record with the rows that were calculated."""
-    expect("bids.csv", (record / "bids.csv").read_text(), BIDS)
-    expect("product_results.csv", (record / "product_results.csv").read_text(), PRODUCTS)
-    expect("sheets.csv", rows_of(record / "sheets.csv", 5), SHEETS)
-    winners = rows_of(record / "winners.csv")
-    ensure("winners.csv has one of two results", winners in WINNERS, winners)
-    case = WINNERS.index(winners)
-    expect("processed_demands.csv", rows_of(record / "processed_demands.csv", 2), DEMANDS + LAST_DEMANDS[case])
-    expect("activity.csv", rows_of(record / "activity.csv", 2), ACTIVITY + LAST_ACTIVITY[case])
-    ties = {(number, bidder): int(tie) for number, bidder, _, tie in rows_of(record / "ties.csv")}
-    expect("the pairs of ties.csv", list(ties), [(number, bidder) for number in "23" for bidder in "XYZ"])
-    expect("who gives up a block by ties.csv", int(ties["3", "X"] > ties["3", "Y"]), case)
+def ties_in(record: pathlib.Path) -> dict[tuple[str, str], int]:
+    """The tie-breaking numbers of a record, by round and bidder."""
+    rows = rows_of(record / "ties.csv")
+    return {(number, bidder): int(tie) for number, bidder, _, tie in rows}
+
+
+def case_of(record: pathlib.Path) -> int:
+    """Which of the two results the tie-breaking numbers of round 3 lead to."""
+    ties = ties_in(record)
+    return int(ties["3", "X"] > ties["3", "Y"])

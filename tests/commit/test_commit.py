@@ -1,0 +1,133 @@
+"""`auction commit` makes what is missing once, and replaces nothing."""
+import pathlib
+
+import pytest
+
+from auction.conductor import commitment
+from auction.formats.setup import Setup
+from tests.close.auction import WITHOUT_SHEETS, CloseAuction, Said
+
+
+def committed(auction: CloseAuction, *words: str) -> Said:
+    """Runs `auction commit`."""
+    done = auction.run("commit", auction.setup_file, auction.kept, auction.public, *words)
+    return Said(done.returncode, done.stdout, done.stderr)
+
+
+def files_of(auction: CloseAuction) -> list[bytes]:
+    """The chain, the key, and the commitment."""
+    secret = [auction.kept / name for name in ("chain.json", "receipts.pem")]
+    return [file.read_bytes() for file in (*secret, auction.public / "commitment.json")]
+
+
+def test_a_second_call_prints_the_published_commitment(small: CloseAuction) -> None:
+    before = files_of(small)
+    said = committed(small)
+    assert (said.status, said.output) == (0, before[2].decode())
+    assert files_of(small) == before
+
+
+def test_the_secrets_are_for_their_owner_only(small: CloseAuction) -> None:
+    assert {file.stat().st_mode & 0o777 for file in small.kept.glob("*")} == {0o600}
+
+
+def test_everyone_may_read_the_commitment(small: CloseAuction) -> None:
+    assert (small.public / "commitment.json").stat().st_mode & 0o777 == 0o644
+
+
+REFUSED = {
+    "no-ties": ("--no-ties",),
+    "a-draw-of-two-lines": ("--draw", "\n"),
+    "a-draw-that-is-too-long": ("--draw", "x" * 201),
+    "a-draw-without-ties": ("--no-ties", "--draw", "1"),
+}
+
+
+@pytest.mark.parametrize("words", REFUSED.values(), ids=REFUSED)
+def test_other_words_after_the_commitment_are_refused(
+    small: CloseAuction, words: tuple[str, ...]
+) -> None:
+    before = files_of(small)
+    assert committed(small, *words).status == 1
+    assert files_of(small) == before
+
+
+# ---- Files that are lost, or of another auction
+
+
+@pytest.mark.parametrize("name", ["chain.json", "receipts.pem"])
+def test_a_lost_secret_is_reported_and_not_made_again(small: CloseAuction, name: str) -> None:
+    (small.kept / name).unlink()
+    said = committed(small)
+    assert said.status == 1
+    assert "lost" in said.errors
+    assert not (small.kept / name).exists()
+
+
+def test_without_the_chain_nothing_is_closed(small: CloseAuction) -> None:
+    (small.kept / "chain.json").unlink()
+    small.all_bid()
+    said = small.yes(1)
+    assert said.status == 1
+    assert said.errors.startswith("not closed: there is no")
+    assert small.round() == 1
+
+
+def test_a_closing_does_not_need_the_key_of_receipts(small: CloseAuction) -> None:
+    (small.kept / "receipts.pem").unlink()
+    small.all_bid()
+    assert small.yes(1).status == 0
+
+
+@pytest.fixture
+def with_other_chain(small: CloseAuction) -> CloseAuction:
+    """An auction whose chain is of another set-up."""
+    chain = small.kept / "chain.json"
+    digest = Setup.read(small.setup_file).digest
+    text = chain.read_text()
+    assert text.count(digest) == 1
+    chain.write_text(text.replace(digest, "0" * 64))
+    return small
+
+
+def test_the_chain_of_another_set_up_is_refused_by_commit(with_other_chain: CloseAuction) -> None:
+    said = committed(with_other_chain)
+    assert said.status == 1
+    assert "another set-up" in said.errors
+
+
+def test_the_chain_of_another_set_up_is_refused_by_close(with_other_chain: CloseAuction) -> None:
+    with_other_chain.all_bid()
+    said = with_other_chain.yes(1)
+    assert said.status == 1
+    assert "another set-up" in said.errors
+    assert with_other_chain.round() == 1
+
+
+def test_another_commitment_does_not_replace_the_published_one(
+    small: CloseAuction, tmp_path: pathlib.Path
+) -> None:
+    before, setup = files_of(small), Setup.read(small.setup_file)
+    others = commitment.Places(tmp_path / "others", tmp_path / "elsewhere")
+    commitment.make(others, setup)
+    with pytest.raises(commitment.CommitmentFault):
+        commitment.make(commitment.Places(others.kept, small.public), setup)
+    assert files_of(small) == before
+
+
+# ---- What is promised
+
+
+def test_a_draw_after_the_first_closing_is_refused(small: CloseAuction) -> None:
+    small.all_bid()
+    assert small.yes(1).status == 0
+    assert committed(small, "--draw", "1 2 3").status == 1
+
+
+def test_no_ties_is_refused_if_a_closing_can_list_all_pairs(small: CloseAuction) -> None:
+    small.all_bid()
+    assert small.yes(1).status == 0
+    said = small.yes(2, "10", WITHOUT_SHEETS, "--no-ties")
+    assert said.status == 1
+    assert "promised" in said.errors
+    assert small.round() == 2

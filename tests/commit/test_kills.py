@@ -1,0 +1,93 @@
+"""`auction commit`, killed before each of its steps: the next call publishes what it had begun."""
+import dataclasses
+import json
+import pathlib
+
+import pytest
+
+from auction.conductor import commitment
+from auction.conductor.commitment import Places
+from auction.formats.setup import Setup
+from auction.formats.ties import Commitment
+from tests.close.auction import set_up
+from tests.lib.disk import killed_at
+
+DRAW = "1 2 3"
+STEPS, DRAW_STEPS = 20, 11  # system calls of a commitment, and of a draw
+
+
+@pytest.fixture
+def setup(tmp_path: pathlib.Path) -> Setup:
+    (tmp_path / "setup.json").write_text(json.dumps(set_up(2, 1)))
+    return Setup.read(tmp_path / "setup.json")
+
+
+@pytest.fixture
+def places(tmp_path: pathlib.Path) -> Places:
+    """Folders in which nothing is committed yet."""
+    return Places(tmp_path / "kept", tmp_path / "public")
+
+
+def published(places: Places) -> Commitment | None:
+    """What everyone sees."""
+    return Commitment.read(places.commitment) if places.commitment.exists() else None
+
+
+def with_draw(before: Commitment) -> Commitment:
+    """The commitment with the result of the draw, and no other change."""
+    assert before.chain is not None
+    return dataclasses.replace(before, chain=dataclasses.replace(before.chain, draw=DRAW))
+
+
+@pytest.mark.parametrize("step", range(1, STEPS + 1))
+def test_after_a_kill_it_publishes_what_it_had_begun(
+    setup: Setup, places: Places, step: int
+) -> None:
+    with killed_at(step) as disk:
+        commitment.make(places, setup)
+    assert disk.has_killed
+    seen = published(places)
+    made = commitment.make(places, setup)
+    assert seen in (None, made)
+    assert published(places) == made
+
+
+@pytest.mark.parametrize("step", range(1, DRAW_STEPS + 1))
+def test_after_a_kill_in_a_draw_it_publishes_the_draw_or_what_was_before(
+    setup: Setup, places: Places, step: int
+) -> None:
+    before = commitment.make(places, setup)
+    wanted = with_draw(before)
+    with killed_at(step) as disk:
+        commitment.make(places, setup, draw=DRAW)
+    assert disk.has_killed
+    seen = published(places)
+    made = commitment.make(places, setup)
+    assert made in ((before, wanted) if seen == before else (wanted,))
+    assert published(places) == made
+
+
+@pytest.mark.parametrize("step", range(1, DRAW_STEPS + 1))
+def test_after_a_kill_in_a_draw_the_draw_can_be_given_again(
+    setup: Setup, places: Places, step: int
+) -> None:
+    before = commitment.make(places, setup)
+    with killed_at(step):
+        commitment.make(places, setup, draw=DRAW)
+    commitment.make(places, setup)
+    made = commitment.make(places, setup, draw=DRAW)
+    assert made == with_draw(before)
+    assert published(places) == made
+
+
+def test_it_has_no_step_after_the_last(setup: Setup, places: Places) -> None:
+    with killed_at(STEPS + 1) as disk:
+        commitment.make(places, setup)
+    assert disk.count == STEPS
+
+
+def test_a_draw_has_no_step_after_the_last(setup: Setup, places: Places) -> None:
+    commitment.make(places, setup)
+    with killed_at(DRAW_STEPS + 1) as disk:
+        commitment.make(places, setup, draw=DRAW)
+    assert disk.count == DRAW_STEPS

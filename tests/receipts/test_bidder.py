@@ -1,0 +1,175 @@
+"""What examples/bidder.py says of receipts and seeds: that they are there, missing, or wrong."""
+import contextlib
+import io
+import json
+import pathlib
+from collections.abc import Callable, Iterator
+from typing import Any
+
+import pytest
+
+from auction.conductor.chain import Chain
+from auction.formats.setup import Setup
+from examples import bidder
+from tests.lib.http import answer_to, text_of
+from tests.receipts.auction import ReceiptsAuction
+
+pytestmark = pytest.mark.needs("openssl")
+COMMITMENT = "/public/commitment.json"
+SHEETS = [
+    {"bids": [{"price": 100, "product": 0, "quantity": quantity}], "round": 1}
+    for quantity in (2, 3)
+]
+
+
+class Pages:
+    """An auction as the bidder sees it through nginx: its pages by path."""
+
+    def __init__(self, pages: dict[str, Any]) -> None:
+        self.pages = pages
+
+    def ask(self, path: str, shape: object, may_lack: bool) -> Any:
+        return self.pages.get(path)
+
+
+def printed(call: Callable[[], object]) -> str:
+    """What a call prints on both streams."""
+    with contextlib.redirect_stdout(io.StringIO()) as out, contextlib.redirect_stderr(out):
+        call()
+    return out.getvalue()
+
+
+@pytest.fixture(scope="module")
+def two(
+    program: pathlib.Path, tmp_path_factory: pytest.TempPathFactory
+) -> Iterator[ReceiptsAuction]:
+    """An auction with receipts of two sheets of X, which the bidder sent."""
+    with ReceiptsAuction(program, tmp_path_factory.mktemp("bidder")) as auction:
+        for sheet in SHEETS:
+            body = bidder.text_of(sheet).encode()
+            status, _ = answer_to(auction.server.port, text_of("PUT /v1/me/bids", "X" * 16, body))
+            assert status == 200
+        assert auction.sign_once() == (0, "receipts 2\n")
+        yield auction
+
+
+@pytest.fixture
+def commitment(two: ReceiptsAuction) -> dict[str, Any]:
+    page: dict[str, Any] = json.loads((two.public / "commitment.json").read_text())
+    return page
+
+
+@pytest.fixture
+def pages(two: ReceiptsAuction, commitment: dict[str, Any]) -> Pages:
+    """What nginx shows X."""
+    files = {f"/receipts/1/{sheet}.json": f"X/1-{sheet}.json" for sheet in (1, 2)}
+    shown = {path: json.loads(two.files()[name]) for path, name in files.items()}
+    return Pages({COMMITMENT: commitment, **shown})
+
+
+@pytest.fixture
+def file(tmp_path: pathlib.Path) -> pathlib.Path:
+    """The bidder's file of receipts, which does not exist yet."""
+    return tmp_path / "own.receipts"
+
+
+@pytest.fixture(autouse=True)
+def short_wait(monkeypatch: pytest.MonkeyPatch) -> None:
+    monkeypatch.setattr(bidder, "RECEIPT_SECONDS", 0.3)
+
+
+# ---- Receipts
+
+
+def test_it_reports_each_receipt(pages: Pages, file: pathlib.Path) -> None:
+    own = bidder.Receipts(pages, file)
+    words = [printed(lambda: own.await_one(sheet)) for sheet in SHEETS]
+    assert words == [f"receipt of sheet {number} of round 1\n" for number in (1, 2)]
+
+
+def test_check_receipts_accepts_its_file(
+    two: ReceiptsAuction, pages: Pages, file: pathlib.Path
+) -> None:
+    own = bidder.Receipts(pages, file)
+    for sheet in SHEETS:
+        printed(lambda: own.await_one(sheet))
+    assert two.check(file)[0] == 0
+
+
+def test_it_reports_a_missing_receipt(pages: Pages, file: pathlib.Path) -> None:
+    own = bidder.Receipts(pages, file)
+    for sheet in SHEETS:
+        printed(lambda: own.await_one(sheet))
+    assert "no receipt within 0.3 s" in printed(lambda: own.await_one(SHEETS[0]))
+
+
+def test_started_again_it_has_its_receipts(pages: Pages, file: pathlib.Path) -> None:
+    own = bidder.Receipts(pages, file)
+    for sheet in SHEETS:
+        printed(lambda: own.await_one(sheet))
+    assert bidder.Receipts(pages, file).have == {(1, 1), (1, 2)}
+
+
+@pytest.mark.parametrize(
+    "change",
+    [
+        {"signature": "0" * 128},
+        {"signature": "x"},
+        {"round": 2},
+        {"sheet": 2},
+        {"auction": "0" * 64},
+    ],
+    ids=["another-signature", "no-signature", "another-round", "another-sheet", "another-auction"],
+)
+def test_it_reports_a_wrong_receipt(
+    pages: Pages, file: pathlib.Path, change: dict[str, object]
+) -> None:
+    first = "/receipts/1/1.json"
+    wrong = {**pages.pages[first], **change}
+    own = bidder.Receipts(Pages({COMMITMENT: pages.pages[COMMITMENT], first: wrong}), file)
+    words = printed(lambda: own.await_one(SHEETS[0]))
+    assert "this is not a receipt of sheet 1 of round 1" in words
+
+
+# ---- Commitments and seeds
+
+
+def test_without_a_commitment_it_says_that_there_are_no_receipts(file: pathlib.Path) -> None:
+    words = printed(lambda: bidder.Receipts(Pages({}), file).await_one(SHEETS[0]))
+    assert words == "no commitment is published, so sheets have no receipts\n"
+
+
+def test_another_commitment_ends_it(
+    pages: Pages, file: pathlib.Path, commitment: dict[str, Any]
+) -> None:
+    bidder.Receipts(pages, file)
+    with pytest.raises(SystemExit, match="another commitment"):
+        bidder.Receipts(Pages({COMMITMENT: {**commitment, "key": "another"}}), file)
+
+
+@pytest.mark.parametrize(
+    ("number", "seed_of", "is_right"),
+    [(1, 1, True), (2, 2, True), (2, 1, False), (1, 3, False), (3, None, False), (3, "x", False)],
+    ids=["1", "2", "1-for-2", "3-for-1", "zeros", "no-seed"],
+)
+def test_it_reports_a_seed_that_is_not_the_committed_one(
+    two: ReceiptsAuction,
+    pages: Pages,
+    file: pathlib.Path,
+    number: int,
+    seed_of: int | str | None,
+    is_right: bool,
+) -> None:
+    chain = Chain.read(two.kept / "chain.json", Setup.read(two.setup_file))
+    seed = str(seed_of) if seed_of == "x" else "0" * 64
+    if isinstance(seed_of, int):
+        seed = (chain.seed(seed_of) or b"").hex()
+    pages.pages[f"/public/rounds/{number}.json"] = {"seed": seed}
+    own = bidder.Receipts(pages, file)
+    words = printed(lambda: own.check_seed(number))
+    assert words == "" if is_right else f"the seed of round {number} is not" in words
+
+
+def test_it_says_nothing_of_a_seed_that_is_not_published(pages: Pages, file: pathlib.Path) -> None:
+    own = bidder.Receipts(pages, file)
+    assert printed(lambda: own.check_seed(4)) == ""
