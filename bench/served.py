@@ -5,11 +5,10 @@ import sys
 import time
 
 TOP = pathlib.Path(__file__).resolve().parent.parent
-sys.path.insert(0, str(TOP / "scripts"))
+sys.path.insert(0, str(TOP))
 
-from loopback import reply_to
-from servers import Server
-from trial import Failed, ensure
+from tests.lib.http import reply_to
+from tests.lib.server import Server
 
 
 class Served(Server):
@@ -24,7 +23,7 @@ class Served(Server):
     def send(self, text, seconds=60):
         """The reply to a request. Fails unless it is 200 OK."""
         reply = reply_to(self.port, text, seconds=seconds)
-        ensure("a text is accepted", reply.startswith(b"HTTP/1.1 200"), reply)
+        assert reply.startswith(b"HTTP/1.1 200"), reply
         return reply
 
     def processor(self):
@@ -32,15 +31,15 @@ class Served(Server):
         return int(pathlib.Path(f"/proc/{self.child.pid}/schedstat").read_text().split()[0]) / 1e9
 
     def memory(self, name):
-        """Bytes of a field of /proc: VmHWM is the most so far, VmRSS now, VmPeak the most of address space."""
+        """Bytes of a field of /proc: VmHWM at most, VmRSS now, VmPeak of address space at most."""
         for line in pathlib.Path(f"/proc/{self.child.pid}/status").read_text().splitlines():
             if line.startswith(f"{name}:"):
                 return int(line.split()[1]) * 1024
-        raise Failed(f"/proc has no {name}")
+        raise AssertionError(f"/proc has no {name}")
 
     def spent(self):
         """Waits until the server ends by itself. Returns its processor seconds."""
         _pid, status, used = os.wait4(self.child.pid, 0)
         self.child.returncode = status
-        ensure("the server ended well", status == 0, status)
+        assert status == 0, f"the server ended with status {status}"
         return used.ru_utime + used.ru_stime

@@ -20,7 +20,9 @@ SCRIPT = pathlib.Path(__file__).with_name("inside.sh")
 # What the script looks for, up to the first part that differs from run to run, and how often.
 STEPS = Counter(re.findall(r'(?m)^ *(?:expect|within) "([^"$]+)', SCRIPT.read_text()))
 MIRROR = "http://deb.debian.org/debian"
-PACKAGES = "systemd,systemd-sysv,dbus,curl,openssl,python3,python3-cryptography,nftables,adduser"
+PACKAGES = "systemd,systemd-sysv,dbus,curl,openssl,python3,nftables,adduser"
+# debootstrap does not find what this one needs.
+MORE = ["apt-get", "-q", "install", "-y", "--no-install-recommends", "python3-cryptography"]
 USERS = ("auction-nginx", "auction-server")
 UNIT = """[Unit]
 After=network.target
@@ -98,7 +100,8 @@ def seen(program: pathlib.Path, request: pytest.FixtureRequest) -> list[str]:
             root,
             MIRROR,
         ]
-        subprocess.run(made, check=True, stdout=subprocess.DEVNULL)
+        for command in (made, ["chroot", root, *MORE]):
+            subprocess.run(command, check=True, stdout=subprocess.DEVNULL)
     for user in USERS:
         added = ["adduser", "--quiet", "--system", "--group", "--no-create-home", user]
         subprocess.run(["chroot", root, *added], check=True)
