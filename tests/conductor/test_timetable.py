@@ -11,6 +11,8 @@ from auction.conductor.increments import Rule
 from auction.conductor.timetable import TimetableFault
 from tests.lib.timetables import REFUSED, WHOLE, Refused
 
+pytestmark = pytest.mark.early
+
 
 def read(folder: pathlib.Path, value: Any) -> timetable.Timetable:
     (folder / "timetable.json").write_text(json.dumps(value))
