@@ -73,6 +73,15 @@ def counts_of(reporter: Any) -> dict[str, Any]:
     }
 
 
+def recorded_of(reporter: Any) -> Counter[str]:
+    """What the tests recorded as properties, such as explored states, in all."""
+    recorded: Counter[str] = Counter()
+    for report in reporter.stats.get("passed", []):
+        for name, count in report.user_properties:
+            recorded[name] += count
+    return recorded
+
+
 @pytest.hookimpl(tryfirst=True)
 def pytest_sessionfinish(session: pytest.Session) -> None:
     reporter = session.config.pluginmanager.get_plugin("terminalreporter")
@@ -95,6 +104,10 @@ def pytest_terminal_summary(terminalreporter: Any) -> None:
     parts = ", ".join(f"{counts[name]} {name}" for name in ("passed", "failed", "skipped"))
     line = f"trials: {parts}{needed}"
     terminalreporter.write_line(line)
+    recorded = sorted(recorded_of(terminalreporter).items())
+    if recorded:
+        words = ", ".join(f"{count:,} {name}" for name, count in recorded)
+        terminalreporter.write_line(f"recorded: {words}")
 
 
 # ---- Fixtures

@@ -15,7 +15,7 @@ from auction.command import Command
 from auction.conductor import commands, report
 from auction.conductor.commands import CommandFault
 from auction.conductor.conductor import Conductor
-from auction.conductor.office import Office
+from auction.conductor.context import Context
 from auction.conductor.settings import SettingsFault
 from auction.conductor.timetable import TimetableFault
 
@@ -32,13 +32,13 @@ A round waits for your word, `auction next` or `auction extend`, in four cases:
 - the server refused its closing.
 If the clock was set, the conductor pauses until you say `auction resume`."""
 
-Action = Callable[[Office, argparse.Namespace], None]
+Action = Callable[[Context, argparse.Namespace], None]
 
 
 def run_auction(folder: pathlib.Path) -> None:
     """Runs the auction, unless another process does."""
     conductor = Conductor(folder, say=lambda line: print(line, flush=True))
-    with open(conductor.office.folders.state / "run.lock", "w", encoding="utf-8") as lock:
+    with open(conductor.context.folders.state / "run.lock", "w", encoding="utf-8") as lock:
         try:
             fcntl.flock(lock, fcntl.LOCK_EX | fcntl.LOCK_NB)
         except OSError:
@@ -46,20 +46,20 @@ def run_auction(folder: pathlib.Path) -> None:
         conductor.run()
 
 
-def status(office: Office, _: argparse.Namespace) -> None:
+def status(context: Context, _: argparse.Namespace) -> None:
     """Prints the last report.
 
     The exit status is 0, 3 if it waits for a person, and 1 if nobody writes the report.
     """
-    shown = report.shown(office.folders)
+    shown = report.shown(context.folders)
     if not shown:
         sys.exit("no conductor has run yet")
     print(f"{shown['state']}: {shown['waits_for']}")
     if shown["sheets"] is not None and shown["state"] != report.State.ENDED.value:
-        missing = [name for name in office.setup.bidders if name not in shown["sheets"]]
+        missing = [name for name in context.setup.bidders if name not in shown["sheets"]]
         others = f"; not: {', '.join(missing)}" if missing else ""
-        counts = f"{len(shown['sheets'])} of {len(office.setup.bidders)}"
-        print(f"{counts} bidders have a sheet in force{others}")
+        count = f"{len(shown['sheets'])} of {len(context.setup.bidders)}"
+        print(f"{count} bidders have a sheet in force{others}")
     age = time.time() - report.time_of(shown)
     if age > report.STALE:
         sys.exit(
@@ -123,7 +123,7 @@ def command(
 
     def run(given: argparse.Namespace) -> None:
         os.umask(0o022)
-        action(Office(given.folder.absolute()), given)
+        action(Context(given.folder.absolute()), given)
 
     return Command(name, summary, FOLDER, arguments, guarded(name, run))
 
@@ -146,48 +146,48 @@ COMMANDS = (
         "plan",
         "Takes a timetable for the rounds that have not begun.",
         add_file,
-        lambda office, given: commands.plan(office, given.file),
+        lambda context, given: commands.plan(context, given.file),
     ),
     command(
         "check",
         "Prints the windows of a timetable in UTC, and changes nothing.",
         add_file,
-        lambda office, given: commands.check(office, given.file),
+        lambda context, given: commands.check(context, given.file),
     ),
     command(
         "pause",
         "Takes no more sheets, and says why.",
         add_words,
-        lambda office, given: commands.pause(office, " ".join(given.words)),
+        lambda context, given: commands.pause(context, " ".join(given.words)),
     ),
     command(
         "resume",
         "Continues in MINUTES, or 10, for the time that was left.",
         add_minutes_or_ten,
-        lambda office, given: commands.resume(office, given.minutes),
+        lambda context, given: commands.resume(context, given.minutes),
     ),
     command(
         "extend",
         "Adds time to the current window, or opens it again.",
         add_minutes,
-        lambda office, given: commands.extend(office, given.minutes),
+        lambda context, given: commands.extend(context, given.minutes),
     ),
     command(
         "announce",
         "Announces something to everyone.",
         add_words,
-        lambda office, given: commands.announce(office, " ".join(given.words)),
+        lambda context, given: commands.announce(context, " ".join(given.words)),
     ),
     command(
         "next",
         "Closes a round that waits for your word.",
         add_round,
-        lambda office, given: commands.close_next(office, given.round, given.without_sheets),
+        lambda context, given: commands.close_next(context, given.round, given.without_sheets),
     ),
     command(
         "winners",
         "Publishes what each bidder has won, after the end.",
         add_folder,
-        lambda office, _: commands.winners(office),
+        lambda context, _: commands.winners(context),
     ),
 )

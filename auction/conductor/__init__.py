@@ -1,4 +1,4 @@
-"""What deploy/close and deploy/conductor are made of, one subject a file.
+"""What `auction close` and the conductor are made of, one subject a file.
 
     disk        files that survive a crash
     setup       the parts of a set-up that these tools read
@@ -14,10 +14,10 @@
     increments  increments by round and by excess demand
     plan        what the operator and the timetable want, in one file
     gate        when nginx takes sheets
-    board       what everyone sees
+    public       what everyone sees
     report      what the operator sees
     watch       clocks that were set, and servers that nobody saw
-    office      what the conductor and the commands share
+    context      what the conductor and the commands share
     conductor   what is done when
     commands    what the operator says
 """

@@ -1,4 +1,5 @@
-"""What the operator's page asks of the conductor: to close the current round now, with the seed that no browser has.
+"""What the operator's page asks of the conductor: to close the current round now, with the seed
+that no browser has.
 
 nginx writes the file for the operator's token only.
 """
@@ -17,7 +18,7 @@ MOST_BYTES = 65_536
 
 @dataclasses.dataclass(frozen=True)
 class Closing:
-    """The round to close, its increments, and whether to close it if nobody has a sheet in force."""
+    """The round to close, its increments, and whether to close it without a sheet in force."""
 
     round: int
     increments: list[int]
@@ -45,7 +46,10 @@ class Asked:
         self.path, self.setup = path, setup
 
     def read(self, now: float) -> Closing | None:
-        """The closing that is asked for, or None. A file that is too old, or is no such request, is removed."""
+        """The closing that is asked for, or None.
+
+        A file that is too old, or is no such request, is removed.
+        """
         try:
             with open(
                 os.open(self.path, os.O_RDONLY | os.O_NOFOLLOW | os.O_NONBLOCK), "rb"
@@ -64,7 +68,9 @@ class Asked:
         return asked
 
     def remove(self) -> None:
-        """Removes the request. If a power loss undoes that, the request is too old by the next start, or its round is
+        """Removes the request.
+
+        If a power loss undoes that, the request is too old by the next start, or its round is
         closed.
         """
         disk.unlink(self.path)

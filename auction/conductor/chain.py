@@ -1,4 +1,6 @@
-"""The operator's chain of seeds, for tie-breaking numbers: its secret on disk, and what is published of it."""
+"""The operator's chain of seeds, for tie-breaking numbers: its secret on disk, and what is
+published of it.
+"""
 import dataclasses
 import json
 import secrets
@@ -17,7 +19,10 @@ class ChainFault(ValueError):
 
 @dataclasses.dataclass(frozen=True)
 class Chain:
-    """The chain of an auction, by the digest of its set-up. Without a secret, no closing has tie-breaking numbers."""
+    """The chain of an auction, by the digest of its set-up.
+
+    Without a secret, no closing has tie-breaking numbers.
+    """
 
     auction: str
     secret: bytes | None

@@ -1,5 +1,5 @@
-"""One round's closing: its body is fixed on disk before it is sent, so the same one is sent again, and its pages are
-stored.
+"""One round's closing: its body is fixed on disk before it is sent, so the same one is sent again,
+and its pages are stored.
 """
 import dataclasses
 import enum
@@ -23,14 +23,18 @@ class NotClosed(Exception):
 
 
 class Ties(enum.Enum):
-    """What tie-breaking numbers a closing has: those of the chain, or none if it cannot list all that matter."""
+    """What tie-breaking numbers a closing has: those of the chain, or none if it cannot list all
+    that matter.
+    """
 
     OF_CHAIN = "of the chain"
     NONE = "none"
 
 
 class Origin(enum.Enum):
-    """When the body of a closing was fixed: by an earlier call, which may have sent it, or by this one."""
+    """When the body of a closing was fixed: by an earlier call, which may have sent it, or by this
+    one.
+    """
 
     BEFORE = "before"
     NOW = "now"
@@ -54,7 +58,9 @@ class Answer:
 
 @dataclasses.dataclass(frozen=True)
 class Auction:
-    """What a closing needs: the server, the set-up, the journal, and the folder for bodies and pages."""
+    """What a closing needs: the server, the set-up, the journal, and the folder for bodies and
+    pages.
+    """
 
     operator: Operator
     setup: Setup
@@ -62,7 +68,7 @@ class Auction:
     folder: Path
 
     def lock(self) -> Path:
-        """The lock of whoever closes a round, from the last look at the status to the stored pages."""
+        """The lock of whoever closes a round, from the status to the stored pages."""
         return self.folder / ".lock"
 
     def chain(self) -> Chain:
@@ -149,15 +155,17 @@ def listed_ties(auction: Auction, number: int, ties: Ties) -> list[list[int]]:
     if len(pairs) <= MOST_TIES:
         if pairs and ties is Ties.NONE:
             raise NotClosed(
-                f"--no-ties: the closing can list all {len(pairs)} pairs, and bidders were promised that"
+                f"--no-ties: the closing can list all {len(pairs)} pairs, "
+                "and bidders were promised that"
             )
         return ties_of(seed, chain.draw, number, pairs)
     if ties is Ties.NONE:
         return []
     raise NotClosed(
-        f"{len(pairs)} pairs of bidder and product can matter, and a closing has at most {MOST_TIES} tie-breaking "
-        "numbers. With --no-ties it has none: at the same price point the lower bidder then comes first, so draw the "
-        "order of the bidders in the set-up by lot before the auction."
+        f"{len(pairs)} pairs of bidder and product can matter, and a closing has at most "
+        f"{MOST_TIES} tie-breaking numbers. With --no-ties it has none: at the same price point "
+        "the lower bidder then comes first, so draw the order of the bidders in the set-up by lot "
+        "before the auction."
     )
 
 
@@ -175,8 +183,8 @@ def check_fixed(auction: Auction, number: int, increments: Increments) -> None:
     before = fixed_increments(auction, number)
     if before not in (None, spread(auction.setup, increments)):
         raise NotClosed(
-            f"{auction.body_file(number)} was made before, with the increments {before}, and may still arrive. Give "
-            "these."
+            f"{auction.body_file(number)} was made before, with the increments {before}, and may "
+            "still arrive. Give these."
         )
 
 
@@ -202,17 +210,18 @@ def send(auction: Auction, number: int, origin: Origin) -> Answer:
         return Answer(Outcome.CLOSED, page)
     if page["code"] in ("wrong_round", "ended"):
         return Answer(Outcome.CLOSED_BEFORE, page)
-    # a wrong token is refused before the body is read, so a closing that was sent before may still arrive
+    # a wrong token is refused before the body is read: a closing sent before may still arrive
     if origin is Origin.NOW or page["code"] not in ("token", "role"):
         disk.remove(auction.body_file(number))
     return Answer(Outcome.REFUSED, page)
 
 
 def keep(auction: Auction) -> int:
-    """Stores what the server forgets: the results of the last closed round, and each closing and sheet up to it that is
-    not stored yet.
+    """Stores what the server forgets: the results of the last closed round, and each closing and
+    sheet up to it that is not stored yet.
 
-    Returns that round. A round that was closed in another way is stored with the closing that the journal has.
+    Returns that round. A round that was closed in another way is stored with the closing that the
+    journal has.
     """
     results = auction.operator.page("/v1/results")
     last = last_closed(results)
@@ -220,8 +229,8 @@ def keep(auction: Auction) -> int:
     bodies = [auction.journal.body(entry) for entry in auction.journal.closings]
     if len(bodies) < last:
         raise NotClosed(
-            f"nothing is stored: {auction.journal.path} has no closing of round {last}. Is it the server's own, and no "
-            "copy?"
+            f"nothing is stored: {auction.journal.path} has no closing of round {last}. "
+            "Is it the server's own, and no copy?"
         )
     for number, body in enumerate(bodies[:last], 1):
         if number == last or not auction.sheet_file(number).exists():
@@ -249,7 +258,9 @@ def stored_results(auction: Auction, number: int) -> Page:
 
 
 def check_folder(auction: Auction, last: int) -> None:
-    """Refuses a folder with more closings than the auction: it is another auction's, or the server lost its journal."""
+    """Refuses a folder with more closings than the auction: it is another auction's, or the server
+    lost its journal.
+    """
     stored = auction.folder / "closings.jsonl"
     if stored.exists() and len(stored.read_bytes().splitlines()) > last:
         raise NotClosed(

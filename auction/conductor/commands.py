@@ -1,11 +1,14 @@
-"""The operator's commands to a running auction. Each is one change of the plan, together with its announcement."""
+"""The operator's commands to a running auction.
+
+Each is one change of the plan, together with its announcement.
+"""
 import json
 from pathlib import Path
 
 from . import report, timetable
 from .clock import in_words, utc
 from .increments import in_words as increments_in_words
-from .office import Office
+from .context import Context
 from .plan import Pause, Plan, Word
 from .server import NoReply, Refused
 from .timetable import Window, move_later, replaced, whole_ten
@@ -18,27 +21,27 @@ class CommandFault(Exception):
     """Why a command changes nothing."""
 
 
-def current(office: Office) -> int:
+def current(context: Context) -> int:
     """The current round. If the server is gone, it is the one after the last published round."""
     try:
-        status = office.status()
+        status = context.status()
     except (NoReply, Refused):
-        last, ended = office.board.published(), office.board.has_ended()
+        last, ended = context.public.published(), context.public.has_ended()
         status = {"round": last if ended else last + 1, "ended": ended}
     if status["ended"]:
         raise CommandFault(f"the auction ended after round {status['round']}")
     return status["round"]
 
 
-def window_of(office: Office, plan: Plan, number: int) -> Window:
+def window_of(context: Context, plan: Plan, number: int) -> Window:
     """A round's window, of which the times may still change."""
-    if number != office.board.published() + 1:
+    if number != context.public.published() + 1:
         raise CommandFault(
             f"round {number - 1} is closed, and its results are not published yet: try again"
         )
     if number not in plan.windows:
         raise CommandFault(f"round {number} has no window: give it one by plan FILE")
-    if office.auction.body_file(number).exists():
+    if context.auction.body_file(number).exists():
         raise CommandFault(f"the closing of round {number} is fixed, and may have been sent")
     return plan.windows[number]
 
@@ -48,11 +51,11 @@ def check_minutes(minutes: float, least: float) -> None:
         raise CommandFault(f"minutes must be {least:g} to {MOST_MINUTES}")
 
 
-def plan(office: Office, path: Path) -> None:
+def plan(context: Context, path: Path) -> None:
     """Replaces the windows of the rounds that have not begun, and announces it."""
-    fresh, now, settings = timetable.read(path), office.clock.wall(), office.settings
-    with office.changing() as changed:
-        number = current(office)
+    fresh, now, settings = timetable.read(path), context.clock.wall(), context.settings
+    with context.changing() as changed:
+        number = current(context)
         window = changed.windows.get(number)
         begun = number if window and window.opens <= now else number - 1
         changed.windows = replaced(
@@ -70,84 +73,90 @@ def plan(office: Office, path: Path) -> None:
         )
 
 
-def check(office: Office, path: Path) -> None:
+def check(context: Context, path: Path) -> None:
     """Prints the windows of a timetable in UTC, and changes nothing."""
     for window in timetable.read(path).windows:
-        office.say(f"{utc(window.opens)} {utc(window.closes)}")
+        context.say(f"{utc(window.opens)} {utc(window.closes)}")
 
 
-def pause(office: Office, words: str) -> None:
+def pause(context: Context, words: str) -> None:
     """Shuts the gate at once, and says why. Nothing opens or closes until `resume`."""
-    office.gate.shut(office.clock.wall())  # before it waits for a conductor that is closing a round
-    with office.changing() as changed:
+    context.gate.shut(
+        context.clock.wall()
+    )  # before it waits for a conductor that is closing a round
+    with context.changing() as changed:
         if changed.paused:
             raise CommandFault(f"the auction is paused already: {changed.paused.words}")
-        current(office)  # refuses after the end
-        changed.paused = Pause(office.clock.wall(), words)
+        current(context)  # refuses after the end
+        changed.paused = Pause(context.clock.wall(), words)
         changed.announce(f"The auction is paused. {words}")
-        office.plan_file.store(changed)
-        office.gate.shut(office.clock.wall())
+        context.plan_file.store(changed)
+        context.gate.shut(context.clock.wall())
 
 
-def resume(office: Office, minutes: float) -> None:
-    """Continues. A window that was cut short opens again after these minutes, for the time that was left."""
+def resume(context: Context, minutes: float) -> None:
+    """Continues.
+
+    A window that was cut short opens again after these minutes, for the time that was left.
+    """
     check_minutes(minutes, 0)
-    with office.changing() as changed:
+    with context.changing() as changed:
         if not changed.paused:
             raise CommandFault("the auction is not paused")
-        since, now, number = changed.paused.since, office.clock.wall(), current(office)
+        since, now, number = changed.paused.since, context.clock.wall(), current(context)
         changed.paused = None
         window, begin = changed.windows.get(number), whole_ten(now + 60 * minutes)
         words = ""
-        if window and since < window.closes and not office.auction.body_file(number).exists():
+        if window and since < window.closes and not context.auction.body_file(number).exists():
             if begin > window.opens:
                 left = max(LEAST_LEFT, window.closes - max(since, window.opens))
                 window.opens, window.closes, window.opened = begin, begin + whole_ten(left), None
-                move_later(changed.windows, number, office.settings.between)
-            words = f" Round {number} is open from {in_words(window.opens)} to {in_words(window.closes)}."
+                move_later(changed.windows, number, context.settings.between)
+            times = f"from {in_words(window.opens)} to {in_words(window.closes)}"
+            words = f" Round {number} is open {times}."
         changed.announce(f"The auction continues.{words}")
 
 
-def extend(office: Office, minutes: float) -> None:
+def extend(context: Context, minutes: float) -> None:
     """Adds time to the current window. One that is shut opens again at once."""
     check_minutes(minutes, LEAST_MINUTES)
-    with office.changing() as changed:
+    with context.changing() as changed:
         if changed.paused:
             raise CommandFault("the auction is paused: resume it first")
-        now, number = office.clock.wall(), current(office)
-        window = window_of(office, changed, number)
+        now, number = context.clock.wall(), current(context)
+        window = window_of(context, changed, number)
         if window.closes <= now:
             window.opens = window.closes = whole_ten(now)
             window.opened = None
         window.closes += whole_ten(60 * minutes)
         changed.doubt = changed.word = None
-        move_later(changed.windows, number, office.settings.between)
+        move_later(changed.windows, number, context.settings.between)
         changed.announce(
             f"Round {number} is open until {in_words(window.closes)}, longer than announced before."
         )
-        office.plan_file.store(changed)
+        context.plan_file.store(changed)
         if window.opened is not None:
             # without a pause until the conductor looks
-            office.gate.open(
-                now, window.closes, office.settings.shuts(window), office.settings.lifts(window)
+            context.gate.open(
+                now, window.closes, context.settings.shuts(window), context.settings.lifts(window)
             )
 
 
-def announce(office: Office, words: str) -> None:
+def announce(context: Context, words: str) -> None:
     """Announces something to everyone."""
-    with office.changing() as changed:
+    with context.changing() as changed:
         changed.announce(words)
 
 
-def close_next(office: Office, number: int, without_sheets: bool) -> None:
+def close_next(context: Context, number: int, without_sheets: bool) -> None:
     """Gives the word that the conductor waits for, to close this round."""
-    with office.changing() as changed:
-        shown = report.shown(office.folders)
+    with context.changing() as changed:
+        shown = report.shown(context.folders)
         if (
             not shown
             or shown["state"] != report.State.HELD.value
             or shown["round"] != number
-            or current(office) != number
+            or current(context) != number
         ):
             raise CommandFault(
                 f"round {number} does not wait for a word. "
@@ -156,13 +165,13 @@ def close_next(office: Office, number: int, without_sheets: bool) -> None:
         changed.word = Word(number, without_sheets)
 
 
-def winners(office: Office) -> None:
+def winners(context: Context) -> None:
     """Publishes what each bidder won and pays."""
-    with office.changing():
-        last = office.board.published()
-        results = office.board.results(last)
+    with context.changing():
+        last = context.public.published()
+        results = context.public.results(last)
         if not results or not results["ended"]:
             raise CommandFault("the auction has not ended")
-        stored = json.loads(office.auction.results_file(last).read_text(encoding="utf-8"))
-        office.board.publish_winners(stored)
-        office.announce("winners", "What each bidder has won is published with the results.")
+        stored = json.loads(context.auction.results_file(last).read_text(encoding="utf-8"))
+        context.public.publish_winners(stored)
+        context.announce("winners", "What each bidder has won is published with the results.")

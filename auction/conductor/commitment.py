@@ -1,4 +1,5 @@
-"""What the operator fixes before round 1: the chain of seeds and the key of receipts, and what everyone sees of both.
+"""What the operator fixes before round 1: the chain of seeds and the key of receipts, and what
+everyone sees of both.
 """
 import dataclasses
 import json
@@ -80,8 +81,8 @@ def chain_in(places: Places, setup: Setup, has_ties: bool, draw: str | None) -> 
         return chain
     if not has_ties or chain.draw or places.is_begun() or not places.commitment.exists():
         raise CommitmentFault(
-            "a draw is held once, after the end of the chain is published and before a round is closed, and only for "
-            "tie-breaking numbers"
+            "a draw is held once, after the end of the chain is published and before a round is "
+            "closed, and only for tie-breaking numbers"
         )
     chain = dataclasses.replace(chain, draw=checked_draw(draw))
     chain.store(places.chain)
@@ -101,7 +102,8 @@ def publish(places: Places, commitment: Commitment) -> None:
             commitment, chain=dataclasses.replace(commitment.chain, draw="")
         ):
             raise CommitmentFault(
-                f"{places.commitment} is published and says something else: use folders of their own"
+                f"{places.commitment} is published and says something else: "
+                "use folders of their own"
             )
     disk.store(
         places.commitment, json.dumps(commitment.value(), separators=(",", ":")) + "\n", disk.PUBLIC

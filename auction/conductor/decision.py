@@ -1,8 +1,8 @@
 """What the conductor does next: one pure function of what it observes.
 
-The conductor observes, asks `decide` for one action, carries it out, and observes again. It remembers nothing that is
-not observed, so it may be killed between any two actions. Nothing here reads a clock, a file, or a socket.
-`deploy/try_decisions` enumerates what can happen to a small auction.
+The conductor observes, asks `decide` for one action, carries it out, and observes again. It
+remembers nothing that is not observed, so it may be killed between any two actions. Nothing here
+reads a clock, a file, or a socket. tests/decisions enumerates what can happen to a small auction.
 """
 import dataclasses
 import enum
@@ -13,7 +13,10 @@ TEN = 10  # seconds: nginx sees windows and curtains in steps of this
 
 
 class Reason(enum.Enum):
-    """Why a round is not closed without a person's word. Each is stored once it is seen (latched)."""
+    """Why a round is not closed without a person's word.
+
+    Each is stored once it is seen (latched).
+    """
 
     NOT_OPENED = "this conductor did not open its window as announced"
     OUTAGE = "bidders could not reach the auction for a part of its window"
@@ -43,7 +46,7 @@ class State(enum.Enum):
 
 @dataclasses.dataclass(frozen=True)
 class Limits:
-    """The settings that a decision depends on, in seconds, and the most pairs that a closing lists."""
+    """The settings that a decision depends on, in seconds, and the most pairs of a closing."""
 
     drain: int  # from a window's end until the inner door shuts
     publish: int  # from a window's end until the curtain lifts
@@ -54,8 +57,8 @@ class Limits:
 
 
 class Gate(NamedTuple):
-    """What the files of gate/ say: from when and until when the outer and the inner door take sheets, and from when
-    until when the curtain is drawn. 0 is never.
+    """What the files of gate/ say: from when and until when the outer and the inner door take
+    sheets, and from when until when the curtain is drawn. 0 is never.
     """
 
     opens: int = 0
@@ -76,8 +79,9 @@ class Window(NamedTuple):
 
 @dataclasses.dataclass(frozen=True)
 class Plan:
-    """What the plan says of the current round. A word releases the doubts that stood when it was given, and no
-    other.
+    """What the plan says of the current round.
+
+    A word releases the doubts that stood when it was given, and no other.
     """
 
     auction: str
@@ -89,8 +93,9 @@ class Plan:
 
 @dataclasses.dataclass(frozen=True)
 class Server:
-    """The status and the journal behind it: the rounds that are closed, whether that is the end, the digest of the last
-    entry, how many bidders have a sheet in force, and how many pairs matter to the closing of these sheets.
+    """The status and the journal behind it: the rounds that are closed, whether that is the end,
+    the digest of the last entry, how many bidders have a sheet in force, and how many pairs matter
+    to the closing of these sheets.
     """
 
     closed: int
@@ -142,8 +147,9 @@ class AnnounceOpen:
 
 @dataclasses.dataclass(frozen=True)
 class Latch:
-    """Stores a doubt about a round in the plan. If that round is closed meanwhile, the doubt is none of the next
-    one.
+    """Stores a doubt about a round in the plan.
+
+    If that round is closed meanwhile, the doubt is none of the next one.
     """
 
     number: int
@@ -152,15 +158,18 @@ class Latch:
 
 @dataclasses.dataclass(frozen=True)
 class Fix:
-    """Brings the closing to the disk, with a tie-breaking number for each pair that matters by this journal."""
+    """Brings the closing to the disk, with a tie-breaking number for each pair that matters by this
+    journal.
+    """
 
     digest: str
 
 
 @dataclasses.dataclass(frozen=True)
 class Close:
-    """Sends the closing that is on the disk, unless it is too early or too late: the curtain must be drawn, and stay so
-    for as long as a closing may take. The clock is read once more for this, and a look is good for a second only.
+    """Sends the closing that is on the disk, unless it is too early or too late: the curtain must
+    be drawn, and stay so for as long as a closing may take. The clock is read once more for this,
+    and a look is good for a second only.
 
     If the server refuses the closing: removes it, and latches REFUSED.
     """
@@ -186,7 +195,7 @@ class AnnounceClosing:
 
 @dataclasses.dataclass(frozen=True)
 class Wait:
-    """Does nothing, until a time if it is known; the report says for what, and which doubts stand."""
+    """Does nothing, until a time if it is known. The report says for what, with which doubts."""
 
     state: State
     until: float | None = None
@@ -255,7 +264,10 @@ class Look:
         return reason not in self.seen.plan.doubts
 
     def shut(self) -> Gate:
-        """No sheet passes. A curtain that has begun stays, also if it is over: the clock may go back."""
+        """No sheet passes.
+
+        A curtain that has begun stays, also if it is over: the clock may go back.
+        """
         gate = self.seen.gate
         return Gate(draws=gate.draws, lifts=gate.lifts) if gate.draws <= self.seen.now else Gate()
 
@@ -264,7 +276,10 @@ class Look:
         return Gate(window.opens, window.closes, self.shuts, window.closes, self.lifts)
 
     def draining(self) -> Gate:
-        """Only the inner door is open, if it was opened. The curtain is drawn, also if the clock goes back."""
+        """Only the inner door is open, if it was opened.
+
+        The curtain is drawn, also if the clock goes back.
+        """
         window = self.window
         doors = (window.opens, 0, self.shuts) if self.seen.gate.late else (0, 0, 0)
         return Gate(*doors, window.opens, self.lifts)
@@ -326,7 +341,10 @@ def latch(reason: Reason, condition: str, holds: Callable[[Look], bool]) -> Rule
 
 
 def is_open(look: Look) -> bool:
-    """Whether the window is open by the time of day. After a step of the clock that says nothing."""
+    """Whether the window is open by the time of day.
+
+    After a step of the clock that says nothing.
+    """
     return (
         look.seen.now < look.window.closes
         and Reason.CLOCK not in look.doubts

@@ -1,4 +1,4 @@
-"""Files that survive a crash: each is written whole next to its place, synced, and renamed into it."""
+"""Files that survive a crash: each is written next to its place, synced, and renamed into it."""
 import contextlib
 import fcntl
 import os
@@ -10,7 +10,10 @@ PRIVATE, PUBLIC = 0o600, 0o644
 
 
 def store(path: Path, text: str, mode: int = PRIVATE) -> None:
-    """Writes a file and brings it to the disk. After a crash or a power loss it has its old text or this one, whole."""
+    """Writes a file and brings it to the disk.
+
+    After a crash or a power loss it has its old text or this one, whole.
+    """
     prepare(path, text, mode)
     put(path)
     sync_folder(path.parent)
@@ -30,14 +33,18 @@ def put(path: Path) -> None:
 
 
 def show(path: Path, text: str, mode: int = PUBLIC) -> None:
-    """Writes a file whole, without waiting for the disk: for a report that is written again each second."""
+    """Writes a file whole, without waiting for the disk: for a report that is written again each
+    second.
+    """
     with fresh_file(path, mode) as file:
         file.write(text)
     os.rename(file.name, path)
 
 
 def fresh_file(path: Path, mode: int) -> TextIO:
-    """A new file next to this place, open for writing, with exactly this mode whatever the umask is."""
+    """A new file next to this place, open for writing, with exactly this mode whatever the umask
+    is.
+    """
     opened = os.open(f"{path}.new", os.O_WRONLY | os.O_CREAT | os.O_TRUNC, mode)
     os.fchmod(opened, mode)
     return open(f"{path}.new", "w", encoding="utf-8", opener=lambda *_: opened)
@@ -59,7 +66,9 @@ def sync_folder(folder: Path) -> None:
 
 
 def make_folder(path: Path, mode: int) -> None:
-    """Makes a folder with exactly this mode if it is not there, and leaves one that is there as it is."""
+    """Makes a folder with exactly this mode if it is not there, and leaves one that is there as it
+    is.
+    """
     if not path.is_dir():
         path.mkdir(parents=True)
         path.chmod(mode)

@@ -1,7 +1,8 @@
 """The gate: nginx looks for files that have the name of the current ten seconds.
 
-A file TEN lets sheets through the outer door, `late-TEN` through the inner one, and `curtain-TEN` withholds all other
-pages. So a window, its drain, and its curtain end by themselves, even if no conductor runs.
+A file TEN lets sheets through the outer door, `late-TEN` through the inner one, and `curtain-TEN`
+withholds all other pages. So a window, its drain, and its curtain end by themselves, even if no
+conductor runs.
 """
 from collections.abc import Iterable
 from pathlib import Path
@@ -24,25 +25,31 @@ class Gate:
         self.folder = folder
 
     def open(self, now: float, closes: int, shuts: int, lifts: int) -> None:
-        """Sheets are taken from now on until the window closes, and through the inner door until it shuts. From the
-        window's end on the curtain is drawn.
+        """Sheets are taken from now on until the window closes, and through the inner door until it
+        shuts. From the window's end on the curtain is drawn.
         """
         curtain = {f"{CURTAIN}{ten}" for ten in tens(closes, lifts)}
         late = {f"{LATE}{ten}" for ten in tens(now, shuts)}
         self.become(curtain | late | {str(ten) for ten in tens(now, closes)})
 
     def drain(self, now: float) -> None:
-        """Only whole sheets pass whose head came in time, until the inner door shuts. The curtain stays."""
+        """Only whole sheets pass whose head came in time, until the inner door shuts.
+
+        The curtain stays.
+        """
         self.become({name for name in self.names() if not name.isdigit() and name != "open"})
 
     def shut(self, now: float) -> None:
-        """No sheet is taken. A curtain that has begun stays; one of a window that did not end goes."""
+        """No sheet is taken.
+
+        A curtain that has begun stays; one of a window that did not end goes.
+        """
         drawn = {name for name in self.names() if name.startswith(CURTAIN)}
         begins = min((int(name.removeprefix(CURTAIN)) * TEN for name in drawn), default=0)
         self.become(drawn if begins <= now else set())
 
     def draw(self, now: float, lifts: int) -> None:
-        """Draws the curtain from now on, for a closing that comes later than its window's end says."""
+        """Draws the curtain from now on, for a closing that comes later than its window's end."""
         self.become(self.names() | {f"{CURTAIN}{ten}" for ten in tens(now, lifts)})
 
     def lifts(self, now: float) -> int:
@@ -61,8 +68,9 @@ class Gate:
     def become(self, names: set[str]) -> None:
         """The folder has files of these names, and no other.
 
-        A kill in the middle leaves no open door without what must follow it: to shut, the inner door's files go first;
-        to open, they come after the curtain's, and the outer door's come last.
+        A kill in the middle leaves no open door without what must follow it: to shut, the inner
+        door's files go first; to open, they come after the curtain's, and the outer door's come
+        last.
         """
         disk.make_folder(self.folder, 0o755)
         there = self.names()

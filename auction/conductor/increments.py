@@ -1,4 +1,6 @@
-"""Increments by rule: by round, or by the excess demand that everyone saw in the last round results."""
+"""Increments by rule: by round, or by the excess demand that everyone saw in the last round
+results.
+"""
 import dataclasses
 from typing import Any
 
@@ -11,7 +13,8 @@ DEFAULT = 10
 
 @dataclasses.dataclass(frozen=True)
 class Rule:
-    """An increment in percent, up to a round, and while excess demand is at least this percentage of supply.
+    """An increment in percent, up to a round, and while excess demand is at least this percentage
+    of supply.
 
     None is no condition.
     """
@@ -24,7 +27,8 @@ class Rule:
 def rules_of(value: Any) -> list[Rule]:
     """The rules of a timetable.
 
-    The first that applies counts, so the last one has no condition. A ValueError says what is wrong.
+    The first that applies counts, so the last one has no condition. A ValueError says what is
+    wrong.
     """
     if not isinstance(value, list) or not value:
         raise ValueError("increments must be a list of rules")
@@ -59,10 +63,12 @@ def rule_of(entry: Any, where: str, is_last: bool) -> Rule:
 
 
 def increments_for(rules: list[Rule], setup: Setup, number: int, results: Page | None) -> list[int]:
-    """The increments that lead to the clock prices of a round: one in version 1, and one for each product in version 2.
+    """The increments that lead to the clock prices of a round: one in version 1, and one for each
+    product in version 2.
 
-    They go with the closing of the round before, so they are decided by the results of the round before that; None is
-    excess demand above every threshold. In version 1 excess demand is counted over all products in bidding units.
+    They go with the closing of the round before, so they are decided by the results of the round
+    before that; None is excess demand above every threshold. In version 1 excess demand is counted
+    over all products in bidding units.
     """
     demands = [product["demand"] for product in results["products"]] if results else None
     if setup.version == 1:

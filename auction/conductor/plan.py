@@ -1,5 +1,6 @@
-"""The plan: what the operator and the timetable want. It is one file, changed by one process at a time, and whole after
-any crash.
+"""The plan: what the operator and the timetable want.
+
+It is one file, changed by one process at a time, and whole after any crash.
 """
 import dataclasses
 import json
@@ -38,7 +39,10 @@ class Word:
 
 @dataclasses.dataclass
 class Notice:
-    """An announcement that goes with a change of the plan. Its key is drawn with the change, so it is made once."""
+    """An announcement that goes with a change of the plan.
+
+    Its key is drawn with the change, so it is made once.
+    """
 
     key: str
     text: str
@@ -46,7 +50,9 @@ class Notice:
 
 @dataclasses.dataclass
 class Plan:
-    """The windows by round, the rules of increments, and what a person or the conductor has decided."""
+    """The windows by round, the rules of increments, and what a person or the conductor has
+    decided.
+    """
 
     auction: str  # the digest of the set-up and the commitment that it is for
     windows: dict[int, Window] = dataclasses.field(default_factory=dict)
@@ -87,14 +93,18 @@ class PlanFile:
         self.path, self.auction = path, auction
 
     def read(self) -> Plan:
-        """The plan, or one without windows if there is none yet. A StrangePlan if it is another auction's."""
+        """The plan, or one without windows if there is none yet.
+
+        A StrangePlan if it is another auction's.
+        """
         if not self.path.exists():
             return Plan(self.auction)
         plan = Plan.of(json.loads(self.path.read_text(encoding="utf-8")))
         if plan.auction != self.auction:
             raise StrangePlan(
-                f"{self.path} is of another auction, or of an earlier commitment. Put the folders state, operator, asked, "
-                "kept, public and receipts of that auction away."
+                f"{self.path} is of another auction, or of an earlier commitment. "
+                "Put the folders state, operator, asked, kept, public and receipts of that "
+                "auction away."
             )
         return plan
 

@@ -44,7 +44,10 @@ class Report:
 def show(
     folders: Folders, report: Report, number: int | None, sheets: list[str] | None, now: float
 ) -> None:
-    """Writes the report for the operator's page and for `status`. A sheet in force is a secret of the operator's."""
+    """Writes the report for the operator's page and for `status`.
+
+    A sheet in force is a secret of the operator's.
+    """
     disk.show(
         folders.operator / "conductor.json",
         json.dumps(

@@ -12,7 +12,9 @@ CLOSING_SECONDS = 300  # as long as nginx waits for a closing
 
 
 class NoReply(Exception):
-    """Nobody answered, or only nginx, or a stranger: what was asked may have been done all the same."""
+    """Nobody answered, or only nginx, or a stranger: what was asked may have been done all the
+    same.
+    """
 
 
 class Refused(Exception):
@@ -55,7 +57,10 @@ class Operator:
             raise NoReply(f"no reply to {path}: {error}") from error
 
     def page(self, path: str, seconds: float = CLOSING_SECONDS) -> Page:
-        """The page for a path. A refusal is an exception, so that none is stored as if it were a page."""
+        """The page for a path.
+
+        A refusal is an exception, so that none is stored as if it were a page.
+        """
         page = self.ask(path, seconds=seconds)
         if "code" in page:
             raise Refused(f"the server refuses {path}: {page}")

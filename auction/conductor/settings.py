@@ -1,5 +1,6 @@
-"""The conductor's settings and folders: FOLDER/conductor.json, which the operator writes, and what the conductor makes
-next to it.
+"""The conductor's settings and folders:
+
+FOLDER/conductor.json, which the operator writes, and what the conductor makes next to it.
 """
 import dataclasses
 import grp
@@ -38,14 +39,18 @@ class Settings:
     setup: Path
     token: Path  # a file with the operator's token
     journal: Path  # the server's own
-    port: int = 8105  # the server's, at which the conductor counts connections on their way
-    drain: int = (
-        10  # from a window's end until the inner door shuts, for requests that began in time
-    )
-    publish: int = 30  # from a window's end until the curtain lifts, longer than `drain` and the longest closing; 0 for none
-    between: int = 300  # at the least from results to the next opening
-    notice: int = 900  # a window that begins within this time is not brought forward or shortened
-    readers: str = ""  # the group of nginx's workers, which read the report to the operator's page; "" asks nginx.conf
+    # The server's port, at which the conductor counts connections on their way.
+    port: int = 8105
+    # From a window's end until the inner door shuts, for requests that began in time.
+    drain: int = 10
+    # From a window's end until the curtain lifts; 0 for no curtain.
+    publish: int = 30
+    # At the least from results to the next opening.
+    between: int = 300
+    # A window that begins within this time is not brought forward or shortened.
+    notice: int = 900
+    # The group of nginx's workers, which read the report for the operator; "" asks nginx.conf.
+    readers: str = ""
 
     @classmethod
     def read(cls, folder: Path) -> Self:
@@ -112,7 +117,7 @@ class Folders:
 
     @property
     def kept(self) -> Path:
-        """For the operator: closings and pages, as deploy/close stores them."""
+        """For the operator: closings and pages, as `auction close` stores them."""
         return self.top / "kept"
 
     @property
@@ -121,8 +126,8 @@ class Folders:
         return self.top / "state"
 
     def make(self, readers: str) -> None:
-        """Makes what is missing, with modes that do not depend on the umask, and brings what an earlier process wrote
-        to the disk.
+        """Makes what is missing, with modes that do not depend on the umask, and brings what an
+        earlier process wrote to the disk.
         """
         for folder, mode in (
             (self.gate, 0o755),
@@ -139,7 +144,9 @@ class Folders:
             self.give_to(readers)
 
     def give_to(self, readers: str) -> None:
-        """Gives the folders of the report and of requests, and the files made in them, to this group."""
+        """Gives the folders of the report and of requests, and the files made in them, to this
+        group.
+        """
         try:
             group = grp.getgrnam(readers).gr_gid
         except KeyError as error:

@@ -1,4 +1,6 @@
-"""The operator's timetable: a file of days and windows becomes the windows of the rounds, in UTC seconds."""
+"""The operator's timetable: a file of days and windows becomes the windows of the rounds, in UTC
+seconds.
+"""
 import dataclasses
 import datetime
 import json
@@ -165,7 +167,10 @@ def time_of(text: Any, where: str) -> datetime.time:
 
 
 def seconds_of(date: datetime.date, time: datetime.time, where: str, zone: datetime.tzinfo) -> int:
-    """A local time in UTC seconds. One that the day lacks, or has twice, is refused: clocks are changed then."""
+    """A local time in UTC seconds.
+
+    One that the day lacks, or has twice, is refused: clocks are changed then.
+    """
     local = datetime.datetime.combine(date, time, zone)
     both = {int(local.replace(fold=fold).timestamp()) for fold in (0, 1)}
     if len(both) > 1:
@@ -181,10 +186,12 @@ Windows = dict[int, Window]
 def replaced(
     old: Windows, begun: int, fresh: list[Window], now: float, between: int, notice: int
 ) -> Windows:
-    """The windows by round, once fresh ones have replaced those of the rounds after the last that has begun.
+    """The windows by round, once fresh ones have replaced those of the rounds after the last that
+    has begun.
 
-    Fresh windows that lie in the past are left out. What bidders expect soon stays: a window that begins within the
-    notice time may be put off, and not be brought forward or shortened; one that is new begins after the notice time.
+    Fresh windows that lie in the past are left out. What bidders expect soon stays: a window that
+    begins within the notice time may be put off, and not be brought forward or shortened; one that
+    is new begins after the notice time.
     """
     later = [dataclasses.replace(window) for window in fresh if window.opens > now]
     if not later:
@@ -198,7 +205,8 @@ def replaced(
             check_promise(old[number], windows[number], number, notice)
         elif windows[number].opens < now + notice:
             raise TimetableFault(
-                f"round {number} would open within the {notice} s of notice that conductor.json gives bidders"
+                f"round {number} would open within the {notice} s of notice that conductor.json "
+                "gives bidders"
             )
     return windows
 
@@ -208,9 +216,8 @@ def check_gap(windows: Windows, number: int, between: int) -> None:
     before, window = windows.get(number - 1), windows[number]
     if before and window.opens < before.closes + between:
         raise TimetableFault(
-            f"round {number} would open {window.opens - before.closes} s after round {number - 1} closes, and "
-            "conductor.json asks "
-            f"for {between} s between them"
+            f"round {number} would open {window.opens - before.closes} s after round {number - 1} "
+            f"closes, and conductor.json asks for {between} s between them"
         )
 
 
@@ -221,8 +228,8 @@ def check_promise(promised: Window, window: Window, number: int, notice: int) ->
         or window.closes - window.opens < promised.closes - promised.opens
     ):
         raise TimetableFault(
-            f"round {number} is announced to open within {notice} s: it may be put off, and not brought forward or "
-            "shortened"
+            f"round {number} is announced to open within {notice} s: it may be put off, and not "
+            "brought forward or shortened"
         )
 
 

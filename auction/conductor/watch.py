@@ -13,7 +13,7 @@ GONE = 60  # seconds of a window without the server, after which its round waits
 
 @dataclasses.dataclass(frozen=True)
 class Look:
-    """One reading of the clock, and the time of day of the last look at which the server answered."""
+    """One reading of the clock, and the time of day at which the server answered last."""
 
     wall: float
     passed: float
@@ -38,11 +38,13 @@ class Watch:
             return None
 
     def look(self) -> float | None:
-        """Reads the clock. Returns by how many seconds it was set since the last look, or None if it was not."""
+        """Reads the clock.
+
+        Returns by how many seconds it was set since the last look, or None if it was not.
+        """
         before = self.last
-        self.last = Look(
-            self.clock.wall(), self.clock.passed(), self.clock.boot(), before and before.answered
-        )
+        answered = before.answered if before else None
+        self.last = Look(self.clock.wall(), self.clock.passed(), self.clock.boot(), answered)
         if before is None:
             return None
         jump = self.last.wall - before.wall

@@ -1,4 +1,6 @@
-"""What the conductor and the operator's commands share: settings, folders, clock, plan, and the public files."""
+"""What the conductor and the operator's commands share: settings, folders, clock, plan, and the
+public files.
+"""
 import contextlib
 import hashlib
 from collections.abc import Callable, Iterator
@@ -6,7 +8,7 @@ from pathlib import Path
 
 from . import disk
 from .asked import Asked
-from .board import Board
+from .public import PublicFiles
 from .clock import Clock, MachineClock
 from .closing import Auction
 from .gate import Gate
@@ -19,7 +21,7 @@ from auction.formats.setup import Setup
 STATUS_SECONDS = 10
 
 
-class Office:
+class Context:
     """An auction's folder with its settings."""
 
     def __init__(
@@ -36,21 +38,25 @@ class Office:
         self.auction = Auction(self.operator, self.setup, self.journal, self.folders.kept)
         self.auction.chain()  # there must be one
         self.asked = Asked(self.folders.asked / "close.json", self.setup)
-        self.plan_file, self.board, self.gate = (
+        self.plan_file, self.public, self.gate = (
             PlanFile(self.folders.state / "plan.json", self.identity()),
-            Board(self.folders),
+            PublicFiles(self.folders),
             Gate(self.folders.gate),
         )
 
     def identity(self) -> str:
-        """The digest of what no two auctions share: the set-up and the commitment. A rehearsal has the set-up only."""
+        """The digest of what no two auctions share: the set-up and the commitment.
+
+        A rehearsal has the set-up only.
+        """
         commitment = (self.folders.public / "commitment.json").read_bytes()
         return hashlib.sha256(self.setup.document + commitment).hexdigest()
 
     @contextlib.contextmanager
     def changing(self) -> Iterator[Plan]:
-        """The plan, while no other process changes it. At the end it is stored, and what goes with the change is
-        announced.
+        """The plan, while no other process changes it.
+
+        At the end it is stored, and what goes with the change is announced.
 
         An exception leaves the plan as it was stored last.
         """
@@ -62,15 +68,17 @@ class Office:
             self.announce_changes(plan)
 
     def announce_changes(self, plan: Plan) -> None:
-        """Announces what the stored plan says is to be announced, each once, and shows its timetable."""
+        """Announces what the stored plan says is to be announced, each once, and shows its
+        timetable.
+        """
         for notice in plan.notices:
             self.announce(notice.key, notice.text)
         plan.notices = []
         self.plan_file.store(plan)
-        self.board.show_timetable(plan)
+        self.public.show_timetable(plan)
 
     def announce(self, key: str, text: str) -> None:
-        if made := self.board.announce(key, text, self.clock.wall()):
+        if made := self.public.announce(key, text, self.clock.wall()):
             self.say(made)
 
     def status(self) -> Page:

@@ -1,4 +1,6 @@
-"""What everyone sees, as files that nginx serves: timetable, announcements, closed rounds, and winners."""
+"""What everyone sees, as files that nginx serves: timetable, announcements, closed rounds, and
+winners.
+"""
 import json
 import os
 from pathlib import Path
@@ -11,7 +13,7 @@ from .settings import Folders
 from .server import Page
 
 
-class Board:
+class PublicFiles:
     """The public files. Each is written whole, and only if it has changed."""
 
     def __init__(self, folders: Folders) -> None:
@@ -60,7 +62,10 @@ class Board:
         return f"announcement {len(made)}: {text}"
 
     def show_timetable(self, plan: Plan) -> None:
-        """The timetable as bidders' pages read it. It follows from the plan and from what is published."""
+        """The timetable as bidders' pages read it.
+
+        It follows from the plan and from what is published.
+        """
         last = self.published()
         results = self.results(last)
         ended = bool(results and results["ended"])
@@ -80,7 +85,9 @@ class Board:
         )
 
     def publish_winners(self, results: Page) -> None:
-        """Publishes what each bidder has won at the end, and pays at the posted prices of the last round."""
+        """Publishes what each bidder has won at the end, and pays at the posted prices of the last
+        round.
+        """
         last = self.published()
         posted = [product["posted"] for product in (self.results(last) or {})["products"]]
         bidders = [
@@ -94,8 +101,8 @@ class Board:
         self.put(self.folders.public / "winners.json", {"bidders": bidders, "round": last})
 
     def put(self, path: Path, value: Page) -> None:
-        """Writes a file if it has changed, with the time of another second than before: nginx knows its versions
-        by time and length.
+        """Writes a file if it has changed, with the time of another second than before: nginx knows
+        its versions by time and length.
         """
         text = json.dumps(value, separators=(",", ":")) + "\n"
         before = path.stat().st_mtime if path.exists() else 0.0

@@ -1,0 +1,29 @@
+"""Timetables that an operator gives a conductor."""
+import json
+from typing import Any
+
+from auction.conductor import commands
+from auction.conductor.timetable import TimetableFault
+from tests.lib.conducted import ConductedAuction
+
+
+def time_of(seconds: int) -> str:
+    """A time of the first day, in seconds after the beginning, which is at noon."""
+    return f"{12 + seconds // 3600:02}:{seconds // 60 % 60:02}:{seconds % 60:02}"
+
+
+def day_of(*windows: tuple[int, int]) -> dict[str, Any]:
+    """A timetable of windows in seconds after the beginning."""
+    times = [f"{time_of(opens)}-{time_of(closes)}" for opens, closes in windows]
+    return {"days": [{"date": "2026-11-28", "windows": times}]}
+
+
+def take(auction: ConductedAuction, *windows: tuple[int, int], **more: Any) -> str:
+    """Gives the conductor a timetable. Returns why it is refused, or nothing."""
+    path = auction.folder / "timetable.json"
+    path.write_text(json.dumps({**day_of(*windows), **more}))
+    try:
+        commands.plan(auction.context(), path)
+    except TimetableFault as fault:
+        return str(fault)
+    return ""

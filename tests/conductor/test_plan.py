@@ -1,0 +1,98 @@
+"""A new timetable changes only rounds that have not begun.
+
+It changes nothing that begins soon for the worse.
+"""
+import pytest
+
+from auction.conductor import commands
+from auction.conductor.report import State
+from tests.conductor.conftest import Conduct
+from tests.conductor.finished import finish
+from tests.conductor.plans import take
+from tests.lib.conducted import ConductedAuction, refusal
+
+FIRST = ((400, 700), (800, 1000), (1100, 1300), (1400, 1500))
+
+
+@pytest.fixture
+def unplanned(conduct: Conduct) -> ConductedAuction:
+    auction = conduct([], notice=300)
+    auction.play(State.UNPLANNED)
+    return auction
+
+
+@pytest.mark.parametrize(
+    ("windows", "words"),
+    [
+        pytest.param([(200, 500)], "within the 300 s of notice", id="without notice"),
+        pytest.param([(400, 700), (720, 900)], "20 s after round 1 closes", id="too close"),
+        pytest.param([(400, 700), (600, 900)], "after round 1 closes", id="overlapping"),
+        pytest.param([(0, 60)], "are in the past", id="in the past"),
+    ],
+)
+def test_a_first_timetable_is_refused(
+    unplanned: ConductedAuction, windows: list[tuple[int, int]], words: str
+) -> None:
+    assert words in take(unplanned, *windows)
+    assert unplanned.context().plan_file.read().windows == {}
+    assert not unplanned.announcements()
+
+
+@pytest.fixture
+def opened(unplanned: ConductedAuction) -> ConductedAuction:
+    """An auction with the first timetable, in round 1."""
+    assert take(unplanned, *FIRST) == ""
+    unplanned.play(State.OPEN)
+    unplanned.bid()
+    return unplanned
+
+
+def test_the_open_window_stays_and_past_windows_are_left_out(opened: ConductedAuction) -> None:
+    assert take(opened, (0, 60), (1000, 1200), (1300, 1400)) == ""
+    assert opened.window(1) == (400, 700)
+    assert opened.window(2) == (1000, 1200)
+    assert opened.window(3) == (1300, 1400)
+    assert 4 not in opened.context().plan_file.read().windows
+
+
+def test_a_window_within_the_open_one_is_refused(opened: ConductedAuction) -> None:
+    assert "round 2 would open -200 s after round 1 closes" in take(opened, (500, 800))
+
+
+@pytest.fixture
+def announced(opened: ConductedAuction) -> ConductedAuction:
+    """An auction whose round 2 begins in less than the notice."""
+    assert take(opened, (1000, 1200), (1300, 1400)) == ""
+    opened.play(State.CLOSED)
+    opened.wait(80)
+    return opened
+
+
+@pytest.mark.parametrize(
+    "window",
+    [
+        pytest.param((970, 1200), id="earlier"),
+        pytest.param((1000, 1190), id="shorter"),
+        pytest.param((990, 1190), id="earlier and shorter"),
+    ],
+)
+def test_an_announced_window_does_not_become_worse(
+    announced: ConductedAuction, window: tuple[int, int]
+) -> None:
+    assert "may be put off" in take(announced, window)
+
+
+def test_an_announced_window_may_be_put_off(announced: ConductedAuction) -> None:
+    assert take(announced, (1020, 1220), (1300, 1310)) == ""
+    assert announced.window(2) == (1020, 1220)
+    finish(announced)
+    texts = [one["text"] for one in announced.announcements() if "timetable" in one["text"]]
+    assert len(texts) == 3, "each change is announced"
+    first = "The timetable has 2 windows from now on. Round 2 opens at 12:16:40 UTC"
+    assert texts[1].startswith(first)
+
+
+def test_no_timetable_is_taken_after_the_end(announced: ConductedAuction) -> None:
+    finish(announced)
+    fault = refusal(commands.plan, announced.context(), announced.folder / "timetable.json")
+    assert "the auction ended" in fault

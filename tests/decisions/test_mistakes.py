@@ -1,0 +1,57 @@
+"""The explorer finds each mistake that is planted in the rules of `decide`."""
+from collections.abc import Callable
+from typing import NamedTuple
+
+import pytest
+
+from auction.conductor.decision import Close
+from tests.decisions import mistakes
+from tests.decisions.conductor import Decide
+from tests.decisions.explorer import BEGINNINGS, explore
+from tests.decisions.mistakes import before, changed, without
+
+pytestmark = pytest.mark.early
+FOLDER, STARTED = "another auction's folder", "a conductor that starts after the window"
+COMMAND, PAGE = "a command", "a page, the conductor late once"
+STEP = "a step of the clock, late once"
+
+
+class Mistake(NamedTuple):
+    """A mistake in words, what makes a `decide` with it, and the exploration that finds it."""
+
+    words: str
+    make: Callable[[], Decide]
+    exploration: str
+
+
+MISTAKES = [
+    Mistake("another auction's plan is followed", lambda: without("another set-up"), FOLDER),
+    Mistake("a window that was not opened is no doubt", lambda: without("did not open"), STARTED),
+    Mistake("no sheets are no doubt", lambda: without("nobody has a sheet"), COMMAND),
+    Mistake("an outage is no doubt", lambda: without("missed more than"), PAGE),
+    Mistake("a clock that was set is no doubt", lambda: without("differ by more"), STEP),
+    Mistake("a doubt holds nothing", lambda: without("a doubt stands"), COMMAND),
+    Mistake("connections are not waited for", lambda: without("before the last change"), COMMAND),
+    Mistake(
+        "the closing is made while the inner door is open",
+        lambda: before("make it, for exactly", "less than `drain` ago"),
+        COMMAND,
+    ),
+    Mistake("the inner door stays open", mistakes.with_an_open_inner_door, PAGE),
+    Mistake("a pause stops no closing", lambda: without("paused"), COMMAND),
+    Mistake("a curtain may be too short", lambda: without("draw it for"), COMMAND),
+    Mistake(
+        "a closing is sent however late",
+        lambda: changed("send the closing", lambda look: Close(0, 10**9, 10**9)),
+        PAGE,
+    ),
+    Mistake("a round is published at once", lambda: without("and the curtain is drawn"), COMMAND),
+    Mistake("the curtain lifts once it is closed", mistakes.with_a_curtain_that_lifts_early, PAGE),
+    Mistake("a word releases later doubts", mistakes.with_a_word_for_everything, STARTED),
+    Mistake("there is no curtain", mistakes.without_a_curtain, PAGE),
+]
+
+
+@pytest.mark.parametrize("mistake", MISTAKES, ids=lambda mistake: mistake.words)
+def test_a_planted_mistake_is_found(mistake: Mistake) -> None:
+    assert explore(BEGINNINGS[mistake.exploration], mistake.make()).broken
