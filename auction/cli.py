@@ -8,6 +8,7 @@ from auction.commands import (
     close,
     commit,
     conductor,
+    init,
     maps,
     ready,
     receipts,
@@ -18,6 +19,7 @@ from auction.commands import (
 
 VERSION = "auction 1"
 COMMANDS: tuple[Command, ...] = (
+    init.COMMAND,
     commit.COMMAND,
     maps.COMMAND,
     ready.COMMAND,

@@ -9,6 +9,7 @@ import json
 import os
 import pathlib
 import shutil
+import subprocess
 import tempfile
 from collections import Counter
 from collections.abc import Callable, Iterator
@@ -19,7 +20,7 @@ import pytest
 # Before the first import of these modules: a failing `assert` in them shows its values.
 pytest.register_assert_rewrite("tests")
 
-from tests.lib.paths import BUILT, PATHS
+from tests.lib.paths import BUILT, PATHS, TOP
 from tests.lib.server import Server
 from tests.lib.site import Site
 
@@ -32,7 +33,9 @@ def pytest_addoption(parser: pytest.Parser) -> None:
         "--allow-skips", action="store_true", help="a skipped test does not fail the run"
     )
     parser.addoption("--summary", type=pathlib.Path, help="the file that gets the counts, as JSON")
-    parser.addoption("--full", action="store_true", help="tests/load plays the auction in full size")
+    parser.addoption(
+        "--full", action="store_true", help="tests/load plays the auction in full size"
+    )
     parser.addoption("--debian", help="the folder of a small Debian, for the units under systemd")
 
 
@@ -121,6 +124,14 @@ def program(request: pytest.FixtureRequest) -> pathlib.Path:
         pytest.fail(
             f"{path} does not exist. Run `rt run` in crates/clock_auction to build the program."
         )
+    return path
+
+
+@pytest.fixture(scope="session")
+def openapi() -> pathlib.Path:
+    """The description of nginx's port, as it is built."""
+    path = TOP / "schemas" / "openapi.json"
+    subprocess.run([TOP / "tools/bundle", path], check=True, timeout=60)
     return path
 
 
