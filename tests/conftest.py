@@ -34,7 +34,7 @@ def pytest_addoption(parser: pytest.Parser) -> None:
     )
     parser.addoption("--summary", type=pathlib.Path, help="the file that gets the counts, as JSON")
     parser.addoption(
-        "--full", action="store_true", help="tests/load plays the auction in full size"
+        "--full", action="store_true", help="tests/load plays in full size"
     )
     parser.addoption("--debian", help="the folder of a small Debian, for the units under systemd")
 
