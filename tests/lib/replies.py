@@ -1,6 +1,7 @@
 """The replies of a server, by the tables of docs/formats.md."""
 import json
 import re
+from typing import Any
 
 REASONS = {
     200: "OK",
@@ -17,7 +18,7 @@ REASONS = {
 }
 
 # The codes of each status, and what their pages have in addition to the code.
-CODES = {
+CODES: dict[int, dict[str, str]] = {
     400: {"bad_head": "", "bad_length": "", "cut_short": "", "bad_json": ""},
     401: {"token": ""},
     403: {"role": ""},
@@ -32,7 +33,15 @@ CODES = {
         "increment": "",
         "too_many_ties": "",
         **dict.fromkeys(
-            ["unknown_product", "price_range", "over_cap", "price_order", "mixed_direction", "keep_price"], "place"
+            [
+                "unknown_product",
+                "price_range",
+                "over_cap",
+                "price_order",
+                "mixed_direction",
+                "keep_price",
+            ],
+            "place",
         ),
         **dict.fromkeys(["tie_range", "tie_repeated", "price_limit"], "place"),
     },
@@ -41,7 +50,7 @@ CODES = {
 }
 
 # The keys of the pages with status 200.
-PAGES = {
+PAGES: dict[tuple[str, ...], str] = {
     ("ended", "round", "version"): "status",
     ("products", "requirement", "version"): "products",
     ("limit", "products", "requirement", "version"): "products",
@@ -57,12 +66,13 @@ PAGES = {
 ALLOWED = ["GET", "GET, PUT", "POST"]
 
 HEAD = re.compile(
-    rb"HTTP/1\.1 (\d{3}) ([A-Za-z ]+)\r\n(?:allow: ([A-Z, ]+)\r\n)?connection: close\r\ncontent-length: (\d+)\r\n"
-    rb"content-type: application/json\r\n(www-authenticate: Bearer\r\n)?\r\n"
+    rb"HTTP/1\.1 (\d{3}) ([A-Za-z ]+)\r\n(?:allow: ([A-Z, ]+)\r\n)?connection: close\r\n"
+    rb"content-length: (\d+)\r\ncontent-type: application/json\r\n"
+    rb"(www-authenticate: Bearer\r\n)?\r\n"
 )
 
 
-def code_of(page, status):
+def code_of(page: dict[str, Any], status: int) -> str | None:
     """The code of a refusal's page, or None if it is not in the table."""
     for code, beside in CODES.get(status, {}).items():
         if (
@@ -74,24 +84,29 @@ def code_of(page, status):
     return None
 
 
-def answer_of(reply):
+def is_framed(head: re.Match[bytes], length: int) -> bool:
+    """Whether the parts of a head fit its status, and a page of this length."""
+    status, allowed = int(head[1]), (head[3] or b"").decode()
+    return (
+        REASONS.get(status) == head[2].decode()
+        and int(head[4]) == length
+        and (status == 401) == bool(head[5])
+        and (allowed in ALLOWED if status == 405 else not allowed)
+    )
+
+
+def answer_of(reply: bytes) -> str | None:
     """The word for a reply, or None if it is not in the table."""
     head = HEAD.match(reply)
     if not head:
         return None
-    status, reason, allowed, length, asks = int(head[1]), head[2].decode(), head[3], int(head[4]), head[5]
-    text = reply[head.end() :]
+    status, text = int(head[1]), reply[head.end() :]
     try:
         page = json.loads(text)
     except ValueError:
         return None
-    is_framed = REASONS.get(status) == reason and length == len(text) and (status == 401) == bool(asks)
     is_compact = json.dumps(page, separators=(",", ":"), sort_keys=True).encode() == text
-    is_allowed = allowed.decode() in ALLOWED if status == 405 and allowed else not allowed and status != 405
-    if not (is_framed and is_compact and is_allowed and isinstance(page, dict)):
+    if not (is_framed(head, len(text)) and is_compact and isinstance(page, dict)):
         return None
-    if status == 200:
-        name = PAGES.get(tuple(sorted(page)))
-        return f"200 {name}" if name else None
-    code = code_of(page, status)
-    return f"{status} {code}" if code else None
+    word = PAGES.get(tuple(sorted(page))) if status == 200 else code_of(page, status)
+    return f"{status} {word}" if word else None
