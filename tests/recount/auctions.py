@@ -3,20 +3,23 @@
 The recount decides which sheets and closings are accepted.
 """
 import dataclasses
+import itertools
 import json
 from random import Random
 from typing import Any
 
-from recount import Auction, Price, activity_limit, take
-from formats import Bid, Product, Refused, setup_in
+from auction.recount.formats import Bid, Product, Refused, setup_in
+from auction.recount.rules import Auction, Price, activity_limit, take
+from tests.lib.setups import OPERATOR, bidder
 
 HIGH = 5 * 10**11  # Above half of the highest price, so a few rounds reach it.
 
-OPERATOR = "OPERATOROPERATOR"
-
 
 def random_setup(chance: Random) -> dict[str, Any]:
-    """A set-up of a few products and bidders. With low prices, many requests have one price point."""
+    """A set-up of a few products and bidders.
+
+    If prices are low, many requests have one price point.
+    """
     version, low = chance.choice([1, 2]), chance.random() < 0.5
     products: list[dict[str, Any]] = []
     for number in range(chance.randint(1, 6)):
@@ -34,7 +37,7 @@ def random_setup(chance: Random) -> dict[str, Any]:
     whole = sum(product["cap"] * product["units"] for product in products)
     eligibilities = [whole, whole, whole // 2, whole // 3, chance.randint(0, whole)]
     bidders = [
-        {"name": f"B_{number}", "token": f"{number:016d}", "eligibility": chance.choice(eligibilities)}
+        bidder(f"B_{number}", f"{number:016d}", chance.choice(eligibilities))
         for number in range(chance.randint(2, 12))
     ]
     limit = {"limit": chance.choice([100, 120, 140])} if version == 2 else {}
@@ -48,7 +51,9 @@ def random_setup(chance: Random) -> dict[str, Any]:
     }
 
 
-def chain_of(chance: Random, product: Product, price: Price, demand: int, most: int) -> list[tuple[int, int]]:
+def chain_of(
+    chance: Random, product: Product, price: Price, demand: int, most: int
+) -> list[tuple[int, int]]:
     """The quantities and prices of bids for one product.
 
     Most maintain demand, or move to another quantity in up to three steps.
@@ -61,10 +66,15 @@ def chain_of(chance: Random, product: Product, price: Price, demand: int, most: 
     if kind < 0.55 and demand <= most:
         return [(demand, price.clock)]
     target = chance.choice([0, most, most, chance.randint(0, most)])
-    between = [quantity for quantity in range(min(demand, target), max(demand, target) + 1) if quantity != demand]
-    steps = sorted(chance.sample(between, min(len(between), chance.randint(1, 3))), reverse=target < demand)
+    least, greatest = sorted([demand, target])
+    between = [quantity for quantity in range(least, greatest + 1) if quantity != demand]
+    chosen = chance.sample(between, min(len(between), chance.randint(1, 3)))
+    steps = sorted(chosen, reverse=target < demand)
     middle = price.start + (price.clock - price.start) // 2
-    prices = sorted({chance.choice([price.start, middle, price.clock, chance.randint(*price)]) for _ in steps})
+    points = (
+        chance.choice([price.start, middle, price.clock, chance.randint(*price)]) for _ in steps
+    )
+    prices = sorted(set(points))
     return list(zip(steps[len(steps) - len(prices) :], prices))
 
 
@@ -88,18 +98,21 @@ def spoiled(chance: Random, bids: list[Bid]) -> list[Bid]:
         chance.shuffle(bids)
     elif kind < 0.6 and bids:
         at, field = chance.randrange(len(bids)), chance.choice(Bid._fields)
-        bids[at] = bids[at]._replace(**{field: max(0, getattr(bids[at], field) + chance.choice([-1, 1, 2]))})
+        number = max(0, getattr(bids[at], field) + chance.choice([-1, 1, 2]))
+        bids[at] = bids[at]._replace(**{field: number})
     elif len(bids) > 1:
         at = chance.randrange(len(bids) - 1)
-        first, second = bids[at : at + 2]
-        bids[at : at + 2] = first._replace(quantity=second.quantity), second._replace(quantity=first.quantity)
+        one, other = bids[at], bids[at + 1]
+        bids[at] = one._replace(quantity=other.quantity)
+        bids[at + 1] = other._replace(quantity=one.quantity)
     return bids
 
 
 def random_ties(chance: Random, auction: Auction) -> list[list[int]]:
     """Tie-breaking numbers for all pairs, some, or none. Some numbers occur several times."""
     share = chance.choice([0, 0.5, 1, 1])
-    pairs = [[b, p] for b in range(len(auction.demands)) for p in range(len(auction.prices)) if chance.random() < share]
+    whole = itertools.product(range(len(auction.demands)), range(len(auction.prices)))
+    pairs = [pair for pair in whole if chance.random() < share]
     chance.shuffle(pairs)
     return [[*pair, chance.choice([0, 1, 2, chance.randint(0, 2**64 - 1)])] for pair in pairs]
 
@@ -108,16 +121,19 @@ def request(chance: Random, line: str, token: str, value: dict[str, Any]) -> byt
     """A request as a client or nginx would send it."""
     items = list(value.items())
     chance.shuffle(items)
-    body = json.dumps(dict(items), separators=chance.choice([(",", ":"), (", ", ": "), None])).encode()
-    head = [f"Authorization: Bearer {token}", f"Content-Length: {len(body)}", "Host: auction", "Connection: close"]
-    head = head[: chance.choice([2, 4])]
+    separators = chance.choice([(",", ":"), (", ", ": "), None])
+    body = json.dumps(dict(items), separators=separators).encode()
+    head = [f"Authorization: Bearer {token}", f"Content-Length: {len(body)}"]
+    head += chance.choice([[], ["Host: auction", "Connection: close"]])
     chance.shuffle(head)
     if chance.random() < 0.3:
         head = [each.lower().replace(token.lower(), token) for each in head]
     return "\r\n".join([f"{line} HTTP/1.{chance.choice('01')}", *head, "\r\n"]).encode() + body
 
 
-def sheet_text(chance: Random, auction: Auction, bidder: int, number: int, bids: list[Bid]) -> bytes:
+def sheet_text(
+    chance: Random, auction: Auction, bidder: int, number: int, bids: list[Bid]
+) -> bytes:
     """A request with a sheet."""
     value = {"bids": [bid._asdict() for bid in bids], "round": number}
     return request(chance, "PUT /v1/me/bids", auction.setup.bidders[bidder].token, value)
@@ -125,6 +141,7 @@ def sheet_text(chance: Random, auction: Auction, bidder: int, number: int, bids:
 
 def closing_text(chance: Random, auction: Auction, number: int) -> bytes:
     """A request with a closing, which the rules mostly accept."""
+
     def increment() -> int:
         return chance.choice([1, 2, 5, 10, 20, 50, 50 if chance.random() < 0.9 else 51])
 
@@ -134,12 +151,17 @@ def closing_text(chance: Random, auction: Auction, number: int) -> bytes:
     ties = random_ties(chance, auction)
     if ties and chance.random() < 0.03:
         ties.append(chance.choice([chance.choice(ties), [len(auction.demands), 0, 1]]))
-    return request(chance, "POST /v1/close", OPERATOR, {**increments, "round": number, "ties": ties})
+    value = {**increments, "round": number, "ties": ties}
+    return request(chance, "POST /v1/close", OPERATOR, value)
 
 
 @dataclasses.dataclass
 class Played:
-    """An auction: its set-up document, the accepted requests, and those that were refused after a number of them."""
+    """An auction: its set-up document, and the requests.
+
+    `texts` are those that were accepted. `refused` has the others: how many were accepted before
+    one, its text, and its code.
+    """
 
     document: bytes
     auction: Auction
@@ -164,13 +186,17 @@ def played(chance: Random) -> Played:
     game = Played(document, Auction(setup_in(document)))
     auction = game.auction
     for number in range(1, chance.randint(3, 14)):
-        senders = [bidder for bidder in range(len(auction.demands)) for _ in range(chance.choice([0, 1, 1, 1, 1, 2]))]
+        senders = []
+        for each in range(len(auction.demands)):
+            senders += [each] * chance.choice([0, 1, 1, 1, 1, 2])
         chance.shuffle(senders)
-        for bidder in senders:
-            sheets = (random_sheet(chance, auction, bidder) for _ in range(4))
-            any(game.offer(sheet_text(chance, auction, bidder, number, sheet)) for sheet in sheets)
-        if not any(game.offer(closing_text(chance, auction, number)) for _ in range(3)) or auction.ended:
+        for sender in senders:
+            sheets = (random_sheet(chance, auction, sender) for _ in range(4))
+            any(game.offer(sheet_text(chance, auction, sender, number, one)) for one in sheets)
+        closings = (closing_text(chance, auction, number) for _ in range(3))
+        if not any(map(game.offer, closings)) or auction.ended:
             break
     if chance.random() < 0.2:
-        game.offer(sheet_text(chance, auction, 0, len(auction.rounds) + chance.choice([0, 1, 2]), []))
+        number = len(auction.rounds) + chance.choice([0, 1, 2])
+        game.offer(sheet_text(chance, auction, 0, number, []))
     return game
