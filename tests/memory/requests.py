@@ -1,11 +1,12 @@
 """The set-ups, requests, and rehearsals that are tried with refused allocations."""
 import json
-import pathlib
+from collections.abc import Iterable
+from typing import Any
 
-from loopback import text_of
+from tests.lib.http import text_of
+from tests.lib.paths import EXAMPLES
+from tests.lib.setups import OPERATOR
 
-TOKENS = {"": "", "O": "OPERATOROPERATOR"}
-EXAMPLES = pathlib.Path(__file__).resolve().parent.parent / "examples"
 ONE = (EXAMPLES / "one_product.json").read_text()
 TWO = (EXAMPLES / "two_products.json").read_text()
 GRANULES = (EXAMPLES / "granules_and_increments.json").read_text()
@@ -15,11 +16,13 @@ ONE_AT_HIGHEST = ONE.replace('"opening": 100', f'"opening": {HIGHEST}')
 REPLAY = json.dumps(
     {
         "setup": json.loads(ONE),
-        "scripts": [{"kind": "sincere", "limits": [[120, 115]]}, {"kind": "sincere", "limits": [[130]]}],
+        "scripts": [
+            {"kind": "sincere", "limits": [[120, 115]]},
+            {"kind": "sincere", "limits": [[130]]},
+        ],
         "closings": [{"increment": 10, "ties": []}] * 3,
     }
 )
-
 
 # The program's end and a server's reply if it is out of memory.
 OUT_OF_MEMORY = (1, b"", b"fault: memory\n")
@@ -28,32 +31,36 @@ REPLY_OUT_OF_MEMORY = (
     b'content-type: application/json\r\n\r\n{"code":"memory","status":503}'
 )
 
+Bid = tuple[int, int, int]
 
-def compact(value):
+
+def written(value: Any) -> str:
+    """A value as JSON without spaces, with its keys in byte order."""
     return json.dumps(value, separators=(",", ":"), sort_keys=True)
 
 
-def sheet(number, *bids):
+def sheet(number: int, *bids: Bid) -> str:
     """The body of a sheet with bids of a product, a quantity, and a price."""
-    rows = [{"product": product, "quantity": quantity, "price": price} for product, quantity, price in bids]
-    return compact({"bids": rows, "round": number})
+    keys = ("product", "quantity", "price")
+    return written({"bids": [dict(zip(keys, bid)) for bid in bids], "round": number})
 
 
-def closing(number, ties=(), **increments):
+def closing(number: int, ties: Iterable[list[int]] = (), **increments: Any) -> str:
     """The body of a closing."""
-    return compact({**(increments or {"increment": 10}), "round": number, "ties": ties})
+    return written({**(increments or {"increment": 10}), "round": number, "ties": list(ties)})
 
 
-def request(line, letter="", body=None):
+def request(line: str, letter: str = "", body: str | None = None) -> str:
     """A request with the token of a bidder's letter or of the operator, and a body."""
-    return text_of(line, TOKENS.get(letter, letter * 16), None if body is None else body.encode()).decode()
+    token = OPERATOR if letter == "O" else letter * 16
+    return text_of(line, token, None if body is None else body.encode()).decode()
 
 
-def put(letter, number, *bids):
+def put(letter: str, number: int, *bids: Bid) -> str:
     return request("PUT /v1/me/bids", letter, sheet(number, *bids))
 
 
-def close(number, ties=(), **increments):
+def close(number: int, ties: Iterable[list[int]] = (), **increments: Any) -> str:
     return request("POST /v1/close", "O", closing(number, ties, **increments))
 
 
