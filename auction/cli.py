@@ -8,6 +8,7 @@ from auction.commands import (
     close,
     commit,
     conductor,
+    explain,
     maps,
     ready,
     receipts,
@@ -28,6 +29,7 @@ COMMANDS: tuple[Command, ...] = (
     verify.COMMAND,
     check_receipts.COMMAND,
     recount.COMMAND,
+    explain.COMMAND,
 )
 
 
