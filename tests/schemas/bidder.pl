@@ -1,7 +1,7 @@
 #!/usr/bin/perl
 # A bidder whose client OpenAPI::Client generates from the description that nginx serves at /openapi.json.
 #
-#     TOKEN=.. MOJO_CA_FILE=cert.pem schemas/bidder.pl https://ADDRESS:8443 SCRIPT
+#     TOKEN=.. MOJO_CA_FILE=cert.pem tests/schemas/bidder.pl https://ADDRESS:8443 SCRIPT
 #
 # SCRIPT is a file with a bidder's script, as in a replay document (docs/formats.md). A request that does not fit the
 # description is not sent. A reply that does not fit it ends the program. The program prints each operation with each
@@ -15,7 +15,7 @@ use OpenAPI::Client;
 use Time::HiRes qw(sleep);
 
 my ($url, $script) = @ARGV;
-die "TOKEN=.. schemas/bidder.pl URL SCRIPT\n" unless $script && $ENV{TOKEN};
+die "TOKEN=.. tests/schemas/bidder.pl URL SCRIPT\n" unless $script && $ENV{TOKEN};
 $script = decode_json path($script)->slurp;
 
 my $client      = OpenAPI::Client->new("$url/openapi.json", base_url => $url, coerce => '');
