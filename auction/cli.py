@@ -8,6 +8,7 @@ from auction.commands import (
     close,
     commit,
     conductor,
+    explain,
     init,
     maps,
     ready,
@@ -30,6 +31,7 @@ COMMANDS: tuple[Command, ...] = (
     verify.COMMAND,
     check_receipts.COMMAND,
     recount.COMMAND,
+    explain.COMMAND,
 )
 
 

@@ -43,7 +43,9 @@ def pytest_addoption(parser: pytest.Parser) -> None:
 
 
 def is_there(name: str) -> bool:
-    """Whether a command, or a Python module, is there."""
+    """Whether a command, a Python module, or a Perl module such as A::B is there."""
+    if "::" in name:
+        return subprocess.run(["perl", f"-M{name}", "-e", "1"], capture_output=True).returncode == 0
     return shutil.which(name, path=PATHS) is not None or importlib.util.find_spec(name) is not None
 
 

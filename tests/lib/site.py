@@ -156,6 +156,7 @@ class Site:
         if self.program is not None:
             self.bound_sheets()
         shutil.copytree(TOP / "web", self.folder / "web")
+        subprocess.run([TOP / "tools/bundle", self.folder / "openapi.json"], check=True)
         self.write_configuration(more)
         command = [*OPENSSL.split(), "-addext", NAMES, "-keyout", "key.pem", "-out", "cert.pem"]
         subprocess.run(command, check=True, capture_output=True, cwd=self.folder)

@@ -13,8 +13,8 @@ from collections import Counter
 from collections.abc import Callable, Coroutine
 from typing import Any, NamedTuple
 
+from tests.lib.mutated_requests import mutated
 from tests.load.bidders import TLS, address, head
-from tests.load.mutations import mutated
 
 # What no reply has to a bidder without eligibility, or to a client without a token: another's name,
 # blocks, and the operator's pages.

@@ -1,0 +1,46 @@
+"""Reports every error in a document of clock_auction, with line and column.
+
+FILE may be - for standard input. If the program refuses the document, the first line is the
+program's. The program is --program, or the one that was built in this repository, or clock_auction
+on the PATH. Without a program, and for a sheet or a closing, only the form is judged.
+
+Then come at most 50 errors, as FILE:LINE:COLUMN: PATH: WORDS. Lines and columns count from 1, list
+entries from 0. If the program refuses something while it plays the auction, the error is where the
+program's line says. A key that occurs twice is a note, because the program accepts it.
+
+Exit status: 0 if there is no error, 1 if there is one, 2 if the arguments are wrong or the file
+could not be read.
+"""
+import argparse
+import pathlib
+import shutil
+import sys
+
+from auction.command import Command
+
+BUILT = pathlib.Path(__file__).resolve().parents[2] / "crates/clock_auction/out/clock_auction"
+KINDS = ("setup", "opening", "replay", "sheet", "closing")
+
+
+def arguments(parser: argparse.ArgumentParser) -> None:
+    parser.add_argument("kind", metavar="KIND", choices=KINDS, help=", ".join(KINDS))
+    parser.add_argument("file", metavar="FILE")
+    parser.add_argument("--program", metavar="FILE")
+
+
+def run(given: argparse.Namespace) -> int:
+    from auction.explain.faults import explained  # jsonschema, which no other command needs
+
+    try:
+        is_file = given.file != "-"
+        data = pathlib.Path(given.file).read_bytes() if is_file else sys.stdin.buffer.read()
+    except OSError as error:
+        print(f"{given.file}: {error.strerror}", file=sys.stderr)
+        return 2
+    built = str(BUILT) if BUILT.exists() else shutil.which("clock_auction")
+    lines, has_faults = explained(given.kind, given.file, data, given.program or built)
+    sys.stdout.buffer.write("".join(f"{line}\n" for line in lines).encode(errors="replace"))
+    return 1 if has_faults else 0
+
+
+COMMAND = Command.of("explain", __doc__, arguments, run)

@@ -1,1 +1,0 @@
-"""The parts of scripts/fuzz: mutations, and how requests and documents are sent and judged."""
