@@ -100,7 +100,7 @@ def test_a_round_that_is_closed_at_the_question_is_stored_and_no_other_is_closed
     assert process.returncode == 1
     assert "round 2 was closed before, and its pages are stored now" in errors
     assert large.stored("closing-2.json") == {"increment": 10, "round": 2, "ties": []}
-    assert large.round() == 3
+    assert len(large.relay.closings) == 1  # that of round 1
 
 
 def await_question(output: IO[str] | None) -> None:
