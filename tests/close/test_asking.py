@@ -90,6 +90,19 @@ def test_a_sheet_that_comes_at_the_question_has_its_tie_breaking_numbers(
     assert lists_each_once(large.ties(2), [(0, 0), (0, 1), (0, 77), (1, 0), (1, 1)])
 
 
+def test_a_round_that_is_closed_at_the_question_is_stored_and_no_other_is_closed(
+    large: CloseAuction,
+) -> None:
+    process = large.begin_close("10")
+    await_question(process.stdout)
+    large.close_by_hand(2)
+    _, errors = process.communicate("2\n", timeout=60)
+    assert process.returncode == 1
+    assert "round 2 was closed before, and its pages are stored now" in errors
+    assert large.stored("closing-2.json") == {"increment": 10, "round": 2, "ties": []}
+    assert len(large.relay.closings) == 1  # that of round 1
+
+
 def await_question(output: IO[str] | None) -> None:
     """Reads the line about sheets, and the question up to its colon."""
     assert output is not None

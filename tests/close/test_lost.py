@@ -52,6 +52,16 @@ def test_after_a_lost_request_a_wrong_token_closes_nothing(without_request: Clos
     assert without_request.round() == 2
 
 
+def test_after_a_wrong_token_another_increment_is_still_refused(
+    without_request: CloseAuction,
+) -> None:
+    without_request.yes(2, token="other.token")
+    said = without_request.yes(2, "20")
+    assert said.status == 1
+    assert "with the increments [10]" in said.errors
+    assert len(without_request.relay.closings) == 2
+
+
 def test_after_a_wrong_token_the_same_closing_is_sent_again(without_request: CloseAuction) -> None:
     without_request.yes(2, token="other.token")
     assert without_request.yes(2).status == 0
