@@ -5,13 +5,12 @@ requests. It takes bidders and addresses that no other test has, so that no test
 rates of another.
 """
 import pathlib
-import shutil
-import tempfile
 from collections.abc import Callable, Iterator
 from typing import NamedTuple
 
 import pytest
 
+from tests.lib import site as lib
 from tests.lib.site import Site
 from tests.nginx.recorder import Recorder
 from tests.nginx.requests import OPERATOR, UNKNOWN, Bidder
@@ -36,28 +35,24 @@ class Running(NamedTuple):
     bidders: Iterator[Bidder]
 
 
+@pytest.hookimpl(tryfirst=True)
 def pytest_collection_modifyitems(items: list[pytest.Item]) -> None:
-    """Each test of this folder needs nginx, and openssl for its certificate."""
+    """Each test of this folder needs nginx, and openssl for its certificate, but no program."""
     for item in items:
         if item.path.parent == pathlib.Path(__file__).parent:
             item.add_marker(pytest.mark.needs("nginx", "openssl"))
+            item.add_marker(pytest.mark.early)
 
 
 @pytest.fixture(scope="module")
 def running() -> Iterator[Running]:
     """nginx and the stand-in of a module. At the end, no token is in a log."""
-    folder = pathlib.Path(
-        tempfile.mkdtemp(prefix="nginx-")
-    )  # nginx's workers cannot enter pytest's folders
-    site = Site(folder, None, SETUP, ADDRESS_BY_HEADER)
-    recorder = Recorder(site.server_port)
-    try:
+    with lib.running(None, SETUP, more=ADDRESS_BY_HEADER) as site:
+        recorder = Recorder(site.server_port)
         yield Running(site, recorder, iter(BIDDERS))
-    finally:
         recorder.stop()
         site.stop()
-    logs = [file.read_text(errors="replace") for file in (folder / "log").iterdir()]
-    shutil.rmtree(folder)
+        logs = [file.read_text(errors="replace") for file in (site.folder / "log").iterdir()]
     for token in (*(bidder.token for bidder in BIDDERS), OPERATOR, UNKNOWN):
         assert not any(token in log for log in logs), f"{token} is in a log"
 

@@ -7,10 +7,8 @@ import os
 import pathlib
 import pwd
 import re
-import shutil
 import socket
 import subprocess
-import tempfile
 import time
 from collections.abc import Iterator
 
@@ -19,7 +17,7 @@ import pytest
 from auction.conductor.settings import Folders, group_of_workers
 from tests.lib.http import text_of
 from tests.lib.paths import EXAMPLES, TOP
-from tests.lib.site import Site
+from tests.lib.site import Site, running
 from tests.lib.tls import Client
 from tests.lib.waiting import wait_for
 from tests.users.user import AsUser, as_user, own_network
@@ -39,16 +37,10 @@ pytestmark = [pytest.mark.root, pytest.mark.needs("nginx", "openssl", "nft", "ip
 @pytest.fixture(scope="module")
 def site(program: pathlib.Path) -> Iterator[Site]:
     """Server and nginx, with the rules of clock-auction.nft."""
-    folder = pathlib.Path(tempfile.mkdtemp(prefix="users-"))  # other users cannot enter pytest's
     setup = json.loads((EXAMPLES / "two_products.json").read_text())
-    with own_network():
-        running = Site(folder, program, setup, worker=NGINX)
-        try:
-            load_rules(running)
-            yield running
-        finally:
-            running.stop()
-    shutil.rmtree(folder)
+    with own_network(), running(program, setup, worker=NGINX) as started:
+        load_rules(started)
+        yield started
 
 
 def load_rules(site: Site) -> None:
