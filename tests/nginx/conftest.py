@@ -6,7 +6,6 @@ rates of another.
 """
 import pathlib
 from collections.abc import Callable, Iterator
-from typing import NamedTuple
 
 import pytest
 
@@ -14,25 +13,10 @@ from tests.lib import site as lib
 from tests.lib.site import Site
 from tests.nginx.recorder import Recorder
 from tests.nginx.requests import OPERATOR, UNKNOWN, Bidder
+from tests.nginx.running import BIDDERS, SETUP, Running, empty_cache, set_gate
 
-BIDDERS = [Bidder(f"B{number}", f"B1DDERST0KEN{number:05}") for number in range(250)]
-SETUP = {
-    "version": 1,
-    "requirement": 50,
-    "operator": OPERATOR,
-    "products": [{"name": "A", "units": 1, "supply": 2, "cap": 2, "opening": 100}],
-    "bidders": [{**bidder._asdict(), "eligibility": 2} for bidder in BIDDERS],
-}
 # Lines for nginx.conf that let a test come from any address.
 ADDRESS_BY_HEADER = "set_real_ip_from 127.0.0.0/8; real_ip_header x-trial-address;"
-
-
-class Running(NamedTuple):
-    """What runs for a module, and the bidders that no test has taken yet."""
-
-    site: Site
-    recorder: Recorder
-    bidders: Iterator[Bidder]
 
 
 @pytest.hookimpl(tryfirst=True)
@@ -82,21 +66,3 @@ def new_bidder(running: Running) -> Callable[[], Bidder]:
 def bidder(new_bidder: Callable[[], Bidder]) -> Bidder:
     """A bidder that no other test has."""
     return new_bidder()
-
-
-def set_gate(site: Site, *names: str) -> None:
-    """Makes these files those of the gate."""
-    gate = site.folder / "gate"
-    gate.mkdir(exist_ok=True)
-    for file in gate.iterdir():
-        if file.name not in names:
-            file.unlink()
-    for name in names:
-        (gate / name).touch()
-
-
-def empty_cache(site: Site) -> None:
-    """Removes all pages from nginx's cache, as the server's unit does."""
-    for page in (site.folder / "tmp/cache").rglob("*"):
-        if page.is_file():
-            page.unlink()

@@ -110,6 +110,14 @@ def test_a_bidder_may_ask_2_times_a_second_and_60_times_at_once_from_all_address
     assert get(site, "/v1/me", new_bidder().token).status == 200, "another bidder"
 
 
+@pytest.mark.parametrize("path", ["/", "/public/timetable.json"])
+def test_an_address_may_ask_for_a_file_100_times_a_second_and_200_times_at_once(
+    site: Site, recorder: Recorder, path: str
+) -> None:
+    found, seconds = statuses(site.outside, [head("GET", path)] * 400)
+    assert 201 <= 400 - found[429] <= 202 + 100 * seconds
+
+
 def test_bidders_of_one_address_do_not_share_a_rate(
     site: Site, recorder: Recorder, new_bidder: NewBidder
 ) -> None:

@@ -151,12 +151,30 @@ def listening(site: Site, user: str, port: int, seconds: float, last: str = "non
     return listener
 
 
-def test_another_user_at_the_servers_port_gets_no_sheets(site: Site, without_server: None) -> None:
-    """More connections come than its queue takes, so some replies to SYN are cookies."""
+def cookies_sent() -> int:
+    """How many SYN cookies the kernel has sent in this network."""
+    rows = pathlib.Path("/proc/thread-self/net/netstat").read_text().splitlines()
+    names, values = rows[0].split(), rows[1].split()
+    return int(values[names.index("SyncookiesSent")])
+
+
+@pytest.fixture(params=["0", "2"], ids=["without SYN cookies", "with SYN cookies"])
+def has_cookies(without_server: None, request: pytest.FixtureRequest) -> Iterator[bool]:
+    """The kernel replies to SYN with cookies never (0) or always (2)."""
+    setting = pathlib.Path("/proc/sys/net/ipv4/tcp_syncookies")
+    before = setting.read_text()
+    setting.write_text(request.param)
+    yield request.param == "2"
+    setting.write_text(before)
+
+
+def test_another_user_at_the_servers_port_gets_no_sheets(site: Site, has_cookies: bool) -> None:
+    before = cookies_sent()
     listener = listening(site, OTHER, site.server_port, 2.5)
     for _ in range(12):
         Client(site.outside).send(text_of("PUT /v1/me/bids", X, SHEET, "host: x"))
     assert listener.result() == []
+    assert (cookies_sent() > before) == has_cookies
 
 
 def test_the_servers_own_user_is_reached(site: Site, without_server: None) -> None:
