@@ -1,6 +1,7 @@
 """Program and nginx in a folder of their own, as docs/operators.md starts them, on free ports of
 this machine.
 """
+import contextlib
 import json
 import os
 import pathlib
@@ -9,6 +10,9 @@ import shutil
 import socket
 import subprocess
 import sys
+import tempfile
+from collections.abc import Iterator
+from typing import Any
 
 from auction.conductor import commitment
 from auction.formats.setup import Setup
@@ -195,3 +199,14 @@ class Site:
         """A text with this site's ports instead of the usual ones."""
         ports = {"8105": self.server_port, "8106": self.inside, "8443": self.outside}
         return re.sub(r"\b(8105|8106|8443)\b", lambda port: str(ports[port[0]]), text)
+
+
+@contextlib.contextmanager
+def running(program: pathlib.Path | None, setup: object, **options: Any) -> Iterator[Site]:
+    """A site in a folder that nginx's workers can enter, as they cannot enter pytest's."""
+    with tempfile.TemporaryDirectory(prefix="auction-", ignore_cleanup_errors=True) as folder:
+        site = Site(pathlib.Path(folder), program, setup, **options)
+        try:
+            yield site
+        finally:
+            site.stop()

@@ -2,7 +2,6 @@
 import asyncio
 import json
 import multiprocessing
-import pathlib
 import queue
 import statistics
 import time
@@ -60,13 +59,12 @@ def setup_of(size: Size) -> Json:
 class Auction:
     """Plays the auction. What differs between the servers goes to `differences`."""
 
-    def __init__(self, program: pathlib.Path, folder: pathlib.Path, size: Size, seconds: float):
-        self.size, self.end = size, time.monotonic() + seconds
-        self.site = Site(folder, program, setup_of(size))
-        self.second = Server(program, folder / "setup.json").ready()
-        self.site.write_private("operator.token", OPERATOR)
+    def __init__(self, site: Site, second: Server, size: Size, seconds: float) -> None:
+        self.site, self.second, self.size = site, second, size
+        self.end = time.monotonic() + seconds
+        site.write_private("operator.token", OPERATOR)
         self.bidders = [
-            Bidder(number, token_of(number, size), size.products, self.site.outside)
+            Bidder(number, token_of(number, size), size.products, site.outside)
             for number in range(size.bidders)
         ]
         self.differences: list[str] = []
@@ -74,11 +72,6 @@ class Auction:
         self.waits: dict[str, list[float]] = {"alone": [], "with slow and hostile clients": []}
         self.counted: dict[str, Counter[str]] = {}
         self.faults: list[str] = []
-
-    def stop(self) -> None:
-        """Ends both servers and nginx."""
-        self.second.kill()
-        self.site.stop()
 
     # ---- Slow and hostile clients
 

@@ -13,14 +13,14 @@ closings.
 """
 import asyncio
 import pathlib
-import shutil
-import tempfile
 from collections.abc import Callable, Iterator
 
 import pytest
 
+from tests.lib.server import Server
+from tests.lib.site import running
 from tests.lib.tls import Client, Reply
-from tests.load.auction import OPERATOR, Auction, Size
+from tests.load.auction import OPERATOR, Auction, Size, setup_of
 from tests.load.bidders import head
 
 pytestmark = [
@@ -37,15 +37,12 @@ SECONDS = 120
 def auction(program: pathlib.Path, request: pytest.FixtureRequest) -> Iterator[Auction]:
     """The auction, which has ended, with server and nginx still running."""
     size = FULL if request.config.getoption("--full") else QUICK
-    folder = pathlib.Path(tempfile.mkdtemp(prefix="load-"))  # nginx's workers cannot enter pytest's
-    played = Auction(program, folder, size, SECONDS)
-    try:
-        asyncio.run(played.play())
-        print(*played.figures(), sep="\n")
-        yield played
-    finally:
-        played.stop()
-    shutil.rmtree(folder)
+    with running(program, setup_of(size)) as site:
+        with Server(program, site.folder / "setup.json").ready() as second:
+            played = Auction(site, second, size, SECONDS)
+            asyncio.run(played.play())
+            print(*played.figures(), sep="\n")
+            yield played
 
 
 def test_each_page_and_result_is_that_of_the_server_without_nginx(auction: Auction) -> None:

@@ -1,8 +1,6 @@
 """After nginx's cache is emptied, the next auction shows nothing of the last one."""
 import json
 import pathlib
-import shutil
-import tempfile
 from collections.abc import Iterator
 
 import pytest
@@ -11,7 +9,7 @@ from tests.lib.http import answer_to, text_of
 from tests.lib.paths import EXAMPLES
 from tests.lib.server import Server
 from tests.lib.setups import OPERATOR
-from tests.lib.site import Site
+from tests.lib.site import Site, running
 from tests.lib.tls import Client
 from tests.lib.waiting import wait_for
 
@@ -25,22 +23,17 @@ SHEET = b'{"bids":[{"price":100,"product":0,"quantity":2}],"round":1}'
 @pytest.fixture(scope="module")
 def site(program: pathlib.Path) -> Iterator[Site]:
     """nginx, whose cache had pages of an auction, before the server of the next one."""
-    folder = pathlib.Path(tempfile.mkdtemp(prefix="next-"))  # nginx's workers cannot enter pytest's
-    running = Site(folder, program, json.loads((EXAMPLES / "two_products.json").read_text()))
-    try:
-        play(running)
-        cached = [file for file in (folder / "tmp/cache").rglob("*") if file.is_file()]
+    with running(program, json.loads((EXAMPLES / "two_products.json").read_text())) as started:
+        play(started)
+        cached = [file for file in (started.folder / "tmp/cache").rglob("*") if file.is_file()]
         assert len(cached) >= 2, "products and a round"
-        assert running.server is not None
-        running.server.kill()
+        assert started.server is not None
+        started.server.kill()
         for file in cached:
             file.unlink()
-        next_setup = EXAMPLES / "one_product.json"
-        running.server = Server(program, next_setup, port=running.server_port).ready()
-        yield running
-    finally:
-        running.stop()
-    shutil.rmtree(folder)
+        one_product = EXAMPLES / "one_product.json"
+        started.server = Server(program, one_product, port=started.server_port).ready()
+        yield started
 
 
 def play(site: Site) -> None:

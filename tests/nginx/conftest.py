@@ -5,59 +5,38 @@ requests. It takes bidders and addresses that no other test has, so that no test
 rates of another.
 """
 import pathlib
-import shutil
-import tempfile
 from collections.abc import Callable, Iterator
-from typing import NamedTuple
 
 import pytest
 
+from tests.lib import site as lib
 from tests.lib.site import Site
 from tests.nginx.recorder import Recorder
 from tests.nginx.requests import OPERATOR, UNKNOWN, Bidder
+from tests.nginx.running import BIDDERS, SETUP, Running, empty_cache, set_gate
 
-BIDDERS = [Bidder(f"B{number}", f"B1DDERST0KEN{number:05}") for number in range(250)]
-SETUP = {
-    "version": 1,
-    "requirement": 50,
-    "operator": OPERATOR,
-    "products": [{"name": "A", "units": 1, "supply": 2, "cap": 2, "opening": 100}],
-    "bidders": [{**bidder._asdict(), "eligibility": 2} for bidder in BIDDERS],
-}
 # Lines for nginx.conf that let a test come from any address.
 ADDRESS_BY_HEADER = "set_real_ip_from 127.0.0.0/8; real_ip_header x-trial-address;"
 
 
-class Running(NamedTuple):
-    """What runs for a module, and the bidders that no test has taken yet."""
-
-    site: Site
-    recorder: Recorder
-    bidders: Iterator[Bidder]
-
-
+@pytest.hookimpl(tryfirst=True)
 def pytest_collection_modifyitems(items: list[pytest.Item]) -> None:
-    """Each test of this folder needs nginx, and openssl for its certificate."""
+    """Each test of this folder needs nginx, and openssl for its certificate, but no program."""
     for item in items:
         if item.path.parent == pathlib.Path(__file__).parent:
             item.add_marker(pytest.mark.needs("nginx", "openssl"))
+            item.add_marker(pytest.mark.early)
 
 
 @pytest.fixture(scope="module")
 def running() -> Iterator[Running]:
     """nginx and the stand-in of a module. At the end, no token is in a log."""
-    folder = pathlib.Path(
-        tempfile.mkdtemp(prefix="nginx-")
-    )  # nginx's workers cannot enter pytest's folders
-    site = Site(folder, None, SETUP, ADDRESS_BY_HEADER)
-    recorder = Recorder(site.server_port)
-    try:
+    with lib.running(None, SETUP, more=ADDRESS_BY_HEADER) as site:
+        recorder = Recorder(site.server_port)
         yield Running(site, recorder, iter(BIDDERS))
-    finally:
         recorder.stop()
         site.stop()
-    logs = [file.read_text(errors="replace") for file in (folder / "log").iterdir()]
-    shutil.rmtree(folder)
+        logs = [file.read_text(errors="replace") for file in (site.folder / "log").iterdir()]
     for token in (*(bidder.token for bidder in BIDDERS), OPERATOR, UNKNOWN):
         assert not any(token in log for log in logs), f"{token} is in a log"
 
@@ -87,21 +66,3 @@ def new_bidder(running: Running) -> Callable[[], Bidder]:
 def bidder(new_bidder: Callable[[], Bidder]) -> Bidder:
     """A bidder that no other test has."""
     return new_bidder()
-
-
-def set_gate(site: Site, *names: str) -> None:
-    """Makes these files those of the gate."""
-    gate = site.folder / "gate"
-    gate.mkdir(exist_ok=True)
-    for file in gate.iterdir():
-        if file.name not in names:
-            file.unlink()
-    for name in names:
-        (gate / name).touch()
-
-
-def empty_cache(site: Site) -> None:
-    """Removes all pages from nginx's cache, as the server's unit does."""
-    for page in (site.folder / "tmp/cache").rglob("*"):
-        if page.is_file():
-            page.unlink()

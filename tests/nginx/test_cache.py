@@ -9,9 +9,9 @@ import pytest
 
 from tests.lib.site import Site
 from tests.lib.tls import Client
-from tests.nginx.conftest import empty_cache
 from tests.nginx.recorder import PRIVATE, Recorder
 from tests.nginx.requests import OPERATOR, Bidder, asks_inside, get
+from tests.nginx.running import empty_cache
 
 NewBidder = Callable[[], Bidder]
 

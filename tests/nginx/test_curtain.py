@@ -5,7 +5,6 @@ import pytest
 from tests.lib.site import Site
 from tests.lib.tls import Client, Reply
 from tests.lib.waiting import wait_for
-from tests.nginx.conftest import set_gate
 from tests.nginx.recorder import Recorder
 from tests.nginx.requests import (
     Bidder,
@@ -17,6 +16,7 @@ from tests.nginx.requests import (
     tens,
     without_date,
 )
+from tests.nginx.running import set_gate
 
 NEW = "/v1/rounds/7"  # the round that closes while the curtain is drawn
 PAGES = (

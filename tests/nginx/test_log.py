@@ -11,7 +11,6 @@ import pytest
 from tests.lib.site import Site
 from tests.lib.tls import ADDRESSES, Client
 from tests.lib.waiting import wait_for
-from tests.nginx.conftest import empty_cache
 from tests.nginx.recorder import Recorder
 from tests.nginx.requests import (
     AT_ONCE,
@@ -25,6 +24,7 @@ from tests.nginx.requests import (
     put,
     statuses,
 )
+from tests.nginx.running import empty_cache
 
 # Refused before nginx counts it, each by its head.
 EARLY = {

@@ -79,7 +79,9 @@ def test_requests_that_come_too_often_are_not_logged(
 # ---- What counts together
 
 
-def passed(clients: list[Client], path: str, token: str | None, each: int) -> tuple[int, float]:
+def passed(
+    clients: list[Client], path: str, token: str | None, each: int, pause: float = 0
+) -> tuple[int, float]:
     """How many of each client's requests are not too often, and the seconds that all took."""
     begun, count = time.monotonic(), 0
     for _ in range(each):
@@ -87,6 +89,7 @@ def passed(clients: list[Client], path: str, token: str | None, each: int) -> tu
             reply = client.ask("GET", path, token)
             assert reply.status == 200 or reply.refuses(429, "too_often")
             count += reply.status == 200
+        time.sleep(pause)
     return count, time.monotonic() - begun
 
 
@@ -102,9 +105,17 @@ def test_a_bidder_may_ask_2_times_a_second_and_60_times_at_once_from_all_address
     site: Site, recorder: Recorder, new_bidder: NewBidder
 ) -> None:
     clients = [Client(site.outside) for _ in range(5)]
-    count, seconds = passed(clients, "/v1/me", new_bidder().token, 20)
+    count, seconds = passed(clients, "/v1/me", new_bidder().token, 20, pause=0.1)
     assert AT_ONCE + 1 <= count <= most(seconds, A_SECOND_OWN)
     assert get(site, "/v1/me", new_bidder().token).status == 200, "another bidder"
+
+
+@pytest.mark.parametrize("path", ["/", "/public/timetable.json"])
+def test_an_address_may_ask_for_a_file_100_times_a_second_and_200_times_at_once(
+    site: Site, recorder: Recorder, path: str
+) -> None:
+    found, seconds = statuses(site.outside, [head("GET", path)] * 400)
+    assert 201 <= 400 - found[429] <= 202 + 100 * seconds
 
 
 def test_bidders_of_one_address_do_not_share_a_rate(

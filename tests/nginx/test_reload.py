@@ -8,9 +8,9 @@ import pytest
 from tests.lib.paths import auction
 from tests.lib.site import Site
 from tests.lib.waiting import wait_for
-from tests.nginx.conftest import SETUP
 from tests.nginx.recorder import PRIVATE, Recorder
 from tests.nginx.requests import Bidder, get, put
+from tests.nginx.running import SETUP
 
 NewBidder = Callable[[], Bidder]
 LOOK = 0.7  # seconds between two requests: a bidder may ask twice a second

@@ -195,6 +195,7 @@ def test_each_reply_has_the_lines_that_protect_pages(
     assert found.count(f"\ncontent-security-policy: {policy}") == 1
     assert found.count("\nx-content-type-options: nosniff") == 1
     assert found.count("\ncache-control: ") == 1
+    assert "\nx-door" not in found, "this line is for nginx's log only"
     lasting = "\nstrict-transport-security: max-age=31536000" in found
     assert lasting == (host != "localhost"), "a browser uses HTTPS only, but for localhost"
 

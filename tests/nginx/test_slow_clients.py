@@ -8,8 +8,8 @@ import pytest
 
 from tests.lib.site import Site
 from tests.lib.tls import connected
-from tests.nginx.conftest import BIDDERS, Running
 from tests.nginx.requests import head
+from tests.nginx.running import BIDDERS, Running
 
 LONGEST = 25
 

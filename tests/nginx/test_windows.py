@@ -8,7 +8,6 @@ import pytest
 from tests.lib.site import Site
 from tests.lib.tls import Client, Reply
 from tests.lib.waiting import wait_for
-from tests.nginx.conftest import set_gate
 from tests.nginx.http2 import Http2
 from tests.nginx.recorder import Recorder
 from tests.nginx.requests import (
@@ -24,6 +23,7 @@ from tests.nginx.requests import (
     tens,
     without_date,
 )
+from tests.nginx.running import set_gate
 
 SHEETS = "PUT /v1/me/bids"
 REFUSED = b'{"code":"window","status":409}'

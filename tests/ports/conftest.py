@@ -1,26 +1,18 @@
 """A server with nginx, and the ports of both."""
-import json
 import pathlib
-import shutil
-import tempfile
 from collections.abc import Iterator
 
 import pytest
 
-from tests.lib.site import Site
+from tests.lib.site import Site, running
 from tests.ports.port import BIDDERS, PRODUCTS, Port, setup_of
 
 
 @pytest.fixture(scope="module")
 def site(program: pathlib.Path) -> Iterator[Site]:
     """Server and nginx with the set-up whose pages are the longest."""
-    folder = pathlib.Path(
-        tempfile.mkdtemp(prefix="ports-")
-    )  # nginx's workers cannot enter pytest's
-    running = Site(folder, program, json.dumps(setup_of(BIDDERS, PRODUCTS)))
-    yield running
-    running.stop()
-    shutil.rmtree(folder)
+    with running(program, setup_of(BIDDERS, PRODUCTS)) as started:
+        yield started
 
 
 @pytest.fixture

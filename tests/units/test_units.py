@@ -17,7 +17,7 @@ INSTALLED = re.compile(rf"{LIB}/(\S+)")
 # The highest exposure that systemd may see, of 10.
 MOST = 2.0
 
-pytestmark = pytest.mark.needs("systemd-analyze")
+pytestmark = [pytest.mark.early, pytest.mark.needs("systemd-analyze")]
 
 
 def text_of(unit: str) -> str:

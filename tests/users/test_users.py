@@ -7,10 +7,8 @@ import os
 import pathlib
 import pwd
 import re
-import shutil
 import socket
 import subprocess
-import tempfile
 import time
 from collections.abc import Iterator
 
@@ -19,7 +17,7 @@ import pytest
 from auction.conductor.settings import Folders, group_of_workers
 from tests.lib.http import text_of
 from tests.lib.paths import EXAMPLES, TOP
-from tests.lib.site import Site
+from tests.lib.site import Site, running
 from tests.lib.tls import Client
 from tests.lib.waiting import wait_for
 from tests.users.user import AsUser, as_user, own_network
@@ -39,16 +37,10 @@ pytestmark = [pytest.mark.root, pytest.mark.needs("nginx", "openssl", "nft", "ip
 @pytest.fixture(scope="module")
 def site(program: pathlib.Path) -> Iterator[Site]:
     """Server and nginx, with the rules of clock-auction.nft."""
-    folder = pathlib.Path(tempfile.mkdtemp(prefix="users-"))  # other users cannot enter pytest's
     setup = json.loads((EXAMPLES / "two_products.json").read_text())
-    with own_network():
-        running = Site(folder, program, setup, worker=NGINX)
-        try:
-            load_rules(running)
-            yield running
-        finally:
-            running.stop()
-    shutil.rmtree(folder)
+    with own_network(), running(program, setup, worker=NGINX) as started:
+        load_rules(started)
+        yield started
 
 
 def load_rules(site: Site) -> None:
@@ -159,12 +151,30 @@ def listening(site: Site, user: str, port: int, seconds: float, last: str = "non
     return listener
 
 
-def test_another_user_at_the_servers_port_gets_no_sheets(site: Site, without_server: None) -> None:
-    """More connections come than its queue takes, so some replies to SYN are cookies."""
+def cookies_sent() -> int:
+    """How many SYN cookies the kernel has sent in this network."""
+    rows = pathlib.Path("/proc/thread-self/net/netstat").read_text().splitlines()
+    names, values = rows[0].split(), rows[1].split()
+    return int(values[names.index("SyncookiesSent")])
+
+
+@pytest.fixture(params=["0", "2"], ids=["without SYN cookies", "with SYN cookies"])
+def has_cookies(without_server: None, request: pytest.FixtureRequest) -> Iterator[bool]:
+    """The kernel replies to SYN with cookies never (0) or always (2)."""
+    setting = pathlib.Path("/proc/sys/net/ipv4/tcp_syncookies")
+    before = setting.read_text()
+    setting.write_text(request.param)
+    yield request.param == "2"
+    setting.write_text(before)
+
+
+def test_another_user_at_the_servers_port_gets_no_sheets(site: Site, has_cookies: bool) -> None:
+    before = cookies_sent()
     listener = listening(site, OTHER, site.server_port, 2.5)
     for _ in range(12):
         Client(site.outside).send(text_of("PUT /v1/me/bids", X, SHEET, "host: x"))
     assert listener.result() == []
+    assert (cookies_sent() > before) == has_cookies
 
 
 def test_the_servers_own_user_is_reached(site: Site, without_server: None) -> None:
