@@ -14,7 +14,8 @@ export function make(tag, attributes = {}, ...children) {
   return element;
 }
 
-export const number = (n) => (n === null || n === undefined ? "–" : n.toLocaleString("en-US"));
+const whole = new Intl.NumberFormat("en-US");
+export const number = (n) => (n === null || n === undefined ? "–" : whole.format(n));
 export const dollars = (n) => (n === null || n === undefined ? "–" : "$" + number(n));
 /** A count with its noun, in the plural unless the count is 1. */
 export const counted = (n, noun) => `${number(n)} ${noun}${n === 1 ? "" : "s"}`;

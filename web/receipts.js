@@ -1,7 +1,6 @@
 // Receipts of accepted sheets: this tab fetches, checks and keeps them. docs/formats.md has their form.
 
 import { save } from "./csv.js";
-import { at, tell } from "./page.js";
 
 const bytesOf = (text) => new TextEncoder().encode(text);
 
@@ -15,13 +14,21 @@ async function isSigned(key, receipt) {
 }
 
 export class Receipts {
+  commitment = null;
   #asker; #commitment; #kept = []; #before = Promise.resolve(); // sheets get their receipts one after the other
+
+  /** `changed` takes { kind, round }: what is known of the receipt of the last accepted sheet. */
+  constructor(changed) { this.changed = changed; }
+
+  /** How many receipts this tab has. */
+  get count() { return this.#kept.length; }
 
   /** Begins with the receipts that a bidder has of this round, if receipts are made at all. */
   async begin(asker, round) {
     [this.#asker, this.#kept, this.#commitment] = [asker, [], await asker.commitment().catch(() => null)];
+    this.commitment = this.#commitment;
     while ((await this.#take(round))?.body);
-    this.#tell("");
+    this.changed(null);
   }
 
   /** Waits for the receipt of a sheet that was accepted, and says that it is there, missing, or wrong. */
@@ -32,11 +39,13 @@ export class Receipts {
   async #await(round, sent) {
     const hash = new Uint8Array(await crypto.subtle.digest("SHA-256", bytesOf(sent))), end = Date.now() + 2000;
     const body = Array.from(hash, (byte) => byte.toString(16).padStart(2, "0")).join("");
+    const tell = (kind) => this.changed({ kind, round });
+    tell("waiting");
     for (;;) {
       const receipt = await this.#take(round, body, sent);
-      if (receipt?.body === body) return this.#tell("✓ The receipt is here: download it before you close this tab.");
-      if (receipt?.body === null) return this.#tell("⚠ The receipt is wrong: call the operator.");
-      if (!receipt && Date.now() > end) return this.#tell("⚠ No receipt within two seconds: call the operator.");
+      if (receipt?.body === body) return tell("here");
+      if (receipt?.body === null) return tell("wrong");
+      if (!receipt && Date.now() > end) return tell("missing");
       if (!receipt) await new Promise((done) => setTimeout(done, 200));
     }
   }
@@ -50,12 +59,6 @@ export class Receipts {
     if (named.join() !== [auction, round, sheet].join() || !await isSigned(key, receipt)) return { body: null };
     this.#kept.push(receipt.body === body ? { ...receipt, sent } : receipt);
     return receipt;
-  }
-
-  #tell(words) {
-    tell("receipt", words);
-    at("receipt").className = words.startsWith("⚠") ? "fault" : "";
-    at("receipts").hidden = this.#kept.length === 0;
   }
 
   /** Gives all receipts to the person, after the commitment, as a file for scripts/check_receipts. */

@@ -22,11 +22,30 @@ export class Sheet {
     return this.#steps.get(product) ?? [{ ...EMPTY }];
   }
 
-  /** Enters a text into one field of a price point. */
+  /** Enters a text into one field of a price point. Price points are never changed in place, so that copies stay. */
   type(product, step, field, text) {
     const steps = this.steps(product);
-    steps[step][field] = text;
-    this.#steps.set(product, steps);
+    this.#steps.set(product, steps.map((typed, at) => (at === step ? { ...typed, [field]: text } : typed)));
+  }
+
+  /** Everything that is typed, to be given back to `restore`. Takes no copy of the texts. */
+  copy() { return new Map(this.#steps); }
+
+  restore(copy) { this.#steps = new Map(copy); }
+
+  /** Everything that is typed, as JSON, without empty price points. */
+  toJSON() {
+    return [...this.#steps].map(([product, steps]) => [product, steps.filter((step) => !isEmpty(step))])
+      .filter(([, steps]) => steps.length).map(([product, steps]) => [product, steps.map(({ quantity, price }) => [quantity, price])]);
+  }
+
+  /** Replaces everything by what `toJSON` gave. With `isOld`, prices are left out: they are of an earlier round. */
+  fromJSON(rows, isOld = false) {
+    this.clear();
+    for (const [product, steps] of rows) {
+      const kept = isOld ? steps.slice(-1) : steps;
+      this.#steps.set(product, kept.map(([quantity, price]) => ({ quantity: String(quantity), price: isOld ? "" : String(price) })));
+    }
   }
 
   /** Adds an empty price point to a product. */
@@ -61,9 +80,10 @@ export class Sheet {
    * rows were `maintained`, `emptied` and `left`.
    */
   carry(sent, held, prices) {
-    const counts = { maintained: 0, emptied: 0, left: 0 };
+    const counts = { maintained: 0, emptied: 0, left: 0 }, sentOf = new Map();
+    for (const bid of sent) sentOf.set(bid.product, [...(sentOf.get(bid.product) ?? []), bid]);
     held.forEach((quantity, product) => {
-      const typed = this.#readProduct(product, prices), before = sent.filter((bid) => bid.product === product);
+      const typed = this.#readProduct(product, prices), before = sentOf.get(product) ?? [];
       if (typed.wrong.length > 0 || !same(typed.bids, before)) {
         const last = this.steps(product).findLast((step) => !isEmpty(step));
         this.#steps.set(product, [{ quantity: last?.quantity ?? "", price: "" }]);
@@ -84,7 +104,7 @@ export class Sheet {
 
   #readProduct(product, prices) {
     const bids = [], wrong = [];
-    this.steps(product).forEach((typed, step) => {
+    (this.#steps.get(product) ?? []).forEach((typed, step) => {
       if (isEmpty(typed)) return;
       const quantity = quantityOf(typed.quantity), price = typed.price.trim() === "" ? prices[product].clock : priceOf(typed.price);
       if (quantity === null) wrong.push({ product, step, text: WRONG_QUANTITY });

@@ -1,11 +1,10 @@
 // What the operator publishes about time: the timetable, the time that is left by the server's clock, and announcements.
 
-import { at, counted, make, say, tell } from "./page.js";
+import { at, counted, make, tell } from "./page.js";
 
 const TIMETABLE = "/public/timetable.json", ANNOUNCEMENTS = "/public/announcements.json";
-const EVERY = 2000, SELDOM = 30_000; // milliseconds between two requests; the longer one if there is no timetable
+const EVERY = 2000, SELDOM = 10_000; // milliseconds between two requests; the longer one if there is no timetable
 const CALLED = [1800, 600, 300, 60, 20]; // seconds before the end at which the time left is read out
-const WARNED = [300, 60, 20]; // of these, those that are alerts for a bidder who has not submitted bids
 const SOON = 60;
 const SHOWN = 12; // rounds of the timetable
 
@@ -58,8 +57,9 @@ const card = () => make("aside", { id: "times", class: "card", "aria-labelledby"
   make("div", {}, make("h3", {}, "Timetable, in your local time"), make("ul", { id: "windows" })));
 
 /**
- * Asks for the timetable and shows it. `heard` takes each timetable; `changed` is called if the round's phase changes;
- * `isMissing` is whether this bidder has yet to submit bids.
+ * Asks for the timetable and shows it. `heard` takes each timetable; `changed` is called if the round's phase changes.
+ * `ticked`, if it is given, takes { phase, words, seconds } four times a second, and draws the time left itself. `host` is
+ * where the card with the announcements is put, `news` takes the number of announcements.
  */
 export class Times {
   #clock = new Clock();
@@ -68,9 +68,9 @@ export class Times {
   #called = new Map();
   phase = null;
 
-  constructor({ heard, changed, isMissing }) {
-    Object.assign(this, { heard, changed, isMissing });
-    document.querySelector("main").append(card());
+  constructor({ heard, changed, ticked, news, host = document.querySelector("main") }) {
+    Object.assign(this, { heard, changed, ticked, news });
+    host.append(card());
     this.#watch();
     setInterval(() => this.#draw(), 250);
   }
@@ -117,6 +117,7 @@ export class Times {
       at("announced").prepend(make("li", { value: one.number }, time, ` ${one.text}`));
     }
     this.#known = announcements.length;
+    this.news?.(announcements.length);
     at("latest").hidden = at("announcing").hidden = !last;
     if (last) at("latest").textContent = `Announcement ${last.number}, ${timeWords(last.time, this.#clock.now())}: ${last.text}`;
   }
@@ -138,6 +139,11 @@ export class Times {
     if (!this.#table) return;
     const now = this.#clock.now(), { phase, words, until } = stateOf(this.#table, now);
     const seconds = until === undefined ? null : Math.max(0, Math.floor((until - now) / 1000));
+    if (this.ticked) {
+      const { closes } = this.#table.windows.find((each) => each.round === this.#table.round) ?? {};
+      this.ticked({ phase, words, seconds: phase === "shut" ? Math.ceil((Date.parse(closes) - now) / 1000) : seconds });
+      return phase === "open" && seconds !== null ? this.#call(seconds) : tell("called", "");
+    }
     tell("standing", words);
     tell("left", seconds === null ? "" : phase === "before" ? `in ${clockWords(seconds)}` : `${clockWords(seconds)} left`);
     at("clock").className = phase === "open" && seconds !== null && seconds < SOON ? "soon" : "";
@@ -148,14 +154,12 @@ export class Times {
     this.changed?.();
   }
 
-  /** Has the time left read out at each mark that is passed while the page is open: as an alert if bids are missing. */
+  /** Has the time left read out at each mark that is passed while the page is open. */
   #call(seconds) {
     const { round, windows } = this.#table, { closes } = windows.find((each) => each.round === round);
     const mark = Math.min(...CALLED.filter((each) => seconds < each)), before = this.#called.get(closes); // Infinity before the first mark
     this.#called.set(closes, mark);
     if (before === undefined || before <= mark) return;
-    const words = `${spoken(seconds + 1)} left in round ${round}.`;
-    tell("called", words);
-    if (WARNED.includes(mark) && this.isMissing?.()) say(`⚠ ${words} You have not submitted bids.`);
+    tell("called", `${spoken(seconds + 1)} left in round ${round}.`);
   }
 }
