@@ -1,4 +1,6 @@
-"""Collects the tests in Node, one for each `test(..)` of a file NAME.test.js. Node runs a file when it is collected."""
+"""Collects the tests in Node, one for each `test(..)` of a file NAME.test.js. Node runs a file when
+it is collected.
+"""
 import pathlib
 import re
 import subprocess
@@ -26,7 +28,7 @@ class NodeFile(pytest.File):
         if not is_there("node"):
             yield NodeTest.from_parent(self, name=self.path.stem, fault="", lacks_node=True)
             return
-        command = ["node", "--test", "--test-reporter=tap", self.path]
+        command = ["node", "--test", "--test-reporter=tap", str(self.path)]
         done = subprocess.run(
             command, capture_output=True, text=True, timeout=SECONDS, env={"PATH": PATHS}
         )
@@ -37,7 +39,9 @@ class NodeFile(pytest.File):
         for match, end in zip(found, ends):
             fault = "" if match[1] == "ok" else done.stdout[match.start() : end]
             name = match[2].replace("\\#", "#").replace("\\\\", "\\")
-            yield NodeTest.from_parent(self, name=name, fault=fault)
+            item = NodeTest.from_parent(self, name=name, fault=fault)
+            item.add_marker("early")
+            yield item
 
 
 class NodeTest(pytest.Item):

@@ -1,6 +1,5 @@
-"""The pages' rules find the same first fault as the server, and count activity and eligibility as it does.
-
-25 random auctions, each with 80 random sheets.
+"""The pages' rules find the same first fault as the server, and count activity and eligibility as
+it does. 25 random auctions, each with 80 random sheets.
 """
 import collections
 import dataclasses
@@ -124,7 +123,9 @@ class Played:
 
 
 def drawn_setup(chance: random.Random) -> dict[str, Any]:
-    """One to four products; the bidder whose sheets are judged, and six rivals that can ask for everything."""
+    """One to four products; the bidder whose sheets are judged, and six rivals that can ask for
+    everything.
+    """
     products = []
     for number in range(chance.randint(1, 4)):
         supply = chance.randint(1, 4)
@@ -180,8 +181,8 @@ def play_round(
         played.sheets += 1
         accepted = bids if reply.get("accepted") else accepted
     products = terms["products"]
-    # The rivals want all blocks of most products, so that the auction continues. Of a product without excess demand,
-    # reductions are not applied.
+    # The rivals want all blocks of most products, so that the auction continues. Of a product
+    # without excess demand, reductions are not applied.
     quiet = -1 if terms["round"] > 1 else chance.randrange(2 * len(products))
     wanted = [
         {
@@ -252,7 +253,9 @@ def test_sheets_are_judged_as_the_server_judges_them(
 
 
 def test_every_refusal_occurs(play: Callable[[int], Played]) -> None:
-    answers = sum((play(number).answers for number in range(AUCTIONS)), collections.Counter())
+    answers: collections.Counter[str] = collections.Counter()
+    for number in range(AUCTIONS):
+        answers += play(number).answers
     assert CODES | {"accepted"} <= set(answers), answers
     assert answers["accepted"] > 200, answers
 

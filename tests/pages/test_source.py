@@ -8,6 +8,8 @@ import pytest
 
 from tests.lib.paths import TOP
 
+pytestmark = pytest.mark.early
+
 WEB = TOP / "web"
 HERE = pathlib.Path(__file__).parent
 SCRIPTS = sorted(WEB.glob("*.js"))
@@ -36,7 +38,13 @@ def test_the_folder_has_the_pages_and_nothing_else() -> None:
 
 @pytest.mark.needs("tsc")
 def test_types_fit() -> None:
-    command = ["tsc", *TYPES.split(), *LIBRARIES.split(), *SCRIPTS, HERE / "browsers.d.ts"]
+    command: list[str | pathlib.Path] = [
+        "tsc",
+        *TYPES.split(),
+        *LIBRARIES.split(),
+        *SCRIPTS,
+        HERE / "browsers.d.ts",
+    ]
     done = subprocess.run(command, capture_output=True, text=True)
     assert (done.returncode, done.stdout) == (0, "")
 
@@ -82,14 +90,14 @@ def test_the_pages_are_small() -> None:
 
 @pytest.mark.parametrize("script", SCRIPTS, ids=names(SCRIPTS))
 def test_a_script_imports_what_another_exports(script: pathlib.Path) -> None:
-    """Each name that a module imports is one that the other module exports, and each import is used."""
+    """Each name that a module imports is one that the other exports, and is used."""
     text = script.read_text()
     for imported, module in re.findall(r"import\s*\{([^}]*)\}\s*from \"\./([a-z_]+\.js)\"", text):
         exported = re.findall(
             r"export (?:const|class|function|async function) (\w+)|, (\w+) =",
             (WEB / module).read_text(),
         )
-        for name in filter(None, (name.strip() for name in imported.split(","))):
+        for name in re.findall(r"\w+", imported):
             assert any(name in pair for pair in exported), f"{module} does not export {name}"
             uses = re.sub(r"import\s*\{[^}]*\}\s*from [^\n]*", "", text)
             assert re.search(rf"\b{name}\b", uses), f"{name} is not used"
