@@ -1,314 +1,557 @@
-// The bidder's page: the round, the form, the submitted bids, and what the server answers.
+// The bidder's page: keeps one state, changes it by what the server, the clock and the person do,
+// and draws what shown.js makes of it.
 
-import { Asker, watch } from "./api.js";
-import { BidTable, keyOf } from "./bids.js";
-import { readBids, save, writtenBids } from "./csv.js";
-import { at, counted, door, drawn, lastClosed, make, number, question, say, sum, tell, timeOfDay, unask } from "./page.js";
-import { Past } from "./past.js";
-import { Receipts } from "./receipts.js";
-import { faultsOf, wordsOf } from "./rules.js";
-import { Sheet } from "./sheet.js";
-import { missingWords, standingOf, tellJudged, tellSums, todoOf } from "./standing.js";
-import { Times } from "./times.js";
+import {Asker, watch} from "./api.js";
+import {drawBars} from "./bars.js";
+import {readBids, save, writtenBids} from "./csv.js";
+import {auctionMark, draftOf, keepDraft} from "./draft.js";
+import {Grid} from "./grid.js";
+import {
+  at,
+  counted,
+  door,
+  drawn,
+  lastClosed,
+  make,
+  number,
+  question,
+  sum,
+  tell,
+  timeOfDay,
+  unask
+} from "./page.js";
+import {Past} from "./past.js";
+import {Receipts} from "./receipts.js";
+import {wordsOf} from "./rules.js";
+import {Sheet} from "./sheet.js";
+import {afterKey, judged, keyOf, missingWords, plain, shown} from "./shown.js";
+import {Times} from "./times.js";
+import {view} from "./views.js";
 
-const sheet = new Sheet(), past = new Past(), receipts = new Receipts(), table = new BidTable(sheet, typed);
-const LONG = 10_000_000; // dollars from which prices need more space in a narrow window
-const plain = (bids) => bids.map(({ price, product, quantity }) => ({ price, product, quantity }));
+const MOST_UNDO = 100;
+const sheet = new Sheet();
+const past = new Past();
+const receipts = new Receipts((receipt) => set({ receipt }));
+// lets the other tabs of this browser know that bids were submitted, and nothing about them
+const tabs = new BroadcastChannel("sheets");
+const undos = []; // { what, copy }: the form before each change
 
-const tabs = new BroadcastChannel("sheets"); // lets the other tabs of this browser know that bids were submitted, and nothing about them
-// who asks; the account; the terms by which bids are judged; the results before last; the submitted bids, or null
-let asker, me, terms, earlier, submitted = null, worth = null;
-// The server's refusal of the form as it is; whether something could not be loaded; whether bids are being sent.
-// Then the number of accepted sheets, when the server last answered, whether it is silent, and the last error message.
-let refused = null, gone = false, sending = false, accepted = 0, answered = "", silent = false, complaint = "";
+/** @type {import("./shown.js").State} */
+let state = {
+  me: null,
+  terms: null,
+  form: null,
+  inForce: null,
+  sending: null,
+  act: null,
+  receipt: null,
+  undo: "",
+  link: { silent: false, answered: "", fault: "", closing: false },
+  time: { phase: null, words: "", seconds: null, results: "" },
+};
+let asker;
+let auction = ""; // the mark of the auction
+let gone = false; // whether something could not be loaded
+let turn = 0;     // a number for each time that bids were asked for
+let worth = null; // what blocks are worth to a player, in a practice
 
-const times = new Times({
-  heard: learnWorth,
-  changed: () => me && judge(),
-  isMissing: () => me && !me.ended && me.eligibility > 0 && !submitted,
-});
+// -- The state, and drawing it
+
+/** Changes the state, and shows it. */
+function set(change) {
+  state = {...state, ...change };
+  if (state.me) show();
+}
+
+const read = () => sheet.read(state.terms.prices);
+/** What follows an act: `kind` says which, `more` what it was about. */
+const acted = (kind, more = {}) => set({ act: { kind, round: state.me.round, ...more } });
+
+const BUTTONS = {
+  fault: () => toFault(),
+  missing: () => {
+    view("bids");
+    grid.goTo(judged(state).missing.map((p) => keyOf(p, 0)));
+  },
+  receipts: () => receipts.save(state.me.name),
+  old: () => takeOld(),
+};
+let drawnFaults = null; // the faults that the rows show
+
+/** Draws the bars, the title and the marks of rows. */
+function show() {
+  const now = shown(state);
+  drawBars(now);
+  if (now.faults === drawnFaults) return;
+  drawnFaults = now.faults;
+  grid.mark(now.faults);
+}
+
+/** Draws the rows, and judges the form as it is now. */
+function draw() {
+  const { me, terms, inForce } = state;
+  const last = lastClosed(me);
+  const submitted = new Map();
+  for (const bid of inForce?.bids ?? []) {
+    submitted.set(bid.product, [...(submitted.get(bid.product) ?? []), bid]);
+  }
+  const earlier = last > 1 ? past.own(last - 1) : null;
+  grid.view = { me, terms, earlier, sold: past.products(last), submitted, worth };
+  drawnFaults = null;
+  set({ form: read() });
+  grid.lay();
+}
+
+// -- Loading
 
 /** Asks for the account and the submitted bids, and for the new prices if a round was closed. */
 async function load() {
-  const page = terms ?? await asker.products(), now = await asker.account(), before = me, last = lastClosed(now), count = accepted;
+  const began = ++turn;
+  const accepted = state.act?.kind === "accepted" ? state.act : null;
+  const page = state.terms ?? await asker.products();
+  const now = await asker.account();
+  const before = state.me;
+  const last = lastClosed(now);
   if (before && now.round < before.round) past.clear(); // another server, or another auction
-  if (last > 0) await past.learn(asker, last);
-  if (last > 1) await past.learn(asker, last - 1);
+  const closed = [last, last - 1].filter((round) => round > 0);
+  await Promise.all(closed.map((round) => past.learn(asker, round)));
   const reply = now.ended ? null : await asker.inForce();
-  const changed = before && (before.round !== now.round || before.ended !== now.ended), oldPrices = terms?.prices;
-  me = now;
-  earlier = last > 1 ? past.own(last - 1) : null;
-  terms = {
-    products: page.products, requirement: page.requirement, limit: page.limit ?? 100,
-    prices: pricesOf(page.products, last), round: now.round, held: now.demands, eligibility: now.eligibility,
-  };
-  refused = null;
-  const sent = changed ? past.bids(before.round) ?? [] : null;
-  if (changed || accepted === count) takeSubmitted(reply?.bids ?? null, "as of"); // else bids were accepted after this reply
-  if (changed) tellChange(before, sent, oldPrices);
-  else if (!before) fillAtEntry();
-  drawn(drawAll);
+  const changed = before && (before.round !== now.round || before.ended !== now.ended);
+  const terms = termsOf(page, now, last);
+  // bids may have been accepted after this reply
+  const isLater = state.act?.kind === "accepted" && state.act !== accepted;
+  const inForce = isLater && !changed ? state.inForce : inForceOf(now, reply?.bids ?? null, began);
+  if (!before) {
+    begin(page, now, terms, inForce);
+  } else if (changed) {
+    change(before, now, terms, inForce);
+  } else {
+    state = {...state, me: now, terms, inForce };
+  }
+  tell("bidstab", now.ended ? "What you won" : "Bids");
+  document.body.classList.toggle("ended", now.ended || now.eligibility === 0);
+  if (now.eligibility === 0) sheet.clear();
+  drawn(draw);
+  at("who").textContent = "· " + now.name;
   past.draw(asker, terms.products, last);
 }
 
-/** Start-of-round and clock price of each product: the opening price, or what the results of the last round say. */
+/** What bids of the round are judged by. */
+const termsOf = (page, now, last) => ({
+  products: page.products,
+  requirement: page.requirement,
+  limit: page.limit ?? 100,
+  prices: pricesOf(page.products, last),
+  round: now.round,
+  held: now.demands,
+  eligibility: now.eligibility,
+});
+
+/**
+ * Start-of-round and clock price of each product: the opening price, or what the results of the
+ * last round say.
+ */
 function pricesOf(products, last) {
-  if (last === 0) return products.map((product) => ({ start: product.opening, clock: product.opening }));
-  return past.products(last).map((sold) => ({ start: sold.posted, clock: sold.next ?? sold.posted }));
+  if (last === 0) return products.map(({ opening }) => ({ start: opening, clock: opening }));
+  return past.products(last).map(({ posted, next }) => ({ start: posted, clock: next ?? posted }));
 }
 
-/** Fills the form at the entry: with the submitted bids, or else with bids to maintain demand. */
-function fillAtEntry() {
-  if (submitted) sheet.take(submitted);
-  else if (!me.ended && sum(me.demands) > 0) {
+/**
+ * The submitted bids as the server has them. If they are those that this tab saw accepted, it knows
+ * since when.
+ */
+function inForceOf(me, bids, asked) {
+  const mine = bids && plain(bids).sort((a, b) => a.product - b.product);
+  const { inForce } = state;
+  if (mine) past.saw(me.round, mine);
+  const isSame = JSON.stringify(inForce?.bids) === JSON.stringify(mine);
+  const isOwn = Boolean(inForce?.isOwn && inForce.round === me.round && isSame);
+  return { bids: mine, round: me.round, asked, isOwn, since: isOwn ? inForce.since : timeOfDay() };
+}
+
+/**
+ * Fills the form at the entry: with the draft of this tab, the submitted bids, or bids to maintain
+ * demand.
+ */
+function begin(page, me, terms, inForce) {
+  auction = auctionMark(page.products, receipts.commitment);
+  let words = "";
+  if (inForce.bids) {
+    sheet.take(inForce.bids);
+  } else if (!me.ended && sum(me.demands) > 0) {
     sheet.maintain(me.demands);
-    say("The form has bids to maintain your demand. Nothing is submitted yet.");
+    words = "The form has bids to maintain your demand. Nothing is submitted yet.";
   }
+  words = takeDraft(me, page.products.length) || words;
+  const act = words ? { kind: "filled", round: me.round, words } : null;
+  state = {...state, me, terms, inForce, act };
+  at("old").hidden = !old;
 }
 
-/** Notes the submitted bids, and as of when they are known. */
-function takeSubmitted(bids, words) {
-  submitted = bids && plain(bids).sort((a, b) => a.product - b.product);
-  if (bids) past.saw(me.round, bids);
-  at("force").textContent = me.ended ? "The auction is over: no bids are in force."
-    : bids ? `Submitted: ${counted(bids.length, "bid")}, ${words} ${timeOfDay()}.` : `No bids submitted, as of ${timeOfDay()}.`;
+/**
+ * Takes the draft of this tab, if it has other entries than the form, and returns what is said of
+ * it.
+ */
+function takeDraft(me, count) {
+  const draft = me.ended ? null : draftOf(auction, me.name, count);
+  if (!draft || JSON.stringify(draft.rows) === JSON.stringify(sheet.toJSON())) return "";
+  if (draft.round > me.round) return "";
+  if (draft.round < me.round) {
+    old = draft;
+    return `This tab has entries for round ${draft.round}, which is closed.`;
+  }
+  remember("the draft");
+  sheet.fromJSON(draft.rows);
+  return `Your entries of ${draft.time} are back. They are not submitted.`;
+}
+
+let old = null; // a draft of an earlier round, which can be taken without its prices
+function takeOld() {
+  const words = `The form has your quantities of round ${old.round}, at the clock prices.`;
+  fill("taking the old quantities", () => sheet.fromJSON(old.rows, true), words);
+  old = null;
+  at("old").hidden = true;
 }
 
 /** Says what a closing changed, and prepares the form for the next round. */
-function tellChange(before, sent, prices) {
+function change(before, me, terms, inForce) {
   unask();
   clearLines();
-  if (me.round < before.round) {
-    return say(`⚠ The round fell from ${before.round} to ${me.round}: another server answers. Ask the operator before you bid.`);
+  undos.length = 0;
+  const sent = past.bids(before.round) ?? [];
+  const oldPrices = state.terms.prices;
+  const isUnknown = state.act?.kind === "lost";
+  const isFall = me.round < before.round;
+  const parts = isFall ? fallWords(before, me) : changeWords(before, me, terms);
+  if (!isFall && !me.ended && me.eligibility > 0) {
+    parts.push(carriedWords(sheet.carry(sent, me.demands, oldPrices), isUnknown));
   }
-  const moved = terms.products.filter((_, p) => before.demands[p] !== me.demands[p]).length;
-  const closed = me.ended ? `The auction has ended after round ${me.round}.`
-    : `Round ${before.round} is closed. Round ${me.round} has new prices.`;
-  const fell = before.eligibility === me.eligibility ? ""
-    : ` Your eligibility fell from ${number(before.eligibility)} to ${number(me.eligibility)}.`;
-  const demand = moved ? `Your processed demand changed in ${moved} of ${counted(terms.products.length, "product")}.`
-    : "Your processed demand did not change.";
-  say(`${closed} ${demand}${fell}${me.ended ? "" : carriedWords(sheet.carry(sent, me.demands, prices))}`);
+  const words = parts.filter(Boolean).join(" ");
+  const act = { kind: "closing", round: me.round, isBad: isFall, words };
+  state = {...state, me, terms, inForce, undo: "", receipt: null, act };
 }
 
-/** How the form was prepared for the next round, in words. */
-function carriedWords({ maintained, emptied, left }) {
+const fallWords = (before, me) =>
+  [`The round fell from ${before.round} to ${me.round}: another server answers.`,
+   "Ask the operator before you bid.",
+];
+
+/** What a closing changed for this bidder. */
+function changeWords(before, me, { products }) {
+  const moved = products.filter((_, p) => before.demands[p] !== me.demands[p]).length;
+  const many = `${number(moved)} of ${counted(products.length, "product")}`;
+  const fell = `from ${number(before.eligibility)} to ${number(me.eligibility)}`;
+  return [
+    me.ended ? `The auction has ended after round ${me.round}.`
+             : `Round ${before.round} is closed.`,
+    moved ? `Your processed demand changed in ${many}.` : "Your processed demand did not change.",
+    before.eligibility === me.eligibility ? "" : `Your eligibility fell ${fell}.`,
+  ];
+}
+
+/**
+ * How the form was prepared for the next round, in words. `isUnknown` is whether it was not known
+ * what was submitted.
+ */
+function carriedWords({ maintained, emptied, left }, isUnknown) {
+  const part = (count, one, many) =>
+    count && `${counted(count, "row")} ${count === 1 ? one : many}`;
+  const whose = isUnknown ? "" : "that you had not submitted ";
+  const demand = "demand at the new clock price";
   const parts = [
-    maintained && `${counted(maintained, "row")} now ${maintained === 1 ? "maintains" : "maintain"} demand at the new clock price`,
-    emptied && `${counted(emptied, "row")} without processed demand ${emptied === 1 ? "is" : "are"} empty`,
-    left && `${counted(left, "row")} that you had not submitted ${left === 1 ? "keeps its" : "keep their"} quantity`,
+    part(maintained, `maintains ${demand}`, `maintain ${demand}`),
+    part(emptied, "is empty", "are empty"),
+    part(left, `${whose}keeps its quantity`, `${whose}keep their quantity`),
   ].filter(Boolean);
-  return parts.length ? ` In the form, ${parts.join("; ")}. Nothing is submitted yet.` : "";
+  return parts.length ? `In the form, ${parts.join("; ")}: not submitted yet.` : "";
 }
 
-function drawAll() {
-  at("who").textContent = "· " + me.name;
-  document.title = `${me.ended ? "Ended" : "Round " + me.round} · ${me.name} · clock auction`;
-  at("round").textContent = me.ended ? `Ended after round ${me.round}` : `Round ${me.round}`;
-  at("desk").classList.toggle("ended", me.ended);
-  tell("sheet", me.ended ? "What you won" : "Your bids");
-  tell("starts", me.ended ? "Posted price" : "Start-of-round price");
+// -- The form
+
+/** Keeps the form as it is, so that a change can be taken back. */
+function remember(what) {
+  undos.push({ what, copy: sheet.copy() });
+  if (undos.length > MOST_UNDO) undos.shift();
+  state = {...state, undo: what };
+}
+
+function undo() {
+  const last = undos.pop();
+  if (!last) return;
+  sheet.restore(last.copy);
+  state = {...state, undo: undos.at(-1)?.what ?? "" };
   draw();
+  acted("filled", { words: `Undone: ${last.what}.` });
+  keepSoon();
 }
 
-/** What the page shows now, for those who draw a part of it. */
-function view() {
-  const by = new Map();
-  for (const bid of submitted ?? []) by.set(bid.product, [...(by.get(bid.product) ?? []), bid]);
-  return { me, terms, earlier, sold: past.products(lastClosed(me)), submitted: by, bids: submitted, worth };
-}
-
-/** Draws the table and judges the form. */
-function draw() {
-  table.view = view();
-  at("frame").classList.toggle("long", terms.prices.some(({ clock }) => clock >= LONG));
-  judge();
-  table.lay();
-}
-
-/** Judges the form as the server would, and shows the result at the rows and in the bar. */
-function judge() {
-  const { bids, wrong } = sheet.read(terms.prices), faults = new Map(wrong.map((each) => [keyOf(each.product, each.step), each.text]));
-  let whole = "";
-  for (const fault of me.ended ? [] : [...(refused ? [refused] : []), ...faultsOf(terms, bids)]) {
-    const bid = bids[fault.place], words = (fault === refused ? "refused: " : "") + wordsOf(fault.code);
-    if (!bid) whole ||= words;
-    else if (!faults.has(keyOf(bid.product, bid.step))) faults.set(keyOf(bid.product, bid.step), words);
-  }
-  table.mark(me.ended ? new Map() : faults);
-  const standing = standingOf(table.view, bids);
-  tellSums(table.view, bids, standing);
-  tellJudged(table.view, bids, standing, whole, me.ended ? 0 : faults.size);
-  const { words, isDone, isBack } = todoOf(table.view, wrong.length ? null : plain(bids), silent ? answered : "", times.phase);
-  tell("todo", words);
-  at("todo").className = isDone ? "done" : words.startsWith("●") ? "" : "quiet";
-  at("back").hidden = !isBack;
-  if (!whole && faults.size === 0 && complaint && at("say").textContent === complaint) say("");
-  return { bids, wrong, standing };
-}
-
-/** What follows a key: a refusal or an error of the form as it was is over. */
+/** What follows a key. */
 function typed() {
-  refused = null;
-  judge();
+  state = afterKey({...state, form: read() });
+  show();
+  keepSoon();
 }
 
-/** Says what is wrong with the form, until that is corrected. */
-function complain(words) {
-  complaint = "⚠ " + words;
-  say(complaint);
+let timer = 0;
+function keepSoon() {
+  clearTimeout(timer);
+  timer = setTimeout(keep, 300);
+}
+/** Keeps the draft, or forgets it if the form has nothing that the server does not have. */
+function keep() {
+  clearTimeout(timer);
+  if (!state.me) return;
+  const { me } = state, rows = shown(state).isUnsaved ? sheet.toJSON() : [];
+  keepDraft({ auction, bidder: me.name, round: me.round, time: timeOfDay(), rows });
 }
 
-/** Submits the form. Sheets are sent one after the other, so that the last one counts. The server decides. */
-async function submit() {
-  if (me.ended) return;
-  const { bids, wrong, standing } = judge(), sent = plain(bids), round = me.round, missing = missingWords(table.view, standing);
-  if (wrong.length) return complain("Not submitted: a row cannot be read as a bid.");
-  if (sending) return say("⚠ Not submitted: your last submission has no answer yet.");
-  const empty = sent.length ? "" : `The form is empty${me.round === 1 ? ": you would be out of the auction" : ""}. Submit it?`;
-  const doubt = missing ? `${missing} A missing bid asks for 0 blocks at the start-of-round price. Submit these bids?` : empty;
-  if (doubt && !await question(doubt, "Submit")) return;
-  sending = true;
-  refused = null;
-  say("Sending your bids …");
-  try {
-    const done = await asker.put(round, sent), late = me.round !== round || me.ended;
-    accepted++;
-    if (late) past.saw(round, sent);
-    else takeSubmitted(sent, "accepted at");
-    clearLines();
-    const same = JSON.stringify(plain(sheet.read(terms.prices).bids)) === JSON.stringify(sent);
-    const since = same ? "" : " Your changes since then are not submitted.";
-    say(`✓ Accepted: ${counted(done.bids, "bid")} for round ${done.round}${late ? ", which is closed by now" : ""}.${since}`);
-    draw();
-    receipts.expect(round, sent);
-  } catch (fault) {
-    tellRefused(fault, round, bids);
-  } finally {
-    sending = false;
-    tabs.postMessage("submitted");
-  }
+/**
+ * Changes the whole form in one step that can be taken back, and says that this submits nothing.
+ */
+function fill(what, take, words) {
+  remember(what);
+  take();
+  filled(words);
 }
 
-/** Says why bids were not accepted; at the row too, if the form is still as it was sent. */
-function tellRefused(fault, round, bids) {
-  if (fault.status === 0) {
-    past.saw(round, null);
-    gone = true; // so that the submitted bids are loaded again
-    return say("⚠ No answer from the server. It is not known whether your bids were accepted: " +
-      "reload the submitted bids, or submit again.");
-  }
-  const bid = bids[fault.place], product = bid ? ` (${terms.products[bid.product].name})` : "";
-  const stays = submitted && (fault.status !== 409 || fault.code === "window") ? " Your submitted bids stay in force." : "";
-  refused = me.round === round && JSON.stringify(sheet.read(terms.prices).bids) === JSON.stringify(bids) ? fault : null;
-  judge();
-  const words = `Refused: ${wordsOf(fault.code)}${product}.${stays}`;
-  if (refused) complain(words);
-  else say("⚠ " + words);
-  if (bid && refused) table.show(keyOf(bid.product, bid.step));
+function filled(words) {
+  clearLines();
+  draw();
+  acted("filled", { words: words + " Nothing is submitted yet." });
+  keepSoon();
 }
 
-async function reload() {
-  try {
-    const count = accepted, reply = await asker.inForce();
-    if (reply.round !== me.round || accepted !== count) return;
-    takeSubmitted(reply.bids, "as of");
-    say(at("force").textContent);
-    draw();
-  } catch (fault) {
-    say("⚠ " + wordsOf(fault.code));
-  }
+const grid = new Grid(sheet, {
+  typed,
+  filled,
+  undo,
+  before: remember,
+  leave: () => at("send").focus(),
+  pasteBids: (text) => takeText(text, "paste", "pasted"),
+});
+
+function toFault() {
+  view("bids");
+  grid.goTo(judged(state).faults.keys());
+}
+
+function takeText(text, what, words) {
+  const { bids, wrong } = readBids(state.terms.products, text);
+  if (!wrong.length)
+    return fill(what, () => sheet.take(bids), `${counted(bids.length, "bid")} ${words}.`);
+  at("lines").replaceChildren(...wrong.slice(0, 1000).map((line) => make("li", {}, line)));
+  acted("failed", { words: `Not ${words}: ${counted(wrong.length, "wrong line")}.` });
 }
 
 const clearLines = () => at("lines").replaceChildren();
 
 async function upload(event) {
-  const [file] = event.target.files;
+  const [file] = event.target.files, text = await file.text().catch(() => null);
   event.target.value = ""; // so that the same file can be chosen again
-  const { bids, wrong } = await file.text().then((text) => readBids(terms.products, text), () => ({ wrong: ["the file cannot be read"] }));
-  if (!wrong.length) return fill(() => sheet.take(bids), `${counted(bids.length, "bid")} read from the file.`);
-  at("lines").replaceChildren(...wrong.slice(0, 1000).map((text) => make("li", {}, text)));
-  say(`⚠ Not uploaded: the file has ${counted(wrong.length, "wrong line")}.`);
+  if (text === null) return acted("failed", { words: "The file cannot be read." });
+  takeText(text, "upload", "uploaded");
 }
 
 function download() {
-  const { bids, wrong } = judge();
-  if (wrong.length) return complain("Not saved: a row cannot be read as a bid.");
+  const { bids, isReadable } = judged(state), { me, terms } = state;
+  if (!isReadable) return acted("notSaved");
   save(`bids-${me.name}-${me.round}.csv`, writtenBids(terms.products, bids));
 }
 
-/** Fills the form in one step, and says that this submits nothing. */
-function fill(take, words) {
-  take();
-  refused = null;
-  clearLines();
-  draw();
-  say(words + " Nothing is submitted yet.");
+// -- Submitting
+
+/**
+ * Submits the form. Sheets are sent one after the other, so that the last one counts. The server
+ * decides.
+ */
+async function submit() {
+  const now = shown(state);
+  if (now.send.fix) return toFault();
+  if (state.sending || now.send.off) return;
+  const { form, me: { round } } = state;
+  const sent = judged(state).bids;
+  const doubt = doubtOf(sent, round);
+  if (doubt && !await question(doubt, "Submit anyway")) return;
+  set({ sending: sent, act: null });
+  try {
+    const done = await asker.put(round, sent);
+    tellAccepted(round, sent, done.bids);
+  } catch (fault) {
+    tellRefused(fault, round, sent, form);
+  } finally {
+    tabs.postMessage("submitted");
+    keep();
+  }
 }
 
-/** Takes what a practice says each block is worth. */
-function learnWorth(timetable) {
-  if (worth || !timetable.worth) return;
-  worth = timetable.worth;
-  at("frame").classList.add("valued");
-  if (me) draw();
+/** What is asked before bids are sent, or "". */
+function doubtOf(sent, round) {
+  const missing = missingWords(state);
+  if (missing) return `${missing} A missing bid asks for 0 blocks at the start-of-round price.`;
+  if (sent.length) return "";
+  return `The form is empty${round === 1 ? ": you would be out of the auction" : ""}. Submit it?`;
 }
+
+/** Says that bids were accepted, and waits for their receipt. */
+function tellAccepted(round, sent, count) {
+  const { me } = state;
+  const time = timeOfDay();
+  const isLate = me.round !== round || me.ended;
+  past.saw(round, sent);
+  clearLines();
+  const act = { kind: "accepted", round, sent, count, time, closed: isLate ? me.round : 0 };
+  const bids = sent.toSorted((a, b) => a.product - b.product);
+  const inForce = { bids, round, asked: ++turn, isOwn: true, since: time };
+  set(isLate ? { sending: null, act } : { sending: null, inForce, receipt: null, act });
+  draw();
+  receipts.expect(round, sent);
+}
+
+/** Says why bids were not accepted; at the row too, if the form is still as it was sent. */
+function tellRefused(fault, round, sent, form) {
+  if (fault.status === 0) {
+    past.saw(round, null);
+    gone = true; // so that the submitted bids are loaded again
+    return set({ sending: null, act: { kind: "lost", round, sent, asked: turn } });
+  }
+  const { status } = fault;
+  const product = state.terms.products[form.bids[fault.place]?.product]?.name;
+  const isSame = JSON.stringify(state.form.bids) === JSON.stringify(form.bids);
+  if (status === 409) gone = true;
+  const of = isSame ? state.form : form;
+  set({ sending: null, act: { kind: "refused", round, fault, product, status, form: of } });
+}
+
+async function reload() {
+  try {
+    await load();
+    acted("filled", { words: "The submitted bids are loaded." });
+  } catch (fault) {
+    acted("failed", {
+      words: `The submitted bids could not be loaded: ${wordsOf(fault.code ?? String(fault))}.`
+    });
+  }
+}
+
+// -- The server, the clock, and other tabs
+
+/** What is known of the link once the server has answered. */
+const answers = () => ({ silent: false, answered: timeOfDay(), fault: "", closing: false });
 
 async function heard(status) {
   const again = gone;
+  const { me } = state;
   gone = false;
   if (again || status.round !== me.round || status.ended !== me.ended) await load();
-  answered = timeOfDay();
-  tell("link", "");
-  if (!silent) return;
-  silent = false;
-  judge();
+  set({ link: answers() });
 }
 
-/** The last status is older than three seconds: that may be a closing. */
 function slow() {
-  if (silent) return;
-  silent = true;
-  judge();
-  tell("link", `No answer since ${answered}. The round may be closing.`);
+  if (!state.link.silent) set({ link: {...state.link, silent: true } });
 }
 
 function missed(fault) {
-  gone = silent = true;
-  judge();
-  const words = fault.status ? wordsOf(fault.code) : "No answer from the server";
-  tell("link", `⚠ ${words}. Retrying every five seconds. Your entries stay in the form.`);
+  gone = true;
+  const words = fault.status ? wordsOf(fault.code) : "no answer";
+  set({ link: {...state.link, silent: true, closing: false, fault: words } });
 }
 
+function closing() {
+  gone = true; // what is asked for when the round's number has risen may be withheld too
+  set({ link: {...answers(), closing: true } });
+}
+
+const times = new Times({
+  host: at("timesview"),
+  heard: (timetable) => {
+    if (worth || !timetable.worth) return;
+    worth = timetable.worth;
+    if (state.me) draw();
+  },
+  ticked: (time) => set({ time }),
+  news: (count) => tell("news", count ? number(count) : ""),
+});
+
+/** Enters with a token. */
 async function enter(token) {
   asker = new Asker(token);
-  past.clear(); // another token may have come this far
-  await load();
-  await receipts.begin(asker, me.round);
-  answered = timeOfDay();
-  watch(asker, heard, slow, missed);
+  await asker.status(); // before anything is drawn, since pages may be withheld
+  past.clear();         // another token may have come this far
+  state = {...state, me: null, terms: null, inForce: null, sending: null, act: null };
+  document.body.classList.add("in");
+  try {
+    receipts.commitment = await asker.commitment().catch(() => null);
+    await load();
+    await receipts.begin(asker, state.me.round);
+  } catch (fault) {
+    document.body.classList.remove("in");
+    throw fault;
+  }
+  set({ link: answers() });
+  watch(asker, { heard, slow, missed, closing });
 }
 
-door(enter, wordsOf);
-at("send").addEventListener("click", submit);
-at("again").addEventListener("click", reload);
-at("tofault").addEventListener("click", () => table.toFault());
-at("keep").addEventListener("click", () => {
-  fill(() => sheet.maintain(me.demands), "The form has bids to maintain your demand at the clock prices.");
-});
-at("clear").addEventListener("click", () => fill(() => sheet.clear(), "The form is empty."));
-at("back").addEventListener("click", () => {
-  fill(() => sheet.take(submitted), "The form has your submitted bids.");
-  at("again").focus();
-});
-at("down").addEventListener("click", download);
-at("receipts").addEventListener("click", () => receipts.save(me.name));
-at("up").addEventListener("change", upload);
-document.addEventListener("keydown", (event) => {
-  if (event.key !== "Enter" || !(event.ctrlKey || event.metaKey) || at("desk").hidden || at("question").open) return;
-  event.preventDefault();
-  submit();
-});
-for (const [from, event] of [[tabs, "message"], [document, "visibilitychange"]]) {
-  from.addEventListener(event, () => { gone = true; }); // bids may have been submitted elsewhere
+// -- Buttons and keys
+
+/** A button of the menu: it closes the menu, whose head then has the cursor. */
+function onMenu(id, work) {
+  at(id).addEventListener("click", () => {
+    at("menu").open = false;
+    at("menuhead").focus();
+    work();
+  });
 }
+
+/** The keys that work everywhere: Escape closes the menu, Ctrl+Enter submits, and / finds. */
+function keyed(event) {
+  if (event.key === "Escape" && at("menu").open) {
+    at("menu").open = false;
+    at("menuhead").focus();
+  }
+  const isSubmit = event.key === "Enter" && (event.ctrlKey || event.metaKey);
+  const isTyping = event.target.matches("input:not([data-field]), select, dialog *");
+  const isFind = event.key === "/" && !isTyping;
+  if (!state.me || at("question").open || !(isSubmit || isFind)) return;
+  event.preventDefault();
+  if (isSubmit) return submit();
+  view("bids");
+  at("find").focus();
+}
+
+function maintain() {
+  const words = "The form has bids to maintain your demand at the clock prices.";
+  fill("maintain", () => sheet.maintain(state.me.demands), words);
+}
+
+function copyInForce() {
+  const take = () => sheet.take(state.inForce.bids);
+  fill("copying the bids in force", take, "The form has your bids in force.");
+  at("round").focus();
+}
+
+door(enter, { wordsOf, closingWords: () => times.closing() });
+at("send").addEventListener("click", submit);
+at("act").addEventListener("click", () => BUTTONS[shown(state).message.button?.[0]]?.());
+at("undo").addEventListener("click", undo);
+at("keep").addEventListener("click", maintain);
+onMenu("clear", () => fill("clear", () => sheet.clear(), "The form is empty."));
+onMenu("again", reload);
+onMenu("down", download);
+onMenu("old", takeOld);
+onMenu("receipts", () => receipts.save(state.me.name));
+at("back").addEventListener("click", copyInForce);
+at("up").addEventListener("change", upload);
+document.addEventListener("click", ({ target }) => {
+  if (!at("menu").contains(target)) at("menu").open = false;
+});
+document.addEventListener("keydown", keyed);
+// bids may have been submitted elsewhere
+const look = () => {
+  gone = true;
+};
+tabs.addEventListener("message", look);
+document.addEventListener("visibilitychange", look);
+addEventListener("pagehide", keep);
+addEventListener("beforeunload", (event) => {
+  if (state.me && shown(state).isUnsaved) event.preventDefault();
+});

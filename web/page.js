@@ -1,35 +1,61 @@
-// What all pages draw with: elements whose text is never HTML, numbers in words, facts, cells, a question, and the form that
-// takes the token.
+// What all pages draw with: elements whose text is never HTML, numbers in words, facts, cells, a
+// question, and the form that takes the token.
 
+import {isClosing, pause} from "./api.js";
+
+/**
+ * The element of an id, which the page has. Its kind is the page's.
+ * @param {string} id
+ * @returns {any}
+ */
 export const at = (id) => document.getElementById(id);
 
-/** An element with attributes and children; children are elements or text. */
+/**
+ * The element with the cursor, or null.
+ * @returns {any}
+ */
+export const focusedElement = () => document.activeElement;
+
+/**
+ * An element with attributes and children; children are elements or text.
+ * @param {string} tag
+ * @param {Object<string, any>} attributes
+ * @param {...any} children
+ */
 export function make(tag, attributes = {}, ...children) {
   const element = document.createElement(tag);
   for (const [name, value] of Object.entries(attributes)) {
-    if (name.startsWith("on")) element.addEventListener(name.slice(2), value);
-    else if (value !== false && value !== null) element.setAttribute(name, value === true ? "" : value);
+    if (name.startsWith("on"))
+      element.addEventListener(name.slice(2), value);
+    else if (value !== false && value !== null)
+      element.setAttribute(name, value === true ? "" : value);
   }
   element.append(...children.map((child) => (child instanceof Node ? child : String(child))));
   return element;
 }
 
-export const number = (n) => (n === null || n === undefined ? "–" : n.toLocaleString("en-US"));
+const whole = new Intl.NumberFormat("en-US");
+/** @param {number | bigint | null} [n] */
+export const number = (n) => (n === null || n === undefined ? "–" : whole.format(n));
+/** @param {number | bigint | null} [n] */
 export const dollars = (n) => (n === null || n === undefined ? "–" : "$" + number(n));
 /** A count with its noun, in the plural unless the count is 1. */
 export const counted = (n, noun) => `${number(n)} ${noun}${n === 1 ? "" : "s"}`;
 export const sentence = (words) => words.charAt(0).toUpperCase() + words.slice(1);
 export const sum = (numbers) => numbers.reduce((a, b) => a + b, 0);
 /** The first names of a list, and how many more there are. */
-export const listed = (names, most) => (names.length <= most ? names.join(", ")
-  : `${names.slice(0, most).join(", ")} and ${number(names.length - most)} more`);
+export const listed = (names, most) =>
+  (names.length <= most
+     ? names.join(", ")
+     : `${names.slice(0, most).join(", ")} and ${number(names.length - most)} more`);
 
 export const timeOfDay = () => new Date().toLocaleTimeString("en-GB");
 
 /** The last closed round of an auction with this status, or 0. */
 export const lastClosed = (status) => (status.ended ? status.round : status.round - 1);
 /** Excess demand for a product after a closed round. Demand is null if it is not above supply. */
-export const excessOf = (sold, product) => (sold.demand === null ? 0 : sold.demand - product.supply);
+export const excessOf = (sold, product) =>
+  (sold.demand === null ? 0 : sold.demand - product.supply);
 
 /** A message to the person, which a screen reader reads out at once. */
 export const say = (text) => {
@@ -37,24 +63,39 @@ export const say = (text) => {
   at("say").className = text.startsWith("⚠") ? "fault" : "";
 };
 /** Sets a text. A screen reader reads it out only if it has changed. */
-export const tell = (id, words) => { if (at(id).textContent !== words) at(id).textContent = words; };
+export const tell = (id, words) => {
+  if (at(id).textContent !== words) at(id).textContent = words;
+};
 
 /** A cell with its label, which is shown if rows are drawn as cards. */
-export const cell = (label, ...inside) => make("td", { "data-label": label }, ...inside);
-export const rowHead = (...inside) => make("th", { scope: "row" }, ...inside);
+export const cell = (label, ...inside) => make("td", {"data-label": label}, ...inside);
+export const rowHead = (...inside) => make("th", {scope: "row"}, ...inside);
 export const note = (...inside) => make("small", {}, ...inside);
-/** The cell for aggregate demand, supply and excess demand after a closed round, or before the first one. */
+/**
+ * The cell for aggregate demand, supply and excess demand after a closed round, or before the first
+ * one.
+ */
 export function demandCell(sold, product) {
   const supply = `supply ${number(product.supply)}`;
   if (!sold) return cell("Aggregate demand", "–", note(supply));
   if (sold.demand === null) return cell("Aggregate demand", "no excess", note(supply));
-  return cell("Aggregate demand", number(sold.demand), note(`${supply}, excess ${number(excessOf(sold, product))}`));
+  return cell(
+    "Aggregate demand", number(sold.demand),
+    note(`${supply}, excess ${number(excessOf(sold, product))}`)
+  );
 }
 
-/** Fills a list with names and values; a third text, if there is one, is a note on the value, and a fourth one its class. */
+/**
+ * Fills a list with names and values; a third text, if there is one, is a note on the value, and a
+ * fourth one its class.
+ */
 export function facts(id, rows) {
-  at(id).replaceChildren(...rows.map(([name, value, words, kind]) =>
-    make("div", { class: kind ?? null }, make("dt", {}, name), make("dd", {}, value, ...(words ? [note(" " + words)] : [])))));
+  at(id).replaceChildren(...rows.map(
+    ([name, value, words, kind]) => make(
+      "div", { class: kind ?? null }, make("dt", {}, name),
+      make("dd", {}, value, ...(words ? [note(" " + words)] : []))
+    )
+  ));
 }
 
 /** Puts options into a select. What is selected stays selected if it is still there. */
@@ -64,19 +105,26 @@ export function options(select, pairs) {
   if (pairs.some(([value]) => String(value) === chosen)) select.value = chosen;
 }
 
-/** Offers the closed rounds, the last one first. An earlier round that a person has chosen stays chosen. */
+/**
+ * Offers the closed rounds, the last one first. An earlier round that a person has chosen stays
+ * chosen.
+ */
 export function offerRounds(last) {
   const select = at("which"), stays = Number(select.value) < Number(select.options[0]?.value);
   options(select, Array.from({ length: last }, (_, n) => [last - n, last - n]));
   if (!stays) select.value = last || "";
 }
 
-/** Draws. If that removes, hides or disables the element with the focus, the focus moves to the round's number. */
+/**
+ * Draws. If that removes, hides or disables the element with the focus, the focus moves to the
+ * round's number.
+ */
 export function drawn(draw) {
-  const focused = document.activeElement;
+  const focused = focusedElement();
   draw();
-  const now = document.activeElement;
-  if (focused !== document.body && (now.matches("body, :disabled") || !now.checkVisibility())) at("round").focus({ preventScroll: true });
+  const now = focusedElement();
+  if (focused !== document.body && (now.matches("body, :disabled") || !now.checkVisibility()))
+    at("round").focus({ preventScroll: true });
 }
 
 /** Asks a question with the answers No and `yes`; true for yes. Escape and `unask` are No. */
@@ -87,31 +135,57 @@ export function question(words, yes) {
   dialog.returnValue = "no";
   dialog.showModal(); // the focus is on No, its first button
   return new Promise((done) => {
-    // a browser sends `close` with its next frame; by then another question may be open, which has no answer yet
-    dialog.onclose = () => { if (!dialog.open) done(dialog.returnValue === "yes"); };
+    // a browser sends `close` with its next frame; by then another question may be open, which has
+    // no answer yet
+    dialog.onclose = () => {
+      if (!dialog.open) done(dialog.returnValue === "yes");
+    };
   });
 }
 
 /** Takes back a question that has no answer yet. */
 export const unask = () => at("question").close("no");
 
-/** Takes the token: `enter` is called with what is typed. If it fails, the form stays, and says why in the `words` of the fault. */
-export function door(enter, words) {
+/**
+ * Takes the token: `enter` is called with what is typed. If it fails, the form stays, and says why.
+ * While pages are withheld
+ * until the results of a round appear, the form says so, and `enter` is called again.
+ * @param {(token: string) => Promise<void>} enter
+ * @param {{ wordsOf: (code: string) => string, closingWords: () => string }} words
+ */
+export function door(enter, {wordsOf, closingWords}) {
+  let said = ""; // what this form has said last
+  const tellDoor = (text) => {
+    said = text;
+    if (at("say").textContent !== text) say(text);
+  };
+  const keepEntering = async (token) => {
+    for (;;) {
+      try {
+        return await enter(token);
+      } catch (fault) {
+        if (!isClosing(fault)) throw fault;
+        tellDoor(`${closingWords()} You will be entered then.`);
+        await pause(1000);
+      }
+    }
+  };
   at("door").addEventListener("submit", async (event) => {
     event.preventDefault();
     const token = at("token").value.trim();
     at("token").value = "";
-    say("Loading …");
+    tellDoor("Loading …");
     at("door").inert = at("desk").inert = true;
-    at("desk").hidden = false; // the number of rows that are drawn depends on the height that is seen
+    at("desk").hidden =
+      false; // the number of rows that are drawn depends on the height that is seen
     try {
-      await enter(token);
+      await keepEntering(token);
       at("door").hidden = true;
-      if (at("say").textContent === "Loading …") say("");
+      if (at("say").textContent === said) say("");
       at("round").focus();
     } catch (fault) {
       at("desk").hidden = true;
-      say("⚠ " + words(fault.code ?? String(fault)));
+      say("⚠ " + wordsOf(fault.code ?? String(fault)));
     }
     at("door").inert = at("desk").inert = false;
     at("token").focus(); // if the form is still there

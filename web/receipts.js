@@ -1,42 +1,71 @@
-// Receipts of accepted sheets: this tab fetches, checks and keeps them. docs/formats.md has their form.
+// Receipts of accepted sheets: this tab fetches, checks and keeps them. docs/formats.md has their
+// form.
 
-import { save } from "./csv.js";
-import { at, tell } from "./page.js";
+import {save} from "./csv.js";
 
 const bytesOf = (text) => new TextEncoder().encode(text);
 
-/** Whether the committed key has signed a receipt. A browser without Ed25519 does not know, and the answer is yes. */
+/**
+ * Whether the committed key has signed a receipt. A browser without Ed25519 does not know, and the
+ * answer is yes.
+ */
 async function isSigned(key, receipt) {
-  const lines = ["auction", "bidder", "round", "sheet", "body", "text"].map((name) => `${name} ${receipt[name]}\n`);
-  const spki = Uint8Array.from(atob(key), (letter) => letter.charCodeAt(0));
-  const signature = Uint8Array.from(receipt.signature.match(/../g) ?? [], (pair) => parseInt(pair, 16));
-  const read = await crypto.subtle.importKey("spki", spki, "Ed25519", false, ["verify"]).catch(() => null);
-  return !read || crypto.subtle.verify("Ed25519", read, signature, bytesOf("clock_auction receipt 1\n" + lines.join("")));
+  const lines = ["auction", "bidder", "round", "sheet", "body", "text"].map(
+    (name) => `${name} ${receipt[name]}\n`
+  );
+  const spki = Uint8Array.from([...atob(key)].map((letter) => letter.charCodeAt(0)));
+  const pairs = receipt.signature.match(/../g) ?? [];
+  const signature = Uint8Array.from(pairs.map((pair) => parseInt(pair, 16)));
+  const text = bytesOf("clock_auction receipt 1\n" + lines.join(""));
+  const { subtle } = crypto;
+  const read = await subtle.importKey("spki", spki, "Ed25519", false, ["verify"]).catch(() => null);
+  return !read || subtle.verify("Ed25519", read, signature, text);
 }
 
 export class Receipts {
-  #asker; #commitment; #kept = []; #before = Promise.resolve(); // sheets get their receipts one after the other
+  commitment = null;
+  #asker;
+  #commitment;
+  #kept = [];
+  #before = Promise.resolve(); // sheets get their receipts one after the other
+
+  /** `changed` takes { kind, round }: what is known of the receipt of the last accepted sheet. */
+  constructor(changed) { this.changed = changed; }
+
+  /** How many receipts this tab has. */
+  get count() { return this.#kept.length; }
 
   /** Begins with the receipts that a bidder has of this round, if receipts are made at all. */
   async begin(asker, round) {
-    [this.#asker, this.#kept, this.#commitment] = [asker, [], await asker.commitment().catch(() => null)];
-    while ((await this.#take(round))?.body);
-    this.#tell("");
+    [this.#asker, this.#kept, this.#commitment] =
+      [asker, [], await asker.commitment().catch(() => null)];
+    this.commitment = this.#commitment;
+    while ((await this.#take(round))?.body)
+      ;
+    this.changed(null);
   }
 
-  /** Waits for the receipt of a sheet that was accepted, and says that it is there, missing, or wrong. */
+  /**
+   * Waits for the receipt of a sheet that was accepted, and says that it is there, missing, or
+   * wrong.
+   */
   expect(round, bids) {
-    this.#before = this.#before.then(() => this.#commitment && this.#await(round, JSON.stringify({ bids, round })));
+    this.#before = this.#before.then(
+      () => this.#commitment && this.#await(round, JSON.stringify({ bids, round }))
+    );
   }
 
   async #await(round, sent) {
-    const hash = new Uint8Array(await crypto.subtle.digest("SHA-256", bytesOf(sent))), end = Date.now() + 2000;
+    const hash = new Uint8Array(await crypto.subtle.digest("SHA-256", bytesOf(sent)));
+    const end = Date.now() + 2000;
     const body = Array.from(hash, (byte) => byte.toString(16).padStart(2, "0")).join("");
+    const tell = (kind) => this.changed({ kind, round });
+    tell("waiting");
     for (;;) {
       const receipt = await this.#take(round, body, sent);
-      if (receipt?.body === body) return this.#tell("✓ The receipt is here: download it before you close this tab.");
-      if (receipt?.body === null) return this.#tell("⚠ The receipt is wrong: call the operator.");
-      if (!receipt && Date.now() > end) return this.#tell("⚠ No receipt within two seconds: call the operator.");
+      if (receipt?.body === body) return tell("here");
+      if (receipt?.body === null) return tell("wrong");
+      if (!receipt && Date.now() > end) return tell("missing");
       if (!receipt) await new Promise((done) => setTimeout(done, 200));
     }
   }
@@ -46,20 +75,21 @@ export class Receipts {
     const sheet = 1 + this.#kept.filter((one) => one.round === round).length;
     const receipt = this.#commitment && await this.#asker.receipt(round, sheet).catch(() => null);
     if (!receipt) return null;
-    const { auction, key } = this.#commitment, named = [receipt.auction, receipt.round, receipt.sheet];
-    if (named.join() !== [auction, round, sheet].join() || !await isSigned(key, receipt)) return { body: null };
-    this.#kept.push(receipt.body === body ? { ...receipt, sent } : receipt);
+    const { auction, key } = this.#commitment;
+    const named = [receipt.auction, receipt.round, receipt.sheet];
+    if (named.join() !== [auction, round, sheet].join() || !await isSigned(key, receipt))
+      return { body: null };
+    this.#kept.push(receipt.body === body ? {...receipt, sent } : receipt);
     return receipt;
   }
 
-  #tell(words) {
-    tell("receipt", words);
-    at("receipt").className = words.startsWith("⚠") ? "fault" : "";
-    at("receipts").hidden = this.#kept.length === 0;
-  }
-
-  /** Gives all receipts to the person, after the commitment, as a file for scripts/check_receipts. */
+  /**
+   * Gives all receipts to the person, after the commitment, as a file for `auction check-receipts`.
+   */
   save(name) {
-    save(`receipts-${name}.jsonl`, [this.#commitment, ...this.#kept].map((line) => JSON.stringify(line) + "\n").join(""));
+    save(
+      `receipts-${name}.jsonl`,
+      [this.#commitment, ...this.#kept].map((line) => JSON.stringify(line) + "\n").join("")
+    );
   }
 }

@@ -1,6 +1,7 @@
-// A table body in which only the rows that are seen are laid out, with empty space for the others. All rows are as high as `--row`.
+// A table body in which only the rows that are seen are laid out, with empty space for the others.
+// All rows are as high as `--row`.
 
-import { make } from "./page.js";
+import {focusedElement, make} from "./page.js";
 
 const MARGIN = 6; // rows that are laid out above and below what is seen
 
@@ -10,24 +11,27 @@ export class Rows {
 
   /** `draw` makes the row of a key. */
   constructor(frame, body, draw) {
-    Object.assign(this, { frame, body, draw });
+    this.frame = frame;
+    this.body = body;
+    this.draw = draw;
     this.above = make("tr", { "aria-hidden": "true", class: "room" });
     this.below = make("tr", { "aria-hidden": "true", class: "room" });
     frame.addEventListener("scroll", () => this.lay(), { passive: true });
     new ResizeObserver(() => this.lay()).observe(frame);
   }
 
-  get #high() {
-    return parseFloat(getComputedStyle(this.frame).getPropertyValue("--row")) || 44;
-  }
+  get #high() { return parseFloat(getComputedStyle(this.frame).getPropertyValue("--row")) || 44; }
 
-  /** Sets the rows by their keys, and draws those that are seen. A field that has the focus keeps it. */
+  /**
+   * Sets the rows by their keys, and draws those that are seen. A field that has the focus keeps
+   * it.
+   */
   set(keys) {
     const typing = this.#typing(), scrolled = this.frame.scrollTop;
     this.#keys = keys;
     this.shown.clear();
     this.body.replaceChildren(this.above, this.below);
-    this.above.style.height = 0;
+    this.above.style.height = "0";
     this.below.style.height = keys.length * this.#high + "px";
     this.frame.scrollTop = scrolled;
     this.body.closest("table").setAttribute("aria-rowcount", keys.length + 1);
@@ -37,9 +41,9 @@ export class Rows {
 
   /** What moves the cursor back to where it is now, if that is a field of this table. */
   #typing() {
-    const { activeElement } = document;
-    if (!this.body.contains(activeElement) || !activeElement.dataset.field) return null;
-    const { selectionStart, selectionEnd, dataset: { key, field } } = activeElement;
+    const focused = focusedElement();
+    if (!this.body.contains(focused) || !focused.dataset.field) return null;
+    const { selectionStart, selectionEnd, dataset: { key, field } } = focused;
     return () => {
       const input = this.field(key, field);
       input?.focus({ preventScroll: true });
@@ -73,30 +77,8 @@ export class Rows {
     this.below.style.height = (this.#keys.length - first - keys.length) * high + "px";
   }
 
-  /** Scrolls to a row. */
-  show(key) {
-    const high = this.#high, top = this.#keys.indexOf(key) * high, least = top + 2 * high - this.frame.clientHeight;
-    if (top < this.frame.scrollTop) this.frame.scrollTop = top;
-    else if (least > this.frame.scrollTop) this.frame.scrollTop = least;
-    this.lay();
-  }
-
   /** A field of a row that is laid out. */
   field(key, field) {
     return this.body.querySelector(`[data-key="${key}"][data-field="${field}"]`);
-  }
-
-  /** Moves the cursor to a field of a row. */
-  focus(key, field) {
-    this.show(key);
-    this.field(key, field)?.focus();
-  }
-
-  /** Moves the cursor to the same field of another row, by this number of rows. */
-  move(key, by, field) {
-    const next = this.#keys[this.#keys.indexOf(key) + by];
-    if (next === undefined) return;
-    this.focus(next, field);
-    this.field(next, field)?.select();
   }
 }

@@ -1,0 +1,100 @@
+"""An auction behind nginx: bidders come over TLS, the operator on the machine itself."""
+import json
+import os
+import ssl
+import subprocess
+import sys
+import tempfile
+import urllib.error
+import urllib.request
+from email.message import Message
+from pathlib import Path
+from typing import Any
+
+from tests.lib.paths import AUCTION, EXAMPLES
+from tests.lib.setups import OPERATOR
+from tests.lib.site import Site
+
+X, Y, Z = "X" * 16, "Y" * 16, "Z" * 16
+OPERATORS = "operator.html"
+ANYBODY = ssl.create_default_context()
+ANYBODY.check_hostname, ANYBODY.verify_mode = False, ssl.CERT_NONE
+
+
+def busy() -> float:
+    """How many processes there are for each processor, at least 1: something may take this many
+    times longer.
+    """
+    return max(1, os.getloadavg()[0] / (os.cpu_count() or 1))
+
+
+def example(name: str) -> dict[str, Any]:
+    """A set-up document of examples/."""
+    return json.loads((EXAMPLES / f"{name}.json").read_text())
+
+
+def bid(product: int, quantity: int, price: int) -> dict[str, int]:
+    return {"product": product, "quantity": quantity, "price": price}
+
+
+class Auction(Site):
+    """Program, nginx, and pages. Without tie-breaking numbers the operator's page can close each
+    round by itself.
+    """
+
+    def __init__(self, program: Path, setup: dict[str, Any], has_ties: bool = False) -> None:
+        folder = Path(tempfile.mkdtemp(prefix="browser-"))  # nginx's workers enter no others
+        super().__init__(folder, program, setup, has_ties=has_ties)
+
+    def address(self, page: str = "") -> str:
+        if page.startswith("operator"):
+            return f"http://127.0.0.1:{self.inside}/{page}"
+        return f"https://localhost:{self.outside}/{page}"
+
+    def end_server(self) -> None:
+        assert self.server is not None
+        self.server.kill()
+
+    def begin_conductor(self) -> None:
+        """Starts the conductor, without a timetable."""
+        files = {"setup": "setup.json", "token": "operator.token", "journal": "auction.journal"}
+        url = f"http://127.0.0.1:{self.inside}"
+        (self.folder / "operator.token").write_text(OPERATOR)
+        settings = {"url": url, "port": self.server_port, **files}
+        (self.folder / "conductor.json").write_text(json.dumps(settings))
+        quiet = subprocess.DEVNULL
+        command = [sys.executable, str(AUCTION), "run", str(self.folder)]
+        self.keep(subprocess.Popen(command, stdin=quiet, stdout=quiet))
+
+    def ask(self, path: str, body: object = None) -> dict[str, Any]:
+        """The page of a request of the operator's."""
+        data = None if body is None else json.dumps(body).encode()
+        url = f"http://127.0.0.1:{self.inside}/{path}"
+        asked = urllib.request.Request(url, data, {"authorization": f"Bearer {OPERATOR}"})
+        with urllib.request.urlopen(asked, timeout=60) as reply:
+            return json.loads(reply.read())
+
+    def close(self, number: int) -> None:
+        """Closes the round as somebody else than the page."""
+        self.ask("v1/close", {"round": number, "increment": 10, "ties": []})
+
+    def put(self, token: str, number: int, *bids: dict[str, int]) -> None:
+        """A sheet that comes by another way than the page."""
+        url = f"http://127.0.0.1:{self.server_port}/v1/me/bids"
+        body = json.dumps({"bids": bids, "round": number}).encode()
+        head = {"authorization": f"Bearer {token}"}
+        asked = urllib.request.Request(url, body, head, method="PUT")
+        with urllib.request.urlopen(asked, timeout=60) as reply:
+            assert reply.status == 200
+
+    def head(self, address: str) -> tuple[int, Message]:
+        """Status and headers of a page."""
+        try:
+            with urllib.request.urlopen(address, timeout=20, context=ANYBODY) as reply:
+                return reply.status, reply.headers
+        except urllib.error.HTTPError as refused:
+            return refused.code, refused.headers
+
+    def logs(self) -> str:
+        """All that nginx wrote."""
+        return "".join(file.read_text() for file in (self.folder / "log").iterdir())

@@ -1,0 +1,23 @@
+"""What bidders and the operator do on their pages."""
+from tests.browser.auction import OPERATORS, Auction, X
+from tests.browser.window import Window
+from tests.lib.setups import OPERATOR
+
+
+def enter(auction: Auction, window: Window, token: str = X) -> None:
+    """Enters with a token, and waits until the page has the round."""
+    window.open(auction.address(OPERATORS if token == OPERATOR else ""), token)
+    window.until("the page has the round", lambda: "ound" in window.text("round"))
+    window.until("the form for the token is gone", lambda: not window.is_seen("door"))
+
+
+def close_round(operator: Window) -> None:
+    """Closes the round by the operator's page, and says yes to the question."""
+    operator.click("ask")
+    operator.until("a closing is asked about first", lambda: operator.is_seen("question"))
+    operator.at("yes").click()
+
+
+def totals(window: Window) -> dict[str, str]:
+    """The totals of the bidder's page by name: value and note."""
+    return {name: " · ".join(rest) for name, *rest in window.facts("sums")}

@@ -1,0 +1,224 @@
+"""What is run in the page."""
+
+FRAMES = """const done = arguments[0];
+let frames = 4;
+(function next() { frames-- ? requestAnimationFrame(next) : done(); })();"""
+
+FACTS = """return [...document.querySelectorAll(`#${arguments[0]} > div`)].map(each =>
+    [...each.querySelectorAll('dt, dd:not(.note), .note, small')].map(part => {
+        const own = part.cloneNode(true);
+        own.querySelectorAll('small').forEach(note => note.remove());
+        return own.textContent.trim();
+    }).filter(Boolean));"""
+
+# the cells of the rows that are laid out, by the class of the grid's columns, or by their labels
+ROWS = """return [...document.querySelectorAll(`#${arguments[0]} tr:not(.room)`)].map(row =>
+    Object.fromEntries([...row.cells].map((cell, place) => {
+        const column = [...cell.classList].find(each => each.startsWith('c-'));
+        return [column ? column.slice(2) : cell.dataset.label ?? String(place), cell.textContent];
+    })));"""
+
+CELLS = """return [...document.querySelectorAll(`#${arguments[0]} tr:not(.room)`)]
+    .map(row => [...row.cells].map(cell => cell.textContent));"""
+
+SIGN = "return getComputedStyle(document.getElementById(arguments[0]), '::before').content;"
+
+# whether the cursor is at an element that does not show it
+UNSEEN = """const now = document.activeElement;
+return now !== document.body && !now.matches('.button *')
+    && getComputedStyle(now).outlineStyle === 'none';"""
+
+DEAF = """const asked = window.fetch;
+window.deaf = false;
+window.fetch = (path, options) => {
+    if (!path.endsWith('/status')) return asked(path, options);
+    window.deaf = true;
+    return new Promise(() => {});
+};"""
+
+# a request for the status waits; what names that is noted with its time
+SLOW = """const asked = window.fetch, gone = new Promise(done => { window.let_go = done; });
+window.fetch = async (path, options) => {
+    if (path.endsWith('/status')) await gone;
+    return asked(path, options);
+};
+new MutationObserver(() => { window.named ??= new Date().toLocaleTimeString('en-GB'); })
+    .observe(document.getElementById('link'), {childList: true});"""
+
+# the time left as it was drawn last, and when, by a clock that the page does not use
+DRAWN = """const note = () => {
+    const left = document.getElementById('left').textContent;
+    window.drawn = [left, performance.timeOrigin + performance.now()];
+};
+new MutationObserver(note).observe(document.getElementById('left'), {childList: true});"""
+
+HELD = """const asked = window.fetch, answers = arguments[0];
+const gone = new Promise(done => { window.let_go = () => { window.fetch = asked; done(); }; });
+window.holds = 0;
+window.fetch = async (path, options) => {
+    const reply = answers && await asked(path, options);
+    if (options.body) window.holds++;
+    if (options.body) await gone;
+    return reply || asked(path, options);
+};"""
+
+# what the page sends next reaches no server, and is answered by a page with status 200
+ANSWERED = """const asked = window.fetch, page = arguments[0];
+window.fetch = (path, options) => {
+    if (!options.body) return asked(path, options);
+    window.fetch = asked;
+    return Promise.resolve(new Response(page));
+};"""
+
+NOTED = """const asked = window.fetch;
+window.asks = [];
+window.sent = [];
+window.fetch = (path, options) => {
+    if (path.endsWith('/status')) window.asks.push(performance.now());
+    if (options.body) window.sent.push(options.body);
+    return asked(path, options);
+};"""
+
+# every text that an element had from here on
+SAID = """window.said = [];
+const element = document.getElementById(arguments[0]);
+new MutationObserver(() => window.said.push(element.textContent))
+    .observe(element, {childList: true, characterData: true, subtree: true});"""
+
+# elements whose text does not fit into them, rows whose cells reach beyond them, letters outside
+# their chart; and what reaches beyond the window
+CUT = """const all = [...document.querySelectorAll('body *')];
+const seen = all.filter(e => e.checkVisibility() && e.getClientRects().length);
+const kinds = 'p, h1, h2, dt, dd, td, th, button, label, li, small, figcaption';
+const cuts = e => getComputedStyle(e).display !== 'inline'
+    && getComputedStyle(e).textOverflow !== 'ellipsis' && !e.matches('.heard, .heard *');
+const texts = seen.filter(e => e.matches(kinds) && !e.closest('thead, dialog')
+    && e.scrollWidth > e.clientWidth + 1 && cuts(e));
+const bottom = e => e.getBoundingClientRect().bottom;
+const rows = seen.filter(e => e.matches('tbody tr:not(.room)'))
+    .flatMap(row => [...row.children].filter(cell => bottom(cell) > bottom(row) + 1));
+const letters = seen.filter(e => e.matches('svg text')).filter(e => {
+    const text = e.getBoundingClientRect(), svg = e.closest('svg').getBoundingClientRect();
+    return text.left < svg.left - 1 || text.right > svg.right + 1 || text.bottom > svg.bottom + 1;
+});
+const frames = [document.documentElement, ...document.querySelectorAll('.frame, #frame')];
+const wide = frames.filter(e => e.scrollWidth > e.clientWidth);
+return [...texts, ...rows, ...letters, ...wide]
+    .map(e => e.tagName + '#' + e.id + ' ' + e.textContent.slice(0, 30));"""
+
+# the least contrast of a text with what is around it, and whose
+CONTRAST = """const canvas = document.createElement('canvas').getContext('2d', {willReadFrequently: true});
+const bytes = color => {
+    canvas.clearRect(0, 0, 1, 1);
+    canvas.fillStyle = color;
+    canvas.fillRect(0, 0, 1, 1);
+    return [...canvas.getImageData(0, 0, 1, 1).data];
+};
+const light = color => {
+    const [r, g, b] = bytes(color).map(
+        v => (v /= 255) <= 0.04045 ? v / 12.92 : ((v + 0.055) / 1.055) ** 2.4);
+    return 0.2126 * r + 0.7152 * g + 0.0722 * b;
+};
+const around = e => {
+    for (; e; e = e.parentElement) {
+        const color = getComputedStyle(e).backgroundColor;
+        if (bytes(color)[3] === 255) return color;
+    }
+    return 'canvas';
+};
+let least = [99, ''];
+for (const e of document.querySelectorAll('body *')) {
+    const isOwn = e.matches('input, select')
+        || [...e.childNodes].some(n => n.nodeType === 3 && n.data.trim());
+    if (!isOwn || !e.checkVisibility() || e.disabled || e.closest('option, title')) continue;
+    const style = getComputedStyle(e), color = e.closest('svg') ? style.fill : style.color;
+    const [a, b] = [light(color), light(around(e))].sort((x, y) => y - x);
+    const ratio = (a + 0.05) / (b + 0.05);
+    const name = (e.id || e.className || e.textContent).toString().slice(0, 30);
+    if (ratio < least[0]) least = [ratio, e.tagName + ' ' + name];
+}
+return least;"""
+
+# letters of a machine that has none of the pages' own choice: the widest that are common
+WIDE_LETTERS = """const sheet = new CSSStyleSheet();
+const kinds = 'body, input, select, button, .button';
+sheet.replaceSync(kinds + ' { font-family: "DejaVu Sans", sans-serif !important; }');
+document.adoptedStyleSheets = arguments[0] ? [sheet] : [];"""
+
+# from here on the page counts the milliseconds from the click that enters until rows are drawn
+ENTRY = """const rows = '#' + arguments[0] + ' tr:not(.room)';
+document.querySelector('#door button').addEventListener('click', () => {
+    const begun = performance.now();
+    const look = () => (document.querySelectorAll(rows).length > 1
+        ? requestAnimationFrame(() => { window.waited = performance.now() - begun; })
+        : requestAnimationFrame(look));
+    look();
+});"""
+
+# everything in which a page could leave a token
+KEPT = """return [location.href, document.cookie,
+    JSON.stringify({...localStorage}), JSON.stringify({...sessionStorage}),
+    document.documentElement.outerHTML,
+    [...document.querySelectorAll('input')].map(each => each.value).join(' '),
+    performance.getEntriesByType('resource').map(each => each.name).join(' '),
+    document.referrer, document.title, JSON.stringify(history.state), window.name].join('\\n');"""
+
+HEADINGS = """return ['h1', 'section', 'section[aria-labelledby]', 'section > h2']
+    .map(each => document.querySelectorAll(each).length);"""
+
+SMALL = """return [...document.querySelectorAll(
+        'button, input:not([type=file], [type=checkbox]), select, .button')]
+    .filter(each => each.checkVisibility() && each.getBoundingClientRect().height < 24)
+    .map(each => each.id || each.textContent);"""
+
+# whether three points of the element with the focus, at its top, middle and foot, show that element
+HIDDEN = """const a = document.activeElement, b = a.getBoundingClientRect(), x = (b.left + b.right) / 2;
+if (a === document.body) return '';
+const seen = [b.top + 2, (b.top + b.bottom) / 2, b.bottom - 2].filter(y => {
+    const e = document.elementFromPoint(x, y);
+    return e && (a === e || a.contains(e) || (e.contains(a) && !e.matches('body, main')));
+});
+return seen.length === 3 ? '' : a.id || a.dataset.key || a.textContent;"""
+
+IN_SIGHT = """return ['left', 'sums', 'message', 'send'].filter(id => {
+    const box = document.getElementById(id).getBoundingClientRect();
+    return !(box.top >= 0 && box.bottom <= innerHeight && box.right <= innerWidth + 1);
+});"""
+
+# where the cursor is: an id, or a cell of the grid
+STOP = """const a = document.activeElement;
+return a.id || (a.dataset.key || '') + (a.dataset.field || a.textContent);"""
+
+SEEN_ROWS = """const box = document.getElementById('frame').getBoundingClientRect();
+const top = box.top + document.getElementById('heads').offsetHeight - 1;
+return [...document.querySelectorAll('#body tr:not(.room)')]
+    .map(row => row.getBoundingClientRect())
+    .filter(row => row.top >= top && row.bottom <= box.bottom + 1).length;"""
+
+# whether the page asks before it is left
+LEAVE = """const event = new Event('beforeunload', {cancelable: true});
+dispatchEvent(event);
+return event.defaultPrevented;"""
+
+PASTE = """const [text, selector] = arguments, data = new DataTransfer();
+const field = document.querySelector(selector ?? '[data-field=quantity]');
+field.focus();
+data.setData('text/plain', text);
+field.dispatchEvent(
+    new ClipboardEvent('paste', {clipboardData: data, bubbles: true, cancelable: true}));"""
+
+KEY = """const field = document.querySelector('[data-field=quantity]');
+field.focus();
+field.value = '1';
+field.dispatchEvent(new Event('input', {bubbles: true}));"""
+
+SORT = "document.querySelector('#heads [data-id=clock] button').click();"
+
+FIND = """const find = document.getElementById('find');
+find.value = find.value ? '' : '-19';
+find.dispatchEvent(new Event('input'));"""
+
+# a browser whose clock shows 1970
+WRONG_CLOCK = """const Right = Date;
+Date = class extends Right { constructor(...words) { words.length ? super(...words) : super(0); } };
+Date.now = () => 0;"""

@@ -1,0 +1,4 @@
+// What browsers have and the declarations of this TypeScript lack.
+interface Element {
+  checkVisibility(): boolean;
+}
