@@ -198,7 +198,7 @@ impl<'a> OpenRound<'a> {
                 self.sheet(bidder),
             )?;
         }
-        ordered(alloc, &changes, ties)
+        ordered(alloc, changes, ties)
     }
 
     /// Processes these requests: the demands afterward, and what is left of each request. Reuses

@@ -72,7 +72,7 @@ fn first_of(alloc: Global, ties: &Ties, x: &Reduction, y: &Reduction) -> Option<
     let Ok(changes) = both(alloc, &x, &y) else {
         return None;
     };
-    match ordered(alloc, &changes, ties) {
+    match ordered(alloc, changes, ties) {
         Ok(list) => first_bidder(list.as_slice()),
         Err(_) => None,
     }

@@ -1,6 +1,7 @@
 pub mod Leaving
 pub mod SheetWalks
 pub mod TextPieces
+pub mod PrefixLaws
 mod SincereExamples
 pub mod PutHeads
 pub mod WrittenLaws

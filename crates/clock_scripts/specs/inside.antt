@@ -3,5 +3,6 @@ pub mod Arrays
 pub mod Blocks
 pub mod Bodies
 pub mod Heads
+pub mod Prefixes
 pub mod RequestTexts
 pub mod SincereSheets

@@ -3,8 +3,10 @@
 
 mod bodies;
 mod fault;
+mod prefixes;
 mod requests;
 mod sincere;
 
 pub use fault::SimFault;
+pub use prefixes::BidPrefixes;
 pub use requests::{Written, write_close, write_put};

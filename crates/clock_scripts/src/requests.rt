@@ -9,6 +9,7 @@ ghost use Rattle.clock_scripts.specs.inside.Heads.{HasRequestHead};
 ghost use Rattle.clock_scripts.specs.ScriptedRequests as rules;
 
 use crate::bodies::{push_closing, push_label, push_number, push_sheet};
+use crate::prefixes::BidPrefixes;
 use crate::sincere::push_sincere;
 use clock_device::NoMemory;
 use clock_house::House;
@@ -58,12 +59,14 @@ fn push_head(
 }
 
 /// Writes the request that submits the sheet of a bidder's script, if it has one for this round.
+/// Texts in `prefixes` are reused, and change nothing but the time that it takes.
 #[tactic(auto, unfolding(crate::specs::ScriptedRequests::scripted_put))]
 pub fn write_put<P>(
     text: &mut Vec<u8>,
     house: &House<P>,
     bidder: u32,
     script: &Script,
+    prefixes: &mut BidPrefixes,
 ) -> Result<Option<Written>, NoMemory>
     requires known { bidder < length house.now.setup.bidders }
     requires going { (state_in house.now).ended ≡ false }
@@ -74,7 +77,7 @@ pub fn write_put<P>(
 {
     let body = text.len();
     match script {
-        Script::Sincere(limits) => push_sincere(text, house, bidder, limits)?,
+        Script::Sincere(limits) => push_sincere(text, house, bidder, limits, prefixes)?,
         Script::Literal(sheets) => {
             let round = house.round();
             match sheets.get(round.saturating_sub(1) as usize) {

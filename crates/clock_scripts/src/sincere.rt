@@ -11,6 +11,7 @@ ghost use Rattle.clock_scripts.specs.Sincere as rules;
 ghost use Rattle.clock_scripts.specs.inside.Blocks as one_by_one;
 
 use crate::bodies::{end_sheet, push_bid, push_label};
+use crate::prefixes::BidPrefixes;
 use clock_device::NoMemory;
 use clock_house::House;
 use clock_replays::LimitLists;
@@ -44,6 +45,7 @@ fn push_held(
     pair: &PricePair,
     held: u64,
     limits: &[u64],
+    prefixes: &mut BidPrefixes,
 ) -> Result<(), NoMemory>
     requires falls { NeverRises limits.now }
     requires some { 0 < held }
@@ -52,7 +54,7 @@ fn push_held(
 {
     let blocks = (held as usize).min(limits.len());
     let Some(_first) = last_leaving(pair, limits, blocks) else {
-        return push_bid(text, product, held, pair.clock.get());
+        return prefixes.push_bid(text, product, held, pair.clock.get());
     };
     let past = held - blocks as u64;
     for block in (0..blocks).rev() {
@@ -68,7 +70,12 @@ fn push_held(
 }
 
 /// Appends the bids of the first round, product by product.
-fn push_first(text: &mut Vec<u8>, prices: &[PricePair], limits: &LimitLists) -> Result<(), NoMemory>
+fn push_first(
+    text: &mut Vec<u8>,
+    prices: &[PricePair],
+    limits: &LimitLists,
+    prefixes: &mut BidPrefixes,
+) -> Result<(), NoMemory>
     requires { length limits.now ≡ length prices.now }
     ensures { OnOk result
         (Adds (bids_text (first_sheet prices.now limits.now)) text.old.items text.new.items) }
@@ -81,7 +88,7 @@ fn push_first(text: &mut Vec<u8>, prices: &[PricePair], limits: &LimitLists) -> 
         if wanted == 0 {
             continue;
         }
-        push_bid(text, product as u64, wanted, price)?;
+        prefixes.push_bid(text, product as u64, wanted, price)?;
     }
     Ok(())
 }
@@ -93,6 +100,7 @@ fn push_later(
     prices: &[PricePair],
     demands: &Row,
     limits: &LimitLists,
+    prefixes: &mut BidPrefixes,
 ) -> Result<(), NoMemory>
     requires held { length demands.now ≡ length prices.now }
     requires each { length limits.now ≡ length prices.now }
@@ -105,7 +113,7 @@ fn push_later(
     'held: while let Some(one) = held.next() {
         let pair = &prices[one.product];
         let list = limits.list(one.product, &mut from);
-        push_held(text, one.product as u64, pair, one.demand, list)?;
+        push_held(text, one.product as u64, pair, one.demand, list, prefixes)?;
     }
     Ok(())
 }
@@ -116,6 +124,7 @@ pub(crate) fn push_sincere<P>(
     house: &House<P>,
     bidder: u32,
     limits: &LimitLists,
+    prefixes: &mut BidPrefixes,
 ) -> Result<(), NoMemory>
     requires known { bidder < length house.now.setup.bidders }
     requires going { (state_in house.now).ended ≡ false }
@@ -130,9 +139,9 @@ pub(crate) fn push_sincere<P>(
     push_label(text, b"{\"bids\":")?;
     let start = text.len();
     if own.round == 1 {
-        push_first(text, prices, limits)?;
+        push_first(text, prices, limits, prefixes)?;
     } else {
-        push_later(text, prices, own.demands, limits)?;
+        push_later(text, prices, own.demands, limits, prefixes)?;
     }
     end_sheet(text, start, own.round)
 }

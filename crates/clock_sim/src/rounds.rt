@@ -21,7 +21,7 @@ use clock_front::{Fed, Hub};
 use clock_http::{Code, Reply, law_decided_once, law_one_head};
 use clock_processor::Processor;
 use clock_replays::{Closing, Script};
-use clock_scripts::{SimFault, Written, write_close, write_put};
+use clock_scripts::{BidPrefixes, SimFault, Written, write_close, write_put};
 use std::alloc::Global;
 
 /// The most requests of a group.
@@ -196,6 +196,7 @@ fn put_scripted<P: Processor>(
     group: &mut Group,
     bidder: u32,
     script: &Script,
+    prefixes: &mut BidPrefixes,
 ) -> Result<(), SimFault>
     requires known { bidder < length hub.old.house.setup.bidders }
     requires script { IsScript hub.old.house.setup.products script.now }
@@ -209,7 +210,7 @@ fn put_scripted<P: Processor>(
     }
     let house = hub.front().house();
     let round = house.round();
-    let Some(written) = write_put(&mut group.text, house, bidder, script)? else {
+    let Some(written) = write_put(&mut group.text, house, bidder, script, prefixes)? else {
         return Ok(());
     };
     submit(hub, group, bidder as u64, round, written)
@@ -221,6 +222,7 @@ fn put_all<P: Processor>(
     hub: &mut Hub<P>,
     group: &mut Group,
     scripts: &[Script],
+    prefixes: &mut BidPrefixes,
 ) -> Result<(), SimFault>
     requires scripts { AreScriptsOf hub.old.house.setup scripts.now }
     requires going { IsGoing hub.old.house }
@@ -232,7 +234,7 @@ fn put_all<P: Processor>(
     hub.front().house().law_of_house();
     group.waiting.clear();
     for (bidder, script) in scripts.iter().enumerate() {
-        put_scripted(hub, group, bidder as u32, script)?;
+        put_scripted(hub, group, bidder as u32, script, prefixes)?;
     }
     group.send_all(hub)
 }
@@ -274,13 +276,14 @@ pub(crate) fn play<P: Processor>(
         text: Vec::new(alloc),
         waiting: Vec::new(alloc),
     };
+    let mut prefixes = BidPrefixes::new(alloc);
     for closing in closings {
-        put_all(hub, &mut group, scripts)?;
+        put_all(hub, &mut group, scripts, &mut prefixes)?;
         close_scripted(hub, &mut group.text, closing)?;
         if hub.front().house().ended() {
             return Ok(());
         }
     }
-    put_all(hub, &mut group, scripts)?;
+    put_all(hub, &mut group, scripts, &mut prefixes)?;
     Err(SimFault::ClosingsSpent)
 }
