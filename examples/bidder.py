@@ -11,7 +11,7 @@ cover the server.
 It prints each round's sheet, then the round's results for this bidder ("slip"), and at the end what it won.
 
 After each accepted sheet it waits up to two seconds for the receipt, checks it, adds it to FILE, by default
-receipts.jsonl, and reports it or what is missing. The file's first line is the commitment. scripts/check_receipts
+receipts.jsonl, and reports it or what is missing. The file's first line is the commitment. `auction check-receipts`
 compares the file with the published journal. It checks signatures if openssl is installed, and the published seed of
 each closed round. Without a commitment, as at the server's own port, it says once that there are no receipts.
 
@@ -152,7 +152,7 @@ class Auction:
 
 
 class Receipts:
-    """The receipts of this bidder's sheets, in a file that scripts/check_receipts reads."""
+    """The receipts of this bidder's sheets, in a file that `auction check-receipts` reads."""
 
     def __init__(self, auction, path):
         self.auction, self.path, self.have = auction, path, set()
