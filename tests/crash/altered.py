@@ -18,6 +18,11 @@ def without(calls: Calls, place: int) -> Calls:
     return calls[:place] + calls[place + 1 :]
 
 
+def with_twice(calls: Calls, place: int) -> Calls:
+    """The calls with the one at an index made twice."""
+    return calls[:place] + calls[place : place + 1] + calls[place:]
+
+
 def moved(calls: Calls, place: int, to: int) -> Calls:
     """The calls with the one at an index moved to another."""
     rest = without(calls, place)
@@ -30,7 +35,9 @@ def altered_starts(calls: Calls, is_old: bool) -> Iterator[tuple[str, Calls]]:
     yield "no sync of the journal at a start", without(calls, synced)
     yield "no sync of the folder", without(calls, named)
     yield "the folder is synced after ready", moved(calls, named, len(calls) - 1)
+    yield "the folder is synced twice", with_twice(calls, named)
     if not is_old:
+        yield "the head is synced twice", with_twice(calls, synced)
         return
     first = min(place for place, call in enumerate(calls) if call.name in SYNCS)
     yield "a torn record is cut off before it is synced", without(calls, first)
@@ -56,7 +63,7 @@ def altered_exchanges(calls: Calls, outcome: Outcome) -> Iterator[tuple[str, Cal
     yield "no sync of a text", without(calls, synced)
     yield "a text is synced after its reply begins", moved(calls, synced, replied)
     yield "a text is synced before its last write", moved(calls, synced, written)
-    yield "a text is synced twice", [*calls[:synced], calls[synced], *calls[synced:]]
+    yield "a text is synced twice", with_twice(calls, synced)
     yield "a write of a text is missing", without(calls, written)
 
 

@@ -39,7 +39,7 @@ def fault_of_start(calls: list[Call], document: bytes, size: int) -> str | None:
 
 
 def fault_of_ready(is_synced: bool, folders: int, syncs: int) -> str | None:
-    """What is wrong at `ready`, after so many syncs of the folder, and of the head."""
+    """What is wrong at `ready`, after these counts of syncs of the folder, and of the head."""
     if not is_synced:
         return "it is ready before its file is synced"
     if folders != 1:

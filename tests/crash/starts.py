@@ -13,7 +13,7 @@ from tests.lib.runs import Run
 from tests.lib.waiting import in_parallel
 
 # `serve` also starts one state of this number: of those that must be resumed, and of the others.
-SAMPLE_OF_RESUMED, SAMPLE = 100, 8
+SAMPLE_OF_RESUMED, SAMPLE = 90, 8
 
 
 @dataclass(frozen=True)

@@ -75,11 +75,14 @@ def test_there_are_15622_files() -> None:
 
 
 @pytest.mark.parametrize(
-    ("kind", "count"), STATES.items(), ids=[kind.name.replace(" ", "-") for kind in STATES]
+    ("kind", "count"),
+    STATES.items(),
+    ids=[kind.name.replace(" ", "-").replace(",", "") for kind in STATES],
 )
 def test_each_file_is_resumed_or_refused(losses: Losses, kind: Kind, count: int) -> None:
     starts = Starts(losses, kind)
     assert starts.counts["states"] == count
+    assert starts.counts["served"] * starts.sample >= count
     assert starts.faults == []
     has_lost = starts.counts["resumed without a request that got a reply"] > 0
     assert has_lost == (kind in LOSING), starts.counts

@@ -171,16 +171,6 @@ def test_a_bidder_asks_again_after_a_page_that_is_not_the_servers(
     assert spoiled.pages == {path: []}
 
 
-def test_a_bidder_plays_on_after_all_of_these(
-    spoiled: Spoiler, start: Callable[[], Bidder]
-) -> None:
-    spoiled.replies = list(REPLIES.values())
-    spoiled.pages = {path: OF_PROXIES + pages for path, pages in CHANGED.items()}
-    start()
-    play_round_1(spoiled.port)
-    assert [path for path, pages in spoiled.pages.items() if pages] == []
-
-
 def test_a_bidder_follows_no_redirection(
     spoiled: Spoiler, start: Callable[[], Bidder], elsewhere: str
 ) -> None:

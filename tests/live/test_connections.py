@@ -1,7 +1,6 @@
 """Connections of clients that behave well and badly, and the faults of a server's start."""
 import resource
 import socket
-import time
 from collections.abc import Callable, Iterator
 from pathlib import Path
 from typing import Any
@@ -13,6 +12,7 @@ from tests.lib.paths import EXAMPLES
 from tests.lib.ports import free_port
 from tests.lib.runs import Run, run
 from tests.lib.server import Server
+from tests.lib.waiting import wait_for
 
 SETUP = EXAMPLES / "one_product.json"
 MOST_BODY = 1_048_576
@@ -186,8 +186,10 @@ def test_a_server_that_can_open_no_file_serves_its_connections_and_ends(
     one_product: StartServer,
 ) -> None:
     server = one_product(connections=2)
+    files = Path(f"/proc/{server.child.pid}/fd")
+    before = len(list(files.iterdir()))
     client = connected(server.port)
-    time.sleep(0.2)
+    wait_for("the connection is accepted", lambda: len(list(files.iterdir())) > before, 20)
     resource.prlimit(server.child.pid, resource.RLIMIT_NOFILE, (3, 3))
     client.sendall(STATUS)
     assert reply(client) == FIRST_ROUND
