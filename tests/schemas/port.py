@@ -3,10 +3,10 @@ import contextlib
 import json
 import pathlib
 import subprocess
-import tempfile
 from collections.abc import Iterator
 from typing import Any, NamedTuple
 
+from tests.lib.folders import open_folder
 from tests.lib.http import answer_to, text_of
 from tests.lib.paths import TOP
 from tests.lib.setups import bidder, product, setup
@@ -73,9 +73,9 @@ def target_of(path: str, number: int = 1) -> str:
 
 @contextlib.contextmanager
 def site_of(program: pathlib.Path | None, setup: Any) -> Iterator[Site]:
-    """nginx, and the program before which it is, in a folder that nginx's workers can enter."""
-    with tempfile.TemporaryDirectory() as folder:
-        site = Site(pathlib.Path(folder), program, setup)
+    """nginx, and the program before which it is, in a folder of their own."""
+    with open_folder() as folder:
+        site = Site(folder, program, setup)
         try:
             yield site
         finally:
