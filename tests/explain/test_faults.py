@@ -2,6 +2,7 @@
 import json
 import pathlib
 from collections.abc import Callable
+from typing import Any
 
 import pytest
 
@@ -10,7 +11,8 @@ from tests.explain import bodies, cases
 from tests.explain.bodies import Body
 from tests.explain.cases import Change, Fault, Mistake, Path
 from tests.explain.judged import judged
-from tests.lib.http import answer_to
+from tests.lib.http import answer_to, compact
+from tests.lib.keys import with_another_key, without_a_key
 from tests.lib.mutated_requests import request
 from tests.lib.paths import EXAMPLES
 from tests.lib.server import Server
@@ -54,6 +56,21 @@ def test_two_faults_have_an_error(
     both = judged(program, change.kind, change.text((path, value)))
     assert both.line
     assert both.agrees
+
+
+KEYS = [
+    pytest.param(kind, value, id=f"{name}-{change.__name__}-{key}")
+    for name, (kind, document) in cases.VALUES.items()
+    for change in (without_a_key, with_another_key)
+    for key, value in change(document)
+]
+
+
+@pytest.mark.parametrize(("kind", "value"), KEYS)
+def test_missing_or_unknown_key_has_an_error(program: pathlib.Path, kind: str, value: Any) -> None:
+    one = judged(program, kind, compact(value))
+    assert one.line
+    assert one.agrees
 
 
 @pytest.mark.parametrize("mistake", cases.MISTAKES, ids=lambda mistake: mistake.what)
