@@ -156,6 +156,16 @@ def test_record_is_damaged_or_torn(audit: Audit, records: bytes, fault: str) -> 
     assert audit(case) == by_recount(case)
 
 
+@pytest.mark.parametrize("depth", [127, 128, 500, 900, 1000, 5000])
+def test_document_is_json_exactly_if_it_is_nested_at_most_127_deep(
+    audit: Audit, depth: int
+) -> None:
+    document = b"[" * depth + b"]" * depth
+    case = Case("nested", document, head_of(document))
+    fault = "setup_shape" if depth <= 127 else "setup_not_json"
+    assert audit(case) == by_recount(case) == (1, "", f"fault: {fault}\n")
+
+
 @pytest.mark.parametrize("seed", SERVED)
 def test_server_refuses_with_the_code_of_the_recount(
     seed: int, server: Callable[..., Server], tmp_path: pathlib.Path
