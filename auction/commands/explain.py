@@ -34,11 +34,11 @@ def run(given: argparse.Namespace) -> int:
     try:
         is_file = given.file != "-"
         data = pathlib.Path(given.file).read_bytes() if is_file else sys.stdin.buffer.read()
+        built = str(BUILT) if BUILT.exists() else shutil.which("clock_auction")
+        lines, has_faults = explained(given.kind, given.file, data, given.program or built)
     except OSError as error:
-        print(f"{given.file}: {error.strerror}", file=sys.stderr)
+        print(f"{given.file}: {error.strerror}" if error.strerror else error, file=sys.stderr)
         return 2
-    built = str(BUILT) if BUILT.exists() else shutil.which("clock_auction")
-    lines, has_faults = explained(given.kind, given.file, data, given.program or built)
     sys.stdout.buffer.write("".join(f"{line}\n" for line in lines).encode(errors="replace"))
     return 1 if has_faults else 0
 

@@ -79,7 +79,7 @@ def faults_of(error: ValidationError) -> Iterator[Fault]:
 
 
 def faults(kind: str, value: Any) -> list[Fault]:
-    """The faults of the form of a document, each once. A part of another type has no other fault."""
+    """The faults of the form of a document, each once. A part of a wrong type has no other."""
     errors = [part for error in validator(kind).iter_errors(value) for part in parts_of(error)]
     others = {tuple(error.absolute_path) for error in errors if error.validator == "type"}
     shown = (
