@@ -96,6 +96,7 @@ class Port:
     def __init__(self, site: Site, description: Description) -> None:
         self.site, self.description = site, description
         self.came: list[Came] = []
+        self.withheld: dict[Operation, bool] = {}  # whether 503 came behind the curtain
         self.lower_case: dict[Operation, int] = {}  # the statuses of tokens in lower case
         self.repeated: dict[Operation, int] = {}  # the last statuses of repeated operations
         self.tokens = iter(TOKENS[2:])
@@ -134,7 +135,7 @@ class Port:
         is_described = codes is not None and code in codes
         is_described &= page is None or page["status"] == reply.status
         lines = {
-            "retry-after: 1": reply.status in (429, 502),
+            "retry-after: 1": reply.status in (429, 502, 503, 504),
             "www-authenticate: bearer": reply.status == 401,
         }
         is_described &= all((f"\n{line}" in reply.head) == wanted for line, wanted in lines.items())

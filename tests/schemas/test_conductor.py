@@ -94,6 +94,11 @@ def test_settings_have_the_keys_that_the_conductor_reads() -> None:
     assert set(schema(CONDUCTOR, "/$defs/settings")["properties"]) == keys
 
 
+def test_states_of_the_report_are_those_of_the_conductor() -> None:
+    states = schema(CONDUCTOR, "/$defs/report")["properties"]["state"]["enum"]
+    assert states == [state.value for state in State]
+
+
 TIMETABLES: list[tuple[str, Any, bool]] = [
     ("taken", timetables.WHOLE, True),
     *[(one.words, one.value, one.is_beyond_schema) for one in timetables.REFUSED],
