@@ -5,8 +5,9 @@ program's. The program is --program, or the one that was built in this repositor
 on the PATH. Without a program, and for a sheet or a closing, only the form is judged.
 
 Then come at most 50 errors, as FILE:LINE:COLUMN: PATH: WORDS. Lines and columns count from 1, list
-entries from 0. If the program refuses something while it plays the auction, the error is where the
-program's line says. A key that occurs twice is a note, because the program accepts it.
+entries from 0. If a document has the right form, the errors are what else the program refuses, such
+as a cap above the supply. If it refuses something only while it plays the auction, the error is
+where its line says. A key that occurs twice is a note, because the program accepts it.
 
 Exit status: 0 if there is no error, 1 if there is one, 2 if the arguments are wrong or the file
 could not be read.

@@ -8,7 +8,6 @@ from auction.explain.reading import Document, NotJson, Path
 from auction.explain.rules import shown
 
 COMMANDS = {"setup": "prices", "opening": "opening", "replay": "replay"}
-KINDS = (*COMMANDS, "sheet", "closing")
 MOST_SHOWN, MOST_BYTES, MOST_BODY = 50, 67_108_864, 1_048_576
 
 

@@ -47,9 +47,8 @@ def words_of(error: ValidationError) -> str:
         most = rules["maxItems"]
         return f"{len(value):,} entries; expected {rules.get('minItems', 0):,} to {most:,}"
     if keyword == "oneOf":
-        return (
-            f"expected one of the keys {' and '.join(one['required'][0] for one in rules[keyword])}"
-        )
+        keys = " and ".join(one["required"][0] for one in error.validator_value)
+        return f"expected one of the keys {keys}"
     if "description" in rules:
         return f"{value!r:.70} is wrong: {rules['description']}"
     return error.message[:90]
