@@ -2,7 +2,8 @@
 
 FILE may be - for standard input. If the program refuses the document, the first line is the
 program's. The program is --program, or the one that was built in this repository, or clock_auction
-on the PATH. Without a program, and for a sheet or a closing, only the form is judged.
+on the PATH. Without a program, the auction of a document is not played. Only a server judges all of
+a sheet or a closing.
 
 Then come at most 50 errors, as FILE:LINE:COLUMN: PATH: WORDS. Lines and columns count from 1, list
 entries from 0. If a document has the right form, the errors are what else the program refuses, such

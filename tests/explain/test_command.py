@@ -14,7 +14,7 @@ from tests.lib.paths import TOP, auction
 
 WHOLE = example("one_product")
 TWICE = WHOLE.replace(b'"version"', b'"version":1,"version"')
-NO_PROGRAM = "it: no errors in its form (no program was found)"
+NO_PROGRAM = "it: no errors (not played, since no program was found)"
 
 
 @pytest.fixture
@@ -59,14 +59,14 @@ def test_good_document_has_no_error(program: pathlib.Path, it: pathlib.Path) -> 
     assert lines_of(program, it) == (0, ["it: no errors"])
 
 
-def test_without_the_program_only_the_form_is_judged(it: pathlib.Path) -> None:
+def test_without_the_program_no_auction_is_played(it: pathlib.Path) -> None:
     it.write_bytes(WHOLE)
     assert lines_of("/nowhere", it) == (0, [NO_PROGRAM])
 
 
-def test_sheet_is_judged_by_its_form(program: pathlib.Path, it: pathlib.Path) -> None:
+def test_sheet_is_judged_by_itself(program: pathlib.Path, it: pathlib.Path) -> None:
     it.write_text('{"bids":[],"round":1}')
-    words = "it: no errors in its form (only a server judges the rest)"
+    words = "it: no errors (only a server judges the rest)"
     assert lines_of(program, it, "sheet") == (0, [words])
 
 
