@@ -2,11 +2,13 @@
 
 FILE may be - for standard input. If the program refuses the document, the first line is the
 program's. The program is --program, or the one that was built in this repository, or clock_auction
-on the PATH. Without a program, and for a sheet or a closing, only the form is judged.
+on the PATH. Without a program, the auction of a document is not played. Only a server judges all of
+a sheet or a closing.
 
 Then come at most 50 errors, as FILE:LINE:COLUMN: PATH: WORDS. Lines and columns count from 1, list
-entries from 0. If the program refuses something while it plays the auction, the error is where the
-program's line says. A key that occurs twice is a note, because the program accepts it.
+entries from 0. If a document has the right form, the errors are what else the program refuses, such
+as a cap above the supply. If it refuses something only while it plays the auction, the error is
+where its line says. A key that occurs twice is a note, because the program accepts it.
 
 Exit status: 0 if there is no error, 1 if there is one, 2 if the arguments are wrong or the file
 could not be read.
@@ -34,11 +36,11 @@ def run(given: argparse.Namespace) -> int:
     try:
         is_file = given.file != "-"
         data = pathlib.Path(given.file).read_bytes() if is_file else sys.stdin.buffer.read()
+        built = str(BUILT) if BUILT.exists() else shutil.which("clock_auction")
+        lines, has_faults = explained(given.kind, given.file, data, given.program or built)
     except OSError as error:
-        print(f"{given.file}: {error.strerror}", file=sys.stderr)
+        print(f"{given.file}: {error.strerror}" if error.strerror else error, file=sys.stderr)
         return 2
-    built = str(BUILT) if BUILT.exists() else shutil.which("clock_auction")
-    lines, has_faults = explained(given.kind, given.file, data, given.program or built)
     sys.stdout.buffer.write("".join(f"{line}\n" for line in lines).encode(errors="replace"))
     return 1 if has_faults else 0
 

@@ -8,7 +8,6 @@ from auction.explain.reading import Document, NotJson, Path
 from auction.explain.rules import shown
 
 COMMANDS = {"setup": "prices", "opening": "opening", "replay": "replay"}
-KINDS = (*COMMANDS, "sheet", "closing")
 MOST_SHOWN, MOST_BYTES, MOST_BODY = 50, 67_108_864, 1_048_576
 
 
@@ -117,6 +116,7 @@ def explained(
     lines += [f"and {len(faults) - MOST_SHOWN} more"] * (len(faults) > MOST_SHOWN)
     lines += [f"note: {shown_at(name, text, note)}" for note in notes[:MOST_SHOWN]]
     if not lines:
-        why = "no program was found" if kind in COMMANDS else "only a server judges the rest"
-        lines = [f"{name}: no errors" + ("" if line == "" else f" in its form ({why})")]
+        why = "not played, since no program was found"
+        why = why if kind in COMMANDS else "only a server judges the rest"
+        lines = [f"{name}: no errors" + ("" if line == "" else f" ({why})")]
     return lines, bool(faults)

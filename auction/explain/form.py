@@ -47,9 +47,8 @@ def words_of(error: ValidationError) -> str:
         most = rules["maxItems"]
         return f"{len(value):,} entries; expected {rules.get('minItems', 0):,} to {most:,}"
     if keyword == "oneOf":
-        return (
-            f"expected one of the keys {' and '.join(one['required'][0] for one in rules[keyword])}"
-        )
+        keys = " and ".join(one["required"][0] for one in error.validator_value)
+        return f"expected one of the keys {keys}"
     if "description" in rules:
         return f"{value!r:.70} is wrong: {rules['description']}"
     return error.message[:90]
@@ -79,7 +78,7 @@ def faults_of(error: ValidationError) -> Iterator[Fault]:
 
 
 def faults(kind: str, value: Any) -> list[Fault]:
-    """The faults of the form of a document, each once. A part of another type has no other fault."""
+    """The faults of the form of a document, each once. A part of a wrong type has no other."""
     errors = [part for error in validator(kind).iter_errors(value) for part in parts_of(error)]
     others = {tuple(error.absolute_path) for error in errors if error.validator == "type"}
     shown = (

@@ -1,28 +1,17 @@
 """The schemas of the formats, with everything that they refer to written out."""
 import functools
 import json
-import pathlib
 from typing import Any
 
+from auction.installed import installed
+
 LEFT_OUT = ("$id", "$schema", "$defs")
-PLACES = (
-    pathlib.Path(__file__).resolve().parents[2] / "schemas",  # in the repository
-    pathlib.Path("/usr/share/clock-auction/schemas"),
-)
-
-
-def folder() -> pathlib.Path:
-    """The folder of the schemas. Raises FileNotFoundError if there is none."""
-    for place in PLACES:
-        if (place / "setup.schema.json").is_file():
-            return place
-    raise FileNotFoundError(f"there are no schemas in {' or '.join(map(str, PLACES))}")
 
 
 @functools.cache
 def content(file: str) -> Any:
-    """The value of a file of the folder."""
-    return json.loads((folder() / file).read_text())
+    """The value of a file of the schemas."""
+    return json.loads(installed(f"schemas/{file}").read_text(encoding="utf-8"))
 
 
 def schema(file: str, pointer: str = "") -> Any:

@@ -32,9 +32,10 @@ def json_in(text: bytes) -> Any:
         value = json.loads(
             text.decode(), parse_int=number_in, parse_float=number_in, parse_constant=number_in
         )
+        is_deep = nesting(value) > 127
     except RecursionError:
-        raise ValueError("nested too deep") from None
-    if nesting(value) > 127:
+        is_deep = True
+    if is_deep:
         raise ValueError("nested too deep")
     json.dumps(value, ensure_ascii=False).encode()  # A lone surrogate has no UTF-8.
     return value

@@ -1,14 +1,20 @@
 """What `auction explain` prints, and its exit status."""
 import pathlib
+import shutil
+import subprocess
+import sys
 
 import pytest
 
+from auction import installed as installed_files
+from auction.cli import main
+from auction.explain import form, schemas
 from tests.explain.cases import example
-from tests.lib.paths import EXAMPLES, auction
+from tests.lib.paths import TOP, auction
 
 WHOLE = example("one_product")
 TWICE = WHOLE.replace(b'"version"', b'"version":1,"version"')
-NO_PROGRAM = "it: no errors in its form (no program was found)"
+NO_PROGRAM = "it: no errors (not played, since no program was found)"
 
 
 @pytest.fixture
@@ -53,14 +59,14 @@ def test_good_document_has_no_error(program: pathlib.Path, it: pathlib.Path) -> 
     assert lines_of(program, it) == (0, ["it: no errors"])
 
 
-def test_without_the_program_only_the_form_is_judged(it: pathlib.Path) -> None:
+def test_without_the_program_no_auction_is_played(it: pathlib.Path) -> None:
     it.write_bytes(WHOLE)
     assert lines_of("/nowhere", it) == (0, [NO_PROGRAM])
 
 
-def test_sheet_is_judged_by_its_form(program: pathlib.Path, it: pathlib.Path) -> None:
+def test_sheet_is_judged_by_itself(program: pathlib.Path, it: pathlib.Path) -> None:
     it.write_text('{"bids":[],"round":1}')
-    words = "it: no errors in its form (only a server judges the rest)"
+    words = "it: no errors (only a server judges the rest)"
     assert lines_of(program, it, "sheet") == (0, [words])
 
 
@@ -89,13 +95,33 @@ def test_help_has_status_0(option: str) -> None:
     assert "with line and column" in done.stdout
 
 
-def test_installed_schemas_are_beside_the_package(
-    tmp_path: pathlib.Path, monkeypatch: pytest.MonkeyPatch
-) -> None:
-    from auction.explain import schemas
+@pytest.fixture
+def installed(tmp_path: pathlib.Path) -> pathlib.Path:
+    """The command, copied elsewhere without the repository."""
+    shutil.copytree(TOP / "auction", tmp_path / "auction")
+    return tmp_path / "auction/bin/auction"
 
-    monkeypatch.setattr(schemas, "PLACES", (tmp_path / "none", EXAMPLES.parent / "schemas"))
-    assert schemas.folder() == EXAMPLES.parent / "schemas"
-    monkeypatch.setattr(schemas, "PLACES", (tmp_path / "none",))
-    with pytest.raises(FileNotFoundError):
-        schemas.folder()
+
+def explain_by(command: pathlib.Path) -> subprocess.CompletedProcess[str]:
+    """Explains a sheet by a command that is installed elsewhere."""
+    words = [sys.executable, str(command), "explain", "sheet", "-"]
+    return subprocess.run(words, input='{"bids":[]}', capture_output=True, text=True, timeout=60)
+
+
+def test_schemas_are_found_beside_the_package(installed: pathlib.Path) -> None:
+    shutil.copytree(TOP / "schemas", installed.parents[2] / "schemas")
+    done = explain_by(installed)
+    assert (done.returncode, done.stderr) == (1, "")
+    assert done.stdout == '-:1:1: .: the key "round" is missing\n'
+
+
+def test_missing_schemas_are_said_in_one_line(
+    it: pathlib.Path, monkeypatch: pytest.MonkeyPatch, capsys: pytest.CaptureFixture[str]
+) -> None:
+    it.write_text('{"bids":[]}')
+    monkeypatch.setattr(installed_files, "PLACES", (pathlib.Path("none"),))
+    monkeypatch.setattr(schemas, "content", schemas.content.__wrapped__)
+    monkeypatch.setattr(form, "validator", form.validator.__wrapped__)
+    assert main(["explain", "sheet", "it"]) == 2
+    words = capsys.readouterr().err
+    assert words.count("\n") == 1 and "sheet.schema.json is not installed" in words

@@ -2,6 +2,7 @@
 import json
 import pathlib
 from collections.abc import Callable
+from typing import Any
 
 import pytest
 
@@ -10,12 +11,14 @@ from tests.explain import bodies, cases
 from tests.explain.bodies import Body
 from tests.explain.cases import Change, Fault, Mistake, Path
 from tests.explain.judged import judged
-from tests.lib.http import answer_to
+from tests.lib.http import answer_to, compact
+from tests.lib.keys import with_another_key, without_a_key
 from tests.lib.mutated_requests import request
 from tests.lib.paths import EXAMPLES
 from tests.lib.server import Server
 
 WHOLE = cases.example("one_product")
+SECOND_REPLAY = ("replay", json.loads(cases.example("rehearsal_version_2")))
 
 
 def path_of(line: str) -> str:
@@ -56,6 +59,21 @@ def test_two_faults_have_an_error(
     assert both.agrees
 
 
+KEYS = [
+    pytest.param(kind, value, id=f"{name}-{change.__name__}-{key}")
+    for name, (kind, document) in {**cases.VALUES, "replay of version 2": SECOND_REPLAY}.items()
+    for change in (without_a_key, with_another_key)
+    for key, value in change(document)
+]
+
+
+@pytest.mark.parametrize(("kind", "value"), KEYS)
+def test_missing_or_unknown_key_has_an_error(program: pathlib.Path, kind: str, value: Any) -> None:
+    one = judged(program, kind, compact(value))
+    assert one.line
+    assert one.agrees
+
+
 @pytest.mark.parametrize("mistake", cases.MISTAKES, ids=lambda mistake: mistake.what)
 def test_mistake_is_found_where_it_begins(program: pathlib.Path, mistake: Mistake) -> None:
     one = judged(program, "setup", mistake.made(WHOLE))
@@ -92,3 +110,15 @@ def test_body_that_each_auction_refuses_has_an_error_at_its_place(
     page = json.loads(answer_to(port, request(line, letter, body.text))[1])
     assert f"{page['status']} {page['code']}" == body.code
     assert body.path in [fault.path for fault in found_in(body.kind, body.text).faults]
+
+
+@pytest.mark.parametrize(("increments", "wrong"), [([1, 50], []), ([10, 51], [1]), ([0, 10], [0])])
+def test_increment_of_a_product_has_an_error_exactly_if_it_is_refused(
+    increments: list[int], wrong: list[int], server: Callable[..., Server]
+) -> None:
+    port = server(EXAMPLES / "granules_and_increments.json").ready().port
+    body = compact({"increments": increments, "round": 1, "ties": []})
+    page = json.loads(answer_to(port, request("POST /v1/close", "O", body))[1])
+    assert page.get("code") == ("increment" if wrong else None)
+    paths = [fault.path for fault in found_in("closing", body).faults]
+    assert paths == [("increments", place) for place in wrong]

@@ -21,6 +21,7 @@ from tests.lib.server import Server
 DOCUMENTS = 700  # For each command.
 REQUESTS = 500  # For each set-up.
 MOST_WALKS = 100
+OF_SHAPE = ("not JSON", "expected ", "the key ", "unknown key ")
 ELSEWHERE = ("token", "role", "ended", "method")  # Codes that say nothing of a body.
 
 
@@ -87,6 +88,15 @@ def test_body_of_a_wrong_shape_has_an_error(answered: tuple[int, list[Answered]]
     # A closing by itself does not show the version of its auction.
     assert [one for one in passed if one.kind == "sheet" or other not in one.body] == []
     assert len(refused) >= 20
+
+
+def test_body_of_the_right_shape_has_no_error_of_its_shape(
+    answered: tuple[int, list[Answered]]
+) -> None:
+    shaped = [one for one in answered[1] if one.code not in ("bad_json", "shape")]
+    words = [fault.words for one in shaped for fault in found_in(one.kind, one.body).faults]
+    assert [one for one in words if one.startswith(OF_SHAPE)] == []
+    assert len(shaped) >= 25
 
 
 def test_body_that_is_no_json_is_found_as_such(answered: tuple[int, list[Answered]]) -> None:

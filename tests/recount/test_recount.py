@@ -5,6 +5,7 @@ at one price point, and tie-breaking numbers for all pairs, some, or none. Of ea
 are made that are spoiled, or that end with a request that the recount refuses.
 """
 import functools
+import hashlib
 import json
 import pathlib
 import subprocess
@@ -15,9 +16,9 @@ import pytest
 
 from auction.recount.formats import Refused
 from auction.recount.rules import recounted, report
-from tests.lib.http import answer_to
-from tests.lib.journals import journal_of
-from tests.lib.paths import auction
+from tests.lib.http import answer_to, text_of
+from tests.lib.journals import head_of, journal_of
+from tests.lib.paths import EXAMPLES, auction
 from tests.lib.server import Server
 from tests.recount.auctions import Played, played
 from tests.recount.spoiled import Case, spoiled
@@ -116,6 +117,53 @@ def test_spoiled_journals_are_many_and_often_refused() -> None:
     cases = [case for game, made in auctions for case in [*made, *refused_cases(game)]]
     assert len(cases) >= 3_600
     assert sum(by_recount(case)[0] for case in cases) >= 1_000
+
+
+def record(length: int, again: int | None = None, text: bytes = b"") -> bytes:
+    """A record that says these lengths of its request."""
+    both = length.to_bytes(4, "big") + (length if again is None else again).to_bytes(4, "big")
+    return both + hashlib.sha256(hashlib.sha256(DOCUMENT).digest() + text).digest() + text
+
+
+DOCUMENT = (EXAMPLES / "one_product.json").read_bytes()
+PUT = text_of("PUT /v1/me/bids", "X" * 16, b'{"bids":[],"round":1}')
+GOOD = record(len(PUT), text=PUT)
+DAMAGED = {
+    "a length of 0": (record(0), "fault: journal_damaged 56\n"),
+    "a length of 16,777,216": (record(16_777_216), "fault: journal_damaged 56\n"),
+    "two lengths": (record(5, 6, b"abcde"), "fault: journal_damaged 56\n"),
+    "a longest length and no text": (record(16_777_215), ""),
+    "a torn length": (b"\0\0\0\1", ""),
+    "a digest cut off": (GOOD[:39], ""),
+    "a text cut off": (GOOD[:-1], ""),
+    "a last byte changed": (GOOD[:-1] + b"x", ""),
+    "a first byte changed, and a record after it": (
+        GOOD[:40] + b"x" + GOOD[41:] + GOOD,
+        "fault: journal_damaged 56\n",
+    ),
+    "a request twice with the same digest": (
+        GOOD + GOOD + b"x",
+        f"fault: journal_damaged {56 + len(GOOD)}\n",
+    ),
+    "bytes of another length": (GOOD + b"\0" * 40, f"fault: journal_damaged {56 + len(GOOD)}\n"),
+}
+
+
+@pytest.mark.parametrize(("records", "fault"), DAMAGED.values(), ids=DAMAGED)
+def test_record_is_damaged_or_torn(audit: Audit, records: bytes, fault: str) -> None:
+    case = Case("records", DOCUMENT, head_of(DOCUMENT) + records)
+    assert audit(case)[2] == fault
+    assert audit(case) == by_recount(case)
+
+
+@pytest.mark.parametrize("depth", [127, 128, 500, 900, 1000, 5000])
+def test_document_is_json_exactly_if_it_is_nested_at_most_127_deep(
+    audit: Audit, depth: int
+) -> None:
+    document = b"[" * depth + b"]" * depth
+    case = Case("nested", document, head_of(document))
+    fault = "setup_shape" if depth <= 127 else "setup_not_json"
+    assert audit(case) == by_recount(case) == (1, "", f"fault: {fault}\n")
 
 
 @pytest.mark.parametrize("seed", SERVED)

@@ -3,10 +3,10 @@ import contextlib
 import json
 import pathlib
 import subprocess
-import tempfile
 from collections.abc import Iterator
 from typing import Any, NamedTuple
 
+from tests.lib.folders import open_folder
 from tests.lib.http import answer_to, text_of
 from tests.lib.paths import TOP
 from tests.lib.setups import bidder, product, setup
@@ -73,9 +73,9 @@ def target_of(path: str, number: int = 1) -> str:
 
 @contextlib.contextmanager
 def site_of(program: pathlib.Path | None, setup: Any) -> Iterator[Site]:
-    """nginx, and the program before which it is, in a folder that nginx's workers can enter."""
-    with tempfile.TemporaryDirectory() as folder:
-        site = Site(pathlib.Path(folder), program, setup)
+    """nginx, and the program before which it is, in a folder of their own."""
+    with open_folder() as folder:
+        site = Site(folder, program, setup)
         try:
             yield site
         finally:
@@ -96,6 +96,7 @@ class Port:
     def __init__(self, site: Site, description: Description) -> None:
         self.site, self.description = site, description
         self.came: list[Came] = []
+        self.withheld: dict[Operation, bool] = {}  # whether 503 came behind the curtain
         self.lower_case: dict[Operation, int] = {}  # the statuses of tokens in lower case
         self.repeated: dict[Operation, int] = {}  # the last statuses of repeated operations
         self.tokens = iter(TOKENS[2:])
@@ -134,7 +135,7 @@ class Port:
         is_described = codes is not None and code in codes
         is_described &= page is None or page["status"] == reply.status
         lines = {
-            "retry-after: 1": reply.status in (429, 502),
+            "retry-after: 1": reply.status in (429, 502, 503, 504),
             "www-authenticate: bearer": reply.status == 401,
         }
         is_described &= all((f"\n{line}" in reply.head) == wanted for line, wanted in lines.items())

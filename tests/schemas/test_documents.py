@@ -3,11 +3,13 @@ import json
 import pathlib
 import re
 from random import Random
-from typing import NamedTuple
+from typing import Any, NamedTuple
 
 import pytest
 
 from tests.lib.commands import COMMANDS, Command, run
+from tests.lib.http import compact
+from tests.lib.keys import with_another_key, without_a_key
 from tests.lib.mutations import changed_document
 from tests.lib.paths import EXAMPLES, TOP
 from tests.schemas import exceptions
@@ -19,6 +21,7 @@ MUTATED = 500  # For each command.
 PLAYED = re.compile(
     r"refused |closing |closings_spent|price_limit|demand |activity|scripts|limits |setup_duplicate"
 )
+SETUP_SHAPE = b"fault: setup_shape\n"
 EXAMPLE = [(command, name) for command in COMMANDS for name in command.examples]
 
 
@@ -95,6 +98,23 @@ def test_refused_document_does_not_fit(mutated: Mutated) -> None:
     refused = [one for one in mutated[1] if one.is_json and not one.is_accepted]
     assert [one for one in refused if one.fits and not one.exception] == []
     assert len(refused) >= 150
+
+
+KEYS = [
+    pytest.param(command, value, id=f"{command.word}-{name}-{change.__name__}-{key}")
+    for command in COMMANDS
+    for name in command.examples
+    for change in (without_a_key, with_another_key)
+    for key, value in change(json.loads((EXAMPLES / f"{name}.json").read_text()))
+]
+
+
+@pytest.mark.parametrize(("command", "value"), KEYS)
+def test_document_with_other_keys_is_refused_and_does_not_fit(
+    program: pathlib.Path, command: Command, value: Any
+) -> None:
+    assert run(program, command.word, compact(value)).error in (b"fault: shape\n", SETUP_SHAPE)
+    assert not DOCUMENTS[command.kind].is_valid(value)
 
 
 def test_exceptions_are_those_that_schemas_readme_lists() -> None:

@@ -1,20 +1,28 @@
 """The description of the bidders' port behind nginx has each status and code that comes there."""
 import pathlib
+import time
 from collections.abc import Iterator
 
 import pytest
 
 from tests.lib.site import Site
 from tests.lib.tls import Client
+from tests.schemas.described import Entry
 from tests.schemas.port import BODY, BY_NGINX, SETUP, TOKENS, Description, Port
 from tests.schemas.port import built, page_of, site_of, target_of
 
 pytestmark = pytest.mark.needs("nginx", "openssl")
 
-# Statuses that are described and do not come here: out of memory, a server that answers too late,
-# and the faults of a sheet, which only the server finds.
-NOT_TRIED = {503, 504, 422}
+# What is described and does not come here: a server that is out of memory or answers too late, and
+# the faults of a sheet, which only the server finds.
+NOT_TRIED = {(503, "memory"), (503, "proxy"), (504, "proxy"), (504, "")}
 PUT = ("PUT", "/v1/me/bids")
+
+
+def is_tried(entry: Entry) -> bool:
+    """Whether a described status and code comes here."""
+    is_fault = entry.status == 422 and entry.code != "shape"
+    return not is_fault and entry[2:] not in NOT_TRIED
 
 
 @pytest.fixture(scope="module")
@@ -34,6 +42,7 @@ def port(description: Description, program: pathlib.Path) -> Iterator[Port]:
         publish(site)
         send_sheets(port)
         send_after_the_end(port)
+        send_behind_the_curtain(port)
         send_lower_case(port)
         repeat(port)
         yield port
@@ -92,6 +101,19 @@ def send_after_the_end(port: Port) -> None:
         port.send(operation, f"{line}\r\n")
 
 
+def send_behind_the_curtain(port: Port) -> None:
+    """Sends each operation while no page shows a new state."""
+    token, gate, ten = next(port.tokens), port.site.folder / "gate", int(time.time()) // 10
+    curtains = [gate / f"curtain-{number}" for number in range(ten - 1, ten + 4)]
+    for curtain in curtains:
+        curtain.touch()
+    for operation, _ in port.secured():
+        body = BODY if operation == PUT else b""
+        port.withheld[operation] = port.ask(operation, token=token, body=body) == 503
+    for curtain in curtains:
+        curtain.unlink()
+
+
 def send_lower_case(port: Port) -> None:
     """Sends each operation that needs a token with one in lower case, which nginx accepts."""
     token = next(port.tokens).lower()
@@ -113,6 +135,11 @@ def repeat(port: Port) -> None:
                 break
 
 
+def test_pages_of_the_server_are_withheld_behind_the_curtain(port: Port) -> None:
+    wanted = {each: each != PUT and each[1].startswith("/v1/") for each in port.withheld}
+    assert port.withheld == wanted
+
+
 def test_token_in_lower_case_is_refused_by_the_server(port: Port) -> None:
     wanted = {each: 404 if each[1] in BY_NGINX else 401 for each in port.lower_case}
     assert port.lower_case == wanted
@@ -128,7 +155,7 @@ def test_each_reply_is_described(port: Port) -> None:
 
 
 def test_each_described_status_and_code_comes_and_no_other(port: Port) -> None:
-    came = {one.entry for one in port.came if one.entry.status not in NOT_TRIED}
+    came = {one.entry for one in port.came}
     described = port.description.entries()
-    assert came == {entry for entry in described if entry.status not in NOT_TRIED}
+    assert came == {entry for entry in described if is_tried(entry)}
     assert len(came) >= 150
