@@ -8,7 +8,7 @@ import pytest
 
 from auction.conductor import commands
 from auction.conductor.report import State
-from auction.receipts import Desk, Sheets
+from auction.receipts import Sheets, Signer
 from tests.conductor.asking import ask
 from tests.lib.conducted import ConductedAuction, conducted
 from tests.lib.timetables import REFUSED, WHOLE, Refused
@@ -43,7 +43,7 @@ def sign(auction: ConductedAuction) -> None:
     folder, context = auction.folder / "receipts", auction.context()
     folder.mkdir()
     key = (auction.folder / "kept/receipts.pem").read_bytes()
-    Desk(Sheets(context.settings.journal, context.setup), key, folder).look()
+    Signer(Sheets(context.settings.journal, context.setup), key, folder).publish()
 
 
 @pytest.fixture(scope="module")
