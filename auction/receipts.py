@@ -38,7 +38,7 @@ class Sheets(Journal):
 
 
 @dataclasses.dataclass(frozen=True)
-class Desk:
+class Signer:
     """Signs by the secret key, and publishes in a folder that nginx reads."""
 
     sheets: Sheets
@@ -48,7 +48,7 @@ class Desk:
     def file(self, receipt: Receipt) -> Path:
         return self.folder / receipt.bidder / f"{receipt.round}-{receipt.sheet}.json"
 
-    def look(self, pause: Callable[[], None] = lambda: None) -> int:
+    def publish(self, pause: Callable[[], None] = lambda: None) -> int:
         """Signs what the journal has and is not published. Returns how many receipts that is.
 
         The journal is brought to the disk first: a receipt is never for a sheet that a crash could
@@ -88,13 +88,13 @@ def pause() -> None:
     time.sleep(PERIOD - time.monotonic() % PERIOD)
 
 
-def run(desk: Desk, say: Callable[[str], None]) -> None:
+def run(signer: Signer, say: Callable[[str], None]) -> None:
     """Looks four times a second, for good. If that fails, says so once, and tries again."""
     said = ""
     while True:
         words = ""
         try:
-            if not desk.look(pause):
+            if not signer.publish(pause):
                 pause()
         except (JournalFault, OSError, ValueError) as fault:
             words = f"no sheet gets a receipt: {fault}"

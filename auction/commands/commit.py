@@ -1,4 +1,4 @@
-"""Fixes tie-breaking numbers and the key of receipts before round 1, and publishes both.
+"""Commits to the tie-breaking numbers and the key of receipts before round 1.
 
 FOLDER is the folder of `auction close` or of the conductor. It gets chain.json, with the secret of
 the seeds, and receipts.pem, with the secret key, both for their owner only. PUBLIC is the folder

@@ -21,7 +21,7 @@ import sys
 from auction.command import Command
 from auction.formats.journal import JournalFault
 from auction.formats.setup import Setup
-from auction.receipts import Desk, Sheets
+from auction.receipts import Sheets, Signer
 from auction.receipts import run as publish_receipts
 
 
@@ -43,11 +43,11 @@ def run(given: argparse.Namespace) -> int:
         if not given.receipts.is_dir():
             sys.exit(f"auction receipts: there is no folder {given.receipts}")
         sheets = Sheets(given.journal, Setup.read(given.setup))
-        desk = Desk(sheets, (given.folder / "receipts.pem").read_bytes(), given.receipts)
+        signer = Signer(sheets, (given.folder / "receipts.pem").read_bytes(), given.receipts)
         if given.once:
-            say(f"receipts {desk.look()}")
+            say(f"receipts {signer.publish()}")
         else:
-            publish_receipts(desk, say)
+            publish_receipts(signer, say)
     except (JournalFault, OSError, ValueError) as fault:
         sys.exit(f"auction receipts: {fault}")
     return 0

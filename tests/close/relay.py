@@ -5,6 +5,8 @@ import socket
 import threading
 from collections.abc import Callable
 
+from tests.lib.http import reply_to
+
 
 class Loss(enum.Enum):
     """What the relay loses of a closing."""
@@ -49,7 +51,7 @@ class Relay:
             lose = self.lose
         if lose is Loss.REQUEST:
             return
-        reply = reply_of(self.server_port, head + b"\r\n\r\n" + body)
+        reply = reply_to(self.server_port, head + b"\r\n\r\n" + body)
         if lose is not Loss.REPLY:
             peer.sendall(reply[:-5] if lose is Loss.END_OF_REPLY else reply)
 
@@ -66,23 +68,14 @@ def request_from(peer: socket.socket) -> tuple[bytes, bytes]:
         text += received(peer)
     head, _, body = text.partition(b"\r\n\r\n")
     lines = [line.split(b":") for line in head.lower().split(b"\r\n")]
-    lengths = [int(line[1]) for line in lines if line[0] == b"content-length"]
-    while lengths and len(body) < lengths[0]:
+    length = sum(int(line[1]) for line in lines if line[0] == b"content-length")
+    while len(body) < length:
         body += received(peer)
     return head, body
 
 
 def received(peer: socket.socket) -> bytes:
+    """The next bytes of a client that has not closed its connection."""
     if piece := peer.recv(1 << 20):
         return piece
     raise ConnectionError("the client has closed its connection")
-
-
-def reply_of(port: int, text: bytes) -> bytes:
-    """The reply of the server to a request."""
-    with socket.create_connection(("127.0.0.1", port), 60) as server:
-        server.sendall(text)
-        reply = b""
-        while piece := server.recv(1 << 20):
-            reply += piece
-        return reply

@@ -12,6 +12,7 @@ from auction.formats.ties import Commitment
 from tests.close.auction import set_up
 from tests.lib.disk import killed_at
 
+pytestmark = pytest.mark.early
 DRAW = "1 2 3"
 STEPS, DRAW_STEPS = 20, 11  # system calls of a commitment, and of a draw
 

@@ -2,7 +2,7 @@
 import pathlib
 import random
 import shutil
-from collections.abc import Callable, Iterator
+from collections.abc import Iterator
 from typing import NamedTuple
 
 import pytest
@@ -45,27 +45,20 @@ def add(auction: WitnessedAuction) -> None:
     auction.send("Z", 0, 115)
 
 
-class Forgery(NamedTuple):
-    """What the operator does, whose receipts show it, and a bidder whose receipts do not."""
-
-    forge: Callable[[WitnessedAuction], None]
-    victim: str
-    other: str
+# What the operator does, whose receipts show it, and a bidder whose receipts do not.
+FORGERIES = {
+    "a-sheet-cut-off": (cut, "Y", "X"),
+    "a-bid-changed": (change, "X", "Y"),
+    "a-sheet-added": (add, "Z", "Y"),
+}
 
 
 class Forged(NamedTuple):
-    """An auction with a forgery that has ended."""
+    """A forged auction that has ended, the victim, and another bidder."""
 
     auction: WitnessedAuction
     victim: str
     other: str
-
-
-FORGERIES = {
-    "a-sheet-cut-off": Forgery(cut, "Y", "X"),
-    "a-bid-changed": Forgery(change, "X", "Y"),
-    "a-sheet-added": Forgery(add, "Z", "Y"),
-}
 
 
 @pytest.fixture(scope="module", params=FORGERIES.values(), ids=list(FORGERIES))

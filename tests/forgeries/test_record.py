@@ -5,7 +5,7 @@ import pathlib
 import shutil
 import subprocess
 import sys
-from collections.abc import Iterator
+from collections.abc import Callable, Iterator
 
 import pytest
 
@@ -144,19 +144,24 @@ def write_index(folder: pathlib.Path) -> None:
     (folder / INDEX).write_text("".join(lines))
 
 
-@pytest.mark.parametrize("name", FILES)
-def test_the_index_shows_a_changed_file(
-    honest: WitnessedAuction, copy: pathlib.Path, name: str
+CHANGES: dict[str, Callable[[pathlib.Path], None]] = {
+    "changed": change,
+    "removed": pathlib.Path.unlink,
+}
+each_change = pytest.mark.parametrize("how", CHANGES.values(), ids=CHANGES)
+
+
+@each_change
+@pytest.mark.parametrize("name", [name for name in FILES if name != INDEX])
+def test_the_index_shows_a_changed_or_removed_file(
+    honest: WitnessedAuction, copy: pathlib.Path, name: str, how: Callable[[pathlib.Path], None]
 ) -> None:
-    change(copy / name)
+    how(copy / name)
     assert "index" in honest.failed(published=copy)
 
 
-@pytest.mark.parametrize("name", [name for name in FILES if name != INDEX])
-def test_the_index_shows_a_removed_file(
-    honest: WitnessedAuction, copy: pathlib.Path, name: str
-) -> None:
-    (copy / name).unlink()
+def test_a_changed_index_shows(honest: WitnessedAuction, copy: pathlib.Path) -> None:
+    change(copy / INDEX)
     assert "index" in honest.failed(published=copy)
 
 
@@ -172,20 +177,12 @@ def test_the_index_shows_an_added_file(honest: WitnessedAuction, copy: pathlib.P
     assert "index" in honest.failed(published=copy)
 
 
+@each_change
 @pytest.mark.parametrize("name", TABLES)
-def test_the_content_shows_a_changed_table_if_the_index_is_made_again(
-    honest: WitnessedAuction, copy: pathlib.Path, name: str
+def test_the_content_shows_a_changed_or_removed_table_if_the_index_is_made_again(
+    honest: WitnessedAuction, copy: pathlib.Path, name: str, how: Callable[[pathlib.Path], None]
 ) -> None:
-    change(copy / name)
-    write_index(copy)
-    assert "tables" in honest.failed(published=copy)
-
-
-@pytest.mark.parametrize("name", TABLES)
-def test_the_content_shows_a_removed_table_if_the_index_is_made_again(
-    honest: WitnessedAuction, copy: pathlib.Path, name: str
-) -> None:
-    (copy / name).unlink()
+    how(copy / name)
     write_index(copy)
     assert "tables" in honest.failed(published=copy)
 

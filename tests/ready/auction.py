@@ -5,7 +5,6 @@ import os
 import pathlib
 import re
 import secrets
-import shutil
 import signal
 import subprocess
 from collections.abc import Callable, Iterator
@@ -39,16 +38,13 @@ class ReadyAuction:
     def __init__(self, program: pathlib.Path, folder: pathlib.Path, tools: pathlib.Path) -> None:
         self.program, self.folder, self.tools = program, folder, tools
         self.setup = with_drawn_tokens()
-        self.site = Site(folder, program, self.setup_text(), worker=WORKER)
+        self.site = Site(folder, program, self.setup, worker=WORKER)
         self.journal, self.host, self.space = folder / "auction.journal", "localhost", 10**8
         try:
             self.prepare()
         except BaseException:
             self.stop()
             raise
-
-    def setup_text(self) -> str:
-        return json.dumps(self.setup)
 
     def prepare(self) -> None:
         """Adds what a site does not have."""
@@ -139,8 +135,3 @@ def environment_of(folder: pathlib.Path, tools: pathlib.Path) -> dict[str, str]:
     """The variables with which the auction is ready: its certificate is trusted."""
     paths = f"{tools}:{os.environ['PATH']}:/usr/sbin"
     return {"SSL_CERT_FILE": str(folder / "cert.pem"), "PATH": paths}
-
-
-def copied(path: pathlib.Path, folder: pathlib.Path) -> pathlib.Path:
-    """A copy of a file in another folder."""
-    return pathlib.Path(shutil.copy(path, folder / f"copy-{path.name}"))

@@ -1,4 +1,5 @@
 """An auction that is ready, with a network and mounts of its own."""
+import contextlib
 import pathlib
 import shutil
 import tempfile
@@ -6,8 +7,8 @@ from collections.abc import Iterator
 
 import pytest
 
+from tests.lib.namespaces import own_network
 from tests.ready.auction import ReadyAuction, environment_of
-from tests.ready.namespaces import of_its_own
 
 
 @pytest.fixture(scope="module")
@@ -15,12 +16,17 @@ def ready(
     program: pathlib.Path, tmp_path_factory: pytest.TempPathFactory
 ) -> Iterator[ReadyAuction]:
     """An auction that is ready. nginx's workers can read its folder, since its parents allow it."""
-    folder = pathlib.Path(tempfile.mkdtemp(prefix="ready-"))
-    tools = tmp_path_factory.mktemp("tools")
-    with pytest.MonkeyPatch.context() as patch, of_its_own():
+    with contextlib.ExitStack() as stack:
+        try:
+            stack.enter_context(own_network(with_mounts=True))
+        except PermissionError:
+            pytest.skip("needs namespaces")
+        folder = pathlib.Path(tempfile.mkdtemp(prefix="ready-"))
+        stack.callback(shutil.rmtree, folder, ignore_errors=True)
+        tools = tmp_path_factory.mktemp("tools")
+        patch = stack.enter_context(pytest.MonkeyPatch.context())
         for name, value in environment_of(folder, tools).items():
             patch.setenv(name, value)
         auction = ReadyAuction(program, folder, tools)
+        stack.callback(auction.stop)
         yield auction
-        auction.stop()
-    shutil.rmtree(folder, ignore_errors=True)

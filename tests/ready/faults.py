@@ -2,6 +2,7 @@
 import json
 import os
 import pathlib
+import shutil
 import socket
 import subprocess
 import time
@@ -12,7 +13,7 @@ from auction.formats.signatures import new_key
 from auction.ready.published import signs
 from tests.lib.http import reply_to, text_of
 from tests.lib.waiting import wait_for
-from tests.ready.auction import WORKER, Fault, ReadyAuction, applied, copied
+from tests.ready.auction import WORKER, Fault, ReadyAuction, applied
 
 CLOSING = b'{"increment":10,"round":1,"ties":[]}'
 FILLER = 200_000_000  # bytes that leave too few free for the log
@@ -136,7 +137,7 @@ def words(**values: Any) -> Fault:
 def other_journal(auction: ReadyAuction) -> Iterator[None]:
     """A copy of the journal, which no server has."""
     journal = auction.journal
-    auction.journal = copied(journal, auction.tools)
+    auction.journal = shutil.copy(journal, auction.tools / "copy.journal")
     yield
     auction.journal = journal
 

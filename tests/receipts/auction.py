@@ -6,7 +6,7 @@ import subprocess
 import sys
 
 from auction.formats.setup import Setup
-from auction.receipts import Desk, Sheets
+from auction.receipts import Sheets, Signer
 from tests.lib import setups
 from tests.lib.journals import journal_of
 from tests.lib.paths import AUCTION
@@ -54,11 +54,11 @@ class ReceiptsAuction(Served):
         done = self.run(*self.words(), "--once")
         return done.returncode, done.stdout + done.stderr
 
-    def desk(self, journal: pathlib.Path | None = None) -> Desk:
+    def signer(self, journal: pathlib.Path | None = None) -> Signer:
         """What the service does, in this process, with the server's journal or another one."""
         setup = Setup.read(self.setup_file)
         key = (self.kept / "receipts.pem").read_bytes()
-        return Desk(Sheets(journal or self.journal_file, setup), key, self.receipts)
+        return Signer(Sheets(journal or self.journal_file, setup), key, self.receipts)
 
     def stop(self) -> None:
         self.kill_service()

@@ -87,27 +87,29 @@ def test_it_reports_each_receipt(pages: Pages, file: pathlib.Path) -> None:
     assert words == [f"receipt of sheet {number} of round 1\n" for number in (1, 2)]
 
 
-def test_check_receipts_accepts_its_file(
-    two: ReceiptsAuction, pages: Pages, file: pathlib.Path
-) -> None:
-    own = bidder.Receipts(pages, file)
+@pytest.fixture
+def own(pages: Pages, file: pathlib.Path) -> bidder.Receipts:
+    """The bidder's receipts, once it has both."""
+    found = bidder.Receipts(pages, file)
     for sheet in SHEETS:
-        printed(lambda: own.await_one(sheet))
+        printed(lambda: found.await_one(sheet))
+    return found
+
+
+def test_check_receipts_accepts_its_file(
+    two: ReceiptsAuction, own: bidder.Receipts, file: pathlib.Path
+) -> None:
     assert two.check(file)[0] == 0
 
 
-def test_it_reports_a_missing_receipt(pages: Pages, file: pathlib.Path) -> None:
-    own = bidder.Receipts(pages, file)
-    for sheet in SHEETS:
-        printed(lambda: own.await_one(sheet))
+def test_it_reports_a_missing_receipt(own: bidder.Receipts) -> None:
     assert "no receipt within 0.3 s" in printed(lambda: own.await_one(SHEETS[0]))
 
 
-def test_started_again_it_has_its_receipts(pages: Pages, file: pathlib.Path) -> None:
-    own = bidder.Receipts(pages, file)
-    for sheet in SHEETS:
-        printed(lambda: own.await_one(sheet))
-    assert bidder.Receipts(pages, file).have == {(1, 1), (1, 2)}
+def test_started_again_it_has_its_receipts(
+    own: bidder.Receipts, pages: Pages, file: pathlib.Path
+) -> None:
+    assert bidder.Receipts(pages, file).have == own.have == {(1, 1), (1, 2)}
 
 
 @pytest.mark.parametrize(
@@ -148,22 +150,20 @@ def test_another_commitment_ends_it(
 
 
 @pytest.mark.parametrize(
-    ("number", "seed_of", "is_right"),
-    [(1, 1, True), (2, 2, True), (2, 1, False), (1, 3, False), (3, None, False), (3, "x", False)],
+    ("number", "seed", "is_right"),
+    [
+        *((1, "1", True), (2, "2", True), (2, "1", False), (1, "3", False)),
+        *((3, "0" * 64, False), (3, "x", False)),
+    ],
     ids=["1", "2", "1-for-2", "3-for-1", "zeros", "no-seed"],
 )
 def test_it_reports_a_seed_that_is_not_the_committed_one(
-    two: ReceiptsAuction,
-    pages: Pages,
-    file: pathlib.Path,
-    number: int,
-    seed_of: int | str | None,
-    is_right: bool,
+    two: ReceiptsAuction, pages: Pages, file: pathlib.Path, number: int, seed: str, is_right: bool
 ) -> None:
-    chain = Chain.read(two.kept / "chain.json", Setup.read(two.setup_file))
-    seed = str(seed_of) if seed_of == "x" else "0" * 64
-    if isinstance(seed_of, int):
-        seed = (chain.seed(seed_of) or b"").hex()
+    """A seed of one letter is that of a round."""
+    if seed.isdigit() and len(seed) == 1:
+        chain = Chain.read(two.kept / "chain.json", Setup.read(two.setup_file))
+        seed = (chain.seed(int(seed)) or b"").hex()
     pages.pages[f"/public/rounds/{number}.json"] = {"seed": seed}
     own = bidder.Receipts(pages, file)
     words = printed(lambda: own.check_seed(number))

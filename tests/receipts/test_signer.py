@@ -49,7 +49,7 @@ def test_a_killed_service_has_published_whole_receipts_only(
     wanted: dict[str, bytes], two: ReceiptsAuction, step: int
 ) -> None:
     with killed_at(step) as disk:
-        two.desk().look()
+        two.signer().publish()
     assert disk.has_killed
     assert two.files().items() <= wanted.items()
 
@@ -59,8 +59,8 @@ def test_the_service_after_a_kill_makes_the_same_receipts(
     wanted: dict[str, bytes], two: ReceiptsAuction, step: int
 ) -> None:
     with killed_at(step):
-        two.desk().look()
-    two.desk().look()
+        two.signer().publish()
+    two.signer().publish()
     assert two.files() == wanted
 
 
@@ -68,7 +68,7 @@ def test_the_service_has_no_step_after_the_last(
     wanted: dict[str, bytes], two: ReceiptsAuction
 ) -> None:
     with killed_at(STEPS + 1) as disk:
-        two.desk().look()
+        two.signer().publish()
     assert not disk.has_killed
     assert two.files() == wanted
 
@@ -85,32 +85,32 @@ def test_nothing_is_signed_while_the_journal_is_not_on_the_disk(
 ) -> None:
     monkeypatch.setattr(receipts, "sync", fail)
     with pytest.raises(OSError, match="no sync"):
-        two.desk().look()
+        two.signer().publish()
     assert not two.files()
 
 
-def test_the_look_after_a_failed_sync_makes_all_receipts(
+def test_the_next_call_after_a_failed_sync_makes_all_receipts(
     wanted: dict[str, bytes], two: ReceiptsAuction, monkeypatch: pytest.MonkeyPatch
 ) -> None:
-    desk = two.desk()
+    signer = two.signer()
     with monkeypatch.context() as patch, contextlib.suppress(OSError):
         patch.setattr(receipts, "sync", fail)
-        desk.look()
-    assert desk.look() == 2
+        signer.publish()
+    assert signer.publish() == 2
     assert two.files() == wanted
 
 
-def test_the_look_after_a_lost_folder_makes_all_receipts(
+def test_the_next_call_after_a_lost_folder_makes_all_receipts(
     wanted: dict[str, bytes], two: ReceiptsAuction
 ) -> None:
-    desk = two.desk()
+    signer = two.signer()
     elsewhere = two.receipts.rename(two.folder / "elsewhere")
     try:
         with pytest.raises(FileNotFoundError):
-            desk.look()
+            signer.publish()
     finally:
         elsewhere.rename(two.receipts)
-    assert desk.look() == 2
+    assert signer.publish() == 2
     assert two.files() == wanted
 
 
@@ -118,7 +118,7 @@ def test_all_receipts_are_written_before_the_pause_and_published_after_it(
     wanted: dict[str, bytes], two: ReceiptsAuction
 ) -> None:
     seen = []
-    two.desk().look(lambda: seen.append((two.files(), len(list(two.receipts.rglob("*.new"))))))
+    two.signer().publish(lambda: seen.append((two.files(), len(list(two.receipts.rglob("*.new"))))))
     assert seen == [({}, 2)]
     assert two.files() == wanted
 
@@ -138,12 +138,12 @@ def test_a_record_in_the_writing_waits(
     part = tmp_path / "part.journal"
     last = length_before_the_last_record(journal)
     part.write_bytes(journal[: last + more] if more >= 0 else journal[:more])
-    desk = two.desk(part)
-    assert desk.look() == 1
+    signer = two.signer(part)
+    assert signer.publish() == 1
     assert set(two.files()) == {"X/1-1.json"}
-    assert desk.look() == 0
+    assert signer.publish() == 0
     part.write_bytes(journal)
-    assert desk.look() == 1
+    assert signer.publish() == 1
     assert set(two.files()) == BOTH
 
 
@@ -161,7 +161,7 @@ def test_a_journal_that_is_not_this_auction_s_gives_no_receipt(
     bad = tmp_path / "bad.journal"
     bad.write_bytes(change(two.journal_file.read_bytes()))
     with pytest.raises(JournalFault):
-        two.desk(bad).look()
+        two.signer(bad).publish()
     assert not two.files()
 
 
