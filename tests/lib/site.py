@@ -10,12 +10,12 @@ import shutil
 import socket
 import subprocess
 import sys
-import tempfile
 from collections.abc import Iterator
 from typing import Any
 
 from auction.conductor import commitment
 from auction.formats.setup import Setup
+from tests.lib.folders import open_folder
 from tests.lib.paths import AUCTION, PATHS, TOP, auction
 from tests.lib.ports import free_port
 from tests.lib.server import Server
@@ -203,9 +203,9 @@ class Site:
 
 @contextlib.contextmanager
 def running(program: pathlib.Path | None, setup: object, **options: Any) -> Iterator[Site]:
-    """A site in a folder that nginx's workers can enter, as they cannot enter pytest's."""
-    with tempfile.TemporaryDirectory(prefix="auction-", ignore_cleanup_errors=True) as folder:
-        site = Site(pathlib.Path(folder), program, setup, **options)
+    """A site in a folder of its own."""
+    with open_folder() as folder:
+        site = Site(folder, program, setup, **options)
         try:
             yield site
         finally:

@@ -31,7 +31,7 @@ def connected(
     peer.settimeout(SECONDS)
     peer.bind((address or next(ADDRESSES), 0))
     peer.connect(("127.0.0.1", port))
-    context = ssl.create_default_context()
+    context = ssl.SSLContext(ssl.PROTOCOL_TLS_CLIENT)  # no authorities, which load slowly
     context.check_hostname, context.verify_mode = False, ssl.CERT_NONE
     context.set_alpn_protocols(list(protocols))
     return context.wrap_socket(peer, server_hostname="localhost")

@@ -8,6 +8,7 @@ import time
 from collections import Counter
 from typing import Any, NamedTuple
 
+from tests.lib import setups
 from tests.lib.http import answer_to, text_of
 from tests.lib.paths import auction
 from tests.lib.server import Server
@@ -39,21 +40,16 @@ def token_of(number: int, size: Size) -> str:
 def setup_of(size: Size) -> Json:
     """The set-up. Slow and hostile clients have no eligibility."""
     supply = max(4, size.bidders * min(size.products, 40) * 2 // size.products // 3)
-    row = {"units": 1, "supply": supply, "cap": 3, "opening": 1000}
-    return {
-        "version": 1,
-        "requirement": 50,
-        "operator": OPERATOR,
-        "bidders": [
-            {
-                "name": f"{'G' if number < size.bidders else 'H'}{number}",
-                "token": token_of(number, size),
-                "eligibility": 200 if number < size.bidders else 0,
-            }
-            for number in range(size.clients)
-        ],
-        "products": [{"name": f"P{number}", **row} for number in range(size.products)],
-    }
+    products = [setups.product(f"P{n}", supply, 1000, cap=3) for n in range(size.products)]
+    bidders = [
+        setups.bidder(f"{kind}{number}", token_of(number, size), eligibility)
+        for kind, numbers, eligibility in (
+            ("G", range(size.bidders), 200),
+            ("H", range(size.bidders, size.clients), 0),
+        )
+        for number in numbers
+    ]
+    return setups.setup(products, bidders, operator=OPERATOR)
 
 
 class Auction:

@@ -5,7 +5,7 @@ import re
 import socket
 import time
 from collections import Counter
-from collections.abc import Iterable
+from collections.abc import Iterable, Iterator
 from typing import Any, NamedTuple
 
 from tests.lib.site import Site
@@ -84,17 +84,22 @@ def statuses(
 def replies_of(peer: socket.socket, texts: list[bytes]) -> tuple[Counter[int], float]:
     """The statuses of requests that come at once over this connection, and the seconds."""
     begun = time.monotonic()
+    found = Counter(status for status, _ in replies_in(peer, texts))
+    return found, time.monotonic() - begun
+
+
+def replies_in(peer: socket.socket, texts: list[bytes]) -> Iterator[tuple[int, bytes]]:
+    """The statuses and pages for requests that come at once, until nginx ends the connection."""
     peer.sendall(b"".join(texts))
-    found: Counter[int] = Counter()
     with peer, peer.makefile("rb") as reader:
-        while found.total() < len(texts) and (first := reader.readline()):
+        for _ in texts:
+            if not (first := reader.readline()):
+                return
             length = 0
             while (line := reader.readline()) != b"\r\n":
                 if line.lower().startswith(b"content-length:"):
                     length = int(line.split()[1])
-            reader.read(length)
-            found[int(first.split()[1])] += 1
-    return found, time.monotonic() - begun
+            yield int(first.split()[1]), reader.read(length)
 
 
 def asks_inside(

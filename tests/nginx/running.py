@@ -2,18 +2,15 @@
 from collections.abc import Iterator
 from typing import NamedTuple
 
+from tests.lib import setups
 from tests.lib.site import Site
 from tests.nginx.recorder import Recorder
 from tests.nginx.requests import OPERATOR, Bidder
 
 BIDDERS = [Bidder(f"B{number}", f"B1DDERST0KEN{number:05}") for number in range(250)]
-SETUP = {
-    "version": 1,
-    "requirement": 50,
-    "operator": OPERATOR,
-    "products": [{"name": "A", "units": 1, "supply": 2, "cap": 2, "opening": 100}],
-    "bidders": [{**bidder._asdict(), "eligibility": 2} for bidder in BIDDERS],
-}
+SETUP = setups.setup(
+    [setups.product("A", 2)], [setups.bidder(*bidder, 2) for bidder in BIDDERS], operator=OPERATOR
+)
 
 
 class Running(NamedTuple):

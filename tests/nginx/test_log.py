@@ -117,6 +117,8 @@ def full(site: Site, recorder: Recorder) -> Iterator[Site]:
     finally:
         subprocess.run(["umount", "--lazy", folder], check=True)  # nginx has it open
         site.nginx.send_signal(signal.SIGUSR1)
+        before = len(log_of(site))
+        wait_for("the old log", lambda: get(site, "/") and len(log_of(site)) > before, 20)
 
 
 @pytest.mark.root

@@ -1,10 +1,11 @@
 """What is on its way to the server, as the conductor sees it in the tables of the kernel."""
+import pathlib
 import socket
 from collections.abc import Iterator
 
 import pytest
 
-from auction.conductor.pending import pending
+from auction.conductor.pending import at_door, pending
 from tests.lib.site import Site
 from tests.lib.tls import Client
 from tests.lib.waiting import wait_for
@@ -15,6 +16,14 @@ from tests.nginx.requests import Bidder, sheet_of
 def at_server(site: Site) -> set[str]:
     """The connections that are on their way to the server's port."""
     return {one for one in pending(site.server_port) if one.startswith("from")}
+
+
+def at_inner_door(site: Site, folder: pathlib.Path) -> list[str]:
+    """The connections to this site's inner door. Other tests may run another nginx."""
+    rows = pathlib.Path("/proc/net/unix").read_text(errors="replace").splitlines(True)
+    table = folder / "unix"
+    table.write_text(rows[0] + "".join(row for row in rows if str(site.folder) in row))
+    return at_door(table)
 
 
 @pytest.fixture
@@ -29,20 +38,24 @@ def waiting(site: Site, recorder: Recorder, bidder: Bidder) -> Iterator[Client]:
     recorder.may_go.set()
 
 
-def test_a_sheet_is_seen_at_the_inner_door(waiting: Client, site: Site) -> None:
-    assert any(one.startswith("door") for one in pending(site.server_port))
-
-
-def test_a_sheet_is_seen_until_its_reply_is_there(
-    waiting: Client, site: Site, recorder: Recorder
+def test_a_sheet_is_seen_at_the_inner_door_until_its_reply_is_there(
+    waiting: Client, site: Site, recorder: Recorder, tmp_path: pathlib.Path
 ) -> None:
-    marked = pending(site.server_port)
-    assert marked & pending(site.server_port) == marked
+    (marked,) = at_inner_door(site, tmp_path)
+    assert marked in pending(site.server_port)
     recorder.may_go.set()
     assert waiting.reply().status == 200
-    wait_for(
-        "what was on its way has its reply", lambda: not marked & pending(site.server_port), 20
-    )
+    wait_for("it has its reply", lambda: marked not in at_inner_door(site, tmp_path), 20)
+
+
+def test_a_sheet_is_seen_at_the_server_until_its_reply_is_there(
+    waiting: Client, site: Site, recorder: Recorder
+) -> None:
+    marked = at_server(site)
+    assert len(marked) == 1
+    recorder.may_go.set()
+    assert waiting.reply().status == 200
+    wait_for("it has its reply", lambda: not marked & at_server(site), 20)
 
 
 def test_a_request_whose_client_is_gone_is_seen(

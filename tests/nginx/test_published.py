@@ -9,7 +9,7 @@ import pytest
 from tests.lib.site import Site
 from tests.lib.tls import Client, connected
 from tests.nginx.recorder import Recorder
-from tests.nginx.requests import UNKNOWN, Bidder, get
+from tests.nginx.requests import UNKNOWN, Bidder, get, head, replies_in
 
 PUBLISHED = ("commitment", "timetable", "announcements", "winners", "rounds/1", "rounds/12")
 NEVER_SHOWN = (
@@ -76,17 +76,8 @@ def test_a_published_file_cannot_be_changed(published: Site, method: str) -> Non
 
 def files_read(port: int) -> int:
     """How many of a reader's requests for the timetable are answered by the file."""
-    peer = connected(port)
-    peer.sendall(b"GET /public/timetable.json HTTP/1.1\r\nhost: localhost\r\n\r\n" * FILES)
-    files = 0
-    with peer, peer.makefile("rb") as reader:
-        for _ in range(FILES):
-            status, length = int(reader.readline().split()[1]), 0
-            while (line := reader.readline()) != b"\r\n":
-                if line.lower().startswith(b"content-length:"):
-                    length = int(line.split()[1])
-            files += status == 200 and reader.read(length).startswith(b'{"file"')
-    return files
+    texts = [head("GET", "/public/timetable.json")] * FILES
+    return sum(page.startswith(b'{"file"') for _, page in replies_in(connected(port), texts))
 
 
 def test_10_000_requests_for_a_published_file_cost_the_server_nothing(

@@ -1,14 +1,18 @@
 """When a sheet is accepted: two doors, by the files of gate/."""
+import fcntl
+import os
 import shutil
+import subprocess
+import termios
 import time
 from collections.abc import Callable
+from subprocess import PIPE
 
 import pytest
 
 from tests.lib.site import Site
 from tests.lib.tls import Client, Reply
 from tests.lib.waiting import wait_for
-from tests.nginx.http2 import Http2
 from tests.nginx.recorder import Recorder
 from tests.nginx.requests import (
     SHEET,
@@ -177,12 +181,19 @@ def by_chunks(site: Site, token: str) -> Callable[[], tuple[int, bytes]]:
 
 def by_http2(site: Site, token: str) -> Callable[[], tuple[int, bytes]]:
     """Sends a part of a sheet over HTTP/2, without its length. Returns what sends the rest."""
-    client = Http2(site.outside)
-    client.put("/v1/me/bids", token, SHEET[:5])
+    command = ["curl", "-sS", "-m", "20", "--http2", "--cacert", "cert.pem", "-T", "-"]
+    command += ["-H", f"authorization: Bearer {token}", "-w", " %{http_version} %{http_code}"]
+    command += [f"https://localhost:{site.outside}/v1/me/bids"]
+    curl = subprocess.Popen(command, stdin=PIPE, stdout=PIPE, cwd=site.folder)
+    assert curl.stdin is not None
+    pipe = curl.stdin.fileno()
+    os.write(pipe, SHEET[:5])
+    wait_for("curl sends it", lambda: not any(fcntl.ioctl(pipe, termios.FIONREAD, bytes(4))), 20)
 
     def end() -> tuple[int, bytes]:
-        client.end(SHEET[5:])
-        return client.reply()
+        page, version, status = curl.communicate(SHEET[5:], 20)[0].rsplit(b" ", 2)
+        assert version == b"2"
+        return int(status), page
 
     return end
 
@@ -192,9 +203,14 @@ def short(reply: Reply) -> tuple[int, bytes]:
     return reply.status, reply.page
 
 
-@pytest.mark.parametrize(
-    "begin", [by_length, by_chunks, by_http2], ids=lambda begin: begin.__name__
+WAYS = pytest.mark.parametrize(
+    "begin",
+    [by_length, by_chunks, pytest.param(by_http2, marks=pytest.mark.needs("curl"))],
+    ids=["by length", "by chunks", "by HTTP/2"],
 )
+
+
+@WAYS
 def test_a_sheet_that_is_whole_in_a_pause_is_refused(
     site: Site,
     recorder: Recorder,
@@ -209,9 +225,7 @@ def test_a_sheet_that_is_whole_in_a_pause_is_refused(
     assert not recorder.seen
 
 
-@pytest.mark.parametrize(
-    "begin", [by_length, by_chunks, by_http2], ids=lambda begin: begin.__name__
-)
+@WAYS
 def test_a_sheet_that_is_whole_in_the_window_is_accepted(
     site: Site,
     recorder: Recorder,

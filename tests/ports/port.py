@@ -7,7 +7,7 @@ import time
 from collections.abc import Iterator
 from typing import Any
 
-from tests.lib.setups import OPERATOR
+from tests.lib import setups
 from tests.lib.tls import addresses
 
 PRODUCTS, BIDDERS = 4096, 512
@@ -24,21 +24,11 @@ def token_of(number: int) -> str:
     return f"T0KEN{number:011}"
 
 
-def setup_of(bidders: int, products: int, supply: int = 1000) -> dict[str, Any]:
+def setup_of(bidders: int, products: int) -> dict[str, Any]:
     """A set-up with long names."""
-    rows = {"units": 1, "supply": supply, "cap": supply, "opening": 100}
-    return {
-        "version": 1,
-        "requirement": 50,
-        "operator": OPERATOR,
-        "products": [
-            {"name": f"PRODUCT-WITH-A-LONG-NAME-{number:06}", **rows} for number in range(products)
-        ],
-        "bidders": [
-            {"name": f"B{number}", "token": token_of(number), "eligibility": 10}
-            for number in range(bidders)
-        ],
-    }
+    names = [f"PRODUCT-WITH-A-LONG-NAME-{number:06}" for number in range(products)]
+    rows = [setups.bidder(f"B{number}", token_of(number), 10) for number in range(bidders)]
+    return setups.setup([setups.product(name, 1000) for name in names], rows)
 
 
 def head(method: str, path: str, token: str = "", *lines: str) -> bytes:
