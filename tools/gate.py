@@ -158,7 +158,7 @@ def main() -> int:
         early = Trials(folder, "early", "-m", "early", "-n", "2", *spread, *skips, priority=10)
         runs = [early]
         if proofs.build():
-            words = ["-m", "not early", "-n", str(PROCESSORS), *spread, *skips]
+            words = ["-m", "not early", "--full", "-n", str(PROCESSORS), *spread, *skips]
             runs.append(Trials(folder, "program", *words))
         trials = [run.counts() for run in reversed(runs)]
         if proofs.is_built:

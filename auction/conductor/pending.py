@@ -1,7 +1,8 @@
 """The connections that are on their way to the server: what may still change what it has.
 
 A request that passed the inner door has a connection to nginx's socket file until its reply is
-there, and then one to the server's port, which may wait in the kernel, also after nginx was killed.
+there. It also has one to the server's port, which may wait in the kernel, also after nginx was
+killed.
 """
 from pathlib import Path
 

@@ -98,7 +98,7 @@ class Document:
         return self.tables[at]
 
     def place(self, path: Path, key: str | None = None) -> int:
-        """Where the part at a path begins, or one of its keys."""
+        """The index at which the part at a path begins, or one of its keys."""
         at = self.begin
         for step in path:
             at = self.table(at)[0][step]

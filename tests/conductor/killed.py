@@ -70,7 +70,7 @@ def audit_if_killed(program: pathlib.Path, step: int, with_the_machine: bool) ->
 def audit_if_killed_again_and_again(program: pathlib.Path) -> tuple[list[str], int]:
     """The audit of the auction in which each conductor is killed one step later than the last.
 
-    After 20 steps, as many as it takes to store a round, it begins with the first again. Also
+    After 20 steps, which is what it takes to store a round, it begins with the first again. Also
     returns how often it was killed.
     """
     kills = 0

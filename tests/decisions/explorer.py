@@ -3,10 +3,10 @@
 Any event may come between what the conductor observed and what it does. In each state:
 - no sheet passes that becomes whole after the inner door should have shut;
 - no sheet that passed both doors in its window is refused;
-- a closing is made for a journal that does not change any more, sent behind a curtain, and with no
-  doubt that a person has not released;
+- a closing is made for a journal that does not change any more, sent while the curtain is drawn,
+  and with no doubt that a person has not released;
 - no page shows a closing before its curtain lifts;
-- alone from here on, the auction comes to its end or to a person; after a kill it comes to the same
+- if nothing else happens, the auction comes to its end or to a person; after a kill it comes to the same
   one, or to one doubt more.
 """
 from collections import deque
@@ -87,7 +87,7 @@ def explore(begin: World, decided: Decide) -> Explored:
 
 
 def check_end(world: World, decided: Decide, outcomes: Outcomes) -> None:
-    """Left alone, the auction comes to an end. After a kill it is the same, or has a doubt more."""
+    """If nothing else happens, the auction ends. After a kill too, or it has a doubt more."""
     alone = end_of(world, decided, outcomes)
     if not (world.acting or world.waits):
         return

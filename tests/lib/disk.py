@@ -18,7 +18,7 @@ class Killed(BaseException):
 
 
 class Disk:
-    """Stands in for `os` in auction/conductor/disk.py, and counts the calls that change the disk.
+    """Replaces `os` in auction/conductor/disk.py, and counts the calls that change the disk.
 
     It kills its caller before the call with the number `kill_at`, or before any call about a file
     in the folder `kill_in`. If `is_full`, nothing can be written. It also notes what a loss of

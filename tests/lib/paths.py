@@ -10,7 +10,7 @@ EXAMPLES = TOP / "examples"
 BUILT = TOP / "crates" / "clock_auction" / "out" / "clock_auction"
 AUCTION = TOP / "auction" / "bin" / "auction"
 
-# Where Debian puts commands, some of which only root has on the path.
+# The folders of Debian's commands, some of which only root has on the path.
 PATHS = f"{os.environ['PATH']}:/usr/sbin"
 
 

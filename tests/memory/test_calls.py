@@ -1,9 +1,10 @@
 """A call with a refused allocation reports out of memory, and changes nothing.
 
 The program in calls/ plays the scenarios. `rt try` runs it over a copy of the crates, without
-proofs, with C functions that count allocations and refuse one. It plays a scenario without a
-refusal, and then once for each allocation of the watched calls, with that one refused. Exactly one
-call must then report out of memory, by its fault of that name or by the bytes of the reply 503.
+proofs, with C functions that count allocations and refuse one.
+
+It plays a scenario without a refusal, and then once for each allocation of the watched calls, with
+that one refused. Exactly one call must then report out of memory, by its fault of that name or by the bytes of the reply 503.
 Each reading call must return what it returned before. The repeated call must lead to the result
 without a refusal.
 

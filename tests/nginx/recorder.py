@@ -55,7 +55,7 @@ class Recorder:
         threading.Thread(target=self.serve, args=(self.listener,), daemon=True).start()
 
     def reset(self) -> None:
-        """Begins anew: no request came, two rounds are closed, and each answer comes at once."""
+        """Begins again: no request came, two rounds are closed, and each answer comes at once."""
         self.seen: list[Request] = []
         self.closed, self.delay = 2, 0.0
         self.may_go.set()

@@ -80,7 +80,7 @@ def test_a_page_is_withheld_though_its_head_came_before(
 
 @pytest.fixture
 def withheld(site: Site, recorder: Recorder, bidder: Bidder) -> list[Reply]:
-    """The replies for all pages behind the curtain."""
+    """The replies for all pages while the curtain is drawn."""
     draw(site, recorder)
     return [get(site, page, bidder.token) for page in PAGES]
 

@@ -16,7 +16,7 @@ import pytest
 from tests.lib.setups import OPERATOR
 from tests.lib.site import Site
 from tests.lib.waiting import wait_for
-from tests.ports.port import HELD, LATE, Port, account, connections_at, head, token_of
+from tests.ports.port import BLOCKED, LATE, Port, account, connections_at, head, token_of
 
 pytestmark = pytest.mark.needs("nginx", "openssl")
 
@@ -46,7 +46,7 @@ def test_at_the_servers_port_a_client_that(
     straight: Port, others: Iterator[int], text: bytes, blocks: bool
 ) -> None:
     with small_client(straight, text):
-        assert straight.is_blocked(others, HELD if blocks else LATE) == blocks
+        assert straight.is_blocked(others, BLOCKED if blocks else LATE) == blocks
     assert not straight.is_blocked(others, LATE), "after it has gone"
 
 
@@ -149,7 +149,7 @@ def test_100_slow_heads_block_the_server(
     straight: Port, others: Iterator[int], slow_clients: Callable[[str, Port], None]
 ) -> None:
     slow_clients("slow heads", straight)
-    assert straight.is_blocked(others, HELD)
+    assert straight.is_blocked(others, BLOCKED)
 
 
 @pytest.mark.needs("slowhttptest")

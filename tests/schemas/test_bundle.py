@@ -25,7 +25,7 @@ PAGES = {
 }
 FILES = {"commitment", "timetable", "announcements", "winners", "rounds/{n}"}
 OTHERS = {"/receipts/{n}/{sheet}.json", "/openapi.json"}
-# Requests, in so many seconds, more at once, and at the same time.
+# Requests, in a number of seconds, more at once, and at the same time.
 LIMITS = {
     "anyone": (20, 1, 60, 16),
     "bidder": (2, 1, 60, 8),

@@ -26,7 +26,7 @@ regrouped : (a b c d e f g : List ℕ) → (a ++ (b ++ (c ++ (d ++ e)))) ++ (f +
     ≡ a ++ (b ++ (c ++ (d ++ (e ++ (f ++ g)))))
 regrouped a b c d e f g = simp append_assoc
 
--- the pieces of the text before the quantity, and what is behind it
+-- the pieces of the text before the quantity, and what follows it
 pub regrouped_prefix : (a b c d e rest : List ℕ) → a ++ (b ++ (c ++ (d ++ (e ++ rest))))
     ≡ (a ++ (b ++ (c ++ (d ++ e)))) ++ rest
 regrouped_prefix a b c d e rest = simp append_assoc

@@ -1,4 +1,4 @@
--- The array is copied, the quantity and the brace are written behind the text, and the rest is cut.
+-- The array is copied, the quantity and the brace are written after the text, and the rest is cut.
 use Rattle.std.proofs.Common.{◌+◌, arith, rules, length, ◌≡◌}
 use Rattle.clock_scripts.proofs.PrefixLaws.{bid_cut}
 use Rattle.clock_scripts.proofs.prefixes.BidPrefix.push_bid.Goals as goal
