@@ -21,6 +21,8 @@ It reads the status every SECONDS, by default 1, and misses no round that is ope
 If no reply comes, or a page that is not the server's, it says so and repeats the request for an
 hour. After such a failure, and at every thirtieth status, it checks its sheet.
 
+While a round is closing, pages are withheld until its results appear. It says so, and waits.
+
 If no sheet is in force, because a server without a journal was restarted, it submits the sheet
 again. It does not replace a sheet that you submitted in another way. If no window is open, it waits
 for one.
@@ -44,6 +46,8 @@ import time
 import urllib.request
 
 BUSY = (408, 429, 500, 502, 503, 504)
+# nginx's answers that say to wait: no window is open, or the round is closing.
+WAITS = {409: b'"window"', 503: b'"closing"'}
 PATIENCE = 3600
 LOOK = 30
 RECEIPT_SECONDS = 2
@@ -108,7 +112,7 @@ class Auction:
 
     def __init__(self, url, token, every):
         self.url, self.token, self.every = url.rstrip("/"), token, every
-        self.products, self.is_in_doubt = None, False
+        self.products, self.is_in_doubt, self.is_closing = None, False, False
         tls = (
             ssl.create_default_context(cafile=os.environ.get("CA"))
             if url.startswith("https")
@@ -136,9 +140,9 @@ class Auction:
             try:
                 with self.opener.open(request, timeout=30) as reply:
                     text = reply.read()
-                if (
-                    reply.status == 409 and b'"window"' in text
-                ):  # from nginx; the timetable says for how long
+                if reply.status in WAITS and WAITS[reply.status] in text:
+                    if reply.status == 503:
+                        self.tell_closing()
                     given_up = time.monotonic() + PATIENCE
                     time.sleep(self.every)
                     continue
@@ -147,6 +151,7 @@ class Auction:
                 if reply.status >= 300 and reply.status not in BUSY:
                     sys.exit(f"{path} is refused: {reply.status} {text.decode(errors='replace')}")
                 if reply.status < 300 and has_shape(page := json.loads(text), shape, self.products):
+                    self.is_closing = self.is_closing and not path.startswith("/v1/")
                     return page
                 fault = f"{reply.status} {reply.reason}, not a page of the server: {text[:80]}"
             except (OSError, http.client.HTTPException, RecursionError, ValueError) as error:
@@ -155,6 +160,23 @@ class Auction:
             self.is_in_doubt = True
             time.sleep(self.every)
         sys.exit(f"{path}: no reply for {PATIENCE} seconds")
+
+    def tell_closing(self):
+        """Says, once in each closing, that the round is closing.
+
+        It says when the results appear, if that is published.
+        """
+        if self.is_closing:
+            return
+        self.is_closing = True
+        try:
+            with self.opener.open(self.url + "/public/timetable.json", timeout=30) as reply:
+                table = json.loads(reply.read())
+            window = next(each for each in table["windows"] if each["round"] == table["round"])
+            when = f"results appear at {window['results']}"
+        except (OSError, http.client.HTTPException, KeyError, StopIteration, TypeError, ValueError):
+            when = "its results follow"
+        print(f"The round is closing; {when}.", file=sys.stderr, flush=True)
 
     def prices(self, products, number):
         """The start-of-round and clock prices of a round."""
