@@ -1,4 +1,4 @@
-"""A newcomer's first auction by clicks: from `git clone` to the end."""
+"""A first auction by clicks: from `git clone` to the end."""
 import dataclasses
 import os
 import pathlib
