@@ -31,7 +31,10 @@ import {view} from "./views.js";
 const MOST_UNDO = 100;
 const sheet = new Sheet();
 const past = new Past();
-const receipts = new Receipts((receipt) => set({ receipt }));
+const receipts = new Receipts((receipt) => {
+  at("receipts").hidden = receipts.count === 0;
+  set({ receipt });
+});
 // lets the other tabs of this browser know that bids were submitted, and nothing about them
 const tabs = new BroadcastChannel("sheets");
 const undos = []; // { what, copy }: the form before each change

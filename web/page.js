@@ -161,9 +161,11 @@ export function door(enter, {wordsOf, closingWords}) {
   };
   const keepEntering = async (token) => {
     for (;;) {
+      at("desk").hidden = false; // how many rows are drawn depends on the height that is seen
       try {
         return await enter(token);
       } catch (fault) {
+        at("desk").hidden = true;
         if (!isClosing(fault)) throw fault;
         tellDoor(`${closingWords()} You will be entered then.`);
         await pause(1000);
@@ -176,15 +178,12 @@ export function door(enter, {wordsOf, closingWords}) {
     at("token").value = "";
     tellDoor("Loading …");
     at("door").inert = at("desk").inert = true;
-    at("desk").hidden =
-      false; // the number of rows that are drawn depends on the height that is seen
     try {
       await keepEntering(token);
       at("door").hidden = true;
       if (at("say").textContent === said) say("");
       at("round").focus();
     } catch (fault) {
-      at("desk").hidden = true;
       say("⚠ " + wordsOf(fault.code ?? String(fault)));
     }
     at("door").inert = at("desk").inert = false;

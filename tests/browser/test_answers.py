@@ -3,6 +3,7 @@ withheld, if bids come another way, and to unknown tokens.
 """
 import datetime
 import re
+import time
 
 import pytest
 from selenium.webdriver.common.keys import Keys
@@ -147,8 +148,6 @@ def test_an_answer_may_come_after_its_round_was_closed(auction: Auction, x: Wind
 
 def withhold(auction: Auction, is_withheld: bool) -> None:
     """Draws the curtain of the next minutes, or lifts it."""
-    import time
-
     now = int(time.time()) // 10
     for ten in range(now - 1, now + 60):
         file = auction.folder / "gate" / f"curtain-{ten}"

@@ -40,7 +40,7 @@ def test_a_bidder_enters_and_submits_by_keys(auction: Auction, y: Window) -> Non
     quantity = y.tab_to("a quantity", '[data-key="0.0"][data-field="quantity"]')
     quantity.send_keys(Keys.CONTROL + "a")
     quantity.send_keys("1")
-    y.press(Keys.ARROW_DOWN, "1", Keys.ARROW_RIGHT, Keys.ARROW_RIGHT, "100", Keys.ARROW_UP, "100")
+    y.press(Keys.ARROW_DOWN, "1", Keys.ARROW_RIGHT, "100", Keys.ARROW_UP, "100")
     form = [y.value(name, row) for row in (0, 1) for name in ("quantity", "price")]
     assert form == ["1", "100"] * 2
     y.chord(Keys.CONTROL, Keys.ENTER)

@@ -145,7 +145,7 @@ class Window:
         """Waits until a condition holds. The page may be drawn again meanwhile."""
 
         def holds() -> object:
-            with contextlib.suppress(WebDriverException, LookupError, OSError):
+            with contextlib.suppress(WebDriverException, LookupError, OSError, ValueError):
                 return look()
             return False
 

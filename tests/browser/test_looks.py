@@ -1,0 +1,296 @@
+"""How the pages look: at any width, in light and in the dark, in narrow and in wide letters, for a
+screen reader and for the keyboard. With `--pictures DIR`, it saves pictures for the documents.
+"""
+import pathlib
+import re
+
+
+import pytest
+from selenium.webdriver.common.keys import Keys
+
+from tests.browser import scripts
+from tests.browser.auction import Auction, X, Y, Z, bid, example
+from tests.browser.conftest import Begin
+from tests.browser.people import enter
+from tests.browser.published import Published
+from tests.browser.window import Window
+from tests.lib.setups import OPERATOR
+
+PRICES = {"North-1": 1200, "North-2": 900, "Middle-1": 1450}
+PRICES |= {"Middle-2": 640, "South-1": 2100, "South-2": 380}
+WIDTHS = (360, 768, 1024, 1270, 1600)
+SIZES = ((1440, 900), (1280, 720), (1024, 768), (640, 360), (390, 844), (320, 568))
+ROLES = {"textbox", "searchbox", "button", "combobox", "checkbox", "region", "image", "meter"}
+ROLES |= {"dialog", "grid", "table", "tab", "tabpanel", "columnheader", "rowheader"}
+LEAST_CONTRAST = 4.5
+DIGEST = "d" * 64
+
+
+def four_rounds(begin: Begin) -> Auction:
+    """Round 5 of an auction of three bidders. X has bids in force, and has seen all rounds."""
+    one = {"units": 1, "supply": 2, "cap": 2}
+    products = [{"name": name, **one, "opening": price} for name, price in PRICES.items()]
+    setup = example("two_products")
+    bidders = [{**each, "eligibility": 5} for each in setup["bidders"]]
+    auction = begin({**setup, "products": products, "bidders": bidders})
+    first = {X: {0: 2, 2: 1, 5: 1}, Y: {0: 1, 1: 1, 2: 1}, Z: {1: 1, 3: 1, 4: 2}}
+    opening = list(PRICES.values())
+    for token, wanted in first.items():
+        auction.put(token, 1, *(bid(p, blocks, opening[p]) for p, blocks in wanted.items()))
+    auction.close(1)
+    for number in range(2, 5):
+        clock = [each["next"] for each in auction.ask(f"v1/rounds/{number - 1}")["products"]]
+        for place, token in enumerate((X, Y)):
+            demands = auction.ask("v1/results")["bidders"][place]["demands"]
+            kept = {p: blocks for p, blocks in enumerate(demands) if blocks}
+            if token == X and number == 4:
+                kept[2] = 0
+            auction.put(token, number, *(bid(p, blocks, clock[p]) for p, blocks in kept.items()))
+        auction.close(number)
+    return auction
+
+
+@pytest.fixture(scope="module")
+def auction(begin_once: Begin) -> Auction:
+    auction = four_rounds(begin_once)
+    day = Published(auction)
+    for number in range(1, 5):
+        day.close_round(number, DIGEST)
+    day.announce("Round 5 is open. The help desk is at extension 105.")
+    day.timetable(5, *[(-60 * left - 60, -60 * left) for left in (5, 4, 3, 2)], (-60, 900))
+    day.report("open", "Round 5 is open until 16:00:00 UTC.", 5, ["X"])
+    return auction
+
+
+def high_prices(begin: Begin) -> Auction:
+    setup = example("one_product")
+    setup["products"][0]["opening"] = 10**12
+    return begin(setup)
+
+
+@pytest.fixture(scope="module")
+def steep(begin_once: Begin) -> Auction:
+    return high_prices(begin_once)
+
+
+@pytest.fixture(scope="module")
+def ended(begin_once: Begin) -> Auction:
+    """After the end, in which X and Y have won a block each."""
+    auction = begin_once(example("one_product"))
+    auction.put(X, 1, bid(0, 1, 100))
+    auction.put(Y, 1, bid(0, 1, 100))
+    auction.close(1)
+    day = Published(auction)
+    day.close_round(1, DIGEST)
+    day.timetable(1, (-60, -1), ended=True)
+    won = [{"name": name, "demands": [1], "pays": 100} for name in ("X", "Y")]
+    day.put("public/winners.json", {"round": 1, "bidders": won})
+    return auction
+
+
+def bidders_page(request: pytest.FixtureRequest, window: Window) -> None:
+    enter(request.getfixturevalue("auction"), window)
+    window.says("latest", "help desk")
+
+
+def wrong_bid(request: pytest.FixtureRequest, window: Window) -> None:
+    bidders_page(request, window)
+    window.bid(0, 1, 1)
+    window.says("message", "1 bid has an error")
+
+
+def closed_rounds(request: pytest.FixtureRequest, window: Window) -> None:
+    bidders_page(request, window)
+    window.view("past")
+    window.until("the chart is there", lambda: window.find("#chart svg"))
+
+
+def announcements(request: pytest.FixtureRequest, window: Window) -> None:
+    bidders_page(request, window)
+    window.view("times")
+
+
+def highest_prices(request: pytest.FixtureRequest, window: Window) -> None:
+    enter(request.getfixturevalue("steep"), window)
+    window.bid(0, 2, "")
+
+
+def after_the_end(request: pytest.FixtureRequest, window: Window) -> None:
+    enter(request.getfixturevalue("ended"), window)
+
+
+def operators_page(request: pytest.FixtureRequest, window: Window) -> None:
+    enter(request.getfixturevalue("auction"), window, OPERATOR)
+    window.says("missing", "No bids from: Y")
+
+
+def operators_highest_prices(request: pytest.FixtureRequest, window: Window) -> None:
+    enter(request.getfixturevalue("steep"), window, OPERATOR)
+
+
+def public_page(request: pytest.FixtureRequest, window: Window) -> None:
+    window.open(request.getfixturevalue("ended").address("results.html"))
+    window.until("the winners are there", lambda: len(window.rows("wonbody")) == 2)
+
+
+STATES = [bidders_page, wrong_bid, closed_rounds, announcements, highest_prices, after_the_end]
+STATES += [operators_page, operators_highest_prices, public_page]
+
+
+@pytest.fixture(params=STATES, ids=lambda state: state.__name__.replace("_", " "))
+def page(request: pytest.FixtureRequest, x: Window) -> Window:
+    """A window that shows a state of a page."""
+    request.param(request, x)
+    return x
+
+
+@pytest.fixture(params=STATES[:6], ids=lambda state: state.__name__.replace("_", " "))
+def bidding(request: pytest.FixtureRequest, x: Window) -> Window:
+    """A window that shows a state of the bidder's page."""
+    request.param(request, x)
+    return x
+
+
+def test_nothing_is_cut_off_or_beyond_the_window(page: Window) -> None:
+    """At each width, in narrow letters and in wide ones."""
+    found = []
+    for wide in WIDTHS:
+        page.size(wide, 900)
+        for is_wide in (False, True):
+            page.run(scripts.WIDE_LETTERS, is_wide)
+            page.settle()
+            letters = "wide" if is_wide else "its own"
+            found += [f"{each} at {wide}, {letters} letters" for each in page.run(scripts.CUT)]
+    assert found == []
+
+
+@pytest.mark.parametrize("dark", [False, True], ids=["light", "dark"])
+def test_each_text_differs_from_its_background(page: Window, dark: bool) -> None:
+    page.dark(dark)
+    page.settle()
+    try:
+        ratio, what = page.run(scripts.CONTRAST)
+        assert ratio >= LEAST_CONTRAST, what
+    finally:
+        page.dark(False)
+
+
+def seen_nodes(window: Window) -> list[tuple[str, str]]:
+    """Role and name of what a screen reader meets."""
+    nodes = window.cdp("Accessibility.getFullAXTree")["nodes"]
+    return [
+        (node["role"]["value"], node.get("name", {}).get("value", "").strip())
+        for node in nodes
+        if not node["ignored"]
+    ]
+
+
+def test_each_field_button_and_table_has_a_name(page: Window) -> None:
+    met = [(role, name) for role, name in seen_nodes(page) if role in ROLES]
+    assert met and [role for role, name in met if not name] == []
+
+
+def test_there_is_one_first_heading_and_one_for_each_section(page: Window) -> None:
+    first, sections, labelled, headed = page.run(scripts.HEADINGS)
+    assert first == 1
+    assert sections == labelled, "each section is labelled"
+    assert headed > 0
+
+
+def test_each_button_and_field_is_large_enough_for_a_finger(page: Window) -> None:
+    assert page.run(scripts.SMALL) == []
+
+
+@pytest.mark.parametrize("wide", [1280, 360])
+def test_a_table_is_one_also_drawn_as_cards(
+    request: pytest.FixtureRequest, x: Window, wide: int
+) -> None:
+    x.size(wide, 900)
+    bidders_page(request, x)
+    x.settle()
+    roles = {role for role, _ in seen_nodes(x)}
+    assert {"grid", "row", "rowheader", "columnheader", "gridcell"} <= roles
+
+
+# ---- The two bars
+
+
+@pytest.mark.parametrize("wide, high", SIZES, ids=[f"{wide}x{high}" for wide, high in SIZES])
+def test_both_bars_are_in_sight(
+    request: pytest.FixtureRequest, x: Window, wide: int, high: int
+) -> None:
+    x.size(wide, high)
+    wrong_bid(request, x)
+    x.settle()
+    assert x.run(scripts.IN_SIGHT) == []
+    assert not x.run("return document.documentElement.scrollWidth > innerWidth")
+
+
+@pytest.mark.parametrize("wide, high", SIZES, ids=[f"{wide}x{high}" for wide, high in SIZES])
+def test_no_element_with_the_cursor_is_hidden(
+    request: pytest.FixtureRequest, x: Window, wide: int, high: int
+) -> None:
+    x.size(wide, high)
+    bidders_page(request, x)
+    x.settle()
+    x.run("document.querySelector('#body [data-field=quantity]').focus()")
+    hidden = []
+    for key in [Keys.ARROW_DOWN] * 7 + [Keys.ARROW_UP] * 4 + [Keys.PAGE_DOWN] * 2:
+        x.press(key)
+        hidden.append(x.run(scripts.HIDDEN))
+    x.run("document.getElementById('round').focus()")
+    for _ in range(16):
+        x.press(Keys.TAB)
+        hidden.append(x.run(scripts.HIDDEN))
+    assert [name for name in hidden if name] == []
+
+
+@pytest.mark.parametrize(
+    "wide, high, most", [(360, 740, 400), (1024, 768, 350)], ids=["phone", "tablet"]
+)
+def test_the_first_row_is_near_the_top(
+    request: pytest.FixtureRequest, x: Window, wide: int, high: int, most: float
+) -> None:
+    x.size(wide, high)
+    bidders_page(request, x)
+    x.settle()
+    script = "return document.querySelector('#body tr:not(.room)').getBoundingClientRect().top"
+    assert x.run(script) < most
+
+
+def test_25_rows_are_seen_of_a_long_table(begin: Begin, x: Window) -> None:
+    setup = example("two_products")
+    one = setup["products"][0]
+    setup["products"] = [{**one, "name": f"P-{place}"} for place in range(60)]
+    x.size(1440, 900)
+    enter(begin(setup), x)
+    x.settle()
+    x.until("25 whole rows", lambda: x.run(scripts.SEEN_ROWS) >= 25)
+
+
+# ---- The pictures of the documents
+
+
+def test_pictures(
+    auction: Auction, x: Window, operator: Window, pictures: pathlib.Path | None
+) -> None:
+    """Round 5, wide, and on a phone in the dark with an error at a row."""
+    x.size(1440, 900)
+    enter(auction, x)
+    x.bid(0, 1, int(re.sub(r"\D", "", x.column("clock")[0])) - 40)
+    operator.size(1440, 1250)
+    enter(auction, operator, OPERATOR)
+    operator.says("missing", "No bids from: Y")
+    assert x.row(0).startswith("Reduce"), "the picture shows the effect of a bid"
+    if pictures:
+        x.picture(pictures / "bidder.png")
+        operator.picture(pictures / "operator.png")
+    x.size(390, 844)
+    x.dark(True)
+    x.bid(0, 1, 1)
+    x.group("held")
+    x.settle()
+    assert "price" in x.row(0), "the picture shows an error at its row"
+    if pictures:
+        x.picture(pictures / "bidder_narrow.png")
+    x.dark(False)

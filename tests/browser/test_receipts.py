@@ -1,0 +1,111 @@
+"""What the bidder's page says of receipts, and what it saves of them."""
+import json
+import pathlib
+
+import pytest
+
+from auction.formats.receipts import faults, read_kept
+from tests.browser.auction import Auction, X, bid, example
+from tests.browser.conftest import Begin
+from tests.browser.people import enter
+from tests.browser.window import Window
+
+HERE = "The receipt is here: download it."
+NONE = "No receipt within two seconds: call the operator."
+
+
+@pytest.fixture
+def auction(begin: Begin) -> Auction:
+    return begin(example("one_product"))
+
+
+def submitted(window: Window) -> str:
+    """Submits again, and returns what is said of the receipt."""
+    window.click("send")
+    words = (HERE, NONE, "The receipt is wrong")
+    window.until(
+        "the receipt is spoken of", lambda: any(w in window.text("message") for w in words)
+    )
+    return next(each for each in words if each in window.text("message"))
+
+
+def test_without_the_service_there_is_no_receipt(auction: Auction, x: Window) -> None:
+    enter(auction, x)
+    x.bid(0, 1, 100)
+    x.send("1 bid in force since", NONE)
+    assert x.kind("message") == "bad"
+    x.click("menuhead")
+    assert not x.is_seen("receipts"), "there is none to download"
+
+
+def test_receipts_are_saved_and_fit_the_journal(
+    auction: Auction, x: Window, downloads: pathlib.Path
+) -> None:
+    """The first sheet comes by another way; those after it are of this tab."""
+    auction.put(X, 1, bid(0, 2, 100))
+    auction.begin_receipts()
+    first = auction.folder / "receipts/X/1-1.json"
+    x.until("the first receipt", first.exists)
+    enter(auction, x)
+    x.bid(0, 1, 100)
+    # On a very busy machine, a receipt may need more than two seconds.
+    count = 2 + next(sent for sent in range(8) if submitted(x) == HERE)
+    x.click("act")
+    file = downloads / "receipts-X.jsonl"
+    x.until("the file", lambda: len(read_kept(file).receipts) == count)
+    kept = read_kept(file)
+    own = [bool(each.sent) for each in kept.receipts]
+    assert own[0] is False and own[-1] is True, "the bids that this tab submitted are in it"
+    assert faults(kept, (auction.folder / "auction.journal").read_bytes()) == []
+
+
+def test_receipts_before_this_tab_are_loaded(
+    auction: Auction, x: Window, downloads: pathlib.Path
+) -> None:
+    auction.put(X, 1, bid(0, 2, 100))
+    auction.begin_receipts()
+    x.until("the first receipt", (auction.folder / "receipts/X/1-1.json").exists)
+    enter(auction, x)
+    x.menu("receipts")
+    file = downloads / "receipts-X.jsonl"
+    x.until("the file", lambda: len(read_kept(file).receipts) == 1)
+
+
+def test_a_sheet_without_a_receipt_is_a_fault_of_the_file(
+    begin: Begin, x: Window, downloads: pathlib.Path
+) -> None:
+    """A receipt that is gone shows, since the file has the next one."""
+    auction = begin(example("one_product"))
+    enter(auction, x)
+    x.bid(0, 1, 100)
+    x.send("1 bid in force since")
+    service = auction.begin_receipts()
+    first = auction.folder / "receipts/X/1-1.json"
+    x.until("a receipt", first.exists)
+    service.kill()
+    service.wait()
+    auction.put(X, 1, bid(0, 2, 100))
+    enter(auction, x)
+    x.menu("receipts")
+    file = downloads / "receipts-X.jsonl"
+    x.until("the file", lambda: len(read_kept(file).receipts) == 1)
+    found = faults(read_kept(file), (auction.folder / "auction.journal").read_bytes())
+    assert len(found) == 1
+    assert found[0].startswith("round 1, sheet 2: the journal has it, and there is no receipt")
+
+
+def test_a_wrong_receipt_is_named(auction: Auction, x: Window) -> None:
+    service = auction.begin_receipts()
+    enter(auction, x)
+    x.bid(0, 1, 100)
+    x.click("send")
+    file = auction.folder / "receipts/X/1-1.json"
+    x.until("a receipt", file.exists)
+    service.kill()
+    service.wait()
+    page = json.loads(file.read_text())
+    file.with_name("1-2.json").write_text(json.dumps({**page, "sheet": 2}))
+    x.until("the first one is spoken of", lambda: "eceipt" in x.text("message"))
+    x.bid(0, 2, 100)
+    x.send("The receipt is wrong: call the operator.")
+    assert x.kind("message") == "bad"
