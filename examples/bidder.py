@@ -3,27 +3,33 @@
 
     TOKEN=.. examples/bidder.py URL LIMITS [--every SECONDS] [--receipts FILE]
 
-URL begins with http:// or https://. LIMITS is a file such as {"North": [2300, 1900], "South": [610]}: for each product,
-up to which price you want the first block, the second, and so on, never rising. The token is in the environment, so
-neither the shell's history nor the list of processes has it. CA names a file of certificates if the system's do not
-cover the server.
+URL begins with http:// or https://. LIMITS is a file such as {"North": [2300, 1900], "South":
+[610]}: for each product, up to which price you want the first block, the second, and so on, never
+rising. The token is in the environment, so neither the shell's history nor the list of processes
+has it. CA names a file of certificates if the system's do not cover the server.
 
-It prints each round's sheet, then the round's results for this bidder ("slip"), and at the end what it won.
+It prints each round's sheet, then the round's results for this bidder ("slip"), and at the end what
+it won.
 
-After each accepted sheet it waits up to two seconds for the receipt, checks it, adds it to FILE, by default
-receipts.jsonl, and reports it or what is missing. The file's first line is the commitment. scripts/check_receipts
-compares the file with the published journal. It checks signatures if openssl is installed, and the published seed of
-each closed round. Without a commitment, as at the server's own port, it says once that there are no receipts.
+After each accepted sheet it waits up to two seconds for the receipt, checks it, adds it to FILE, by
+default receipts.jsonl, and reports it or what is missing. The file's first line is the commitment.
+`auction check-receipts` compares the file with the published journal. It checks signatures if
+openssl is installed, and the published seed of each closed round. Without a commitment, as at the
+server's own port, it says once that there are no receipts.
 
-It reads the status every SECONDS, by default 1, and misses no round that is open longer than that. If no reply comes,
-or a page that is not the server's, it says so and repeats the request for an hour. After such a failure, and at every
-thirtieth status, it checks its sheet.
+It reads the status every SECONDS, by default 1, and misses no round that is open longer than that.
+If no reply comes, or a page that is not the server's, it says so and repeats the request for an
+hour. After such a failure, and at every thirtieth status, it checks its sheet.
 
-If no sheet is in force, because a server without a journal was restarted, it submits the sheet again. It does not
-replace a sheet that you submitted in another way. If no window is open, it waits for one.
+While a round is closing, pages are withheld until its results appear. It says so, and waits.
 
-Exit status: 1 if a sheet is refused, if it missed a round, or if the number of the round fell, which means that another
-server answers. Also 1, before any bid, if LIMITS is wrong or names a product that is not in the auction.
+If no sheet is in force, because a server without a journal was restarted, it submits the sheet
+again. It does not replace a sheet that you submitted in another way. If no window is open, it waits
+for one.
+
+Exit status: 1 if a sheet is refused, if it missed a round, or if the number of the round fell,
+which means that another server answers. Also 1, before any bid, if LIMITS is wrong or names a
+product that is not in the auction.
 """
 import argparse
 import hashlib
@@ -40,11 +46,14 @@ import time
 import urllib.request
 
 BUSY = (408, 429, 500, 502, 503, 504)
+# nginx's answers that say to wait: no window is open, or the round is closing.
+WAITS = {409: b'"window"', 503: b'"closing"'}
 PATIENCE = 3600
 LOOK = 30
 RECEIPT_SECONDS = 2
 
-# The parts of each page that the bidder reads: keys of an object, and a list's entries, one for each product.
+# The parts of each page that the bidder reads: keys of an object, and a list's entries, one for
+# each product.
 STATUS = {"ended": bool, "round": int}
 PRODUCTS = {"products": [{"name": str, "opening": int}]}
 PRICES = {"products": [{"next": int, "posted": int}]}
@@ -55,11 +64,21 @@ IN_FORCE = {"bids": (list, type(None))}
 ACCEPTED = {"accepted": bool}
 COMMITMENT = {"auction": str, "chain": (dict, type(None)), "key": str}
 SEED = {"seed": str}
-RECEIPT = {"auction": str, "bidder": str, "body": str, "round": int, "sheet": int, "signature": str, "text": str}
+RECEIPT = {
+    "auction": str,
+    "bidder": str,
+    "body": str,
+    "round": int,
+    "sheet": int,
+    "signature": str,
+    "text": str,
+}
 
 
 def has_shape(page, shape, products):
-    """Whether a page has the parts that the bidder reads. `products` is None until their number is known."""
+    """Whether a page has the parts that the bidder reads. `products` is None until their number is
+    known.
+    """
     if isinstance(shape, dict):
         return isinstance(page, dict) and all(
             key in page and has_shape(page[key], inner, products) for key, inner in shape.items()
@@ -74,7 +93,9 @@ def has_shape(page, shape, products):
 
 
 class EachReply(urllib.request.HTTPErrorProcessor):
-    """Passes on each reply unchanged. Follows no redirection, because the token is for one address only."""
+    """Passes on each reply unchanged. Follows no redirection, because the token is for one address
+    only.
+    """
 
     http_response = https_response = lambda self, request, reply: reply
 
@@ -89,28 +110,38 @@ class Auction:
 
     def __init__(self, url, token, every):
         self.url, self.token, self.every = url.rstrip("/"), token, every
-        self.products, self.is_in_doubt = None, False
-        tls = ssl.create_default_context(cafile=os.environ.get("CA")) if url.startswith("https") else None
+        self.products, self.is_in_doubt, self.is_closing = None, False, False
+        tls = (
+            ssl.create_default_context(cafile=os.environ.get("CA"))
+            if url.startswith("https")
+            else None
+        )
         proxies = urllib.request.ProxyHandler(
             None if tls else {}
         )  # without TLS, the proxy of `http_proxy` would see the token
-        self.opener = urllib.request.build_opener(EachReply, proxies, urllib.request.HTTPSHandler(context=tls))
+        self.opener = urllib.request.build_opener(
+            EachReply, proxies, urllib.request.HTTPSHandler(context=tls)
+        )
 
     def ask(self, path, shape, sheet=None, may_lack=False):
         """Returns the page. A refusal ends the program.
 
-        Repeats the request if no reply came, or another page, or if the server is busy. With `may_lack`, it returns
-        None for a page that does not exist.
+        Repeats the request if no reply came, or another page, or if the server is busy. With
+        `may_lack`, it returns None for a page that does not exist.
         """
         body = None if sheet is None else text_of(sheet).encode()
         headers = {"authorization": "Bearer " + self.token, "content-type": "application/json"}
-        request = urllib.request.Request(self.url + path, body, headers, method="GET" if sheet is None else "PUT")
+        request = urllib.request.Request(
+            self.url + path, body, headers, method="GET" if sheet is None else "PUT"
+        )
         given_up = time.monotonic() + PATIENCE
         while time.monotonic() < given_up:
             try:
                 with self.opener.open(request, timeout=30) as reply:
                     text = reply.read()
-                if reply.status == 409 and b'"window"' in text:  # from nginx; the timetable says for how long
+                if reply.status in WAITS and WAITS[reply.status] in text:
+                    if reply.status == 503:
+                        self.tell_closing()
                     given_up = time.monotonic() + PATIENCE
                     time.sleep(self.every)
                     continue
@@ -119,6 +150,7 @@ class Auction:
                 if reply.status >= 300 and reply.status not in BUSY:
                     sys.exit(f"{path} is refused: {reply.status} {text.decode(errors='replace')}")
                 if reply.status < 300 and has_shape(page := json.loads(text), shape, self.products):
+                    self.is_closing = self.is_closing and not path.startswith("/v1/")
                     return page
                 fault = f"{reply.status} {reply.reason}, not a page of the server: {text[:80]}"
             except (OSError, http.client.HTTPException, RecursionError, ValueError) as error:
@@ -128,16 +160,35 @@ class Auction:
             time.sleep(self.every)
         sys.exit(f"{path}: no reply for {PATIENCE} seconds")
 
+    def tell_closing(self):
+        """Says, once in each closing, that the round is closing, and when its results appear if
+        that is published.
+        """
+        if self.is_closing:
+            return
+        self.is_closing = True
+        try:
+            with self.opener.open(self.url + "/public/timetable.json", timeout=30) as reply:
+                table = json.loads(reply.read())
+            window = next(each for each in table["windows"] if each["round"] == table["round"])
+            when = f"results appear at {window['results']}"
+        except (OSError, http.client.HTTPException, KeyError, StopIteration, TypeError, ValueError):
+            when = "its results follow"
+        print(f"The round is closing; {when}.", file=sys.stderr, flush=True)
+
     def prices(self, products, number):
         """The start-of-round and clock prices of a round."""
         if number == 1:
             return [(product["opening"], product["opening"]) for product in products]
         return [
-            (product["posted"], product["next"]) for product in self.ask(f"/v1/rounds/{number - 1}", PRICES)["products"]
+            (product["posted"], product["next"])
+            for product in self.ask(f"/v1/rounds/{number - 1}", PRICES)["products"]
         ]
 
     def wait(self, number, sheet):
-        """Returns when a round is closed. Sleeps first, because a proxy's status may be a second old."""
+        """Returns when a round is closed. Sleeps first, because a proxy's status may be a second
+        old.
+        """
         for times in itertools.count(1):
             time.sleep(self.every)
             if last_closed(self.ask("/v1/status", STATUS), number) == number:
@@ -147,12 +198,15 @@ class Auction:
                 if (
                     last_closed(self.ask("/v1/me", ACCOUNT), number) < number
                 ):  # otherwise the round is closed, so no sheet is in force
-                    print(f"the sheet of round {number} is no longer in force: submitting it again", file=sys.stderr)
+                    print(
+                        f"the sheet of round {number} is no longer in force: submitting it again",
+                        file=sys.stderr,
+                    )
                     self.ask("/v1/me/bids", ACCEPTED, sheet)
 
 
 class Receipts:
-    """The receipts of this bidder's sheets, in a file that scripts/check_receipts reads."""
+    """The receipts of this bidder's sheets, in a file that `auction check-receipts` reads."""
 
     def __init__(self, auction, path):
         self.auction, self.path, self.have = auction, path, set()
@@ -175,19 +229,27 @@ class Receipts:
             os.fsync(file.fileno())
 
     def await_one(self, sheet):
-        """Waits for the receipt of an accepted sheet. Stores other receipts of this bidder that come first."""
+        """Waits for the receipt of an accepted sheet. Stores other receipts of this bidder that
+        come first.
+        """
         text, end = text_of(sheet), time.monotonic() + RECEIPT_SECONDS
         while self.commitment:
             receipt = self.take(sheet["round"], text)
             if receipt and receipt["body"] == digest_of(text):
-                return print(f"receipt of sheet {receipt['sheet']} of round {receipt['round']}", flush=True)
+                return print(
+                    f"receipt of sheet {receipt['sheet']} of round {receipt['round']}", flush=True
+                )
             if receipt is None and time.monotonic() > end:
-                return print(f"no receipt within {RECEIPT_SECONDS} s: call the operator", file=sys.stderr)
+                return print(
+                    f"no receipt within {RECEIPT_SECONDS} s: call the operator", file=sys.stderr
+                )
             if receipt is None:
                 time.sleep(0.2)
 
     def check_seed(self, number):
-        """Reports a published seed that is not the committed one. The seed may not be published yet."""
+        """Reports a published seed that is not the committed one. The seed may not be published
+        yet.
+        """
         chain = self.commitment and self.commitment["chain"]
         page = chain and self.auction.ask(f"/public/rounds/{number}.json", SEED, may_lack=True)
         if not page:
@@ -196,19 +258,27 @@ class Receipts:
         for _ in range(number):
             seed = hashlib.sha256(seed).digest()
         if seed.hex() != chain["end"]:
-            print(f"the seed of round {number} is not the committed one: call the auditor", file=sys.stderr)
+            print(
+                f"the seed of round {number} is not the committed one: call the auditor",
+                file=sys.stderr,
+            )
 
     def take(self, number, text=""):
         """Stores the next receipt of a round, and returns it, or None if there is none yet."""
         place = next(place for place in itertools.count(1) if (number, place) not in self.have)
-        receipt = self.commitment and self.auction.ask(f"/receipts/{number}/{place}.json", RECEIPT, may_lack=True)
+        receipt = self.commitment and self.auction.ask(
+            f"/receipts/{number}/{place}.json", RECEIPT, may_lack=True
+        )
         if not receipt:
             return None
         self.have.add((number, place))
         named = receipt["auction"], receipt["round"], receipt["sheet"]
         is_right = named == (self.commitment["auction"], number, place)
         if not is_right or not is_signed(self.commitment["key"], receipt):
-            print(f"this is not a receipt of sheet {place} of round {number}: {receipt}", file=sys.stderr)
+            print(
+                f"this is not a receipt of sheet {place} of round {number}: {receipt}",
+                file=sys.stderr,
+            )
             return {**receipt, "body": ""}
         self.add({**receipt, "sent": text} if receipt["body"] == digest_of(text) else receipt)
         return receipt
@@ -261,8 +331,8 @@ def last_closed(page, number):
 def steps_of(limits, held, start, clock):
     """The quantities and prices of the bids for a product.
 
-    A block leaves at its limit, but not below the start-of-round price, and there if it has no limit. If no block
-    leaves, the bid maintains demand.
+    A block leaves at its limit, but not below the start-of-round price, and there if it has no
+    limit. If no block leaves, the bid maintains demand.
     """
     limits = (limits + [0] * held)[:held]
     leaving = sorted({max(start, limit) for limit in limits if limit < clock})
@@ -312,10 +382,17 @@ def play(auction, wanted, path):
     while not account["ended"]:
         number = account["round"]
         sheet = {
-            "bids": bids_of(wanted, products, auction.prices(products, number), account["demands"], number),
+            "bids": bids_of(
+                wanted, products, auction.prices(products, number), account["demands"], number
+            ),
             "round": number,
         }
-        print("sheet", json.dumps(sheet), auction.ask("/v1/me/bids", ACCEPTED, sheet)["accepted"], flush=True)
+        print(
+            "sheet",
+            json.dumps(sheet),
+            auction.ask("/v1/me/bids", ACCEPTED, sheet)["accepted"],
+            flush=True,
+        )
         receipts.await_one(sheet)
         for closed in range(1, number)[-1:]:
             receipts.check_seed(closed)  # of the round before, which is published by now
@@ -331,7 +408,9 @@ def play(auction, wanted, path):
 
 
 def main():
-    parser = argparse.ArgumentParser(description=__doc__, formatter_class=argparse.RawDescriptionHelpFormatter)
+    parser = argparse.ArgumentParser(
+        description=__doc__, formatter_class=argparse.RawDescriptionHelpFormatter
+    )
     parser.add_argument("url")
     parser.add_argument("limits")
     parser.add_argument("--every", type=float, default=1.0)
