@@ -108,7 +108,8 @@ return [...texts, ...rows, ...letters, ...wide]
     .map(e => e.tagName + '#' + e.id + ' ' + e.textContent.slice(0, 30));"""
 
 # the least contrast of a text with what is around it, and whose
-CONTRAST = """const canvas = document.createElement('canvas').getContext('2d', {willReadFrequently: true});
+CONTRAST = """const options = {willReadFrequently: true};
+const canvas = document.createElement('canvas').getContext('2d', options);
 const bytes = color => {
     canvas.clearRect(0, 0, 1, 1);
     canvas.fillStyle = color;
@@ -173,7 +174,8 @@ SMALL = """return [...document.querySelectorAll(
     .map(each => each.id || each.textContent);"""
 
 # whether three points of the element with the focus, at its top, middle and foot, show that element
-HIDDEN = """const a = document.activeElement, b = a.getBoundingClientRect(), x = (b.left + b.right) / 2;
+HIDDEN = """const a = document.activeElement, b = a.getBoundingClientRect();
+const x = (b.left + b.right) / 2;
 if (a === document.body) return '';
 const seen = [b.top + 2, (b.top + b.bottom) / 2, b.bottom - 2].filter(y => {
     const e = document.elementFromPoint(x, y);

@@ -169,11 +169,13 @@ def test_the_page_says_what_blocks_are_worth(six: Practice, x: Window) -> None:
 
 def test_a_row_above_its_worth_is_marked(six: Practice, x: Window) -> None:
     enter(x, six)
-    blocks = len(values_of(six)[0])
-    x.bid(0, blocks, "")
-    assert x.row(0) == ""
-    x.bid(0, blocks + 1, "")
-    assert x.row(0) == "Its last block is worth less than the clock price."
+    products, values = Ending(six).setup["products"], values_of(six)
+    place = next(p for p, row in enumerate(values) if 0 < len(row) < products[p]["cap"])
+    blocks = len(values[place])
+    x.bid(place, blocks, "")
+    assert x.row(place) == ""
+    x.bid(place, blocks + 1, "")
+    assert x.row(place) == "Its last block is worth less than the clock price."
 
 
 def server_of(practice: Practice) -> int:
