@@ -21,6 +21,8 @@ It reads the status every SECONDS, by default 1, and misses no round that is ope
 If no reply comes, or a page that is not the server's, it says so and repeats the request for an
 hour. After such a failure, and at every thirtieth status, it checks its sheet.
 
+While a round is closing, pages are withheld until its results appear. It says so, and waits.
+
 If no sheet is in force, because a server without a journal was restarted, it submits the sheet
 again. It does not replace a sheet that you submitted in another way. If no window is open, it waits
 for one.
@@ -44,6 +46,8 @@ import time
 import urllib.request
 
 BUSY = (408, 429, 500, 502, 503, 504)
+# nginx's answers that say to wait: no window is open, or the round is closing.
+WAITS = {409: b'"window"', 503: b'"closing"'}
 PATIENCE = 3600
 LOOK = 30
 RECEIPT_SECONDS = 2
@@ -72,9 +76,8 @@ RECEIPT = {
 
 
 def has_shape(page, shape, products):
-    """Whether a page has the parts that the bidder reads.
-
-    `products` is None until their number is known.
+    """Whether a page has the parts that the bidder reads. `products` is None until their number is
+    known.
     """
     if isinstance(shape, dict):
         return isinstance(page, dict) and all(
@@ -90,9 +93,8 @@ def has_shape(page, shape, products):
 
 
 class EachReply(urllib.request.HTTPErrorProcessor):
-    """Passes on each reply unchanged.
-
-    Follows no redirection, because the token is for one address only.
+    """Passes on each reply unchanged. Follows no redirection, because the token is for one address
+    only.
     """
 
     http_response = https_response = lambda self, request, reply: reply
@@ -108,14 +110,15 @@ class Auction:
 
     def __init__(self, url, token, every):
         self.url, self.token, self.every = url.rstrip("/"), token, every
-        self.products, self.is_in_doubt = None, False
+        self.products, self.is_in_doubt, self.is_closing = None, False, False
         tls = (
             ssl.create_default_context(cafile=os.environ.get("CA"))
             if url.startswith("https")
             else None
         )
-        # Without TLS, the proxy of `http_proxy` would see the token.
-        proxies = urllib.request.ProxyHandler(None if tls else {})
+        proxies = urllib.request.ProxyHandler(
+            None if tls else {}
+        )  # without TLS, the proxy of `http_proxy` would see the token
         self.opener = urllib.request.build_opener(
             EachReply, proxies, urllib.request.HTTPSHandler(context=tls)
         )
@@ -136,9 +139,9 @@ class Auction:
             try:
                 with self.opener.open(request, timeout=30) as reply:
                     text = reply.read()
-                if (
-                    reply.status == 409 and b'"window"' in text
-                ):  # from nginx; the timetable says for how long
+                if reply.status in WAITS and WAITS[reply.status] in text:
+                    if reply.status == 503:
+                        self.tell_closing()
                     given_up = time.monotonic() + PATIENCE
                     time.sleep(self.every)
                     continue
@@ -147,6 +150,7 @@ class Auction:
                 if reply.status >= 300 and reply.status not in BUSY:
                     sys.exit(f"{path} is refused: {reply.status} {text.decode(errors='replace')}")
                 if reply.status < 300 and has_shape(page := json.loads(text), shape, self.products):
+                    self.is_closing = self.is_closing and not path.startswith("/v1/")
                     return page
                 fault = f"{reply.status} {reply.reason}, not a page of the server: {text[:80]}"
             except (OSError, http.client.HTTPException, RecursionError, ValueError) as error:
@@ -155,6 +159,22 @@ class Auction:
             self.is_in_doubt = True
             time.sleep(self.every)
         sys.exit(f"{path}: no reply for {PATIENCE} seconds")
+
+    def tell_closing(self):
+        """Says, once in each closing, that the round is closing, and when its results appear if
+        that is published.
+        """
+        if self.is_closing:
+            return
+        self.is_closing = True
+        try:
+            with self.opener.open(self.url + "/public/timetable.json", timeout=30) as reply:
+                table = json.loads(reply.read())
+            window = next(each for each in table["windows"] if each["round"] == table["round"])
+            when = f"results appear at {window['results']}"
+        except (OSError, http.client.HTTPException, KeyError, StopIteration, TypeError, ValueError):
+            when = "its results follow"
+        print(f"The round is closing; {when}.", file=sys.stderr, flush=True)
 
     def prices(self, products, number):
         """The start-of-round and clock prices of a round."""
@@ -166,9 +186,8 @@ class Auction:
         ]
 
     def wait(self, number, sheet):
-        """Returns when a round is closed.
-
-        Sleeps first, because a proxy's status may be a second old.
+        """Returns when a round is closed. Sleeps first, because a proxy's status may be a second
+        old.
         """
         for times in itertools.count(1):
             time.sleep(self.every)
@@ -176,8 +195,9 @@ class Auction:
                 return
             looks, self.is_in_doubt = self.is_in_doubt or times % LOOK == 0, False
             if looks and self.ask("/v1/me/bids", IN_FORCE)["bids"] is None:
-                # If the round is closed, no sheet of it is in force.
-                if last_closed(self.ask("/v1/me", ACCOUNT), number) < number:
+                if (
+                    last_closed(self.ask("/v1/me", ACCOUNT), number) < number
+                ):  # otherwise the round is closed, so no sheet is in force
                     print(
                         f"the sheet of round {number} is no longer in force: submitting it again",
                         file=sys.stderr,
@@ -209,9 +229,8 @@ class Receipts:
             os.fsync(file.fileno())
 
     def await_one(self, sheet):
-        """Waits for the receipt of an accepted sheet.
-
-        Stores other receipts of this bidder that come first.
+        """Waits for the receipt of an accepted sheet. Stores other receipts of this bidder that
+        come first.
         """
         text, end = text_of(sheet), time.monotonic() + RECEIPT_SECONDS
         while self.commitment:
@@ -228,7 +247,9 @@ class Receipts:
                 time.sleep(0.2)
 
     def check_seed(self, number):
-        """Reports a published seed that is not the committed one, if it is published yet."""
+        """Reports a published seed that is not the committed one. The seed may not be published
+        yet.
+        """
         chain = self.commitment and self.commitment["chain"]
         page = chain and self.auction.ask(f"/public/rounds/{number}.json", SEED, may_lack=True)
         if not page:

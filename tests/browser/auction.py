@@ -5,6 +5,7 @@ import ssl
 import subprocess
 import sys
 import tempfile
+import time
 import urllib.error
 import urllib.request
 from email.message import Message
@@ -94,6 +95,17 @@ class Auction(Site):
                 return reply.status, reply.headers
         except urllib.error.HTTPError as refused:
             return refused.code, refused.headers
+
+    def withhold(self) -> None:
+        """Withholds all pages from now on, as at the end of a window."""
+        now = int(time.time()) // 10
+        for ten in range(now - 1, now + 60):
+            (self.folder / "gate" / f"curtain-{ten}").touch()
+
+    def show(self) -> None:
+        """Shows pages again."""
+        for file in (self.folder / "gate").glob("curtain-*"):
+            file.unlink()
 
     def logs(self) -> str:
         """All that nginx wrote."""

@@ -1,4 +1,4 @@
-"""The operator closes rounds by the page: increments, refusals, closings elsewhere, and the seed."""
+"""The operator closes rounds by the page: increments, refusals, closings elsewhere, and seeds."""
 import json
 
 import pytest

@@ -145,16 +145,12 @@ def test_a_round_that_takes_no_bids(
 def test_a_closing_round_says_when_its_results_appear(day: Published, x: Window) -> None:
     day.timetable(1, (-60, -1, 600))
     enter(day.auction, x)
-    now = int(time.time()) // 10
-    curtain = [day.auction.folder / "gate" / f"curtain-{now + ten}" for ten in range(-1, 12)]
-    for file in curtain:
-        file.touch()
+    day.auction.withhold()
     try:
         pattern = re.compile(rf"The round is closing; results appear at {TIME}\.")
         x.until("when its results appear", lambda: pattern.fullmatch(x.text("todo")))
     finally:
-        for file in curtain:
-            file.unlink()
+        day.auction.show()
 
 
 # ---- Announcements
