@@ -25,12 +25,13 @@ closes each round once, publishes it, and continues. It remembers no step: what 
 from its plan, the server, and the files that are there. So it may be killed at any moment and
 started again. A closing is on disk before it is sent, as with `auction close`.
 
-A round waits for your word, `auction next` or `auction extend`, in four cases:
+A round waits for your word, `auction next` or `auction extend`, if:
 - nobody has a sheet in force;
-- its window opened a minute late;
-- the server did not answer for a minute of it;
-- the server refused its closing.
-If the clock was set, the conductor pauses until you say `auction resume`."""
+- this conductor did not open its window;
+- bidders missed more of its window than conductor.json allows;
+- the clock was set by more than a second since its window was announced;
+- more pairs of bidder and product matter than a closing can list;
+- the journal has changed since its closing was made, or the server refuses the closing."""
 
 Action = Callable[[Context, argparse.Namespace], None]
 
@@ -114,6 +115,7 @@ def add_round(parser: argparse.ArgumentParser) -> None:
     parser.add_argument(
         "--without-sheets", action="store_true", help="close though nobody has a sheet in force"
     )
+    parser.add_argument("--no-ties", action="store_true", help="close without tie-breaking numbers")
 
 
 def command(
@@ -182,7 +184,9 @@ COMMANDS = (
         "next",
         "Closes a round that waits for your word.",
         add_round,
-        lambda context, given: commands.close_next(context, given.round, given.without_sheets),
+        lambda context, given: commands.close_next(
+            context, given.round, given.without_sheets, given.no_ties
+        ),
     ),
     command(
         "winners",

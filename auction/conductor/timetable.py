@@ -9,9 +9,10 @@ from collections.abc import Iterator
 from pathlib import Path
 from typing import Any
 
+from .clock import Clock
+from .decision import TEN, whole_ten
 from .increments import Rule, rules_of
 
-TEN = 10  # nginx ends a window at a whole ten seconds
 MOST_WINDOWS = 1_000  # each bidder's page reads all of them
 DAYS = ("Mon", "Tue", "Wed", "Thu", "Fri", "Sat", "Sun")
 
@@ -22,11 +23,21 @@ class TimetableFault(Exception):
 
 @dataclasses.dataclass
 class Window:
-    """When a round opens and closes, in UTC seconds, and when it was opened in fact."""
+    """When a round opens and closes, in UTC seconds, and when it was opened in fact.
+
+    `boot` names the start of the machine in which the window was announced last, and `offset` is
+    what the time of day was then, less the time that had passed since that start.
+    """
 
     opens: int
     closes: int
     opened: float | None = None
+    boot: str = ""
+    offset: float = 0.0
+
+    def note_clock(self, clock: Clock) -> None:
+        """Notes the clock by which bidders will measure this window."""
+        self.boot, self.offset = clock.boot(), clock.wall() - clock.passed()
 
 
 @dataclasses.dataclass(frozen=True)
@@ -244,8 +255,3 @@ def put_off(window: Window, soonest: float) -> None:
     """Moves a window later by whole tens of seconds, so that it opens no sooner than this."""
     late = whole_ten(max(0.0, soonest - window.opens))
     window.opens, window.closes = window.opens + late, window.closes + late
-
-
-def whole_ten(seconds: float) -> int:
-    """The least whole ten seconds that is not before."""
-    return -int(-seconds // TEN) * TEN

@@ -58,6 +58,7 @@ class Day:
             "token": "operator.token",
             "journal": "auction.journal",
             "drain": 2,
+            "missed": 100,
             "publish": 0,
             "between": self.between,
             "notice": 0,

@@ -58,7 +58,8 @@ class ConductedAuction:
 
     `states` has the conductor's reports, each once. `opens` has the rounds and times at which the
     gate was open to bidders. `sent` has the sheets that were accepted. The auction ends with round
-    `rounds`, in which X wants one block less.
+    `rounds`, in which X wants one block less. `connections` are those that the
+    conductor sees on their way to the server.
     """
 
     def __init__(
@@ -72,7 +73,7 @@ class ConductedAuction:
         **settings: Any,
     ) -> None:
         self.program, self.rounds = program, rounds
-        self.clock = clock or FakeClock()
+        self.clock, self.connections = clock or FakeClock(), frozenset[str]()
         self.port, self.disk = free_port(), Disk()
         memory = MEMORY if os.path.isdir(MEMORY) else None
         self.folder = pathlib.Path(tempfile.mkdtemp(prefix="conductor-", dir=memory))
@@ -91,10 +92,12 @@ class ConductedAuction:
         """Writes set-up, token, settings, and the commitment."""
         usual = {
             "url": f"http://127.0.0.1:{self.port}",
+            "port": self.port,
             "setup": "setup.json",
             "token": "operator.token",
             "journal": "auction.journal",
             "publish": 0,
+            "missed": 20,
             "between": 30,
             "notice": 60,
         }
@@ -136,6 +139,7 @@ class ConductedAuction:
             return page
 
         self.let_ask(conductor, ask_in_steps)
+        setattr(conductor.observer, "pending", lambda _port: self.connections)
         return conductor
 
     def let_ask(self, conductor: Conductor, ask: Callable[..., Any]) -> None:
