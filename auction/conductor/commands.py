@@ -61,7 +61,7 @@ def plan(context: Context, path: Path) -> None:
         window = changed.windows.get(number)
         begun = number if window and window.opens <= now else number - 1
         changed.windows = replaced(
-            changed.windows, begun, fresh.windows, now, settings.between, settings.notice
+            changed.windows, begun, fresh.windows, now, settings.gap, settings.notice
         )
         later = [changed.windows[number] for number in sorted(changed.windows) if number > begun]
         for one in later:
@@ -79,7 +79,9 @@ def plan(context: Context, path: Path) -> None:
 
 def check(context: Context, path: Path) -> None:
     """Prints the windows of a timetable in UTC, and changes nothing."""
-    for window in timetable.read(path).windows:
+    windows = timetable.read(path).windows
+    timetable.check_gaps(windows, context.settings.gap)
+    for window in windows:
         context.say(f"{utc(window.opens)} {utc(window.closes)}")
 
 
@@ -116,7 +118,7 @@ def resume(context: Context, minutes: float) -> None:
                 left = max(LEAST_LEFT, window.closes - max(since, window.opens))
                 window.opens, window.closes, window.opened = begin, begin + whole_ten(left), None
                 window.note_clock(context.clock)
-                move_later(changed.windows, number, context.settings.between)
+                move_later(changed.windows, number, context.settings.gap)
             times = f"from {in_words(window.opens)} to {in_words(window.closes)}"
             words = f" Round {number} is open {times}."
         changed.announce(f"The auction continues.{words}")
@@ -136,7 +138,7 @@ def extend(context: Context, minutes: float) -> None:
         window.closes += whole_ten(60 * minutes)
         window.note_clock(context.clock)
         changed.forget(number)
-        move_later(changed.windows, number, context.settings.between)
+        move_later(changed.windows, number, context.settings.gap)
         changed.announce(
             f"Round {number} is open until {in_words(window.closes)}, longer than announced before."
         )

@@ -33,7 +33,7 @@ class Publisher:
         window, between = plan.windows.get(number), self.context.settings.between
         if window and window.opened is None and window.opens < now + between:
             put_off(window, now + between)
-            move_later(plan.windows, number, between)
+            move_later(plan.windows, number, self.context.settings.gap)
             plan.announce(
                 f"Round {number} opens later than announced, at {in_words(window.opens)}, "
                 f"because round {number - 1} was closed late."

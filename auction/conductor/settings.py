@@ -14,7 +14,7 @@ from typing import Self
 from auction.formats.ties import MOST_TIES
 
 from . import disk
-from .decision import Limits
+from .decision import Limits, whole_ten
 
 LONGEST = 10  # seconds that a closing may take
 
@@ -53,8 +53,8 @@ class Settings:
     between: int = 300
     # A window that begins within this time is not brought forward or shortened.
     notice: int = 900
-    # The bidders' port of nginx, such as https://auction.example:8443, which is asked while a window
-    # is open; "" for none. The file `authority` has the certificates that are trusted; "" for the
+    # The bidders' port of nginx, such as https://auction.example:8443, which is asked while a
+    # window is open; "" for none. The file `authority` has the certificates to trust; "" for the
     # system's.
     bidders: str = ""
     authority: str = ""
@@ -83,11 +83,22 @@ class Settings:
         for name, seconds in times.items():
             if type(seconds) is not int or seconds < 0:
                 raise SettingsFault(f"{path}: {name} must be a whole number, 0 or more")
+        if 0 < settings.publish < settings.drain + LONGEST:
+            raise SettingsFault(
+                f"{path}: publish must be 0, or hold drain and a closing of {LONGEST} s"
+            )
         return dataclasses.replace(
             settings,
             readers=settings.readers or group_of_workers(folder / "nginx.conf"),
             authority=settings.authority and str(folder / settings.authority),
         )
+
+    @property
+    def gap(self) -> int:
+        """The least time from a window's end to the next opening, which holds drain, the longest
+        closing, the curtain, and the time from results to the next opening.
+        """
+        return whole_ten(max(self.drain, self.publish) + LONGEST + self.between)
 
     def limits(self) -> Limits:
         """What a decision depends on."""

@@ -195,7 +195,7 @@ Windows = dict[int, Window]
 
 
 def replaced(
-    old: Windows, begun: int, fresh: list[Window], now: float, between: int, notice: int
+    old: Windows, begun: int, fresh: list[Window], now: float, gap: int, notice: int
 ) -> Windows:
     """The windows by round, once fresh ones have replaced those of the rounds after the last that
     has begun.
@@ -211,7 +211,7 @@ def replaced(
         enumerate(later, begun + 1)
     )
     for number in range(begun + 1, begun + len(later) + 1):
-        check_gap(windows, number, between)
+        check_gap(windows, number, gap)
         if number in old and old[number].opens < now + notice:
             check_promise(old[number], windows[number], number, notice)
         elif windows[number].opens < now + notice:
@@ -222,13 +222,20 @@ def replaced(
     return windows
 
 
-def check_gap(windows: Windows, number: int, between: int) -> None:
+def check_gaps(windows: list[Window], gap: int) -> None:
+    """Each round opens some time after the one before has closed."""
+    by_round = dict(enumerate(windows, 1))
+    for number in by_round:
+        check_gap(by_round, number, gap)
+
+
+def check_gap(windows: Windows, number: int, gap: int) -> None:
     """A round opens some time after the one before has closed."""
     before, window = windows.get(number - 1), windows[number]
-    if before and window.opens < before.closes + between:
+    if before and window.opens < before.closes + gap:
         raise TimetableFault(
             f"round {number} would open {window.opens - before.closes} s after round {number - 1} "
-            f"closes, and conductor.json asks for {between} s between them"
+            f"closes, and the times in conductor.json need {gap} s between them"
         )
 
 
@@ -244,10 +251,10 @@ def check_promise(promised: Window, window: Window, number: int, notice: int) ->
         )
 
 
-def move_later(windows: Windows, number: int, between: int) -> None:
+def move_later(windows: Windows, number: int, gap: int) -> None:
     """Moves the windows after a round as far as they must move to leave the time between."""
     while number in windows and number + 1 in windows:
-        put_off(windows[number + 1], windows[number].closes + between)
+        put_off(windows[number + 1], windows[number].closes + gap)
         number += 1
 
 
