@@ -13,6 +13,7 @@ from collections.abc import Callable
 
 from auction.command import Command
 from auction.conductor import commands, report
+from auction.conductor.clear import ClearFault, clear
 from auction.conductor.commands import CommandFault
 from auction.conductor.conductor import Conductor
 from auction.conductor.context import Context
@@ -33,6 +34,11 @@ A round waits for your word, `auction next` or `auction extend`, if:
 - more pairs of bidder and product matter than a closing can list;
 - the journal has changed since its closing was made, or the server refuses the closing."""
 
+CLEAR = f"""{FOLDER} All files of the auction that are in it go to a new
+folder in FOLDER/past: state, published and closed rounds, receipts, bidders.map, sheet.conf, the
+set-up, and the journal. nginx's cache is emptied. conductor.json stays. It refuses while a server
+or a conductor runs."""
+
 Action = Callable[[Context, argparse.Namespace], None]
 
 
@@ -45,6 +51,14 @@ def run_auction(folder: pathlib.Path) -> None:
         except OSError:
             sys.exit("another conductor runs this auction")
         conductor.run()
+
+
+def clear_folder(folder: pathlib.Path) -> None:
+    """Puts an auction's files away."""
+    past, left = clear(folder, time.time())
+    print(f"The auction's files are in {past}.")
+    for path in left:
+        print(f"{path} is not in {folder}: put it away too.")
 
 
 def status(context: Context, _: argparse.Namespace) -> None:
@@ -78,7 +92,14 @@ def guarded(
     def run(given: argparse.Namespace) -> int:
         try:
             action(given)
-        except (CommandFault, SettingsFault, TimetableFault, OSError, ValueError) as fault:
+        except (
+            ClearFault,
+            CommandFault,
+            SettingsFault,
+            TimetableFault,
+            OSError,
+            ValueError,
+        ) as fault:
             sys.exit(f"auction {name}: {fault}")
         return 0
 
@@ -187,6 +208,13 @@ COMMANDS = (
         lambda context, given: commands.close_next(
             context, given.round, given.without_sheets, given.no_ties
         ),
+    ),
+    Command(
+        "clear",
+        "Puts an auction's files away, after its end.",
+        CLEAR,
+        add_folder,
+        guarded("clear", lambda given: clear_folder(given.folder.absolute())),
     ),
     command(
         "winners",

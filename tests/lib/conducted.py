@@ -82,7 +82,8 @@ class ConductedAuction:
         self.opens: list[tuple[int, float]] = []
         self.sent: set[tuple[int, str]] = set()
         self.until = 0.0
-        self.write(json.dumps(document or small_setup()), settings)
+        self.document = json.dumps(document or small_setup())
+        self.write(self.document, settings)
         self.begin_server()
         self.conductor = self.fresh()
         if windows:
@@ -116,6 +117,13 @@ class ConductedAuction:
 
     def kill_server(self) -> None:
         self.server.kill()
+
+    def begin_again(self) -> None:
+        """Begins another auction with the same set-up, in a folder that was cleared."""
+        (self.folder / "setup.json").write_text(self.document)
+        commit(self.folder)
+        self.begin_server()
+        self.conductor = self.fresh()
 
     def stop(self) -> None:
         if self.server.child.poll() is None:
