@@ -29,12 +29,18 @@ def check_commitment(case: Case) -> str:
 
 
 def pairs_that_matter(case: Case, number: int) -> set[tuple[int, int]]:
-    """The pairs of bidder and product with processed demand before a closing, or a bid in force."""
+    """The pairs of bidder and product that need a tie-breaking number in a closing.
+
+    They have processed demand, or a bid in force whose quantity differs from it.
+    """
     rounds = case.counted.auction.rounds
     demands = [slip.demands for slip in rounds[number - 2].slips] if number > 1 else []
     held = {(b, p) for b, row in enumerate(demands) for p, demand in enumerate(row) if demand}
     return held | {
-        (b, bid.product) for b, bids in rounds[number - 1].sheets.items() for bid in bids
+        (b, bid.product)
+        for b, bids in rounds[number - 1].sheets.items()
+        for bid in bids
+        if not demands or bid.quantity != demands[b][bid.product]
     }
 
 
