@@ -76,8 +76,9 @@ RECEIPT = {
 
 
 def has_shape(page, shape, products):
-    """Whether a page has the parts that the bidder reads. `products` is None until their number is
-    known.
+    """Whether a page has the parts that the bidder reads.
+
+    `products` is None until their number is known.
     """
     if isinstance(shape, dict):
         return isinstance(page, dict) and all(
@@ -93,8 +94,9 @@ def has_shape(page, shape, products):
 
 
 class EachReply(urllib.request.HTTPErrorProcessor):
-    """Passes on each reply unchanged. Follows no redirection, because the token is for one address
-    only.
+    """Passes on each reply unchanged.
+
+    Follows no redirection, because the token is for one address only.
     """
 
     http_response = https_response = lambda self, request, reply: reply
@@ -116,9 +118,8 @@ class Auction:
             if url.startswith("https")
             else None
         )
-        proxies = urllib.request.ProxyHandler(
-            None if tls else {}
-        )  # without TLS, the proxy of `http_proxy` would see the token
+        # Without TLS, the proxy of `http_proxy` would see the token.
+        proxies = urllib.request.ProxyHandler(None if tls else {})
         self.opener = urllib.request.build_opener(
             EachReply, proxies, urllib.request.HTTPSHandler(context=tls)
         )
@@ -161,8 +162,9 @@ class Auction:
         sys.exit(f"{path}: no reply for {PATIENCE} seconds")
 
     def tell_closing(self):
-        """Says, once in each closing, that the round is closing, and when its results appear if
-        that is published.
+        """Says, once in each closing, that the round is closing.
+
+        It says when the results appear, if that is published.
         """
         if self.is_closing:
             return
@@ -186,8 +188,9 @@ class Auction:
         ]
 
     def wait(self, number, sheet):
-        """Returns when a round is closed. Sleeps first, because a proxy's status may be a second
-        old.
+        """Returns when a round is closed.
+
+        Sleeps first, because a proxy's status may be a second old.
         """
         for times in itertools.count(1):
             time.sleep(self.every)
@@ -195,9 +198,8 @@ class Auction:
                 return
             looks, self.is_in_doubt = self.is_in_doubt or times % LOOK == 0, False
             if looks and self.ask("/v1/me/bids", IN_FORCE)["bids"] is None:
-                if (
-                    last_closed(self.ask("/v1/me", ACCOUNT), number) < number
-                ):  # otherwise the round is closed, so no sheet is in force
+                # If the round is closed, no sheet of it is in force.
+                if last_closed(self.ask("/v1/me", ACCOUNT), number) < number:
                     print(
                         f"the sheet of round {number} is no longer in force: submitting it again",
                         file=sys.stderr,
@@ -229,8 +231,9 @@ class Receipts:
             os.fsync(file.fileno())
 
     def await_one(self, sheet):
-        """Waits for the receipt of an accepted sheet. Stores other receipts of this bidder that
-        come first.
+        """Waits for the receipt of an accepted sheet.
+
+        Stores other receipts of this bidder that come first.
         """
         text, end = text_of(sheet), time.monotonic() + RECEIPT_SECONDS
         while self.commitment:
@@ -247,9 +250,7 @@ class Receipts:
                 time.sleep(0.2)
 
     def check_seed(self, number):
-        """Reports a published seed that is not the committed one. The seed may not be published
-        yet.
-        """
+        """Reports a published seed that is not the committed one, if it is published yet."""
         chain = self.commitment and self.commitment["chain"]
         page = chain and self.auction.ask(f"/public/rounds/{number}.json", SEED, may_lack=True)
         if not page:

@@ -85,14 +85,14 @@ const element = document.getElementById(arguments[0]);
 new MutationObserver(() => window.said.push(element.textContent))
     .observe(element, {childList: true, characterData: true, subtree: true});"""
 
-# elements whose text does not fit into them, rows whose cells reach beyond them, letters outside
+# elements whose text does not fit into them, but those that may end in dots, and on a narrow phone
+# the words of a connection, which then is a dot; rows whose cells reach beyond them, letters outside
 # their chart; and what reaches beyond the window
 CUT = """const all = [...document.querySelectorAll('body *')];
 const seen = all.filter(e => e.checkVisibility() && e.getClientRects().length);
 const kinds = 'p, h1, h2, dt, dd, td, th, button, label, li, small, figcaption';
 const cuts = e => getComputedStyle(e).display !== 'inline'
-    && getComputedStyle(e).textOverflow !== 'ellipsis'
-    && !e.matches('.heard, .heard *, #link.good'); // on a narrow phone, this is a dot
+    && !e.matches('.heard, .heard *, .c-name, .c-worth, .top h1, .latest, .latest *, #link.good');
 const texts = seen.filter(e => e.matches(kinds) && !e.closest('thead, dialog')
     && e.scrollWidth > e.clientWidth + 1 && cuts(e));
 const bottom = e => e.getBoundingClientRect().bottom;

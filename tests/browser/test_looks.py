@@ -258,6 +258,17 @@ def test_the_first_row_is_near_the_top(
     assert x.run(script) < most
 
 
+@pytest.mark.parametrize("wide", [1600, 1024, 390])
+def test_without_values_no_worth_is_shown(
+    request: pytest.FixtureRequest, x: Window, wide: int
+) -> None:
+    x.size(wide, 900)
+    bidders_page(request, x)
+    x.settle()
+    script = "return [...document.querySelectorAll('.c-worth')].some(e => e.checkVisibility())"
+    assert not x.run(script)
+
+
 def test_25_rows_are_seen_of_a_long_table(begin: Begin, x: Window) -> None:
     setup = example("two_products")
     one = setup["products"][0]
@@ -278,13 +289,12 @@ def test_pictures(
     x.size(1440, 900)
     enter(auction, x)
     x.bid(0, 1, int(re.sub(r"\D", "", x.column("clock")[0])) - 40)
-    operator.size(1440, 1250)
     enter(auction, operator, OPERATOR)
     operator.says("missing", "No bids from: Y")
     assert x.row(0).startswith("Reduce"), "the picture shows the effect of a bid"
     if pictures:
-        x.picture(pictures / "bidder.png")
-        operator.picture(pictures / "operator.png")
+        x.picture(pictures / "bidder.png", 1440, 620)
+        operator.picture(pictures / "operator.png", 1440)
     x.size(390, 844)
     x.dark(True)
     x.bid(0, 1, 1)
@@ -292,5 +302,5 @@ def test_pictures(
     x.settle()
     assert "price" in x.row(0), "the picture shows an error at its row"
     if pictures:
-        x.picture(pictures / "bidder_narrow.png")
+        x.picture(pictures / "bidder_narrow.png", 390, 844)
     x.dark(False)

@@ -1,4 +1,4 @@
-"""Practices in a clone of the repository, as a newcomer runs them."""
+"""Practices in a clone of the repository, as someone runs them who has just cloned it."""
 import pathlib
 import subprocess
 from collections.abc import Callable, Iterator

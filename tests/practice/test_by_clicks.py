@@ -1,4 +1,4 @@
-"""A newcomer's first auction by clicks: from `git clone` to the end."""
+"""A first auction by clicks: from `git clone` to the end."""
 import dataclasses
 import os
 import pathlib
@@ -85,7 +85,8 @@ def play(window: Window, played: Played, pictures: pathlib.Path | None) -> None:
         played.rounds += 1
         count = bid(window, values, played.rounds)
         if pictures and played.rounds == 4:
-            window.picture(pictures / "practice.png")
+            window.picture(pictures / "practice.png", 1440, 520)
+            window.size(1440, 900)
         submit(window, count)
     played.practice.until("All files are in")
     window.until("the gain is announced", lambda: "your gain is" in window.text("announced"))
@@ -95,8 +96,7 @@ def play(window: Window, played: Played, pictures: pathlib.Path | None) -> None:
     rows = window.rows("wonbody")
     played.payments = [row["Payment"] for row in rows if row["0"] == "You"]
     if pictures:
-        window.size(1440, 1350)
-        window.picture(pictures / "results.png")
+        window.picture(pictures / "results.png", 1440)
 
 
 @pytest.fixture(scope="module")
