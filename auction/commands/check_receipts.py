@@ -20,6 +20,7 @@ import sys
 from auction.command import Command
 from auction.formats.receipts import ReceiptsFault, faults, read_kept
 from auction.formats.signatures import SignatureFault
+from auction.formats.strict import escaped
 
 
 def arguments(parser: argparse.ArgumentParser) -> None:
@@ -32,9 +33,9 @@ def run(given: argparse.Namespace) -> int:
         file = read_kept(given.receipts)
         found = faults(file, given.journal.read_bytes(), os.environ.get("TOKEN", "").strip())
     except (OSError, ReceiptsFault, SignatureFault) as fault:
-        sys.exit(f"FAILED {fault}")
+        sys.exit(escaped(f"FAILED {fault}"))
     for words in found:
-        print(f"FAILED {words}")
+        print(escaped(f"FAILED {words}"))
     count = f"{len(file.receipts)} receipt{'' if len(file.receipts) == 1 else 's'}"
     if found:
         sys.exit(f"NOT as in the journal: {count}, {len(found)} faults")

@@ -54,12 +54,14 @@ def check_ties(case: Case) -> str:
         many = len(setup.bidders) * len(setup.products) > ties.MOST_TIES
         matter = pairs_that_matter(case, number) if many else set()
         try:
-            seed = None if seed is None else bytes.fromhex(seed)
+            seed = None if seed is None else ties.bytes_of(seed, ties.SEED)
             ties.check_ties(
                 chain, number, seed, listed, len(setup.bidders), len(setup.products), matter
             )
         except ties.TiesFault as fault:
             faults.append(str(fault))
+        except ValueError as fault:
+            faults.append(f"the seed of round {number}: {fault}")
     if faults:
         raise Failed(*faults)
     numbers = "follow from the chain that was fixed" if chain else "are none, as fixed"
