@@ -17,7 +17,10 @@ UNITS = "lib/systemd/system"
 SHARED = ("web", "services", "schemas", "examples")
 NOT_SHARED = re.compile(r"services/(debian/|.*\.(service|mount)$)")
 # What dpkg reads: the names in DEBIAN/, and whether they are programs.
-CONTROL = (("postinst", 0o755), ("prerm", 0o755), ("postrm", 0o755), ("templates", 0o644))
+CONTROL = (
+    *((name, 0o755) for name in ("config", "postinst", "prerm", "postrm")),
+    ("templates", 0o644),
+)
 # Other files of services/debian/, and where they go.
 PLACED = (
     ("sysusers.conf", f"usr/lib/sysusers.d/{PACKAGE}.conf"),
