@@ -94,8 +94,8 @@ def main(words: list[str] | None = None) -> int:
     except RecursionError:
         sys.exit(f"auction {given.command}: a file has too many brackets in each other")
     except (ValueError, LookupError, TypeError, AttributeError) as fault:
-        words = f"a file has not the form that docs/formats.md describes: {fault!r}"
-        sys.exit(f"auction {given.command}: {words}")
+        form = f"a file has not the form that docs/formats.md describes: {fault!r}"
+        sys.exit(f"auction {given.command}: {form}")
     return status
 
 

@@ -168,8 +168,10 @@ def put_control(source: Source, root: pathlib.Path) -> None:
     )
     size = sum((path.stat().st_size + 1023) // 1024 for path in files)
     folder, templates = root / "DEBIAN", source.top / "services/debian"
-    text = (templates / "control").read_text().format(
-        version=source.version, size=size, author=source.author
+    text = (
+        (templates / "control")
+        .read_text()
+        .format(version=source.version, size=size, author=source.author)
     )
     put(folder / "control", text.encode())
     put(folder / "md5sums", sums.encode())
