@@ -1,7 +1,10 @@
 """The command line of `auction`: one parser for all its commands."""
 import argparse
+import json
 import sys
+from typing import Any
 
+from auction import installed
 from auction.command import Command
 from auction.commands import (
     check_receipts,
@@ -19,6 +22,14 @@ from auction.commands import (
 )
 
 VERSION = "auction 1"
+# What to do about an error of the system.
+ADVICE: tuple[tuple[type[OSError], str], ...] = (
+    (FileNotFoundError, ". Check the name"),
+    (IsADirectoryError, ". Name a file in it"),
+    (NotADirectoryError, ". Name a folder"),
+    (PermissionError, ". Run the command as root, or as the file's owner"),
+    (FileExistsError, ". Name a new one"),
+)
 COMMANDS: tuple[Command, ...] = (
     init.COMMAND,
     commit.COMMAND,
@@ -35,6 +46,14 @@ COMMANDS: tuple[Command, ...] = (
 )
 
 
+class Version(argparse.Action):
+    """Prints the command's version, its commit, and the program's SHA-256, and ends."""
+
+    def __call__(self, parser: argparse.ArgumentParser, *_: Any) -> None:
+        print(f"{VERSION}\ncommit {installed.commit()}\n{installed.program_in_words()}")
+        parser.exit(0)
+
+
 def parser() -> argparse.ArgumentParser:
     """The parser of all commands."""
     whole = argparse.ArgumentParser(
@@ -42,7 +61,9 @@ def parser() -> argparse.ArgumentParser:
         description="Runs an auction around the program clock_auction, and checks one.",
         allow_abbrev=False,
     )
-    whole.add_argument("--version", action="version", version=VERSION)
+    whole.add_argument(
+        "--version", action=Version, nargs=0, help="print the version, commit, and program"
+    )
     kinds = whole.add_subparsers(dest="command", metavar="COMMAND", required=True)
     for command in COMMANDS:
         one = kinds.add_parser(
@@ -66,4 +87,21 @@ def main(words: list[str] | None = None) -> int:
         return 1
     except KeyboardInterrupt:
         sys.exit("stopped")
+    except OSError as fault:
+        sys.exit(f"auction {given.command}: {in_words(fault)}")
+    except (UnicodeDecodeError, json.JSONDecodeError) as fault:
+        sys.exit(f"auction {given.command}: a file has no JSON in UTF-8, as it must: {fault}")
+    except RecursionError:
+        sys.exit(f"auction {given.command}: a file has too many brackets in each other")
+    except (ValueError, LookupError, TypeError, AttributeError) as fault:
+        form = f"a file has not the form that docs/formats.md describes: {fault!r}"
+        sys.exit(f"auction {given.command}: {form}")
     return status
+
+
+def in_words(fault: OSError) -> str:
+    """What an error of the system says: the file, the reason, and what to do."""
+    if fault.filename is None:
+        return str(fault)
+    advice = next((words for kind, words in ADVICE if isinstance(fault, kind)), "")
+    return f"{fault.filename}: {fault.strerror}{advice}"

@@ -21,6 +21,8 @@ from auction.installed import installed
 from auction.ready import maps
 
 USUAL_PORT, USUAL_PLACE = 8443, "/srv/auction"
+# The journal of the systemd unit, whose folder is USUAL_PLACE.
+JOURNAL_OF_UNIT = "/var/lib/private/clock_auction/auction.journal"
 OPEN, PRIVATE = 0o644, 0o600
 DAYS_OF_A_TRIAL = 30
 # The folders, their modes, and whether they belong to the group of nginx's workers.
@@ -119,6 +121,15 @@ def make_folders(folder: pathlib.Path) -> None:
             os.chown(path, -1, group)
         path.chmod(mode)
     (folder / "log" / "access.log").touch(PRIVATE)
+    if group != -1:
+        # The count of links of receipts/ and the length of log/access.log show who has bid.
+        os.chown(folder, -1, group)
+        folder.chmod(0o750)
+
+
+def usual_journal(folder: pathlib.Path) -> str:
+    """The journal of a folder, if no other is given: the unit's, or one in the folder."""
+    return JOURNAL_OF_UNIT if str(folder.absolute()) == USUAL_PLACE else "auction.journal"
 
 
 def write_files(folder: pathlib.Path, plan: Plan) -> None:

@@ -12,7 +12,9 @@ It prints each round's sheet, then the round's results for this bidder ("slip"),
 it won.
 
 After each accepted sheet it waits up to two seconds for the receipt, checks it, adds it to FILE, by
-default receipts.jsonl, and reports it or what is missing. The file's first line is the commitment.
+default receipts.jsonl, and reports it or what is missing. The file's first line is the commitment,
+the second names the bidder. Before it sends a sheet, it adds what it sends. If a receipt comes for
+a sheet that it did not send, it says so: if you did not send it either, someone put it in.
 `auction check-receipts` compares the file with the published journal. It checks signatures if
 openssl is installed, and the published seed of each closed round. Without a commitment, as at the
 server's own port, it says once that there are no receipts.
@@ -44,6 +46,7 @@ import sys
 import tempfile
 import time
 import urllib.request
+from collections import Counter
 
 BUSY = (408, 429, 500, 502, 503, 504)
 # nginx's answers that say to wait: no window is open, or the round is closing.
@@ -112,7 +115,8 @@ class Auction:
 
     def __init__(self, url, token, every):
         self.url, self.token, self.every = url.rstrip("/"), token, every
-        self.products, self.is_in_doubt, self.is_closing = None, False, False
+        self.products, self.receipts = None, None
+        self.is_in_doubt, self.is_closing = False, False
         tls = (
             ssl.create_default_context(cafile=os.environ.get("CA"))
             if url.startswith("https")
@@ -137,6 +141,8 @@ class Auction:
         )
         given_up = time.monotonic() + PATIENCE
         while time.monotonic() < given_up:
+            if sheet is not None and self.receipts:
+                self.receipts.note(text_of(sheet))
             try:
                 with self.opener.open(request, timeout=30) as reply:
                     text = reply.read()
@@ -210,8 +216,9 @@ class Auction:
 class Receipts:
     """The receipts of this bidder's sheets, in a file that `auction check-receipts` reads."""
 
-    def __init__(self, auction, path):
+    def __init__(self, auction, path, name):
         self.auction, self.path, self.have = auction, path, set()
+        self.texts, self.sent, self.taken = {}, Counter(), Counter()  # by digests of bodies
         self.commitment = auction.ask("/public/commitment.json", COMMITMENT, may_lack=True)
         if self.commitment is None:
             print("no commitment is published, so sheets have no receipts", flush=True)
@@ -219,9 +226,30 @@ class Receipts:
             first, *lines = map(json.loads, path.read_text(encoding="utf-8").splitlines())
             if first != self.commitment:
                 sys.exit(f"{path} has another commitment than the one that is published")
-            self.have = {(receipt["round"], receipt["sheet"]) for receipt in lines}
+            self.read(lines)
         else:
             self.add(self.commitment)
+            self.add({"bidder": name})
+
+    def read(self, lines):
+        """Takes what the file has: what was sent, and receipts."""
+        for line in lines:
+            if line.keys() == {"sent"}:
+                self.count(line["sent"])
+            elif "signature" in line:
+                self.have.add((line["round"], line["sheet"]))
+                self.taken[line["body"]] += 1
+
+    def note(self, text):
+        """Stores what will be sent: without that, nothing tells an own sheet from one put in."""
+        if self.commitment:
+            self.count(text)
+            self.add({"sent": text})
+
+    def count(self, text):
+        """Counts a sheet that was sent."""
+        self.texts[digest_of(text)] = text
+        self.sent[digest_of(text)] += 1
 
     def add(self, line):
         """Appends a line to the file, and syncs it."""
@@ -237,7 +265,7 @@ class Receipts:
         """
         text, end = text_of(sheet), time.monotonic() + RECEIPT_SECONDS
         while self.commitment:
-            receipt = self.take(sheet["round"], text)
+            receipt = self.take(sheet["round"])
             if receipt and receipt["body"] == digest_of(text):
                 return print(
                     f"receipt of sheet {receipt['sheet']} of round {receipt['round']}", flush=True
@@ -264,8 +292,11 @@ class Receipts:
                 file=sys.stderr,
             )
 
-    def take(self, number, text=""):
-        """Stores the next receipt of a round, and returns it, or None if there is none yet."""
+    def take(self, number):
+        """Stores the next receipt of a round, and returns it, or None if there is none yet.
+
+        Reports one of a sheet that was not sent. It stays in the file, without what was sent.
+        """
         place = next(place for place in itertools.count(1) if (number, place) not in self.have)
         receipt = self.commitment and self.auction.ask(
             f"/receipts/{number}/{place}.json", RECEIPT, may_lack=True
@@ -281,7 +312,17 @@ class Receipts:
                 file=sys.stderr,
             )
             return {**receipt, "body": ""}
-        self.add({**receipt, "sent": text} if receipt["body"] == digest_of(text) else receipt)
+        body = receipt["body"]
+        self.taken[body] += 1
+        if self.taken[body] <= self.sent[body]:
+            self.add({**receipt, "sent": self.texts[body]})
+            return receipt
+        self.add(receipt)
+        print(
+            f"WARNING: sheet {place} of round {number} was accepted in your name, and this program "
+            "did not send it. If you did not either, call the auditor",
+            file=sys.stderr,
+        )
         return receipt
 
 
@@ -379,7 +420,7 @@ def play(auction, wanted, path):
     account = auction.ask("/v1/me", ACCOUNT)
     if strangers := wanted.keys() - {product["name"] for product in products}:
         sys.exit(f"no product is called {', '.join(sorted(strangers))}")
-    receipts = Receipts(auction, path)
+    receipts = auction.receipts = Receipts(auction, path, account["name"])
     while not account["ended"]:
         number = account["round"]
         sheet = {
@@ -398,7 +439,7 @@ def play(auction, wanted, path):
         for closed in range(1, number)[-1:]:
             receipts.check_seed(closed)  # of the round before, which is published by now
         auction.wait(number, sheet)
-        while receipts.take(number, text_of(sheet)):
+        while receipts.take(number):
             pass  # those that came late, or of sheets that were submitted in another way
         print("slip", json.dumps(auction.ask(f"/v1/me/rounds/{number}", SLIP)), flush=True)
         account = auction.ask("/v1/me", ACCOUNT)

@@ -9,6 +9,9 @@ files, whose first line names the columns. Products have name, units, supply, an
 have cap, granule, and title. Bidders have name and eligibility, and may have title. Then tokens are
 drawn, and FOLDER/letters gets a letter for each bidder.
 
+Without --journal, the journal is that of the package's systemd unit if FOLDER is /srv/auction, and
+else auction.journal in FOLDER. Only root and nginx's workers can enter FOLDER.
+
 Without --certificate and --key, a certificate for a trial is made, which no browser trusts. With
 --no-ties, closings have no tie-breaking numbers.
 """
@@ -38,7 +41,7 @@ def arguments(parser: argparse.ArgumentParser) -> None:
     parser.add_argument("--limit", metavar="PERCENT", type=int, help="the activity limit")
     parser.add_argument("--host", metavar="NAME", default="localhost")
     parser.add_argument("--port", type=int, default=auction_folder.USUAL_PORT)
-    parser.add_argument("--journal", metavar="FILE", default="auction.journal")
+    parser.add_argument("--journal", metavar="FILE", help="the server's journal")
     parser.add_argument("--certificate", metavar="FILE", type=pathlib.Path)
     parser.add_argument("--key", metavar="FILE", type=pathlib.Path)
     parser.add_argument("--help-desk", metavar="WORDS", default="(your operator)")
@@ -71,7 +74,7 @@ def plan_of(given: argparse.Namespace, document: bytes, names: Names | None) -> 
         document,
         given.host,
         given.port,
-        given.journal,
+        given.journal or auction_folder.usual_journal(given.folder),
         not given.no_ties,
         certificate,
         names.text() if names else None,

@@ -16,6 +16,7 @@ import pathlib
 from collections import Counter
 
 from auction.command import Command
+from auction.formats.strict import escaped
 from auction.verify.case import Case
 from auction.verify.findings import ABSENT, FAILED, OK, findings
 
@@ -31,7 +32,7 @@ def run(given: argparse.Namespace) -> int:
     counts: Counter[str] = Counter()
     for found in findings(Case(given.setup, given.journal, given.published, *given.receipts)):
         counts[found.result] += 1
-        print(f"{found.result:6} {found.subject}: {found.words}", flush=True)
+        print(escaped(f"{found.result:6} {found.subject}: {found.words}"), flush=True)
     verdict = "NOT verified" if counts[FAILED] else "verified"
     failed = f"{counts[OK]} checks hold, {counts[FAILED]} failed"
     print(f"{verdict}: {failed}, {counts[ABSENT]} had nothing to check")

@@ -1,4 +1,6 @@
 """Checks of what was fixed earlier: the commitment, tie-breaking numbers, and receipts."""
+from collections.abc import Iterable
+
 from auction.formats import receipts, ties
 from auction.recount.formats import closing_in, json_in, request_in
 
@@ -29,12 +31,18 @@ def check_commitment(case: Case) -> str:
 
 
 def pairs_that_matter(case: Case, number: int) -> set[tuple[int, int]]:
-    """The pairs of bidder and product with processed demand before a closing, or a bid in force."""
+    """The pairs of bidder and product that need a tie-breaking number in a closing.
+
+    They have processed demand, or a bid in force whose quantity differs from it.
+    """
     rounds = case.counted.auction.rounds
     demands = [slip.demands for slip in rounds[number - 2].slips] if number > 1 else []
     held = {(b, p) for b, row in enumerate(demands) for p, demand in enumerate(row) if demand}
     return held | {
-        (b, bid.product) for b, bids in rounds[number - 1].sheets.items() for bid in bids
+        (b, bid.product)
+        for b, bids in rounds[number - 1].sheets.items()
+        for bid in bids
+        if not demands or bid.quantity != demands[b][bid.product]
     }
 
 
@@ -54,12 +62,14 @@ def check_ties(case: Case) -> str:
         many = len(setup.bidders) * len(setup.products) > ties.MOST_TIES
         matter = pairs_that_matter(case, number) if many else set()
         try:
-            seed = None if seed is None else bytes.fromhex(seed)
+            seed = None if seed is None else ties.bytes_of(seed, ties.SEED)
             ties.check_ties(
                 chain, number, seed, listed, len(setup.bidders), len(setup.products), matter
             )
         except ties.TiesFault as fault:
             faults.append(str(fault))
+        except ValueError as fault:
+            faults.append(f"the seed of round {number}: {fault}")
     if faults:
         raise Failed(*faults)
     numbers = "follow from the chain that was fixed" if chain else "are none, as fixed"
@@ -67,34 +77,41 @@ def check_ties(case: Case) -> str:
 
 
 def check_receipts(case: Case) -> str:
-    """Checks that each receipt that a bidder saved is about a sheet of the journal.
-
-    The journal may have no further sheet of this bidder.
+    """Checks each bidder's file: the journal must have the sheet of each receipt at its place, and
+    no further sheet of this bidder.
     """
     if not case.receipts:
         raise Absent(
             "no bidder's receipts are given, and only they show a sheet cut or added before a "
             "closing"
         )
-    published, faults, count = commitment_of(case), [], 0
     tokens = {bidder.name: bidder.token for bidder in case.setup.bidders}
+    faults, empty, counts = list[str](), list[str](), dict[str, int]()
     for path in case.receipts:
         file = receipts.read_kept(path)
-        count += len(file.receipts)
-        if file.commitment != published:
-            faults.append(
-                f"{path.name}: its bidder saw another {COMMITMENT}, of another set-up, chain, or "
-                "key"
-            )
-        names = [kept.receipt.bidder for kept in file.receipts[:1]]
-        token = tokens.get(names[0], "") if names else ""
-        faults += [f"{path.name}: {fault}" for fault in receipts.faults(file, case.journal, token)]
+        if file.name is None:
+            empty.append(f"{path.name} has no receipt and names no bidder, so it proves nothing")
+            continue
+        counts[file.name] = counts.get(file.name, 0) + len(file.receipts)
+        if file.name not in tokens:
+            faults.append(f"{path.name}: the set-up has no bidder {file.name}")
+        found = receipts.faults(file, case.journal, tokens.get(file.name, ""), commitment_of(case))
+        faults += [f"{path.name}: {fault}" for fault in found]
     if faults:
         raise Failed(*faults)
-    return (
-        f"{count} receipts of {len(case.receipts)} bidders fit: the journal has these sheets, and "
-        "no others of them"
+    if not counts:
+        raise Absent("; ".join(empty))
+    return "; ".join([words_of(counts, tokens.keys()), *empty])
+
+
+def words_of(counts: dict[str, int], bidders: Iterable[str]) -> str:
+    """Of whose copies it holds that they fit, and of which bidders nothing is known."""
+    words = (
+        f"{sum(counts.values())} receipts of {', '.join(counts)} fit: the journal has these "
+        "sheets of theirs, and no others"
     )
+    others = [name for name in bidders if name not in counts]
+    return words + (f"; it proves nothing of the sheets of {', '.join(others)}" if others else "")
 
 
 COMMITMENT_CHECK = ("commitment", check_commitment)

@@ -8,12 +8,12 @@ from tests.lib.conducted import ConductedAuction, Times, conducted
 WINDOWS: Times = [(30, 60), (120, 150), (210, 240)]
 CLOSED = [70, 160, 250]  # the drain of ten seconds after each window
 # The steps of an auction that nobody disturbs: writes, syncs, and requests and replies of closings.
-STEPS = range(1, 193)
+STEPS = range(1, 209)
 
 
 def undisturbed(program: pathlib.Path) -> tuple[list[str], int]:
     """The audit of the auction that nobody disturbs, and how many steps it takes."""
-    with conducted(program, WINDOWS) as auction:
+    with conducted(program, WINDOWS, missed=100) as auction:
         auction.disk.count = 0
         auction.play(step=15)
         assert auction.closed_at() == CLOSED
@@ -48,7 +48,7 @@ def audit_if_killed(program: pathlib.Path, step: int, with_the_machine: bool) ->
 
     The machine is back after 20 seconds, and the conductor at once or after three.
     """
-    with conducted(program, WINDOWS) as auction:
+    with conducted(program, WINDOWS, missed=100) as auction:
 
         def after_kill() -> None:
             auction.disk.kill_at = 0
@@ -74,7 +74,7 @@ def audit_if_killed_again_and_again(program: pathlib.Path) -> tuple[list[str], i
     returns how often it was killed.
     """
     kills = 0
-    with conducted(program, WINDOWS) as auction:
+    with conducted(program, WINDOWS, missed=100) as auction:
 
         def after_kill() -> None:
             nonlocal kills

@@ -18,7 +18,7 @@ def opened(conduct: Conduct) -> ConductedAuction:
 def test_extend_moves_the_end_and_the_later_windows(opened: ConductedAuction) -> None:
     commands.extend(opened.context(), 2)
     assert opened.window(1) == (60, 480)
-    assert opened.window(2)[0] == 510
+    assert opened.window(2)[0] == 480 + 50
     finish(opened)
     assert opened.announced("Round 1 is open until 12:08") == 1
 

@@ -13,6 +13,7 @@ import pytest
 
 from tests.docs.shell import OPERATOR, Shell
 from tests.docs.texts import CARD_ROUND, MACHINE, ROUNDS, sections_of, text_of
+from tests.lib.http import compact
 from tests.lib.paths import TOP
 from tests.lib.waiting import wait_for
 
@@ -107,6 +108,11 @@ class Machine:
             "-H @x.head https://localhost:8443/receipts/2/1.json >> receipts.jsonl"
         )
         assert status == 0
+        (product, quantity, price), *_ = MACHINE[1]["X"]
+        bids = [{"price": price, "product": product, "quantity": quantity}]
+        sent = compact({"bids": bids, "round": 2}).decode()
+        with open(self.auction / "receipts.jsonl", "a", encoding="utf-8") as file:
+            file.write(json.dumps({"sent": sent}) + "\n")
 
 
 @NEEDED

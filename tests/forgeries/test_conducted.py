@@ -18,7 +18,7 @@ FALSE_WORDS = [
     ("rounds/2.json", '"ended":false', '"ended":true', "results"),
     ("rounds/2.json", '"digest":"', '"digest":"0', "digests announcements"),
     ("rounds/2.json", '"seed":"', '"seed":"00', "ties"),
-    ("rounds/2.json", '"seed":', '"seeds":', "ties"),
+    ("rounds/2.json", '"seed":', '"seeds":', "results ties"),
     ("announcements.json", "Its digest is ", "Its digest is 0", "announcements"),
     ("winners.json", '"pays":', '"pays":1', "winners"),
     ("winners.json", '"demands":[', '"demands":[1', "winners"),

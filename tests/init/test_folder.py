@@ -10,6 +10,7 @@ from collections.abc import Iterator
 import pytest
 from cryptography import x509
 
+from auction.folder import usual_journal
 from auction.formats.setup import Setup
 from auction.formats.ties import Commitment
 from tests.lib.paths import EXAMPLES, PATHS, TOP, auction
@@ -121,6 +122,25 @@ def test_settings_name_the_journal(open_folder: pathlib.Path) -> None:
     words = ("--setup", SETUP, "--user", WORKER, "--journal", "/var/lib/a.journal")
     assert auction("init", made, *words).returncode == 0
     assert json.loads((made / "conductor.json").read_text())["journal"] == "/var/lib/a.journal"
+
+
+@pytest.mark.parametrize(
+    ("name", "wanted"),
+    [
+        pytest.param(
+            "/srv/auction", "/var/lib/private/clock_auction/auction.journal", id="of-the-unit"
+        ),
+        pytest.param("/srv/another", "auction.journal", id="another-folder"),
+    ],
+)
+def test_the_folder_of_the_units_has_their_journal(name: str, wanted: str) -> None:
+    assert usual_journal(pathlib.Path(name)) == wanted
+
+
+@pytest.mark.root
+def test_no_other_user_can_enter_the_folder(folder: pathlib.Path) -> None:
+    """Lengths of the log and counts of links in it show who has bid."""
+    assert (stat.S_IMODE(folder.stat().st_mode), folder.group()) == (0o750, WORKER)
 
 
 def files_below(folder: pathlib.Path) -> list[str]:
