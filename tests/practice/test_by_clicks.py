@@ -85,7 +85,7 @@ def play(window: Window, played: Played, pictures: pathlib.Path | None) -> None:
         played.rounds += 1
         count = bid(window, values, played.rounds)
         if pictures and played.rounds == 4:
-            window.picture(pictures / "practice.png", 1440, 520)
+            window.picture(pictures / "practice.png", 1440, 620)
             window.size(1440, 900)
         submit(window, count)
     played.practice.until("All files are in")
