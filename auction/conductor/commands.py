@@ -139,9 +139,9 @@ def extend(context: Context, minutes: float) -> None:
         window.note_clock(context.clock)
         changed.forget(number)
         move_later(changed.windows, number, context.settings.gap)
-        changed.announce(
-            f"Round {number} is open until {in_words(window.closes)}, longer than announced before."
-        )
+        end = in_words(window.closes)
+        begin = f"from {in_words(window.opens)} to" if now < window.opens else "until"
+        changed.announce(f"Round {number} is open {begin} {end}, longer than announced before.")
         context.plan_file.store(changed)
         if window.opened is not None:
             # without a pause until the conductor looks

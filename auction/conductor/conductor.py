@@ -195,4 +195,5 @@ class Conductor:
             return None
         plan.forget(number)
         self.context.plan_file.store(plan)
+        self.publisher.store(number)
         return Report(State.CLOSED, f"Round {number} is closed.", self.watch.now)
