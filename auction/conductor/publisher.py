@@ -25,8 +25,8 @@ class Publisher:
     def store(self, closed: int) -> None:
         """Stores what the server forgets of closed rounds, unless it is stored.
 
-        This also asks for the new pages once, behind the curtain. So nobody sees later, by the time
-        that nginx takes for them, whether somebody else was first.
+        This also asks for the new pages once, while the curtain is drawn. So nobody sees later, by
+        the time that nginx takes for them, whether somebody else was first.
         """
         auction = self.context.auction
         closing.check_folder(auction, closed)
