@@ -30,8 +30,8 @@ def program_of(given: pathlib.Path | None) -> pathlib.Path | None:
         sys.exit(f"{given} is not a program.")
     if not shutil.which("rt"):
         sys.exit(
-            "There is no server to practice with: no built program, no `clock_auction` on the PATH, "
-            "and no `rt`."
+            "There is no server to practice with: no built program, no `clock_auction` on the "
+            "PATH, and no `rt`."
         )
     return None
 

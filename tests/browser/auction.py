@@ -56,12 +56,14 @@ class Auction(Site):
         assert self.server is not None
         self.server.kill()
 
-    def begin_conductor(self) -> None:
-        """Starts the conductor, without a timetable."""
+    def begin_conductor(self, publish: int) -> None:
+        """Starts the conductor, without a timetable. Pages are withheld for `publish` seconds after
+        a closing.
+        """
         files = {"setup": "setup.json", "token": "operator.token", "journal": "auction.journal"}
         url = f"http://127.0.0.1:{self.inside}"
         (self.folder / "operator.token").write_text(OPERATOR)
-        settings = {"url": url, "port": self.server_port, **files}
+        settings = {"url": url, "port": self.server_port, "publish": publish, **files}
         (self.folder / "conductor.json").write_text(json.dumps(settings))
         quiet = subprocess.DEVNULL
         command = [sys.executable, str(AUCTION), "run", str(self.folder)]

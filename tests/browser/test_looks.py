@@ -3,6 +3,7 @@ screen reader and for the keyboard. With `--pictures DIR`, it saves pictures for
 """
 import pathlib
 import re
+from collections.abc import Iterator
 
 
 import pytest
@@ -10,10 +11,10 @@ from selenium.webdriver.common.keys import Keys
 
 from tests.browser import scripts
 from tests.browser.auction import Auction, X, Y, Z, bid, example
-from tests.browser.conftest import Begin
+from tests.browser.conftest import Begin, window_of
 from tests.browser.people import enter
 from tests.browser.published import Published
-from tests.browser.window import Window
+from tests.browser.window import Browser, Window
 from tests.lib.setups import OPERATOR
 
 PRICES = {"North-1": 1200, "North-2": 900, "Middle-1": 1450}
@@ -137,18 +138,20 @@ STATES = [bidders_page, wrong_bid, closed_rounds, announcements, highest_prices,
 STATES += [operators_page, operators_highest_prices, public_page]
 
 
-@pytest.fixture(params=STATES, ids=lambda state: state.__name__.replace("_", " "))
-def page(request: pytest.FixtureRequest, x: Window) -> Window:
-    """A window that shows a state of a page."""
-    request.param(request, x)
-    return x
+@pytest.fixture(scope="module", params=STATES, ids=lambda state: state.__name__.replace("_", " "))
+def opened(request: pytest.FixtureRequest, first_browser: Browser) -> Iterator[Window]:
+    """A window that shows a state of a page. The tests of the state share it."""
+    for window in window_of(first_browser):
+        request.param(request, window)
+        yield window
 
 
-@pytest.fixture(params=STATES[:6], ids=lambda state: state.__name__.replace("_", " "))
-def bidding(request: pytest.FixtureRequest, x: Window) -> Window:
-    """A window that shows a state of the bidder's page."""
-    request.param(request, x)
-    return x
+@pytest.fixture
+def page(opened: Window) -> Window:
+    """The window, as wide and high as at first."""
+    opened.size(1280, 900)
+    opened.settle()
+    return opened
 
 
 def test_nothing_is_cut_off_or_beyond_the_window(page: Window) -> None:
@@ -161,6 +164,7 @@ def test_nothing_is_cut_off_or_beyond_the_window(page: Window) -> None:
             page.settle()
             letters = "wide" if is_wide else "its own"
             found += [f"{each} at {wide}, {letters} letters" for each in page.run(scripts.CUT)]
+    page.run(scripts.WIDE_LETTERS, False)
     assert found == []
 
 
