@@ -3,9 +3,10 @@
 SETUP and JOURNAL are the auction's, byte for byte. PUBLISHED is a folder with what was published
 during the auction, by the names under /public/: the commitment and all rounds. Best is what you
 saved yourself during the auction. It may also be the record that `auction record` made, whose
-tables and index are then checked too. Each RECEIPTS is a bidder's file of receipts. COPY is a
-commitment.json that someone saved before round 1, and before a public draw. Without it, the one in
-PUBLISHED counts.
+files and index are then checked too.
+
+Each RECEIPTS is a bidder's file of receipts. COPY is a commitment.json that someone saved before
+round 1, and before a public draw. Without it, the one in PUBLISHED counts.
 
 Each check prints one line, or one for each thing that is wrong: `ok`, `FAILED`, or `absent` if
 there is nothing to check. The last line counts them. The status is 0 only if nothing failed.
