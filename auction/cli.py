@@ -1,6 +1,5 @@
 """The command line of `auction`: one parser for all its commands."""
 import argparse
-import json
 import sys
 from typing import Any
 
@@ -20,16 +19,9 @@ from auction.commands import (
     recount,
     verify,
 )
+from auction.faults import in_words
 
 VERSION = "auction 1"
-# What to do about an error of the system.
-ADVICE: tuple[tuple[type[OSError], str], ...] = (
-    (FileNotFoundError, ". Check the name"),
-    (IsADirectoryError, ". Name a file in it"),
-    (NotADirectoryError, ". Name a folder"),
-    (PermissionError, ". Run the command as root, or as the file's owner"),
-    (FileExistsError, ". Name a new one"),
-)
 COMMANDS: tuple[Command, ...] = (
     init.COMMAND,
     commit.COMMAND,
@@ -87,21 +79,11 @@ def main(words: list[str] | None = None) -> int:
         return 1
     except KeyboardInterrupt:
         sys.exit("stopped")
-    except OSError as fault:
-        sys.exit(f"auction {given.command}: {in_words(fault)}")
-    except (UnicodeDecodeError, json.JSONDecodeError) as fault:
-        sys.exit(f"auction {given.command}: a file has no JSON in UTF-8, as it must: {fault}")
+    except SystemExit as end:
+        raise SystemExit(in_words(end.code) if isinstance(end.code, str) else end.code) from None
     except RecursionError:
         sys.exit(f"auction {given.command}: a file has too many brackets in each other")
-    except (ValueError, LookupError, TypeError, AttributeError) as fault:
-        form = f"a file has not the form that docs/formats.md describes: {fault!r}"
-        sys.exit(f"auction {given.command}: {form}")
+    except (OSError, ValueError, LookupError, TypeError, AttributeError) as fault:
+        form = "" if isinstance(fault, OSError) else "a file has not the form of docs/formats.md: "
+        sys.exit(f"auction {given.command}: {form}{in_words(str(fault))}")
     return status
-
-
-def in_words(fault: OSError) -> str:
-    """What an error of the system says: the file, the reason, and what to do."""
-    if fault.filename is None:
-        return str(fault)
-    advice = next((words for kind, words in ADVICE if isinstance(fault, kind)), "")
-    return f"{fault.filename}: {fault.strerror}{advice}"

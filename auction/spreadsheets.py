@@ -36,6 +36,17 @@ def rows_in(
     path: pathlib.Path, required: tuple[str, ...], allowed: tuple[str, ...]
 ) -> Iterator[dict[str, Any]]:
     """The rows of a CSV file whose first line names its columns. Numbers are whole numbers."""
+    try:
+        yield from read_rows(path, required, allowed)
+    except (UnicodeDecodeError, csv.Error):
+        words = "this is not a CSV file in UTF-8. Save the spreadsheet as one"
+        raise SpreadsheetFault(f"{path}: {words}") from None
+
+
+def read_rows(
+    path: pathlib.Path, required: tuple[str, ...], allowed: tuple[str, ...]
+) -> Iterator[dict[str, Any]]:
+    """As `rows_in`, with faults of the encoding."""
     with open(path, encoding="utf-8-sig", newline="") as file:
         reader = csv.DictReader(file, strict=True)
         columns = [name.strip() for name in reader.fieldnames or []]

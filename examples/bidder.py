@@ -13,11 +13,13 @@ it won.
 
 After each accepted sheet it waits up to two seconds for the receipt, checks it, adds it to FILE, by
 default receipts.jsonl, and reports it or what is missing. The file's first line is the commitment,
-the second names the bidder. Before it sends a sheet, it adds what it sends. If a receipt comes for
-a sheet that it did not send, it says so: if you did not send it either, someone put it in.
-`auction check-receipts` compares the file with the published journal. It checks signatures if
-openssl is installed, and the published seed of each closed round. Without a commitment, as at the
-server's own port, it says once that there are no receipts.
+the second names the bidder.
+
+Before it sends a sheet, it adds what it sends to FILE. If a receipt comes for a sheet that it did
+not send, it says so: if you did not send it either, someone put it in. `auction check-receipts`
+compares the file with the published journal. It checks signatures if openssl is installed, and the
+published seed of each closed round. Without a commitment, as at the server's own port, it says once
+that there are no receipts.
 
 It reads the status every SECONDS, by default 1, and misses no round that is open longer than that.
 If no reply comes, or a page that is not the server's, it says so and repeats the request for an
@@ -139,9 +141,9 @@ class Auction:
         request = urllib.request.Request(
             self.url + path, body, headers, method="GET" if sheet is None else "PUT"
         )
-        given_up = time.monotonic() + PATIENCE
+        given_up, is_noted = time.monotonic() + PATIENCE, sheet is None or not self.receipts
         while time.monotonic() < given_up:
-            if sheet is not None and self.receipts:
+            if not is_noted:
                 self.receipts.note(text_of(sheet))
             try:
                 with self.opener.open(request, timeout=30) as reply:
@@ -150,6 +152,7 @@ class Auction:
                     if reply.status == 503:
                         self.tell_closing()
                     given_up = time.monotonic() + PATIENCE
+                    is_noted = True  # this one was not taken, so the next is the one that is noted
                     time.sleep(self.every)
                     continue
                 if reply.status == 404 and may_lack:
@@ -163,7 +166,8 @@ class Auction:
             except (OSError, http.client.HTTPException, RecursionError, ValueError) as error:
                 fault = error
             print(f"no reply to {path}: {fault}", file=sys.stderr)
-            self.is_in_doubt = True
+            # A sheet without a reply may have been taken, and then the next is one more.
+            self.is_in_doubt, is_noted = True, sheet is None or not self.receipts
             time.sleep(self.every)
         sys.exit(f"{path}: no reply for {PATIENCE} seconds")
 
@@ -241,7 +245,7 @@ class Receipts:
                 self.taken[line["body"]] += 1
 
     def note(self, text):
-        """Stores what will be sent: without that, nothing tells an own sheet from one put in."""
+        """Stores what will be sent: it shows later which sheets are own ones."""
         if self.commitment:
             self.count(text)
             self.add({"sent": text})

@@ -24,8 +24,9 @@ def run(given: argparse.Namespace) -> int:
         print((maps.sheet_conf if given.sheet else maps.bidders_map)(setup), end="")
     except maps.TokensFault as fault:
         sys.exit(str(fault))
-    except (OSError, ValueError, LookupError, TypeError) as error:
-        sys.exit(f"{given.setup} is not a set-up: {error!r}")
+    except (ValueError, LookupError, TypeError):
+        advice = f"auction explain setup {given.setup}"
+        sys.exit(f"{given.setup} is not a set-up. To see each error: {advice}")
     return 0
 
 

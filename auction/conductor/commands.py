@@ -139,9 +139,9 @@ def extend(context: Context, minutes: float) -> None:
         window.note_clock(context.clock)
         changed.forget(number)
         move_later(changed.windows, number, context.settings.gap)
-        changed.announce(
-            f"Round {number} is open until {in_words(window.closes)}, longer than announced before."
-        )
+        end = in_words(window.closes)
+        begin = f"from {in_words(window.opens)} to" if now < window.opens else "until"
+        changed.announce(f"Round {number} is open {begin} {end}, longer than announced before.")
         context.plan_file.store(changed)
         if window.opened is not None:
             # without a pause until the conductor looks
@@ -158,7 +158,7 @@ def announce(context: Context, words: str) -> None:
 def close_next(context: Context, number: int, without_sheets: bool, no_ties: bool = False) -> None:
     """Gives the word that the conductor waits for, to close this round.
 
-    It releases the doubts that stand now, and no other.
+    It releases the doubts of now, and no later one.
     """
     with context.changing() as changed:
         shown = report.shown(context.folders)
@@ -183,7 +183,7 @@ def close_next(context: Context, number: int, without_sheets: bool, no_ties: boo
 
 
 def release(context: Context, changed: Plan, number: int) -> None:
-    """A person's word: the doubts about a round that stand now hold it no more.
+    """A person's word: the doubts about a round so far hold it no more.
 
     From now on the clock is right, so that it can be doubted again.
     """
@@ -195,7 +195,7 @@ def release(context: Context, changed: Plan, number: int) -> None:
 def end_early(context: Context, changed: Plan, asked: Closing) -> None:
     """Ends the window of the current round now, to close it with these increments.
 
-    This is a person's word too: it releases the doubts that stand now.
+    This is a person's word too: it releases the doubts of now.
     """
     number, now = asked.round, context.clock.wall()
     window = changed.windows.get(number)

@@ -1,6 +1,6 @@
 """The conductor: it observes, decides, and carries out, until there is nothing to do but wait.
 
-What it does is decided by `decide` alone. It remembers no step: what is next follows from what it
+Only `decide` says what it does. It remembers no step: what is next follows from what it
 observes. So it may be killed between any two actions, and started again.
 """
 import dataclasses
@@ -195,4 +195,5 @@ class Conductor:
             return None
         plan.forget(number)
         self.context.plan_file.store(plan)
+        self.publisher.store(number)
         return Report(State.CLOSED, f"Round {number} is closed.", self.watch.now)

@@ -99,7 +99,7 @@ class Window(NamedTuple):
 class Plan:
     """What the plan says of the current round.
 
-    A word releases the doubts that stood when it was given, and no other.
+    A word releases the doubts of its time, and no other.
     """
 
     auction: str
@@ -110,9 +110,11 @@ class Plan:
 
 
 class Server(NamedTuple):
-    """The status and the journal behind it: the rounds that are closed, whether that is the end,
-    the digest of the last entry, how many bidders have a sheet in force, and how many pairs matter
-    to the closing of these sheets.
+    """The status, and the journal that it comes from.
+
+    It has the closed rounds, whether the last one ended the auction, and the digest of the
+    journal's last entry. It also counts the bidders with a sheet in force, and the pairs that
+    matter to the closing of these sheets.
     """
 
     closed: int
@@ -527,7 +529,7 @@ RULES: tuple[Rule, ...] = (
         lambda look: look.seen.fixed not in (None, look.server.digest),
     ),
     Rule(
-        "a doubt stands",
+        "a doubt is not released",
         "wait for the word to close, or for more time",
         lambda look: bool(look.doubts),
         lambda look: Wait(State.HELD, None, look.doubts),

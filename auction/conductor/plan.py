@@ -98,7 +98,7 @@ class Plan:
         self.doubts = [*others, Doubt(number, reason.name, words, is_released)]
 
     def release(self, number: int) -> None:
-        """The doubts about a round that stand now hold it no more. That of the clock is gone."""
+        """The doubts about a round so far hold it no more. That of the clock is gone."""
         for doubt in self.doubts_of(number):
             doubt.is_released = True
         self.doubts = [one for one in self.doubts if one.reason != Reason.CLOCK.name]

@@ -14,16 +14,25 @@ class Publisher:
         self.context = context
 
     def publish(self, plan: Plan, number: int, closed: int, ended: bool) -> None:
-        """Stores what the server forgets, and publishes a closed round."""
+        """Publishes a closed round, once it is stored."""
         context = self.context
-        closing.check_folder(context.auction, closed)
-        if not context.auction.results_file(closed).exists():
-            with disk.locked(context.auction.lock()):
-                closing.keep(context.auction)
+        self.store(closed)
         now = context.clock.wall()
         if number == closed and not ended:
             self.leave_time(plan, closed + 1, now)
         context.public.publish_round(number, closing.stored_results(context.auction, number), now)
+
+    def store(self, closed: int) -> None:
+        """Stores what the server forgets of closed rounds, unless it is stored.
+
+        This also asks for the new pages once, while the curtain is drawn. So nobody sees later, by
+        the time that nginx takes for them, whether somebody else was first.
+        """
+        auction = self.context.auction
+        closing.check_folder(auction, closed)
+        if not auction.results_file(closed).exists():
+            with disk.locked(auction.lock()):
+                closing.keep(auction)
 
     def leave_time(self, plan: Plan, number: int, now: float) -> None:
         """The next round opens no sooner after these results than the settings say.

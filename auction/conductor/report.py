@@ -55,7 +55,7 @@ def report_of(
 ) -> Report:
     """What the conductor waits for, in words for the operator.
 
-    `doubts` are those that stand, in words. `fault` is why the server is not seen.
+    `doubts` are those that no word has released, in words. `fault` is why the server is not seen.
     """
     state, number = STATES[wait.state.name], current_round(seen)
     said = {

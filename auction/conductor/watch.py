@@ -25,7 +25,7 @@ class Missed:
     was_reached: bool = True
 
     def after(self, now: float, is_open: bool, is_reached: bool) -> "Missed":
-        """The same after one more look, at which the doors were open or not."""
+        """This with one more look, at which the doors were open or not."""
         gap = max(0.0, now - self.until)
         is_seen = is_open and is_reached and self.was_reached and gap <= UNSEEN
         seconds = self.seconds + (0.0 if is_seen else gap)

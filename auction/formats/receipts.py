@@ -97,7 +97,7 @@ class File(NamedTuple):
 
     `bidder` is the name that the file states, if it does: then it accounts for all sheets of this
     bidder, even if these are none. `sent` has the digest of each body that the bidder says it sent,
-    besides those that stand in a receipt.
+    besides those in receipts.
     """
 
     commitment: Commitment
@@ -107,7 +107,7 @@ class File(NamedTuple):
 
     @property
     def name(self) -> str | None:
-        """The bidder whose file this is, if the file tells."""
+        """The bidder whose file this is, if it is known."""
         names = {kept.receipt.bidder for kept in self.receipts}
         return self.bidder or min(names, default=None)
 

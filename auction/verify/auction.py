@@ -115,7 +115,7 @@ def is_as_served(text: bytes, found: dict[str, Any], page: dict[str, Any]) -> bo
     """Whether a file is byte for byte the page of a round, as the conductor or `auction close`
     writes it.
 
-    Its digest and its seed have checks of their own, and nothing tells when it was published.
+    Its digest and its seed have checks of their own, and no file proves when it was published.
     """
     page = {**page, "digest": found.get("digest"), "seed": found.get("seed")}
     if "published" in found:

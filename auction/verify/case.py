@@ -22,11 +22,20 @@ class Absent(Exception):
 class Case:
     """A set-up document, a journal, the folder of what was published, and files of receipts.
 
-    A check reads each when it needs it.
+    `commitment` is a copy of the commitment that someone saved. A check reads each when it needs
+    it.
     """
 
-    def __init__(self, setup: Path, journal: Path, published: Path, *receipts: Path) -> None:
+    def __init__(
+        self,
+        setup: Path,
+        journal: Path,
+        published: Path,
+        *receipts: Path,
+        commitment: Path | None = None,
+    ) -> None:
         self.paths, self.published, self.receipts = (setup, journal), published, receipts
+        self.commitment = commitment
 
     @functools.cached_property
     def document(self) -> bytes:

@@ -1,33 +1,81 @@
 """Checks of what was fixed earlier: the commitment, tie-breaking numbers, and receipts."""
+import hashlib
 from collections.abc import Iterable
 
-from auction.formats import receipts, ties
+from auction.formats import receipts, strict, ties
 from auction.recount.formats import closing_in, json_in, request_in
 
 from .case import Absent, Case, Failed
 
-COMMITMENT = "commitment.json"
+COMMITMENT, DRAW = "commitment.json", "draw.json"
 
 
 def commitment_of(case: Case) -> ties.Commitment:
-    """The published commitment."""
+    """The commitment: the named copy, or the published one."""
+    return ties.Commitment.of(strict.value_in(commitment_text(case)))
+
+
+def commitment_text(case: Case) -> bytes:
+    """The bytes of the commitment."""
+    if case.commitment is not None:
+        return case.commitment.read_bytes()
     if not (case.published / COMMITMENT).is_file():
         raise Failed(
             f"{case.published} has no {COMMITMENT}: nothing shows what was fixed before round 1"
         )
-    return ties.Commitment.read(case.published / COMMITMENT)
+    return case.text(COMMITMENT)
+
+
+def chain_of(case: Case) -> ties.Committed | None:
+    """The chain of the commitment, after the draw if one was published."""
+    chain = commitment_of(case).chain
+    drawn = (case.published / DRAW).is_file()
+    return chain.after(ties.Draw.of(case.json(DRAW)).words) if chain and drawn else chain
 
 
 def check_commitment(case: Case) -> str:
     """Checks that what was fixed before round 1 is about this set-up."""
-    commitment = commitment_of(case)
+    commitment, text = commitment_of(case), commitment_text(case)
+    if text != strict.published(commitment.value()):
+        raise Failed(f"{COMMITMENT} is not written as `auction commit` writes it")
+    if case.commitment is not None and case.text(COMMITMENT) != text:
+        raise Failed(f"{case.commitment} is another commitment than the one of {case.published}")
     if commitment.auction != case.setup_digest:
         raise Failed(
             f"{COMMITMENT} is about the set-up {commitment.auction}, but this one is "
             f"{case.setup_digest}"
         )
+    if commitment.chain and commitment.chain.draw:
+        raise Failed(f"{COMMITMENT} has the result of a draw, so it fixed nothing before the draw")
     chain = "a chain of seeds" if commitment.chain else "closings without tie-breaking numbers"
     return f"it is about this set-up, and fixed {chain} and the key of receipts"
+
+
+def check_draw(case: Case) -> str:
+    """Checks that a public draw was added to this commitment, and says whose copy that is."""
+    if not (case.published / DRAW).is_file():
+        raise Absent(
+            f"{case.published} has no {DRAW}, and without a public draw the operator may have "
+            "chosen among many chains"
+        )
+    draw, text = ties.Draw.of(case.json(DRAW)), commitment_text(case)
+    if commitment_of(case).chain is None:
+        raise Failed(f"{DRAW} is of an auction without tie-breaking numbers")
+    if draw != ties.Draw.added(text, draw.words):
+        raise Failed(
+            f"{DRAW} was added to the commitment {draw.commitment}, and not to this one, which is "
+            f"{hashlib.sha256(text).hexdigest()}"
+        )
+    if case.commitment is None and case.is_record:
+        raise Absent(
+            f"the record's draw is {draw.words!r}; that proves nothing without a commitment of "
+            "before the draw: give --commitment, a copy that someone saved then"
+        )
+    copy = case.commitment or case.published / COMMITMENT
+    return (
+        f"{draw.words!r} was added to {copy}, {draw.commitment}; if that was saved before the draw "
+        "and these words are what was drawn, nobody chose the chain"
+    )
 
 
 def pairs_that_matter(case: Case, number: int) -> set[tuple[int, int]]:
@@ -51,7 +99,7 @@ def check_ties(case: Case) -> str:
 
     The seed must lead to the end of the chain.
     """
-    chain, setup = commitment_of(case).chain, case.setup
+    chain, setup = chain_of(case), case.setup
     bodies = [
         request_in(record.text).body for record in case.records if record.text.startswith(b"POST ")
     ]
@@ -115,4 +163,4 @@ def words_of(counts: dict[str, int], bidders: Iterable[str]) -> str:
 
 
 COMMITMENT_CHECK = ("commitment", check_commitment)
-CHECKS = [("ties", check_ties), ("receipts", check_receipts)]
+CHECKS = [("ties", check_ties), ("draw", check_draw), ("receipts", check_receipts)]

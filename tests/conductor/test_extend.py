@@ -23,6 +23,15 @@ def test_extend_moves_the_end_and_the_later_windows(opened: ConductedAuction) ->
     assert opened.announced("Round 1 is open until 12:08") == 1
 
 
+def test_extend_before_the_window_says_when_it_opens(conduct: Conduct) -> None:
+    auction = conduct()
+    auction.play(State.BEFORE)
+    commands.extend(auction.context(), 2)
+    assert auction.window(1) == (60, 480)
+    words = "Round 1 is open from 12:01 UTC on November 28 to 12:08 UTC on November 28, longer"
+    assert auction.announced(words) == 1
+
+
 @pytest.mark.parametrize("minutes", (0, -1, 1e9, float("nan")))
 def test_wrong_minutes_are_refused(opened: ConductedAuction, minutes: float) -> None:
     assert "minutes must be" in refusal(commands.extend, opened.context(), minutes)

@@ -143,3 +143,14 @@ def test_the_shortest_breaks_are_kept(conduct: Conduct, publish: int, gap: int) 
     finish(auction, step=1)
     assert not auction.announced("later than announced")
     assert [auction.window(number) for number in (1, 2, 3)] == windows
+
+
+def test_a_closed_round_is_stored_before_its_curtain_lifts(conduct: Conduct) -> None:
+    auction = conduct([(60, 120), (200, 260), (340, 400)], publish=30)
+    auction.play(State.CLOSED, step=1)
+    assert (auction.folder / "kept/results-1.json").exists()
+    assert auction.conductor.context.public.published() == 0
+    auction.play(State.CURTAIN, step=1)
+    auction.play(State.BEFORE, step=1)
+    published = auction.page("public/rounds/1.json")["published"]
+    assert published == "2026-11-28T12:02:30Z"

@@ -55,7 +55,7 @@ def commanded(world: World) -> Iterator[World]:
 
 
 def released(world: World) -> World:
-    """A word: all doubts that stand hold the round no more, and the clock is right from now on."""
+    """A word: the doubts so far hold the round no more, and the clock is right from now on."""
     return spent(
         world,
         doubts=world.doubts - {Reason.CLOCK},

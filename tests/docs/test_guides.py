@@ -102,7 +102,10 @@ class Machine:
         assert page == (TOP / "web/index.html").read_text().splitlines()[0]
 
     def second_receipt(self) -> None:
-        """Fetches the receipt of X's sheet of round 2, as soon as it is published."""
+        """Saves round 2, and fetches the receipt of X's sheet as soon as it is published."""
+        page = "https://localhost:8443/public/rounds/2.json"
+        _, status = self.curl(f"-f -o saved/rounds/2.json {page}")
+        assert status == 0
         wait_for("X's second receipt", (self.auction / "receipts/X/2-1.json").exists, 20)
         _, status = self.curl(
             "-H @x.head https://localhost:8443/receipts/2/1.json >> receipts.jsonl"

@@ -11,7 +11,7 @@ from auction.verify.findings import ABSENT, FAILED, OK, findings
 from tests.lib.conducted import conducted
 from tests.lib.paths import auction
 
-WITHOUT_RECORD = ["receipts", "tables", "index"]
+WITHOUT_RECORD = ["draw", "receipts", "tables", "index"]
 # Each false word: its file, the right word, the false one, and the checks that fail.
 FALSE_WORDS = [
     ("rounds/2.json", '"posted":', '"posted":1', "results"),
@@ -67,7 +67,7 @@ def test_a_record_of_it_verifies(folder: pathlib.Path, tmp_path: pathlib.Path) -
     done = auction("record", *files, record)
     assert done.returncode == 0, done
     assert results_of(folder, record, FAILED) == []
-    assert results_of(folder, record, ABSENT) == ["receipts"]
+    assert results_of(folder, record, ABSENT) == ["draw", "receipts"]
 
 
 @pytest.mark.parametrize(

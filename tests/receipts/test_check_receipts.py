@@ -187,7 +187,7 @@ def test_a_sheet_that_was_sent_once_counts_for_one_receipt(signed: ReceiptsAucti
 
 
 def test_a_replaced_sheet_that_is_put_in_again_is_shown(signed: ReceiptsAuction) -> None:
-    """X's first sheet of round 1 stands in the journal again, byte for byte, after its second."""
+    """X's first sheet of round 1 is in the journal again, byte for byte, after its second."""
     texts = signed.texts()
     forged = signed.forged([*texts[:3], texts[0], *texts[3:]])
     found = faults(read_kept(signed.kept_file("X")), forged)
