@@ -47,8 +47,10 @@ bid() { # BIDDER ROUND PRODUCT PRICE QUANTITY
     local row="{\"price\":$4,\"product\":$3,\"quantity\":$5}"
     ask "$1" /v1/me/bids -X PUT -d "{\"bids\":[$row],\"round\":$2}" | grep -q '"accepted":true'
 }
-are_active() { for unit in "${units[@]}"; do systemctl is-active --quiet "$unit" || return 1; done; }
-are_enabled() { for unit in "${units[@]}"; do systemctl is-enabled --quiet "$unit" || return 1; done; }
+are_active() {
+    local unit
+    for unit in "${units[@]}"; do systemctl is-active --quiet "$unit" || return 1; done
+}
 reports() { auction status "$folder" | grep -qF "$1"; }
 round_is() { curl -sS -m 5 http://127.0.0.1:8106/v1/status | grep -qF "\"round\":$1,"; }
 # Which checks find a fault: only those of this container, which has no clock, disk, or authority of
