@@ -1,4 +1,4 @@
-"""Where the files are that are installed with the command, and which versions they are."""
+"""The places of the files that are installed with the command, and their versions."""
 import hashlib
 import pathlib
 import shutil

@@ -36,6 +36,7 @@ class Shell:
         self.ports = {port: str(free_port()) for port in PORTS}
         (folder / "work").mkdir(parents=True)
         folder.chmod(0o755)  # nginx's workers are another user
+        (folder / "journal").mkdir()
         (folder / "work" / "examples").symlink_to(TOP / "examples")
         self.make_repository(openapi)
         (folder / "bin").mkdir()
@@ -79,6 +80,8 @@ class Shell:
         # nginx's workers here are of Debian's default, or of this user
         group = " -g nogroup" if os.geteuid() == 0 else ""
         text = text.replace(" -g auction-nginx", group)
+        text = text.replace("/usr/share/clock-auction", str(self.folder / "repository"))
+        text = text.replace("/var/lib/private/clock_auction", str(self.folder / "journal"))
         return text.replace("/srv/auction", str(self.folder / "auction"))
 
     # ---- What is typed
@@ -143,6 +146,14 @@ class Shell:
         """Starts a server of a set-up of examples/ at the guide's port."""
         words = f"--setup examples/{setup} --port 8105 --connections {connections}"
         self.begin(self.put_elsewhere(f"clock_auction serve {words}"), 1)
+
+    def start_services(self) -> None:
+        """Starts what the units start: the server, nginx, and the receipts."""
+        journal = "/var/lib/private/clock_auction/auction.journal"
+        words = f"--setup setup.json --port 8105 --connections 1000000 --journal {journal}"
+        self.begin(self.put_elsewhere(f"clock_auction serve {words}"), 2)
+        assert self.say("nginx -p $PWD -c nginx.conf") == ("", 0)
+        self.begin(self.put_elsewhere(f"auction receipts setup.json {journal} kept receipts"), 0)
 
     # ---- What other bidders and the operator do between two lines
 

@@ -75,11 +75,12 @@ class Machine:
     def moves(self) -> list[tuple[str, Callable[[], object]]]:
         """What others do, and before which line."""
         return [
+            ("/v1/status", self.shell.start_services),
             ("x.head", self.write_head),
             ("auction close", lambda: None),
             ("auction close", self.first_round),
             ("auction close", lambda: self.shell.play(MACHINE[1], 2)),
-            ("-s stop", self.second_receipt),
+            ("auction record", self.end),
         ]
 
     def curl(self, words: str) -> tuple[str, int]:
@@ -100,6 +101,13 @@ class Machine:
         assert found == (True, False, False), "a name and no token in the log"
         page, _ = self.curl("https://localhost:8443/ | head -n 1")
         assert page == (TOP / "web/index.html").read_text().splitlines()[0]
+
+    def end(self) -> None:
+        """Stops what the units started, once X's second receipt is fetched."""
+        self.second_receipt()
+        _, status = self.shell.say("nginx -p $PWD -c nginx.conf -s stop")
+        assert status == 0
+        self.shell.say("kill %1 %2")
 
     def second_receipt(self) -> None:
         """Saves round 2, and fetches the receipt of X's sheet as soon as it is published."""
@@ -160,15 +168,16 @@ class Day:
     def moves(self) -> list[tuple[str, Callable[[], object]]]:
         head = self.auction / "x.head"
         return [
+            ("/v1/status", self.shell.start_services),
             ("x.head", lambda: head.write_text("authorization: Bearer XXXXXXXXXXXXXXXX\n")),
-            ("operator.map", self.write_files),
-            ("status", lambda: None),
-            ("status", self.first_round),
-            ("status", lambda: self.wait("round 1 is published", lambda: self.reports(2))),
+            ("auction check", self.write_files),
+            ("auction status", lambda: self.shell.begin("auction run $PWD", 1)),
+            ("auction status", self.first_round),
+            ("auction status", lambda: self.wait("round 1 is published", lambda: self.reports(2))),
         ]
 
     def write_files(self) -> None:
-        """Writes the two files that the text shows.
+        """Writes the timetable that the text shows, and settings of the conductor.
 
         The settings have less time between rounds, no curtain, and no notice.
         """
@@ -178,11 +187,12 @@ class Day:
             "".join(line[4:] for line in block.splitlines(True))
             for block in re.findall(r"(?m)(?:^    .*\n)+", self.section)
         ]
-        files = [self.shell.put_elsewhere(block) for block in blocks if block.startswith("{")]
-        settings, timetable = files
+        (timetable,) = (block for block in blocks if block.startswith("{"))
+        (self.auction / "timetable.json").write_text(self.shell.put_elsewhere(timetable))
+        settings = json.loads((self.auction / "conductor.json").read_text())
         quick = {"drain": 10, "between": 10, "notice": 0, "publish": 0}
-        (self.auction / "conductor.json").write_text(json.dumps({**json.loads(settings), **quick}))
-        (self.auction / "timetable.json").write_text(timetable)
+        text = json.dumps({**settings, **quick})
+        (self.auction / "conductor.json").write_text(self.shell.put_elsewhere(text))
 
     def put_outside(self, letter: str, bids: object) -> dict[str, object]:
         """Submits a sheet through nginx. Returns the reply."""

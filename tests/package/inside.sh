@@ -1,12 +1,14 @@
 #!/bin/bash
 # In the container of test_live.py: an auction of the installed package, from `auction init` to the
-# removal, with a reboot in a window and an upgrade between two rounds. Prints a line for each thing
-# that is as it must be, and ends at the first that is not. It begins anew at each start of the
-# machine: /phase says where.
+# removal, with a reboot in a window and an upgrade between two rounds.
+#
+# Prints a line for each thing that is as it must be, and ends at the first that is not. systemd
+# starts it at each start of the machine, and /phase says where it continues.
+#
 # shellcheck disable=SC2317  # `expect` and `within` call functions by their names
 folder=/srv/auction
 journal=/var/lib/private/clock_auction/auction.journal
-units="clock-auction clock-auction-nginx clock-auction-conductor clock-auction-receipts"
+units=(clock-auction clock-auction-nginx clock-auction-conductor clock-auction-receipts)
 export DEBIAN_FRONTEND=noninteractive
 
 seen() { echo "seen: $1"; }
@@ -16,7 +18,11 @@ fail() {
     journalctl -b --no-pager -o cat -n 40
     finish
 }
-expect() { local what=$1; shift; if "$@" > /tmp/said 2>&1; then seen "$what"; else cat /tmp/said; fail "$what"; fi; }
+expect() {
+    local what=$1
+    shift
+    if "$@" > /tmp/said 2>&1; then seen "$what"; else cat /tmp/said; fail "$what"; fi
+}
 within() {
     local what=$1
     shift
@@ -34,25 +40,28 @@ for bidder in json.load(open("/srv/auction/setup.json"))["bidders"]:
 ask() {
     local bidder=$1 path=$2
     shift 2
-    curl -sS -m 5 --cacert $folder/cert.pem -H "authorization: Bearer $(token "$bidder")" "$@" \
+    curl -sS -m 5 --cacert "$folder/cert.pem" -H "authorization: Bearer $(token "$bidder")" "$@" \
         "https://localhost:8443$path"
 }
-bid() {
-    ask "$1" /v1/me/bids -X PUT -d "{\"bids\":[{\"price\":$4,\"product\":$3,\"quantity\":$5}],\"round\":$2}" \
-        | grep -q '"accepted":true'
+bid() { # BIDDER ROUND PRODUCT PRICE QUANTITY
+    local row="{\"price\":$4,\"product\":$3,\"quantity\":$5}"
+    ask "$1" /v1/me/bids -X PUT -d "{\"bids\":[$row],\"round\":$2}" | grep -q '"accepted":true'
 }
-are_active() { for unit in $units; do systemctl is-active --quiet "$unit" || return 1; done; }
-are_enabled() { for unit in $units; do systemctl is-enabled --quiet "$unit" || return 1; done; }
-reports() { auction status $folder | grep -qF "$1"; }
+are_active() {
+    local unit
+    for unit in "${units[@]}"; do systemctl is-active --quiet "$unit" || return 1; done
+}
+reports() { auction status "$folder" | grep -qF "$1"; }
 round_is() { curl -sS -m 5 http://127.0.0.1:8106/v1/status | grep -qF "\"round\":$1,"; }
 # Which checks find a fault: only those of this container, which has no clock, disk, or authority of
 # its own.
-faults() { auction ready $folder | sed -n 's/^FAULT  \([^:]*\):.*/\1/p' | paste -sd ,; }
-is_ready() { echo "$(faults)"; [[ ",$(faults)," =~ ^,(certificate,|clock,|file systems,|space,)*$ ]]; }
+faults() { auction ready "$folder" | sed -n 's/^FAULT  \([^:]*\):.*/\1/p' | paste -sd ,; }
+is_ready() { [[ ",$(faults)," =~ ^,(certificate,|clock,|file systems,|space,)*$ ]]; }
 at() { date -u -d "@$1" +%T; }
 
 before_the_reboot() {
-    expect "the command names its commit" bash -c "auction --version | grep -qE '^commit [0-9a-f]{40}$'"
+    expect "the command names its commit" \
+        bash -c "auction --version | grep -qE '^commit [0-9a-f]{40}$'"
     expect "the manual is there" test -s /usr/share/man/man8/auction.8.gz
     printf 'name,units,supply,opening\nA,1,2,100\nB,1,2,100\n' > /root/products.csv
     printf 'name,eligibility\nX,2\nY,2\nZ,1\n' > /root/bidders.csv
@@ -64,7 +73,7 @@ path = "/srv/auction/conductor.json"
 value = {**json.load(open(path)), "drain": 2, "between": 0, "notice": 0, "publish": 4}
 json.dump(value, open(path, "w"))
 END
-    expect "the units start with the machine from now on" systemctl enable --now $units
+    expect "the units start with the machine from now on" systemctl enable --now "${units[@]}"
     within "all four run" are_active
     within "bidders get the status" ask X /v1/status
     expect "what nginx writes is in memory" test "$(stat -f -c %T $folder/tmp)" = tmpfs
@@ -73,8 +82,8 @@ END
         "! setpriv --reuid nobody --regid nogroup --clear-groups stat $folder/receipts"
     within "auction ready finds no fault but those of a container" is_ready
     first=$(( $(date +%s) / 10 * 10 + 20 ))
-    echo $first > /first
-    printf '{"days":[{"date":"%s","windows":["%s-%s","%s-%s"]}]}' "$(date -u -d @$first +%F)" \
+    echo "$first" > /first
+    printf '{"days":[{"date":"%s","windows":["%s-%s","%s-%s"]}]}' "$(date -u -d "@$first" +%F)" \
         "$(at $first)" "$(at $((first + 70)))" "$(at $((first + 110)))" "$(at $((first + 140)))" \
         > $folder/timetable.json
     expect "it takes a timetable" auction plan $folder $folder/timetable.json
@@ -108,8 +117,10 @@ after_the_reboot() {
     within "and round 2 is published" test -s $folder/public/rounds/2.json
     expect "the record is made" \
         auction record $folder/setup.json $journal $folder/public /root/record
-    expect "and verified" bash -c \
-        "auction verify /root/record/setup.json /root/record/auction.journal /root/record | tail -n 1 | grep -q ^verified:"
+    cd /root/record || fail "the record"
+    expect "and verified" \
+        bash -c "auction verify setup.json auction.journal . | tail -n 1 | grep -q ^verified:"
+    cd /
     expect "the package is removed" apt-get remove -y -q clock-auction
     expect "nothing runs any more" bash -c "! pgrep -x clock_auction"
     expect "the journal stays" test -s $journal
