@@ -1,4 +1,4 @@
-// The columns of the grid of bids, and the groups of rows that can be shown alone. Each is a
+// The columns of the grid of bids, and the groups of rows that can be shown by themselves. Each is a
 // function of the view `v`, which grid.js keeps, and of a product's place `p`.
 
 import {dollars, make, number} from "./page.js";

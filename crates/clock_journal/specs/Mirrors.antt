@@ -1,8 +1,8 @@
 -- Two disks with the same bytes, of which a crash may lose one.
 --     DiskState, MirrorState      what contracts see of a disk, and of both
 --     IsPrefix one other, IsPartOf left written      one is a prefix of the other, perhaps empty
---     IsUnder joint one      at this moment, a disk had no more bytes than at the joint one, and at
---         least as many of them synced
+--     IsUnder joint one      at this moment, a disk had no more bytes than at the joint one, and no
+--         fewer of them synced
 --     RunsUnder joint old new      all moments of a disk in a call are under this one
 --     LeftOfTwo first second one other      a crash leaves these files of two disks: of one of them
 --         any prefix, and of the other what a disk leaves
@@ -47,7 +47,7 @@ IsPartOf left None = ⊥
 abbrev pub at_rest : DiskState → Moment
 at_rest disk = record { synced = disk.synced; written = disk.written }
 
--- no more bytes than at the joint moment, and at least as many synced
+-- no more bytes than at the joint moment, and no fewer synced
 pub record IsUnder (joint one : Moment) : Type 0 where
   pub all : List ℕ
   pub least : List ℕ

@@ -91,9 +91,10 @@ pub enum JournalFault {
 /// Gives a machine all texts of a file, in order, each with its record. `digest` is that of the
 /// set-up document. If the file begins with the journal of some texts, the machine takes these
 /// first, and `Damaged` names no place before their end: by `whatever_follows` of
-/// [`law_of_journals`](crate::law_of_journals), a file has one list of texts only. So what a crash
-/// left of a journal is not damaged, and the machine takes every text that was on the disk. No text
-/// that it takes is one that it refuses.
+/// [`law_of_journals`](crate::law_of_journals), a file has one list of texts only.
+///
+/// So what a crash left of a journal is not damaged, and the machine takes every text that was on
+/// the disk. No text that it takes is one that it refuses.
 ///
 /// Requires a machine without texts.
 ///

@@ -4,6 +4,7 @@
 //! on each with a front, and sends each reply to an [`Outlet`]. [`PortAcceptor`] is the acceptor of
 //! a port; clock_server_tests has one in memory. A [`RequestLog`] logs the accepted texts: a
 //! journal, one that announces closed rounds ([`Announced`]), or [`NoLog`], which logs nothing.
+//!
 //! [`ReplayedAuction`] takes the texts of a file. [`serve_from`] resumes a journal with it, listens
 //! for connections ([`Listen`]), and serves them. [`serve_on`] serves a port without a journal.
 #![tactic(auto)]
