@@ -5,8 +5,9 @@ import shutil
 
 import pytest
 
+from auction.formats.strict import published
 from auction.verify.case import Case
-from tests.forgeries.auction import WitnessedAuction, failing, with_json
+from tests.forgeries.auction import WitnessedAuction, failing
 from tests.lib.journals import journal_of
 
 
@@ -28,8 +29,9 @@ def other_key(honest: WitnessedAuction, tmp_path: pathlib.Path) -> pathlib.Path:
     folder, public = tmp_path / "other-key", tmp_path / "public"
     shutil.copytree(honest.public, folder)
     honest.succeed("commit", honest.setup_file, tmp_path / "kept", public)
-    key = json.loads((public / "commitment.json").read_text())["key"]
-    with_json(folder / "commitment.json", key=key)
+    other = json.loads((public / "commitment.json").read_text())
+    true = json.loads((folder / "commitment.json").read_text())
+    (folder / "commitment.json").write_bytes(published({**true, "key": other["key"]}))
     return folder
 
 
