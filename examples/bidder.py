@@ -12,14 +12,20 @@ It prints each round's sheet, then the round's results for this bidder ("slip"),
 it won.
 
 After each accepted sheet it waits up to two seconds for the receipt, checks it, adds it to FILE, by
-default receipts.jsonl, and reports it or what is missing. The file's first line is the commitment.
-`auction check-receipts` compares the file with the published journal. It checks signatures if
-openssl is installed, and the published seed of each closed round. Without a commitment, as at the
-server's own port, it says once that there are no receipts.
+default receipts.jsonl, and reports it or what is missing. The file's first line is the commitment,
+the second names the bidder.
+
+Before it sends a sheet, it adds what it sends to FILE. If a receipt comes for a sheet that it did
+not send, it says so: if you did not send it either, someone put it in. `auction check-receipts`
+compares the file with the published journal. It checks signatures if openssl is installed, and the
+published seed of each closed round. Without a commitment, as at the server's own port, it says once
+that there are no receipts.
 
 It reads the status every SECONDS, by default 1, and misses no round that is open longer than that.
 If no reply comes, or a page that is not the server's, it says so and repeats the request for an
 hour. After such a failure, and at every thirtieth status, it checks its sheet.
+
+While a round is closing, pages are withheld until its results appear. It says so, and waits.
 
 If no sheet is in force, because a server without a journal was restarted, it submits the sheet
 again. It does not replace a sheet that you submitted in another way. If no window is open, it waits
@@ -42,8 +48,11 @@ import sys
 import tempfile
 import time
 import urllib.request
+from collections import Counter
 
 BUSY = (408, 429, 500, 502, 503, 504)
+# nginx's answers that say to wait: no window is open, or the round is closing.
+WAITS = {409: b'"window"', 503: b'"closing"'}
 PATIENCE = 3600
 LOOK = 30
 RECEIPT_SECONDS = 2
@@ -108,7 +117,8 @@ class Auction:
 
     def __init__(self, url, token, every):
         self.url, self.token, self.every = url.rstrip("/"), token, every
-        self.products, self.is_in_doubt = None, False
+        self.products, self.receipts = None, None
+        self.is_in_doubt, self.is_closing = False, False
         tls = (
             ssl.create_default_context(cafile=os.environ.get("CA"))
             if url.startswith("https")
@@ -131,15 +141,18 @@ class Auction:
         request = urllib.request.Request(
             self.url + path, body, headers, method="GET" if sheet is None else "PUT"
         )
-        given_up = time.monotonic() + PATIENCE
+        given_up, is_noted = time.monotonic() + PATIENCE, sheet is None or not self.receipts
         while time.monotonic() < given_up:
+            if not is_noted:
+                self.receipts.note(text_of(sheet))
             try:
                 with self.opener.open(request, timeout=30) as reply:
                     text = reply.read()
-                if (
-                    reply.status == 409 and b'"window"' in text
-                ):  # from nginx; the timetable says for how long
+                if reply.status in WAITS and WAITS[reply.status] in text:
+                    if reply.status == 503:
+                        self.tell_closing()
                     given_up = time.monotonic() + PATIENCE
+                    is_noted = True  # this one was not taken, so the next is the one that is noted
                     time.sleep(self.every)
                     continue
                 if reply.status == 404 and may_lack:
@@ -147,14 +160,33 @@ class Auction:
                 if reply.status >= 300 and reply.status not in BUSY:
                     sys.exit(f"{path} is refused: {reply.status} {text.decode(errors='replace')}")
                 if reply.status < 300 and has_shape(page := json.loads(text), shape, self.products):
+                    self.is_closing = self.is_closing and not path.startswith("/v1/")
                     return page
                 fault = f"{reply.status} {reply.reason}, not a page of the server: {text[:80]}"
             except (OSError, http.client.HTTPException, RecursionError, ValueError) as error:
                 fault = error
             print(f"no reply to {path}: {fault}", file=sys.stderr)
-            self.is_in_doubt = True
+            # A sheet without a reply may have been taken, and then the next is one more.
+            self.is_in_doubt, is_noted = True, sheet is None or not self.receipts
             time.sleep(self.every)
         sys.exit(f"{path}: no reply for {PATIENCE} seconds")
+
+    def tell_closing(self):
+        """Says, once in each closing, that the round is closing.
+
+        It says when the results appear, if that is published.
+        """
+        if self.is_closing:
+            return
+        self.is_closing = True
+        try:
+            with self.opener.open(self.url + "/public/timetable.json", timeout=30) as reply:
+                table = json.loads(reply.read())
+            window = next(each for each in table["windows"] if each["round"] == table["round"])
+            when = f"results appear at {window['results']}"
+        except (OSError, http.client.HTTPException, KeyError, StopIteration, TypeError, ValueError):
+            when = "its results follow"
+        print(f"The round is closing; {when}.", file=sys.stderr, flush=True)
 
     def prices(self, products, number):
         """The start-of-round and clock prices of a round."""
@@ -188,8 +220,9 @@ class Auction:
 class Receipts:
     """The receipts of this bidder's sheets, in a file that `auction check-receipts` reads."""
 
-    def __init__(self, auction, path):
+    def __init__(self, auction, path, name):
         self.auction, self.path, self.have = auction, path, set()
+        self.texts, self.sent, self.taken = {}, Counter(), Counter()  # by digests of bodies
         self.commitment = auction.ask("/public/commitment.json", COMMITMENT, may_lack=True)
         if self.commitment is None:
             print("no commitment is published, so sheets have no receipts", flush=True)
@@ -197,9 +230,30 @@ class Receipts:
             first, *lines = map(json.loads, path.read_text(encoding="utf-8").splitlines())
             if first != self.commitment:
                 sys.exit(f"{path} has another commitment than the one that is published")
-            self.have = {(receipt["round"], receipt["sheet"]) for receipt in lines}
+            self.read(lines)
         else:
             self.add(self.commitment)
+            self.add({"bidder": name})
+
+    def read(self, lines):
+        """Takes what the file has: what was sent, and receipts."""
+        for line in lines:
+            if line.keys() == {"sent"}:
+                self.count(line["sent"])
+            elif "signature" in line:
+                self.have.add((line["round"], line["sheet"]))
+                self.taken[line["body"]] += 1
+
+    def note(self, text):
+        """Stores what will be sent: it shows later which sheets are own ones."""
+        if self.commitment:
+            self.count(text)
+            self.add({"sent": text})
+
+    def count(self, text):
+        """Counts a sheet that was sent."""
+        self.texts[digest_of(text)] = text
+        self.sent[digest_of(text)] += 1
 
     def add(self, line):
         """Appends a line to the file, and syncs it."""
@@ -215,7 +269,7 @@ class Receipts:
         """
         text, end = text_of(sheet), time.monotonic() + RECEIPT_SECONDS
         while self.commitment:
-            receipt = self.take(sheet["round"], text)
+            receipt = self.take(sheet["round"])
             if receipt and receipt["body"] == digest_of(text):
                 return print(
                     f"receipt of sheet {receipt['sheet']} of round {receipt['round']}", flush=True
@@ -242,8 +296,11 @@ class Receipts:
                 file=sys.stderr,
             )
 
-    def take(self, number, text=""):
-        """Stores the next receipt of a round, and returns it, or None if there is none yet."""
+    def take(self, number):
+        """Stores the next receipt of a round, and returns it, or None if there is none yet.
+
+        Reports one of a sheet that was not sent. It stays in the file, without what was sent.
+        """
         place = next(place for place in itertools.count(1) if (number, place) not in self.have)
         receipt = self.commitment and self.auction.ask(
             f"/receipts/{number}/{place}.json", RECEIPT, may_lack=True
@@ -259,7 +316,17 @@ class Receipts:
                 file=sys.stderr,
             )
             return {**receipt, "body": ""}
-        self.add({**receipt, "sent": text} if receipt["body"] == digest_of(text) else receipt)
+        body = receipt["body"]
+        self.taken[body] += 1
+        if self.taken[body] <= self.sent[body]:
+            self.add({**receipt, "sent": self.texts[body]})
+            return receipt
+        self.add(receipt)
+        print(
+            f"WARNING: sheet {place} of round {number} was accepted in your name, and this program "
+            "did not send it. If you did not either, call the auditor",
+            file=sys.stderr,
+        )
         return receipt
 
 
@@ -357,7 +424,7 @@ def play(auction, wanted, path):
     account = auction.ask("/v1/me", ACCOUNT)
     if strangers := wanted.keys() - {product["name"] for product in products}:
         sys.exit(f"no product is called {', '.join(sorted(strangers))}")
-    receipts = Receipts(auction, path)
+    receipts = auction.receipts = Receipts(auction, path, account["name"])
     while not account["ended"]:
         number = account["round"]
         sheet = {
@@ -376,7 +443,7 @@ def play(auction, wanted, path):
         for closed in range(1, number)[-1:]:
             receipts.check_seed(closed)  # of the round before, which is published by now
         auction.wait(number, sheet)
-        while receipts.take(number, text_of(sheet)):
+        while receipts.take(number):
             pass  # those that came late, or of sheets that were submitted in another way
         print("slip", json.dumps(auction.ask(f"/v1/me/rounds/{number}", SLIP)), flush=True)
         account = auction.ask("/v1/me", ACCOUNT)

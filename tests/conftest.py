@@ -33,9 +33,7 @@ def pytest_addoption(parser: pytest.Parser) -> None:
         "--allow-skips", action="store_true", help="a skipped test does not fail the run"
     )
     parser.addoption("--summary", type=pathlib.Path, help="the file that gets the counts, as JSON")
-    parser.addoption(
-        "--full", action="store_true", help="tests/load plays in full size"
-    )
+    parser.addoption("--full", action="store_true", help="tests/load plays in full size")
     parser.addoption("--debian", help="the folder of a small Debian, for the units under systemd")
 
 

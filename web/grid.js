@@ -11,7 +11,8 @@ import {quantityOf} from "./sheet.js";
 import {keyOf} from "./shown.js";
 
 const FIELDS = ["quantity", "price", "add"];
-const FEW = 12; // products up to which rows are higher
+const FEW = 12;       // products up to which rows are higher
+const LONG = 10 ** 7; // dollars from which prices need more space
 const partsOf = (key) => key.split(".").map(Number);
 const byKey = (key, other) => {
   const [a, b] = [partsOf(key), partsOf(other)];
@@ -108,6 +109,8 @@ export class Grid {
       if (end) at("heads").querySelector(`.c-${id} button`).textContent = v.me.ended ? end : head;
     at("grid").classList.toggle("over", this.isOut);
     at("grid").classList.toggle("roomy", v.terms.products.length <= FEW);
+    const highest = v.terms.prices.reduce((most, { clock }) => Math.max(most, clock), 0);
+    at("grid").classList.toggle("long", highest >= LONG);
     at("frame").tabIndex = this.isOut ? 0 : -1;
   }
 

@@ -4,10 +4,15 @@ RECEIPTS is the file that examples/bidder.py writes, or that the bidder's page d
 commitment as the bidder saw it before round 1, then a receipt in each line. JOURNAL is the whole
 published journal.
 
-It checks each signature with the committed key. Then the journal must have each sheet with a
-receipt in its round, as the receipt numbers it, and no other sheet of this bidder. The bidder's
-sheets are those under the token of TOKEN. If TOKEN is not set, they are those under the token of a
-sheet with a receipt.
+COPY is a commitment.json that this bidder did not make: one that you or a witness saved, or the
+record's. Signatures are checked with its key. Without it, nobody but the bidder itself knows whose
+key signed the receipts: the same person may have written key and receipts. This then says so, and
+calls nothing proved.
+
+The journal must have each sheet with a receipt in its round, as the receipt numbers it, and no
+other sheet of this bidder. The file must say of each sheet that the bidder sent it. The bidder's
+sheets are those under its token: the one that SETUP has, or TOKEN of the environment, or the token
+of a sheet with a receipt.
 
 It prints a line for each fault and a last line, and changes nothing. The status is 0 only if there
 is no fault.
@@ -18,27 +23,67 @@ import pathlib
 import sys
 
 from auction.command import Command
-from auction.formats.receipts import ReceiptsFault, faults, read_kept
+from auction.formats.receipts import File, ReceiptsFault, faults, read_kept
 from auction.formats.signatures import SignatureFault
+from auction.formats.strict import escaped
+from auction.formats.ties import Commitment, TiesFault
+from auction.recount.formats import Refused, setup_in
 
 
 def arguments(parser: argparse.ArgumentParser) -> None:
     parser.add_argument("receipts", metavar="RECEIPTS", type=pathlib.Path)
     parser.add_argument("journal", metavar="JOURNAL", type=pathlib.Path)
+    parser.add_argument(
+        "--commitment", metavar="COPY", type=pathlib.Path, help="a copy of commitment.json"
+    )
+    parser.add_argument("--setup", metavar="SETUP", type=pathlib.Path, help="the set-up document")
+
+
+def token_of(file: File, setup: pathlib.Path | None) -> str:
+    """The bidder's token, if it is known."""
+    if setup is None:
+        return os.environ.get("TOKEN", "").strip()
+    for bidder in setup_in(setup.read_bytes()).bidders:
+        if bidder.name == file.name:
+            return bidder.token
+    raise ReceiptsFault(f"the set-up has no bidder {file.name}")
+
+
+def say(words: str) -> None:
+    print(escaped(words))
+
+
+def say_unknown(path: pathlib.Path) -> None:
+    """Says what cannot be known without a copy of the commitment."""
+    say(
+        f"unknown whose key signed: {path.name} names it itself, and who writes the file can make "
+        "a key. Give --commitment, a commitment.json that this bidder did not make"
+    )
 
 
 def run(given: argparse.Namespace) -> int:
     try:
         file = read_kept(given.receipts)
-        found = faults(file, given.journal.read_bytes(), os.environ.get("TOKEN", "").strip())
-    except (OSError, ReceiptsFault, SignatureFault) as fault:
-        sys.exit(f"FAILED {fault}")
+        copy = given.commitment and Commitment.read(given.commitment)
+        token = token_of(file, given.setup)
+        found = faults(file, given.journal.read_bytes(), token, copy)
+    except (OSError, ReceiptsFault, Refused, SignatureFault, TiesFault) as fault:
+        sys.exit(escaped(f"FAILED {fault}"))
     for words in found:
-        print(f"FAILED {words}")
+        say(f"{'FAILED' if copy else 'unproved'} {words}")
+    if not copy:
+        say_unknown(given.receipts)
     count = f"{len(file.receipts)} receipt{'' if len(file.receipts) == 1 else 's'}"
     if found:
         sys.exit(f"NOT as in the journal: {count}, {len(found)} faults")
-    print(f"as in the journal: {count}, each signed by the committed key")
+    if not file.receipts and not (file.name and token):
+        sys.exit(
+            "nothing is known: the file has no receipt. If it names its bidder, --setup or TOKEN "
+            "show whether the journal has a sheet in this name"
+        )
+    whose = "the committed key" if copy else "the key in the file"
+    of_whom = f" of {file.name}" if file.name else ""
+    say(f"as in the journal: {count}{of_whom}, each signed by {whose}")
     return 0
 
 

@@ -6,21 +6,22 @@ the seeds, and receipts.pem, with the secret key, both for their owner only. PUB
 stays, so call it again after a crash.
 
 With --no-ties, closings have no tie-breaking numbers. With --draw, called once more after
-commitment.json is published, the numbers also depend on these words: the result of a public draw
-that was announced before. So nobody could have made many chains and chosen one. The words are up to
-200 letters of printable ASCII.
+commitment.json is published and before the first window opens, the numbers also depend on these
+words: the result of a public draw that was announced before. So nobody could have made many chains
+and chosen one. The words are up to 200 letters of printable ASCII. They are published in draw.json,
+and commitment.json stays as it is.
 
-It prints the commitment. Give it to bidders, and keep FOLDER secret: anyone who has the seeds knows
-all tie-breaking numbers.
+It prints the commitment, or the draw. Give it to bidders, and keep FOLDER secret: anyone who has
+the seeds knows all tie-breaking numbers.
 """
 import argparse
-import json
 import os
 import pathlib
 import sys
 
 from auction.command import Command
 from auction.conductor import commitment
+from auction.formats import strict
 from auction.formats.setup import Setup
 
 
@@ -34,12 +35,15 @@ def arguments(parser: argparse.ArgumentParser) -> None:
 
 def run(given: argparse.Namespace) -> int:
     os.umask(0o022)
+    if given.draw == "":
+        sys.exit("auction commit: a draw has words")
     try:
         places = commitment.Places(given.folder, given.public)
         made = commitment.make(places, Setup.read(given.setup), not given.no_ties, given.draw)
     except commitment.FAULTS as fault:
         sys.exit(f"auction commit: {fault}")
-    print(json.dumps(made.value(), separators=(",", ":")))
+    words = places.draw.read_text() if given.draw else strict.published(made.value()).decode()
+    print(words, end="")
     return 0
 
 

@@ -13,6 +13,7 @@ from collections.abc import Callable
 
 from auction.command import Command
 from auction.conductor import commands, report
+from auction.conductor.clear import ClearFault, clear
 from auction.conductor.commands import CommandFault
 from auction.conductor.conductor import Conductor
 from auction.conductor.context import Context
@@ -25,12 +26,18 @@ closes each round once, publishes it, and continues. It remembers no step: what 
 from its plan, the server, and the files that are there. So it may be killed at any moment and
 started again. A closing is on disk before it is sent, as with `auction close`.
 
-A round waits for your word, `auction next` or `auction extend`, in four cases:
+A round waits for your word, `auction next` or `auction extend`, if:
 - nobody has a sheet in force;
-- its window opened a minute late;
-- the server did not answer for a minute of it;
-- the server refused its closing.
-If the clock was set, the conductor pauses until you say `auction resume`."""
+- this conductor did not open its window;
+- bidders missed more of its window than conductor.json allows;
+- the clock was set by more than a second since its window was announced;
+- more pairs of bidder and product matter than a closing can list;
+- the journal has changed since its closing was made, or the server refuses the closing."""
+
+CLEAR = f"""{FOLDER} All files of the auction that are in it go to a new
+folder in FOLDER/past: state, published and closed rounds, receipts, bidders.map, sheet.conf, the
+set-up, and the journal. nginx's cache is emptied. conductor.json stays. It refuses while a server
+or a conductor runs."""
 
 Action = Callable[[Context, argparse.Namespace], None]
 
@@ -44,6 +51,14 @@ def run_auction(folder: pathlib.Path) -> None:
         except OSError:
             sys.exit("another conductor runs this auction")
         conductor.run()
+
+
+def clear_folder(folder: pathlib.Path) -> None:
+    """Puts an auction's files away."""
+    past, left = clear(folder, time.time())
+    print(f"The auction's files are in {past}.")
+    for path in left:
+        print(f"{path} is not in {folder}: put it away too.")
 
 
 def status(context: Context, _: argparse.Namespace) -> None:
@@ -77,7 +92,14 @@ def guarded(
     def run(given: argparse.Namespace) -> int:
         try:
             action(given)
-        except (CommandFault, SettingsFault, TimetableFault, OSError, ValueError) as fault:
+        except (
+            ClearFault,
+            CommandFault,
+            SettingsFault,
+            TimetableFault,
+            OSError,
+            ValueError,
+        ) as fault:
             sys.exit(f"auction {name}: {fault}")
         return 0
 
@@ -114,6 +136,7 @@ def add_round(parser: argparse.ArgumentParser) -> None:
     parser.add_argument(
         "--without-sheets", action="store_true", help="close though nobody has a sheet in force"
     )
+    parser.add_argument("--no-ties", action="store_true", help="close without tie-breaking numbers")
 
 
 def command(
@@ -182,7 +205,16 @@ COMMANDS = (
         "next",
         "Closes a round that waits for your word.",
         add_round,
-        lambda context, given: commands.close_next(context, given.round, given.without_sheets),
+        lambda context, given: commands.close_next(
+            context, given.round, given.without_sheets, given.no_ties
+        ),
+    ),
+    Command(
+        "clear",
+        "Puts an auction's files away, after its end.",
+        CLEAR,
+        add_folder,
+        guarded("clear", lambda given: clear_folder(given.folder.absolute())),
     ),
     command(
         "winners",

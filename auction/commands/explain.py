@@ -31,8 +31,11 @@ def arguments(parser: argparse.ArgumentParser) -> None:
 
 
 def run(given: argparse.Namespace) -> int:
-    from auction.explain.faults import explained  # jsonschema, which no other command needs
-
+    try:
+        from auction.explain.faults import explained  # which no other command needs
+    except ModuleNotFoundError as error:
+        print(f"auction explain needs Debian's package python3-{error.name}", file=sys.stderr)
+        return 2
     try:
         is_file = given.file != "-"
         data = pathlib.Path(given.file).read_bytes() if is_file else sys.stdin.buffer.read()

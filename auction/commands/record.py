@@ -18,28 +18,14 @@ import argparse
 import hashlib
 import os
 import pathlib
-import re
 import shutil
 import sys
 
 from auction.command import Command
 from auction.conductor import disk
-from auction.formats import tables
+from auction.formats import record
 from auction.recount import rules as recount
 from auction.recount.formats import Refused
-
-INDEX = "SHA256SUMS"
-PUBLISHED = re.compile(r"(commitment|timetable|announcements|winners|rounds/[1-9][0-9]*)\.json")
-ABOUT = """The record of an auction of clock_auction. docs/formats.md of its repository lists these
-files and their columns, docs/auditors.md says what they prove.
-
-The sums of all files:    sha256sum -c SHA256SUMS
-The whole auction:        auction verify setup.json auction.journal FOLDER
-
-FOLDER is this folder, or better, all that you saved yourself while the auction was running.
-
-setup.json and auction.journal have the tokens of this auction. They open nothing any more.
-"""
 
 
 class NoRecord(Exception):
@@ -74,29 +60,10 @@ def published_in(folder: pathlib.Path) -> dict[str, bytes]:
     """The published files, by their names in the folder."""
     if not folder.is_dir():
         raise NoRecord(f"{folder} is not a folder")
-    found = {str(path.relative_to(folder)): path for path in sorted(folder.rglob("*.json"))}
-    if strange := [name for name in found if not PUBLISHED.fullmatch(name)]:
+    found = sorted(str(path.relative_to(folder)) for path in folder.rglob("*.json"))
+    if strange := [name for name in found if not record.PUBLISHED.fullmatch(name)]:
         raise NoRecord(f"{folder} has {strange[0]}, which is never published during an auction")
-    return {name: path.read_bytes() for name, path in found.items()}
-
-
-def files_of(
-    document: bytes, journal: bytes, published: dict[str, bytes], counted: recount.Recount
-) -> dict[str, bytes]:
-    """The files of the record, by name."""
-    made = {
-        **tables.files_of(document, journal, counted),
-        **tables.published_files_of(published),
-        "README.txt": ABOUT,
-    }
-    own = {
-        "setup.json": document,
-        "auction.journal": journal,
-        **{name: made[name].encode() for name in made},
-    }
-    files = {**published, **own}
-    sums = [f"{hashlib.sha256(files[name]).hexdigest()}  {name}\n" for name in sorted(files)]
-    return {**files, INDEX: "".join(sums).encode()}
+    return {name: (folder / name).read_bytes() for name in found}
 
 
 def write(folder: pathlib.Path, files: dict[str, bytes]) -> None:
@@ -126,13 +93,14 @@ def run(given: argparse.Namespace) -> int:
             raise NoRecord(f"{given.folder} is there already")
         document, journal = given.setup.read_bytes(), given.journal.read_bytes()
         counted = recounted(document, journal, given.not_ended)
-        files = files_of(document, journal, published_in(given.published), counted)
+        made = record.files_of(document, journal, published_in(given.published), counted)
+        files = {**made, record.INDEX: record.index_of(made)}
         write(given.folder, files)
     except (NoRecord, OSError, ValueError, KeyError, TypeError) as fault:
         sys.exit(f"no record: {fault}")
     rounds = f"{len(counted.auction.rounds)} rounds"
     print(f"{given.folder}: {rounds}, {counted.texts} requests, {len(files)} files")
-    print(f"index {hashlib.sha256(files[INDEX]).hexdigest()}")
+    print(f"index {hashlib.sha256(files[record.INDEX]).hexdigest()}")
     return 0
 
 

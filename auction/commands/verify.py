@@ -3,7 +3,10 @@
 SETUP and JOURNAL are the auction's, byte for byte. PUBLISHED is a folder with what was published
 during the auction, by the names under /public/: the commitment and all rounds. Best is what you
 saved yourself during the auction. It may also be the record that `auction record` made, whose
-tables and index are then checked too. Each RECEIPTS is a bidder's file of receipts.
+files and index are then checked too.
+
+Each RECEIPTS is a bidder's file of receipts. COPY is a commitment.json that someone saved before
+round 1, and before a public draw. Without it, the one in PUBLISHED counts.
 
 Each check prints one line, or one for each thing that is wrong: `ok`, `FAILED`, or `absent` if
 there is nothing to check. The last line counts them. The status is 0 only if nothing failed.
@@ -16,6 +19,7 @@ import pathlib
 from collections import Counter
 
 from auction.command import Command
+from auction.formats.strict import escaped
 from auction.verify.case import Case
 from auction.verify.findings import ABSENT, FAILED, OK, findings
 
@@ -25,13 +29,17 @@ def arguments(parser: argparse.ArgumentParser) -> None:
     parser.add_argument("journal", metavar="JOURNAL", type=pathlib.Path)
     parser.add_argument("published", metavar="PUBLISHED", type=pathlib.Path)
     parser.add_argument("receipts", metavar="RECEIPTS", type=pathlib.Path, nargs="*")
+    parser.add_argument(
+        "--commitment", metavar="COPY", type=pathlib.Path, help="a saved copy of commitment.json"
+    )
 
 
 def run(given: argparse.Namespace) -> int:
     counts: Counter[str] = Counter()
-    for found in findings(Case(given.setup, given.journal, given.published, *given.receipts)):
+    files = given.setup, given.journal, given.published, *given.receipts
+    for found in findings(Case(*files, commitment=given.commitment)):
         counts[found.result] += 1
-        print(f"{found.result:6} {found.subject}: {found.words}", flush=True)
+        print(escaped(f"{found.result:6} {found.subject}: {found.words}"), flush=True)
     verdict = "NOT verified" if counts[FAILED] else "verified"
     failed = f"{counts[OK]} checks hold, {counts[FAILED]} failed"
     print(f"{verdict}: {failed}, {counts[ABSENT]} had nothing to check")

@@ -63,6 +63,6 @@ class Chain:
         return None if self.secret is None else seed_of(self.secret, LENGTH, number)
 
     def committed(self) -> Committed | None:
-        """What is published of the chain before round 1."""
+        """What is published of the chain before round 1, and before a draw."""
         end = self.seed(0)
-        return None if end is None else Committed(end, LENGTH, self.draw)
+        return None if end is None else Committed(end, LENGTH)

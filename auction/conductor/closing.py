@@ -123,7 +123,7 @@ def body_of(setup: Setup, number: int, increments: Increments, ties: list[list[i
 def pairs_of(auction: Auction, number: int) -> list[tuple[int, int]]:
     """The pairs of bidder and product that get a tie-breaking number, by number.
 
-    If there are too many for a closing, those with processed demand or with a bid in force.
+    If there are too many for a closing, those that matter.
     """
     setup = auction.setup
     counts = len(setup.bidders), len(setup.products)
@@ -134,15 +134,23 @@ def pairs_of(auction: Auction, number: int) -> list[tuple[int, int]]:
 
 
 def pairs_that_matter(auction: Auction) -> set[tuple[int, int]]:
-    """The pairs with processed demand or with a bid in force."""
-    bidders = auction.operator.page("/v1/results")["bidders"]
-    demands = {
+    """The pairs with processed demand, or with a bid whose quantity differs from it.
+
+    A bid to maintain demand is no request, so it needs no number.
+    """
+    demands = [bidder["demands"] for bidder in auction.operator.page("/v1/results")["bidders"]]
+    held = {
         (bidder, product)
-        for bidder, row in enumerate(bidders)
-        for product, blocks in enumerate(row["demands"])
+        for bidder, row in enumerate(demands)
+        for product, blocks in enumerate(row)
         if blocks
     }
-    return demands | auction.journal.asked()
+    bids = auction.journal.bids_in_force()
+    return held | {
+        (bidder, product)
+        for bidder, product, quantity in bids
+        if quantity != demands[bidder][product]
+    }
 
 
 def listed_ties(auction: Auction, number: int, ties: Ties) -> list[list[int]]:

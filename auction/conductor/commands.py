@@ -6,12 +6,14 @@ import json
 from pathlib import Path
 
 from . import report, timetable
+from .asked import Closing
 from .clock import in_words, utc
 from .increments import in_words as increments_in_words
 from .context import Context
-from .plan import Pause, Plan, Word
+from .decision import TEN, Reason, whole_ten
+from .plan import Ended, Pause, Plan
 from .server import NoReply, Refused
-from .timetable import Window, move_later, replaced, whole_ten
+from .timetable import Window, move_later, replaced
 
 LEAST_MINUTES, MOST_MINUTES = 1 / 6, 1440
 LEAST_LEFT = 60  # seconds that a window has at least if it opens again
@@ -59,9 +61,11 @@ def plan(context: Context, path: Path) -> None:
         window = changed.windows.get(number)
         begun = number if window and window.opens <= now else number - 1
         changed.windows = replaced(
-            changed.windows, begun, fresh.windows, now, settings.between, settings.notice
+            changed.windows, begun, fresh.windows, now, settings.gap, settings.notice
         )
         later = [changed.windows[number] for number in sorted(changed.windows) if number > begun]
+        for one in later:
+            one.note_clock(context.clock)
         first = f" Round {begun + 1} opens at {in_words(later[0].opens)}."
         increments = ""
         if fresh.increments not in (None, changed.increments):
@@ -75,7 +79,9 @@ def plan(context: Context, path: Path) -> None:
 
 def check(context: Context, path: Path) -> None:
     """Prints the windows of a timetable in UTC, and changes nothing."""
-    for window in timetable.read(path).windows:
+    windows = timetable.read(path).windows
+    timetable.check_gaps(windows, context.settings.gap)
+    for window in windows:
         context.say(f"{utc(window.opens)} {utc(window.closes)}")
 
 
@@ -111,7 +117,8 @@ def resume(context: Context, minutes: float) -> None:
             if begin > window.opens:
                 left = max(LEAST_LEFT, window.closes - max(since, window.opens))
                 window.opens, window.closes, window.opened = begin, begin + whole_ten(left), None
-                move_later(changed.windows, number, context.settings.between)
+                window.note_clock(context.clock)
+                move_later(changed.windows, number, context.settings.gap)
             times = f"from {in_words(window.opens)} to {in_words(window.closes)}"
             words = f" Round {number} is open {times}."
         changed.announce(f"The auction continues.{words}")
@@ -129,17 +136,17 @@ def extend(context: Context, minutes: float) -> None:
             window.opens = window.closes = whole_ten(now)
             window.opened = None
         window.closes += whole_ten(60 * minutes)
-        changed.doubt = changed.word = None
-        move_later(changed.windows, number, context.settings.between)
-        changed.announce(
-            f"Round {number} is open until {in_words(window.closes)}, longer than announced before."
-        )
+        window.note_clock(context.clock)
+        changed.forget(number)
+        move_later(changed.windows, number, context.settings.gap)
+        end = in_words(window.closes)
+        begin = f"from {in_words(window.opens)} to" if now < window.opens else "until"
+        changed.announce(f"Round {number} is open {begin} {end}, longer than announced before.")
         context.plan_file.store(changed)
         if window.opened is not None:
             # without a pause until the conductor looks
-            context.gate.open(
-                now, window.closes, context.settings.shuts(window), context.settings.lifts(window)
-            )
+            doors = context.settings.limits().doors(window.opens, window.closes)
+            context.gate.write(doors, now)
 
 
 def announce(context: Context, words: str) -> None:
@@ -148,8 +155,11 @@ def announce(context: Context, words: str) -> None:
         changed.announce(words)
 
 
-def close_next(context: Context, number: int, without_sheets: bool) -> None:
-    """Gives the word that the conductor waits for, to close this round."""
+def close_next(context: Context, number: int, without_sheets: bool, no_ties: bool = False) -> None:
+    """Gives the word that the conductor waits for, to close this round.
+
+    It releases the doubts of now, and no later one.
+    """
     with context.changing() as changed:
         shown = report.shown(context.folders)
         if (
@@ -162,7 +172,75 @@ def close_next(context: Context, number: int, without_sheets: bool) -> None:
                 f"round {number} does not wait for a word. "
                 + (shown["waits_for"] if shown else "No conductor has run yet.")
             )
-        changed.word = Word(number, without_sheets)
+        standing = {doubt.reason for doubt in changed.doubts_of(number) if not doubt.is_released}
+        for reason, is_given in (
+            (Reason.NO_SHEETS, without_sheets),
+            (Reason.TOO_MANY_PAIRS, no_ties),
+        ):
+            if reason.name in standing and not is_given:
+                raise CommandFault(f"{reason.value}: add {report.OPTIONS[reason]}")
+        release(context, changed, number)
+
+
+def release(context: Context, changed: Plan, number: int) -> None:
+    """A person's word: the doubts about a round so far hold it no more.
+
+    From now on the clock is right, so that it can be doubted again.
+    """
+    changed.release(number)
+    for window in changed.windows.values():
+        window.note_clock(context.clock)
+
+
+def end_early(context: Context, changed: Plan, asked: Closing) -> None:
+    """Ends the window of the current round now, to close it with these increments.
+
+    This is a person's word too: it releases the doubts of now.
+    """
+    number, now = asked.round, context.clock.wall()
+    window = changed.windows.get(number)
+    before = window and window.closes
+    if window is None or now < window.opens:
+        begin = int(now) // TEN * TEN
+        changed.windows[number] = window = Window(begin, begin, now)
+    elif whole_ten(now) < window.closes:
+        window.closes = whole_ten(now)
+        if window.opened is not None:
+            context.gate.write(context.settings.limits().doors(window.opens, window.closes), now)
+    release(context, changed, number)
+    changed.ended = Ended(number, asked.increments)
+    if asked.without_sheets:
+        changed.latch(number, Reason.NO_SHEETS, is_released=True)
+    if before != window.closes:
+        end = in_words(window.closes)
+        changed.announce(f"Round {number} ends at {end}, earlier than announced before.")
+
+
+def obey_page(context: Context, changed: Plan) -> report.Report | None:
+    """Does what the operator's page asks for, if it does.
+
+    If nobody has a sheet and the request does not say so, returns a report. If the server is gone,
+    the request stays until it is too old.
+    """
+    asked = context.asked.read(context.clock.wall())
+    if asked is None:
+        return None
+    try:
+        status = context.status()
+        context.journal.read_on()
+    except (NoReply, Refused):
+        return None
+    number, is_fixed = asked.round, context.auction.body_file(asked.round).exists()
+    is_late = status["ended"] or status["round"] != number or changed.paused or is_fixed
+    has_sheets = bool(context.journal.sheets) or asked.without_sheets
+    if has_sheets and not is_late:
+        end_early(context, changed, asked)
+        context.plan_file.store(changed)  # a kill must not lose the request
+    context.asked.remove()
+    if has_sheets or is_late:
+        return None
+    words = "the operator's page asked for it, but nobody has a sheet in force"
+    return report.Report(report.State.HELD, f"Round {number} is not closed: {words}.")
 
 
 def winners(context: Context) -> None:

@@ -3,13 +3,16 @@ everyone sees of both.
 """
 import dataclasses
 import json
+import time
 from pathlib import Path
 
 from auction.formats.signatures import new_key, public_of
-from auction.formats.ties import Commitment, TiesFault, checked_draw
+from auction.formats.strict import published
+from auction.formats.ties import Commitment, Draw, TiesFault, checked_draw
 
 from . import disk
 from .chain import Chain
+from .clock import utc
 from auction.formats.setup import Setup
 
 
@@ -19,7 +22,7 @@ class CommitmentFault(Exception):
 
 @dataclasses.dataclass(frozen=True)
 class Places:
-    """The files: two secret ones next to the closings, and the public one."""
+    """The files: two secret ones next to the closings, and two public ones."""
 
     kept: Path
     public: Path
@@ -36,9 +39,19 @@ class Places:
     def commitment(self) -> Path:
         return self.public / "commitment.json"
 
+    @property
+    def draw(self) -> Path:
+        return self.public / "draw.json"
+
     def is_begun(self) -> bool:
         """Whether a round was closed, or may have been."""
         return any(self.kept.glob("closing*"))
+
+    def has_opened(self) -> bool:
+        """Whether the first window has opened, by the published timetable."""
+        timetable = self.public / "timetable.json"
+        windows = json.loads(timetable.read_bytes())["windows"] if timetable.exists() else []
+        return any(one["round"] == 1 and one["opens"] <= utc(time.time()) for one in windows)
 
 
 def make(
@@ -60,6 +73,9 @@ def make(
             disk.store(places.key, new_key().decode("ascii"))
         commitment = Commitment(setup.digest, chain.committed(), public_of(places.key.read_bytes()))
         publish(places, commitment)
+        if chain.draw:
+            added = Draw.added(places.commitment.read_bytes(), chain.draw)
+            publish_once(places.draw, published(added.value()))
         return commitment
 
 
@@ -79,10 +95,11 @@ def chain_in(places: Places, setup: Setup, has_ties: bool, draw: str | None) -> 
         )
     if draw in (None, chain.draw):
         return chain
-    if not has_ties or chain.draw or places.is_begun() or not places.commitment.exists():
+    begun = places.is_begun() or places.has_opened()
+    if not has_ties or chain.draw or begun or not places.commitment.exists():
         raise CommitmentFault(
-            "a draw is held once, after the end of the chain is published and before a round is "
-            "closed, and only for tie-breaking numbers"
+            "a draw is held once, after the end of the chain is published and before the first "
+            "window opens, and only for tie-breaking numbers"
         )
     chain = dataclasses.replace(chain, draw=checked_draw(draw))
     chain.store(places.chain)
@@ -90,24 +107,19 @@ def chain_in(places: Places, setup: Setup, has_ties: bool, draw: str | None) -> 
 
 
 def publish(places: Places, commitment: Commitment) -> None:
-    """Publishes the commitment.
+    """Publishes the commitment. One that is published stays."""
+    if not places.commitment.exists() or Commitment.read(places.commitment) != commitment:
+        publish_once(places.commitment, published(commitment.value()))
 
-    One that is published may get the result of the draw, and changes in nothing else.
-    """
-    if places.commitment.exists():
-        before = Commitment.read(places.commitment)
-        if before == commitment:
-            return
-        if not commitment.chain or before != dataclasses.replace(
-            commitment, chain=dataclasses.replace(commitment.chain, draw="")
-        ):
-            raise CommitmentFault(
-                f"{places.commitment} is published and says something else: "
-                "use folders of their own"
-            )
-    disk.store(
-        places.commitment, json.dumps(commitment.value(), separators=(",", ":")) + "\n", disk.PUBLIC
-    )
+
+def publish_once(path: Path, text: bytes) -> None:
+    """Publishes a file, which nothing replaces."""
+    if not path.exists():
+        disk.store(path, text.decode(), disk.PUBLIC)
+    elif path.read_bytes() != text:
+        raise CommitmentFault(
+            f"{path} is published and says something else: use folders of their own"
+        )
 
 
 FAULTS = (CommitmentFault, TiesFault, OSError, ValueError)

@@ -14,8 +14,9 @@ from .closing import Auction
 from .gate import Gate
 from auction.formats.journal import Journal
 from .plan import Plan, PlanFile
-from .server import NoReply, Operator, Page
+from .server import BiddersPort, NoReply, Operator, Page
 from .settings import Folders, Settings
+from .timetable import Window
 from auction.formats.setup import Setup
 
 STATUS_SECONDS = 10
@@ -35,6 +36,7 @@ class Context:
         self.operator = Operator(
             self.settings.url, self.settings.token.read_text(encoding="utf-8").strip()
         )
+        self.bidders_port = BiddersPort(self.settings.bidders, self.settings.authority)
         self.auction = Auction(self.operator, self.setup, self.journal, self.folders.kept)
         self.auction.chain()  # there must be one
         self.asked = Asked(self.folders.asked / "close.json", self.setup)
@@ -80,6 +82,11 @@ class Context:
     def announce(self, key: str, text: str) -> None:
         if made := self.public.announce(key, text, self.clock.wall()):
             self.say(made)
+
+    def is_reached(self, now: float, window: Window) -> bool:
+        """Whether bidders reach the auction, as far as the settings let it be asked."""
+        is_open = window.opens <= now <= window.closes
+        return not (is_open and self.settings.bidders) or self.bidders_port.answers()
 
     def status(self) -> Page:
         """The server's status."""

@@ -10,6 +10,12 @@ from collections.abc import Callable, Iterator
 from typing import NamedTuple
 
 TEN = 10  # seconds: nginx sees windows and curtains in steps of this
+FOREVER = 1 << 62
+
+
+def whole_ten(seconds: float) -> int:
+    """The least whole ten seconds that is not before."""
+    return -int(-seconds // TEN) * TEN
 
 
 class Reason(enum.Enum):
@@ -18,7 +24,7 @@ class Reason(enum.Enum):
     Each is stored once it is seen (latched).
     """
 
-    NOT_OPENED = "this conductor did not open its window as announced"
+    NOT_OPENED = "its window was not open as announced"
     OUTAGE = "bidders could not reach the auction for a part of its window"
     CLOCK = "the clock was set since its window was announced"
     NO_SHEETS = "nobody has a sheet in force"
@@ -41,7 +47,7 @@ class State(enum.Enum):
     OPEN = "the window to end"
     DRAINING = "requests that began in time"
     PENDING = "requests on their way to the server"
-    HELD = "the word to close"
+    HELD = "a person's word"
 
 
 @dataclasses.dataclass(frozen=True)
@@ -49,11 +55,23 @@ class Limits:
     """The settings that a decision depends on, in seconds, and the most pairs of a closing."""
 
     drain: int  # from a window's end until the inner door shuts
-    publish: int  # from a window's end until the curtain lifts
+    publish: int  # from a window's end until the curtain lifts; 0 for no curtain
     longest: int  # no closing takes longer
     drift: float = 1.0  # by which the clock of day and the time that passed may differ
     missed: float = 0.02  # the share of a window in which bidders may miss the auction
     pairs: int = 16_384
+
+    def shuts(self, closes: int) -> int:
+        """When the inner door shuts after a window's end."""
+        return whole_ten(closes + self.drain)
+
+    def curtain(self, draws: int, closes: int) -> tuple[int, int]:
+        """From when until when the curtain is drawn for a window."""
+        return (draws, whole_ten(closes + self.publish)) if self.publish else (0, 0)
+
+    def doors(self, opens: int, closes: int) -> "Gate":
+        """Both doors are open in the window, and the curtain is drawn at its end."""
+        return Gate(opens, closes, self.shuts(closes), *self.curtain(closes, closes))
 
 
 class Gate(NamedTuple):
@@ -81,7 +99,7 @@ class Window(NamedTuple):
 class Plan:
     """What the plan says of the current round.
 
-    A word releases the doubts that stood when it was given, and no other.
+    A word releases the doubts of its time, and no other.
     """
 
     auction: str
@@ -91,11 +109,12 @@ class Plan:
     released: frozenset[Reason] = frozenset()
 
 
-@dataclasses.dataclass(frozen=True)
-class Server:
-    """The status and the journal behind it: the rounds that are closed, whether that is the end,
-    the digest of the last entry, how many bidders have a sheet in force, and how many pairs matter
-    to the closing of these sheets.
+class Server(NamedTuple):
+    """The status, and the journal that it comes from.
+
+    It has the closed rounds, whether the last one ended the auction, and the digest of the
+    journal's last entry. It also counts the bidders with a sheet in force, and the pairs that
+    matter to the closing of these sheets.
     """
 
     closed: int
@@ -113,6 +132,7 @@ class Observed:
     now: float  # the time of day
     passed: float  # the time since the machine started, which nobody can set
     drift: float  # the clock of day less the time that passed, since the window was announced
+    restarted: bool  # whether the machine was started since the window was announced
     missed: float  # the share of the window so far in which bidders could not reach the auction
     plan: Plan
     gate: Gate
@@ -138,6 +158,11 @@ class NoteOpened:
     """Stores in the plan that this conductor opened the window of a round."""
 
     number: int
+
+
+@dataclasses.dataclass(frozen=True)
+class NoteClock:
+    """Notes the clock once more for all windows, since the machine was started."""
 
 
 @dataclasses.dataclass(frozen=True)
@@ -203,16 +228,20 @@ class Wait:
 
 
 Action = (
-    SetGate | NoteOpened | AnnounceOpen | Latch | Fix | Close | Publish | AnnounceClosing | Wait
+    SetGate
+    | NoteOpened
+    | NoteClock
+    | AnnounceOpen
+    | Latch
+    | Fix
+    | Close
+    | Publish
+    | AnnounceClosing
+    | Wait
 )
 
 
 # -- what the rules speak of
-
-
-def tens(seconds: float) -> int:
-    """The least whole ten seconds that is not before."""
-    return -int(-seconds // TEN) * TEN
 
 
 @dataclasses.dataclass(frozen=True)
@@ -244,12 +273,7 @@ class Look:
     @property
     def shuts(self) -> int:
         """When the inner door shuts."""
-        return tens(self.window.closes + self.limits.drain)
-
-    @property
-    def lifts(self) -> int:
-        """When the curtain of this window lifts."""
-        return tens(self.window.closes + self.limits.publish)
+        return self.limits.shuts(self.window.closes)
 
     @property
     def is_drawn(self) -> bool:
@@ -272,8 +296,7 @@ class Look:
         return Gate(draws=gate.draws, lifts=gate.lifts) if gate.draws <= self.seen.now else Gate()
 
     def open(self) -> Gate:
-        window = self.window
-        return Gate(window.opens, window.closes, self.shuts, window.closes, self.lifts)
+        return self.limits.doors(self.window.opens, self.window.closes)
 
     def draining(self) -> Gate:
         """Only the inner door is open, if it was opened.
@@ -282,12 +305,25 @@ class Look:
         """
         window = self.window
         doors = (window.opens, 0, self.shuts) if self.seen.gate.late else (0, 0, 0)
-        return Gate(*doors, window.opens, self.lifts)
+        return Gate(*doors, *self.limits.curtain(window.opens, window.closes))
 
     def drawn_again(self) -> Gate:
         """For a closing that comes later than its window's end says."""
         before = int(self.seen.now - self.limits.publish) // TEN * TEN  # the clock may go back
-        return Gate(draws=before, lifts=tens(self.seen.now + self.limits.publish))
+        return Gate(draws=before, lifts=whole_ten(self.seen.now + self.limits.publish))
+
+    def must_draw(self) -> bool:
+        """Whether the curtain might lift while the closing is on its way."""
+        if not self.limits.publish:
+            return False
+        return not self.is_drawn or self.seen.gate.lifts < self.seen.now + self.limits.longest
+
+    def closing(self) -> Close:
+        """Sends the closing while the curtain is drawn, or without a curtain at any time."""
+        if not self.limits.publish:
+            return Close(0, FOREVER, self.seen.passed)
+        gate = self.seen.gate
+        return Close(gate.draws, gate.lifts - self.limits.longest, self.seen.passed)
 
 
 @dataclasses.dataclass(frozen=True)
@@ -340,22 +376,17 @@ def latch(reason: Reason, condition: str, holds: Callable[[Look], bool]) -> Rule
     )
 
 
-def is_open(look: Look) -> bool:
-    """Whether the window is open by the time of day.
+def is_before(look: Look, end: int) -> bool:
+    """Whether it is before this end by the time of day, if that says anything."""
+    return look.seen.now < end and Reason.CLOCK not in look.doubts and look.seen.fixed is None
 
-    After a step of the clock that says nothing.
-    """
-    return (
-        look.seen.now < look.window.closes
-        and Reason.CLOCK not in look.doubts
-        and look.seen.fixed is None
-    )
+
+def is_open(look: Look) -> bool:
+    return is_before(look, look.window.closes)
 
 
 def is_draining(look: Look) -> bool:
-    return (
-        look.seen.now < look.shuts and Reason.CLOCK not in look.doubts and look.seen.fixed is None
-    )
+    return is_before(look, look.shuts)
 
 
 RULES: tuple[Rule, ...] = (
@@ -371,6 +402,12 @@ RULES: tuple[Rule, ...] = (
         Reason.CLOCK,
         "clock and passed time differ by more than `drift` since the window was announced",
         lambda look: look.has_window and abs(look.seen.drift) > look.limits.drift,
+    ),
+    Rule(
+        "the machine was started since the window was announced",
+        "note its clock once more",
+        lambda look: look.seen.restarted,
+        lambda look: NoteClock(),
     ),
     latch(
         Reason.OUTAGE,
@@ -421,6 +458,12 @@ RULES: tuple[Rule, ...] = (
     ),
     *shut_and_wait(
         "the round has no window", State.UNPLANNED, lambda look: look.seen.plan.window is None
+    ),
+    Rule(
+        "the window is not open yet, and the clock was set, and no word says that it is right",
+        f"wait for {State.HELD.value}",
+        lambda look: look.seen.now < look.window.opens and Reason.CLOCK in look.doubts,
+        lambda look: Wait(State.HELD, None, look.doubts),
     ),
     *shut_and_wait(
         "the window is not open yet",
@@ -486,7 +529,7 @@ RULES: tuple[Rule, ...] = (
         lambda look: look.seen.fixed not in (None, look.server.digest),
     ),
     Rule(
-        "a doubt stands",
+        "a doubt is not released",
         "wait for the word to close, or for more time",
         lambda look: bool(look.doubts),
         lambda look: Wait(State.HELD, None, look.doubts),
@@ -494,8 +537,7 @@ RULES: tuple[Rule, ...] = (
     Rule(
         "the curtain lifts before the longest closing would end",
         "draw it for `publish` from now on",
-        lambda look: not look.is_drawn
-        or look.seen.gate.lifts < look.seen.now + look.limits.longest,
+        Look.must_draw,
         lambda look: SetGate(look.drawn_again()),
     ),
     Rule(
@@ -508,9 +550,7 @@ RULES: tuple[Rule, ...] = (
         "otherwise",
         "send the closing",
         lambda look: True,
-        lambda look: Close(
-            look.seen.gate.draws, look.seen.gate.lifts - look.limits.longest, look.seen.passed
-        ),
+        Look.closing,
     ),
 )
 

@@ -92,3 +92,10 @@ def unlink(path: Path) -> None:
     """Removes a file if it is there, which need not survive a power loss."""
     with contextlib.suppress(FileNotFoundError):
         os.unlink(path)
+
+
+def move(source: Path, target: Path) -> None:
+    """Moves a file or a folder to another name for good."""
+    os.rename(source, target)
+    sync_folder(target.parent)
+    sync_folder(source.parent)

@@ -8,9 +8,15 @@ from collections.abc import Iterable
 from pathlib import Path
 
 from . import disk
-from .timetable import TEN
+from .decision import FOREVER, TEN
+from .decision import Gate as Times
 
 LATE, CURTAIN = "late-", "curtain-"
+
+
+def end_of(tens: set[str]) -> int:
+    """The end of the last ten seconds of these, or 0."""
+    return max((int(ten) + 1 for ten in tens), default=0) * TEN
 
 
 def tens(begin: float, end: int) -> Iterable[int]:
@@ -24,43 +30,44 @@ class Gate:
     def __init__(self, folder: Path) -> None:
         self.folder = folder
 
-    def open(self, now: float, closes: int, shuts: int, lifts: int) -> None:
-        """Sheets are taken from now on until the window closes, and through the inner door until it
-        shuts. From the window's end on the curtain is drawn.
-        """
-        curtain = {f"{CURTAIN}{ten}" for ten in tens(closes, lifts)}
-        late = {f"{LATE}{ten}" for ten in tens(now, shuts)}
-        self.become(curtain | late | {str(ten) for ten in tens(now, closes)})
+    def times(self, opens: int) -> Times:
+        """What the files say, with the opening that they do not say if a door is open."""
+        doors = {name for name in self.names() if name.isdigit()}
+        late, drawn = self.with_front(LATE), self.with_front(CURTAIN)
+        takes, shuts = end_of(doors), end_of(late)
+        if "open" in self.names():
+            takes = shuts = FOREVER
+        draws = min(map(int, drawn), default=0) * TEN
+        return Times(opens if takes or shuts else 0, takes, shuts, draws, end_of(drawn))
 
-    def drain(self, now: float) -> None:
-        """Only whole sheets pass whose head came in time, until the inner door shuts.
+    def write(self, times: Times, now: float) -> None:
+        """Lets the files say these times. Those of the doors are made from now on only."""
+        doors = {str(ten) for ten in tens(max(now, times.opens), times.takes)}
+        late = {f"{LATE}{ten}" for ten in tens(max(now, times.opens), times.late)}
+        curtain = {f"{CURTAIN}{ten}" for ten in tens(times.draws, times.lifts)}
+        self.become(doors | late | curtain)
 
-        The curtain stays.
-        """
-        self.become({name for name in self.names() if not name.isdigit() and name != "open"})
+    def forget(self, now: float) -> None:
+        """Removes the doors' files of times that are over: the clock may go back."""
+        over = {
+            name
+            for name in self.names()
+            if name != "open"
+            and not name.startswith(CURTAIN)
+            and int(name.removeprefix(LATE)) < int(now) // TEN
+        }
+        if over:
+            self.become(self.names() - over)
 
     def shut(self, now: float) -> None:
-        """No sheet is taken.
+        """No sheet is taken. A curtain that has begun stays."""
+        times = self.times(0)
+        drawn = Times(draws=times.draws, lifts=times.lifts)
+        self.write(drawn if times.draws <= now else Times(), now)
 
-        A curtain that has begun stays; one of a window that did not end goes.
-        """
-        drawn = {name for name in self.names() if name.startswith(CURTAIN)}
-        begins = min((int(name.removeprefix(CURTAIN)) * TEN for name in drawn), default=0)
-        self.become(drawn if begins <= now else set())
-
-    def draw(self, now: float, lifts: int) -> None:
-        """Draws the curtain from now on, for a closing that comes later than its window's end."""
-        self.become(self.names() | {f"{CURTAIN}{ten}" for ten in tens(now, lifts)})
-
-    def lifts(self, now: float) -> int:
-        """When the curtain lifts that is drawn now, or 0."""
-        ten = int(now) // TEN
-        names = self.names()
-        if f"{CURTAIN}{ten}" not in names:
-            return 0
-        while f"{CURTAIN}{ten}" in names:
-            ten += 1
-        return ten * TEN
+    def with_front(self, front: str) -> set[str]:
+        """The tens of the files whose names begin so."""
+        return {name.removeprefix(front) for name in self.names() if name.startswith(front)}
 
     def names(self) -> set[str]:
         return {file.name for file in self.folder.iterdir()} if self.folder.is_dir() else set()

@@ -9,6 +9,7 @@ from pathlib import Path
 from typing import Any, Self
 
 from . import disk
+from .decision import Reason
 from .increments import DEFAULT, Rule
 from .timetable import Window
 
@@ -23,18 +24,26 @@ class Pause:
 
 @dataclasses.dataclass
 class Doubt:
-    """Why a round is not closed without the operator's word."""
+    """Why a round is not closed without a person's word, and whether a person has given it.
+
+    `reason` is the name of a Reason. `words` has more than its usual words, or nothing.
+    """
 
     round: int
-    words: str
+    reason: str
+    words: str = ""
+    is_released: bool = False
+
+    def in_words(self) -> str:
+        return self.words or Reason[self.reason].value
 
 
 @dataclasses.dataclass
-class Word:
-    """The operator's word to close a round that waits for it; without sheets only if it says so."""
+class Ended:
+    """The increments with which a person ended a round's window early."""
 
     round: int
-    without_sheets: bool
+    increments: list[int]
 
 
 @dataclasses.dataclass
@@ -58,8 +67,8 @@ class Plan:
     windows: dict[int, Window] = dataclasses.field(default_factory=dict)
     increments: list[Rule] = dataclasses.field(default_factory=lambda: [Rule(DEFAULT)])
     paused: Pause | None = None
-    doubt: Doubt | None = None
-    word: Word | None = None
+    doubts: list[Doubt] = dataclasses.field(default_factory=list)
+    ended: Ended | None = None
     notices: list[Notice] = dataclasses.field(default_factory=list)
 
     @classmethod
@@ -72,10 +81,32 @@ class Plan:
             {int(number): Window(**part) for number, part in value["windows"].items()},
             [Rule(**part) for part in value["increments"]],
             one(Pause, value["paused"]),
-            one(Doubt, value["doubt"]),
-            one(Word, value["word"]),
+            [Doubt(**part) for part in value["doubts"]],
+            one(Ended, value["ended"]),
             [Notice(**part) for part in value["notices"]],
         )
+
+    def doubts_of(self, number: int) -> list[Doubt]:
+        """The doubts about a round, also those that a word has released."""
+        return [doubt for doubt in self.doubts if doubt.round == number]
+
+    def latch(
+        self, number: int, reason: Reason, words: str = "", is_released: bool = False
+    ) -> None:
+        """Stores a doubt, in place of an older one of this reason."""
+        others = [one for one in self.doubts if (one.round, one.reason) != (number, reason.name)]
+        self.doubts = [*others, Doubt(number, reason.name, words, is_released)]
+
+    def release(self, number: int) -> None:
+        """The doubts about a round so far hold it no more. That of the clock is gone."""
+        for doubt in self.doubts_of(number):
+            doubt.is_released = True
+        self.doubts = [one for one in self.doubts if one.reason != Reason.CLOCK.name]
+
+    def forget(self, number: int) -> None:
+        """Forgets the doubts about a round, and with which increments a person ended it."""
+        self.doubts = [doubt for doubt in self.doubts if doubt.round != number]
+        self.ended = None
 
     def announce(self, text: str) -> None:
         """Notes what to announce once this plan is stored."""

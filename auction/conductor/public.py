@@ -13,6 +13,16 @@ from .settings import Folders
 from .server import Page
 
 
+def closing_key(number: int) -> str:
+    """The key of the announcement of a closed round."""
+    return f"closed-{number}"
+
+
+def opening_key(number: int, opens: int) -> str:
+    """The key of the announcement that a window is open."""
+    return f"open-{number}-{opens}"
+
+
 class PublicFiles:
     """The public files. Each is written whole, and only if it has changed."""
 

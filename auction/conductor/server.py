@@ -1,6 +1,7 @@
 """Requests to the server in the operator's name."""
 import http.client
 import json
+import ssl
 import urllib.error
 import urllib.request
 from typing import Any
@@ -9,6 +10,8 @@ from typing import Any
 Page = dict[str, Any]
 
 CLOSING_SECONDS = 300  # as long as nginx waits for a closing
+PAGE_SECONDS = 5
+PUBLIC_PAGE = "/public/timetable.json"
 
 
 class NoReply(Exception):
@@ -65,3 +68,24 @@ class Operator:
         if "code" in page:
             raise Refused(f"the server refuses {path}: {page}")
         return page
+
+
+class BiddersPort:
+    """The port of nginx at which bidders come, asked as they ask: with the certificate's name."""
+
+    def __init__(self, url: str, authority: str) -> None:
+        self.url, self.authority = url.rstrip("/"), authority
+
+    def answers(self) -> bool:
+        """Whether a page comes from there."""
+        try:
+            context = ssl.create_default_context(cafile=self.authority or None)
+            opener = urllib.request.build_opener(
+                Straight,
+                urllib.request.ProxyHandler({}),
+                urllib.request.HTTPSHandler(context=context),
+            )
+            with opener.open(self.url + PUBLIC_PAGE, timeout=PAGE_SECONDS):
+                return True
+        except (OSError, ValueError, http.client.HTTPException):
+            return False

@@ -11,8 +11,12 @@ import stat
 from pathlib import Path
 from typing import Self
 
+from auction.formats.ties import MOST_TIES
+
 from . import disk
-from .timetable import Window, whole_ten
+from .decision import Limits, whole_ten
+
+LONGEST = 10  # seconds that a closing may take
 
 
 class SettingsFault(Exception):
@@ -49,6 +53,13 @@ class Settings:
     between: int = 300
     # A window that begins within this time is not brought forward or shortened.
     notice: int = 900
+    # The bidders' port of nginx, such as https://auction.example:8443, which is asked while a
+    # window is open; "" for none. The file `authority` has the certificates to trust; "" for the
+    # system's.
+    bidders: str = ""
+    authority: str = ""
+    # Percent of a window that bidders may miss. If it is more, the round waits for a word.
+    missed: int = 2
     # The group of nginx's workers, which read the report for the operator; "" asks nginx.conf.
     readers: str = ""
 
@@ -67,22 +78,32 @@ class Settings:
             raise SettingsFault(f"{path}: {error!r}") from error
         times = {
             name: getattr(settings, name)
-            for name in ("port", "drain", "publish", "between", "notice")
+            for name in ("port", "drain", "publish", "between", "notice", "missed")
         }
         for name, seconds in times.items():
             if type(seconds) is not int or seconds < 0:
-                raise SettingsFault(f"{path}: {name} must be whole seconds, 0 or more")
+                raise SettingsFault(f"{path}: {name} must be a whole number, 0 or more")
+        if 0 < settings.publish < settings.drain + LONGEST:
+            raise SettingsFault(
+                f"{path}: publish must be 0, or hold drain and a closing of {LONGEST} s"
+            )
         return dataclasses.replace(
-            settings, readers=settings.readers or group_of_workers(folder / "nginx.conf")
+            settings,
+            readers=settings.readers or group_of_workers(folder / "nginx.conf"),
+            authority=settings.authority and str(folder / settings.authority),
         )
 
-    def shuts(self, window: Window) -> int:
-        """When the inner door shuts after a window."""
-        return window.closes + whole_ten(self.drain)
+    @property
+    def gap(self) -> int:
+        """The least time from a window's end to the next opening, which holds drain, the longest
+        closing, the curtain, and the time from results to the next opening.
+        """
+        return whole_ten(max(self.drain, self.publish) + LONGEST + self.between)
 
-    def lifts(self, window: Window) -> int:
-        """When the curtain lifts after a window."""
-        return window.closes + whole_ten(self.publish)
+    def limits(self) -> Limits:
+        """What a decision depends on."""
+        share = self.missed / 100
+        return Limits(self.drain, self.publish, LONGEST, missed=share, pairs=MOST_TIES)
 
 
 @dataclasses.dataclass(frozen=True)

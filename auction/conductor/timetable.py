@@ -9,9 +9,10 @@ from collections.abc import Iterator
 from pathlib import Path
 from typing import Any
 
+from .clock import Clock
+from .decision import TEN, whole_ten
 from .increments import Rule, rules_of
 
-TEN = 10  # nginx ends a window at a whole ten seconds
 MOST_WINDOWS = 1_000  # each bidder's page reads all of them
 DAYS = ("Mon", "Tue", "Wed", "Thu", "Fri", "Sat", "Sun")
 
@@ -22,11 +23,21 @@ class TimetableFault(Exception):
 
 @dataclasses.dataclass
 class Window:
-    """When a round opens and closes, in UTC seconds, and when it was opened in fact."""
+    """When a round opens and closes, in UTC seconds, and when it was opened in fact.
+
+    `boot` names the start of the machine in which the window was announced last, and `offset` is
+    what the time of day was then, less the time that had passed since that start.
+    """
 
     opens: int
     closes: int
     opened: float | None = None
+    boot: str = ""
+    offset: float = 0.0
+
+    def note_clock(self, clock: Clock) -> None:
+        """Notes the clock by which bidders will measure this window."""
+        self.boot, self.offset = clock.boot(), clock.wall() - clock.passed()
 
 
 @dataclasses.dataclass(frozen=True)
@@ -184,7 +195,7 @@ Windows = dict[int, Window]
 
 
 def replaced(
-    old: Windows, begun: int, fresh: list[Window], now: float, between: int, notice: int
+    old: Windows, begun: int, fresh: list[Window], now: float, gap: int, notice: int
 ) -> Windows:
     """The windows by round, once fresh ones have replaced those of the rounds after the last that
     has begun.
@@ -200,7 +211,7 @@ def replaced(
         enumerate(later, begun + 1)
     )
     for number in range(begun + 1, begun + len(later) + 1):
-        check_gap(windows, number, between)
+        check_gap(windows, number, gap)
         if number in old and old[number].opens < now + notice:
             check_promise(old[number], windows[number], number, notice)
         elif windows[number].opens < now + notice:
@@ -211,13 +222,20 @@ def replaced(
     return windows
 
 
-def check_gap(windows: Windows, number: int, between: int) -> None:
+def check_gaps(windows: list[Window], gap: int) -> None:
+    """Each round opens some time after the one before has closed."""
+    by_round = dict(enumerate(windows, 1))
+    for number in by_round:
+        check_gap(by_round, number, gap)
+
+
+def check_gap(windows: Windows, number: int, gap: int) -> None:
     """A round opens some time after the one before has closed."""
     before, window = windows.get(number - 1), windows[number]
-    if before and window.opens < before.closes + between:
+    if before and window.opens < before.closes + gap:
         raise TimetableFault(
             f"round {number} would open {window.opens - before.closes} s after round {number - 1} "
-            f"closes, and conductor.json asks for {between} s between them"
+            f"closes, and the times in conductor.json need {gap} s between them"
         )
 
 
@@ -233,10 +251,10 @@ def check_promise(promised: Window, window: Window, number: int, notice: int) ->
         )
 
 
-def move_later(windows: Windows, number: int, between: int) -> None:
+def move_later(windows: Windows, number: int, gap: int) -> None:
     """Moves the windows after a round as far as they must move to leave the time between."""
     while number in windows and number + 1 in windows:
-        put_off(windows[number + 1], windows[number].closes + between)
+        put_off(windows[number + 1], windows[number].closes + gap)
         number += 1
 
 
@@ -244,8 +262,3 @@ def put_off(window: Window, soonest: float) -> None:
     """Moves a window later by whole tens of seconds, so that it opens no sooner than this."""
     late = whole_ten(max(0.0, soonest - window.opens))
     window.opens, window.closes = window.opens + late, window.closes + late
-
-
-def whole_ten(seconds: float) -> int:
-    """The least whole ten seconds that is not before."""
-    return -int(-seconds // TEN) * TEN

@@ -1,85 +1,104 @@
-"""Notices if the clock was set, and if nobody saw the server answer for a minute of a window."""
+"""How far the clock was set, and how much of a window bidders missed, also across restarts."""
 import dataclasses
 import json
 
 from . import disk
 from .clock import Clock
-from .plan import Doubt, Pause, Plan
 from .settings import Folders
+from .timetable import Window
 
-JUMP = 5  # seconds by which a clock is set, not slewed
-GONE = 60  # seconds of a window without the server, after which its round waits for a word
+# Seconds between two looks, after which nobody knows whether bidders could reach the auction.
+UNSEEN = 30
+
+
+@dataclasses.dataclass(frozen=True)
+class Missed:
+    """How much of a round's window bidders missed, as far as it was looked at.
+
+    `was_reached` is whether they could reach the auction at the last look.
+    """
+
+    round: int
+    opens: int
+    until: float
+    seconds: float = 0.0
+    was_reached: bool = True
+
+    def after(self, now: float, is_open: bool, is_reached: bool) -> "Missed":
+        """This with one more look, at which the doors were open or not."""
+        gap = max(0.0, now - self.until)
+        is_seen = is_open and is_reached and self.was_reached and gap <= UNSEEN
+        seconds = self.seconds + (0.0 if is_seen else gap)
+        return Missed(self.round, self.opens, max(now, self.until), seconds, is_reached)
 
 
 @dataclasses.dataclass(frozen=True)
 class Look:
-    """One reading of the clock, and the time of day at which the server answered last."""
+    """One reading of the clock, and what bidders missed of a window up to it."""
 
     wall: float
     passed: float
     boot: str
-    answered: float | None
+    missed: Missed | None = None
 
 
 class Watch:
-    """Compares each look with the one before, also across restarts.
+    """Compares each look with the one before.
 
-    The file of the last look is not synced: without it a gap counts as long.
+    The file of the last look is not synced. Without it nobody knows what bidders missed before.
     """
 
     def __init__(self, folders: Folders, clock: Clock) -> None:
         self.path, self.clock = folders.state / "look.json", clock
-        self.last = self.stored()
+        self.before = self.last = self.stored()
 
     def stored(self) -> Look | None:
         try:
-            return Look(**json.loads(self.path.read_text(encoding="utf-8")))
-        except (FileNotFoundError, ValueError, TypeError):
+            value = json.loads(self.path.read_text(encoding="utf-8"))
+            missed = value.pop("missed")
+            return Look(**value, missed=missed and Missed(**missed))
+        except (FileNotFoundError, ValueError, TypeError, KeyError):
             return None
 
-    def look(self) -> float | None:
-        """Reads the clock.
-
-        Returns by how many seconds it was set since the last look, or None if it was not.
-        """
-        before = self.last
-        answered = before.answered if before else None
-        self.last = Look(self.clock.wall(), self.clock.passed(), self.clock.boot(), answered)
-        if before is None:
-            return None
-        jump = self.last.wall - before.wall
-        if before.boot == self.last.boot:
-            jump -= self.last.passed - before.passed
-        elif jump > 0:
-            return None  # the machine was off, nobody knows for how long
-        return jump if abs(jump) > JUMP else None
+    def look(self) -> Look:
+        """Reads the clock."""
+        self.before = self.last
+        missed = self.last.missed if self.last else None
+        self.last = Look(self.clock.wall(), self.clock.passed(), self.clock.boot(), missed)
+        return self.last
 
     @property
     def now(self) -> float:
         """The time of day at the last look, by which everything in this look is decided."""
         return self.last.wall if self.last else self.clock.wall()
 
-    def answered(self, plan: Plan, number: int) -> Doubt | None:
-        """Notes that the server answered.
+    def drift(self, window: Window) -> float:
+        """By how many seconds the clock was set since a window was announced.
 
-        Returns a doubt if nobody saw it answer for a minute of this round's window.
+        While the machine was off nobody knows, but the time of day did not go back.
         """
-        window = plan.windows.get(number)
-        doubt = None
-        if window and window.opened is not None and not plan.paused:
-            seen = max(window.opened, self.last.answered or 0.0 if self.last else 0.0)
-            gap = min(self.now, window.closes) - seen
-            if gap > GONE:
-                doubt = Doubt(number, f"for {gap:.0f} s of its window nobody saw the server answer")
-        if self.last:
-            self.last = dataclasses.replace(self.last, answered=self.now)
-        return doubt
+        look, before = self.last or self.look(), self.before
+        if window.boot == look.boot:
+            return look.wall - look.passed - window.offset
+        if before and before.boot != look.boot:
+            return min(0.0, look.wall - before.wall)
+        return 0.0
+
+    def missed(self, number: int, window: Window, is_paused: bool, is_reached: bool) -> float:
+        """Notes what bidders missed of a window up to now, and returns its share of the window."""
+        look = self.last or self.look()
+        missed = look.missed
+        if missed is None or (missed.round, missed.opens) != (number, window.opens):
+            missed = Missed(number, window.opens, window.opens)
+        now = min(look.wall, window.closes)
+        if is_paused:
+            missed = dataclasses.replace(missed, until=max(now, missed.until))
+        elif now >= window.opens:
+            missed = missed.after(now, window.opened is not None, is_reached)
+        self.last = dataclasses.replace(look, missed=missed)
+        length = window.closes - window.opens
+        return missed.seconds / length if length else 0.0
 
     def store(self) -> None:
         if self.last:
             disk.show(self.path, json.dumps(dataclasses.asdict(self.last)), disk.PRIVATE)
-
-
-def pause_for(jump: float, before: float) -> Pause:
-    """The pause that a clock that was set begins."""
-    return Pause(before, f"The clock of the auction's machine was set by {jump:+.0f} seconds.")

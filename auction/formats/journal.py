@@ -130,10 +130,10 @@ class Journal:
         """The bidders with a sheet in force, in the set-up's order."""
         return [name for name in self.setup.bidders if name in self.sheets]
 
-    def asked(self) -> set[tuple[int, int]]:
-        """The pairs of bidder and product with a bid in force, by number."""
+    def bids_in_force(self) -> set[tuple[int, int, int]]:
+        """The bids in force: bidder and product by number, and the quantity."""
         return {
-            (bidder, bid["product"])
+            (bidder, bid["product"], bid["quantity"])
             for bidder, name in enumerate(self.setup.bidders)
             if name in self.sheets
             for bid in json.loads(self.body(self.sheets[name]))["bids"]

@@ -11,8 +11,10 @@ from typing import Any, NamedTuple, Self
 from auction.recount.formats import Refused, Request, request_in
 from .journal import body_in
 from .signatures import SIGNATURE, is_signed
+from .strict import value_in
 from .ties import Commitment, bytes_of, has_keys
 
+NAME = re.compile("[A-Za-z0-9_-]{1,32}")
 KEYS = ("auction", "bidder", "body", "round", "sheet", "signature", "text")
 
 
@@ -65,16 +67,22 @@ class Kept:
         """The receipt in a JSON value. Raises ValueError if it has none."""
         sent = value.pop("sent", None) if isinstance(value, dict) else None
         has_keys(value, *KEYS)
+        if not isinstance(sent, str | None):
+            raise ValueError("what was sent")
         for name in ("auction", "body", "text"):
             bytes_of(value[name], 32)
-        if not isinstance(value["bidder"], str) or not re.fullmatch(
-            "[A-Za-z0-9_-]{1,32}", value["bidder"]
-        ):
-            raise ValueError("the bidder's name")
+        checked_name(value["bidder"])
         if any(type(value[name]) is not int or value[name] < 1 for name in ("round", "sheet")):
             raise ValueError("a round or a sheet is not a whole number from 1 on")
         signature = bytes_of(value.pop("signature"), SIGNATURE)
         return cls(Receipt(**value), signature, sent)
+
+
+def checked_name(name: Any) -> str:
+    """A bidder's name. Raises ValueError for any other value."""
+    if not isinstance(name, str) or not NAME.fullmatch(name):
+        raise ValueError("the bidder's name")
+    return name
 
 
 def digest_of(data: bytes) -> str:
@@ -85,19 +93,50 @@ def digest_of(data: bytes) -> str:
 
 
 class File(NamedTuple):
-    """A bidder's file: the commitment as the bidder saw it, and its receipts."""
+    """A bidder's file: the commitment as the bidder saw it, its receipts, and its statements.
+
+    `bidder` is the name that the file states, if it does: then it accounts for all sheets of this
+    bidder, even if these are none. `sent` has the digest of each body that the bidder says it sent,
+    besides those in receipts.
+    """
 
     commitment: Commitment
     receipts: list[Kept]
+    bidder: str | None = None
+    sent: Counter[str] = Counter()
+
+    @property
+    def name(self) -> str | None:
+        """The bidder whose file this is, if it is known."""
+        names = {kept.receipt.bidder for kept in self.receipts}
+        return self.bidder or min(names, default=None)
 
 
 def read_kept(path: Path) -> File:
-    """Reads a bidder's file: the commitment in its first line, then a receipt in each line."""
+    """Reads a bidder's file: the commitment in its first line, then a receipt in each line.
+
+    A line may also state the bidder, or a body that it sent.
+    """
     try:
-        first, *lines = path.read_text(encoding="utf-8").splitlines()
-        return File(Commitment.of(json.loads(first)), [Kept.of(json.loads(line)) for line in lines])
+        first, *lines = path.read_text(encoding="utf-8").removesuffix("\n").split("\n")
+        return file_of(Commitment.of(value_in(first)), [value_in(line) for line in lines])
     except (OSError, ValueError) as error:
         raise ReceiptsFault(f"{path} is not a file of receipts: {error}") from error
+
+
+def file_of(commitment: Commitment, values: list[Any]) -> File:
+    """The file with these values in its lines. Raises ValueError for another value."""
+    receipts, names, sent = list[Kept](), set[str](), Counter[str]()
+    for value in values:
+        if isinstance(value, dict) and value.keys() == {"bidder"}:
+            names.add(checked_name(value["bidder"]))
+        elif isinstance(value, dict) and value.keys() == {"sent"}:
+            sent[digest_of(str(value["sent"]).encode())] += 1
+        else:
+            receipts.append(Kept.of(value))
+    if len(names) > 1:
+        raise ValueError("it names two bidders")
+    return File(commitment, receipts, min(names, default=None), sent)
 
 
 # ---- The journal
@@ -150,70 +189,122 @@ def sheets_in(journal: bytes) -> list[Sheet]:
 # ---- The comparison
 
 
-def faults(file: File, journal: bytes, token: str = "") -> list[str]:
+def faults(
+    file: File, journal: bytes, token: str = "", commitment: Commitment | None = None
+) -> list[str]:
     """All differences between a bidder's receipts and a journal, in words.
 
     The token is the bidder's, if it is known. Otherwise the receipts show which sheets are the
-    bidder's.
+    bidder's. `commitment` is a copy that this bidder did not make. Without one, the file's own
+    counts, which proves nothing to others: who writes a file can also make a key.
     """
-    commitment, receipts = file
-    if journal[24:56].hex() != commitment.auction:
+    true = commitment or file.commitment
+    if journal[24:56].hex() != true.auction:
         return ["the journal is of another auction than the commitment"]
-    sheets = sheets_in(journal)
-    found = [fault for kept in receipts for fault in own_faults(commitment, kept)]
-    if len({kept.receipt.bidder for kept in receipts}) > 1:
-        found.append("the receipts are of several bidders")
-    for (number, sheet), count in Counter(
-        (kept.receipt.round, kept.receipt.sheet) for kept in receipts
-    ).items():
-        if count > 1:
-            found.append(f"round {number}, sheet {sheet}: there are {count} receipts")
+    found = []
+    if file.commitment != true:
+        found.append(
+            "its bidder saw another commitment.json, of another set-up, chain, or key: it was "
+            "shown another one, or changed its file"
+        )
+    found += [fault for kept in file.receipts for fault in false_words(true, kept)]
+    receipts = [kept for kept in file.receipts if not list(false_words(true, kept))]
+    found += [fault for kept in receipts for fault in other_sheet(kept)]
+    found += unsent(receipts, file.sent) + repeated(file)
+    return found + differences(receipts, sheets_in(journal), token)
+
+
+def differences(receipts: list[Kept], sheets: list[Sheet], token: str) -> list[str]:
+    """What differs between the receipts that the operator signed and the sheets of a journal."""
     texts = {kept.receipt.text for kept in receipts}
     tokens = {sheet.token for sheet in sheets if sheet.text in texts} | (
         {token} if token else set()
     )
-    if len(tokens) > 1:
-        found.append("the journal has the sheets under several tokens")
+    found = ["the journal has the sheets under several tokens"] if len(tokens) > 1 else []
     own = [sheet for sheet in sheets if sheet.token in tokens]
     return found + missing(receipts, sheets) + without_receipt(receipts, own)
 
 
-def own_faults(commitment: Commitment, kept: Kept) -> Iterator[str]:
-    """What is wrong with a receipt by itself, whatever the journal has."""
+def place_of(receipt: Receipt) -> str:
+    return f"round {receipt.round}, sheet {receipt.sheet}"
+
+
+def false_words(commitment: Commitment, kept: Kept) -> Iterator[str]:
+    """Why the operator did not sign this receipt, so that it proves nothing."""
     receipt = kept.receipt
-    where = f"round {receipt.round}, sheet {receipt.sheet}: the receipt"
+    where = f"{place_of(receipt)}: the receipt"
     if receipt.auction != commitment.auction:
         yield f"{where} is of another auction"
     if not is_signed(commitment.key, receipt.message(), kept.signature):
         yield f"{where} is not signed by the committed key"
-    if kept.sent is not None and digest_of(kept.sent.encode()) != receipt.body:
-        yield f"{where} is for another sheet than the one that was sent"
+
+
+def other_sheet(kept: Kept) -> Iterator[str]:
+    """Whether a receipt is for another sheet than its bidder sent."""
+    if kept.sent is not None and digest_of(kept.sent.encode()) != kept.receipt.body:
+        yield (
+            f"{place_of(kept.receipt)}: the receipt is for another sheet than the one that was sent"
+        )
+
+
+def unsent(receipts: list[Kept], sent: Counter[str]) -> list[str]:
+    """The receipts of sheets of which the file does not say that their bidder sent them.
+
+    Each statement counts for one receipt, so a sheet that was put in again has none. A receipt
+    with what was sent has its statement, and a line of its own may repeat it.
+    """
+    left, found = sent.copy(), list[str]()
+    left.subtract(kept.receipt.body for kept in receipts if kept.sent is not None)
+    for receipt in (kept.receipt for kept in receipts if kept.sent is None):
+        if left[receipt.body] > 0:
+            left[receipt.body] -= 1
+            continue
+        found.append(
+            f"{place_of(receipt)}: the file does not say that {receipt.bidder} sent this sheet. If "
+            f"{receipt.bidder} did not send it in another way, it was put in"
+        )
+    return found
+
+
+def repeated(file: File) -> list[str]:
+    """Receipts of several bidders, or several of one sheet."""
+    names = {kept.receipt.bidder for kept in file.receipts}
+    found = ["the receipts are of several bidders"] if len(names) > 1 else []
+    if len(names) == 1 and file.bidder not in (None, *names):
+        found.append(f"the file is of {file.bidder}, and its receipts are of {min(names)}")
+    places = Counter(place_of(kept.receipt) for kept in file.receipts)
+    return found + [
+        f"{place}: there are {count} receipts" for place, count in places.items() if count > 1
+    ]
 
 
 def missing(receipts: list[Kept], sheets: list[Sheet]) -> list[str]:
     """Receipts whose sheet is not in the journal, or is elsewhere or different there."""
     found = []
     for receipt in (kept.receipt for kept in receipts):
-        where = f"round {receipt.round}, sheet {receipt.sheet}"
         there = [sheet for sheet in sheets if sheet.text == receipt.text]
         places = [(sheet.round, sheet.number) for sheet in there]
         if not there:
-            found.append(f"{where}: it was accepted, and the journal does not have it")
+            found.append(f"{place_of(receipt)}: it was accepted, and the journal does not have it")
         elif (receipt.round, receipt.sheet) not in places:
             found.append(
-                f"{where}: the journal has it as sheet {places[0][1]} of round {places[0][0]}"
+                f"{place_of(receipt)}: the journal has it as sheet {places[0][1]} of round "
+                f"{places[0][0]}"
             )
         elif there[0].body != receipt.body:
-            found.append(f"{where}: its body in the journal is another one")
+            found.append(f"{place_of(receipt)}: its body in the journal is another one")
     return found
 
 
 def without_receipt(receipts: list[Kept], own: list[Sheet]) -> list[str]:
-    """The bidder's sheets in the journal that have no receipt."""
-    known = {(kept.receipt.round, kept.receipt.text) for kept in receipts}
+    """The bidder's sheets in the journal that have no receipt.
+
+    A receipt is of one place: the same text again, as another sheet, needs one of its own.
+    """
+    known = {(kept.receipt.round, kept.receipt.sheet, kept.receipt.text) for kept in receipts}
     return [
         f"round {sheet.round}, sheet {sheet.number}: the journal has it, and there is no receipt. "
         "If you did not submit it, it was put in"
         for sheet in own
-        if (sheet.round, sheet.text) not in known
+        if (sheet.round, sheet.number, sheet.text) not in known
     ]

@@ -14,11 +14,12 @@ import dataclasses
 import functools
 import hashlib
 import hmac
-import json
 import re
 from collections.abc import Collection
 from pathlib import Path
 from typing import Any, Self
+
+from .strict import value_in
 
 LENGTH = 10_000  # Rounds of a chain.
 SEED = 32  # bytes of a seed
@@ -36,11 +37,18 @@ class TiesFault(ValueError):
 
 @dataclasses.dataclass(frozen=True)
 class Committed:
-    """The published part of a chain: its end, its rounds, and the result of a draw, or nothing."""
+    """The published part of a chain: its end, its rounds, and the result of a draw, or nothing.
+
+    A commitment has no result, because it is published before the draw.
+    """
 
     end: bytes
     length: int
     draw: str = ""
+
+    def after(self, draw: str) -> "Committed":
+        """The chain after a draw with this result."""
+        return dataclasses.replace(self, draw=draw)
 
 
 @dataclasses.dataclass(frozen=True)
@@ -78,7 +86,7 @@ class Commitment:
     def read(cls, path: Path) -> Self:
         """Reads the commitment in a file."""
         try:
-            return cls.of(json.loads(path.read_bytes()))
+            return cls.of(value_in(path.read_bytes()))
         except (OSError, ValueError) as error:
             raise TiesFault(f"{path}: {error}") from error
 
@@ -90,6 +98,35 @@ class Commitment:
             "length": self.chain.length,
         }
         return {"auction": self.auction, "chain": chain, "key": self.key}
+
+
+@dataclasses.dataclass(frozen=True)
+class Draw:
+    """The result of a public draw, in words, with the SHA-256 of the commitment of before it."""
+
+    commitment: str
+    words: str
+
+    @classmethod
+    def of(cls, value: Any) -> Self:
+        """The draw in a JSON value."""
+        try:
+            has_keys(value, "commitment", "draw")
+            bytes_of(value["commitment"], 32)
+            if not checked_draw(value["draw"]):
+                raise ValueError("a draw has words")
+            return cls(value["commitment"], value["draw"])
+        except (TypeError, ValueError) as error:
+            raise TiesFault(f"this is not a draw: {error}") from error
+
+    @classmethod
+    def added(cls, commitment: bytes, words: str) -> Self:
+        """The draw with these words after the published bytes of a commitment."""
+        return cls(hashlib.sha256(commitment).hexdigest(), words)
+
+    def value(self) -> dict[str, str]:
+        """The published JSON value."""
+        return {"commitment": self.commitment, "draw": self.words}
 
 
 def has_keys(value: Any, *keys: str) -> None:

@@ -1,12 +1,15 @@
 """Checks of a journal, and of what was published of each round."""
+import json
 import re
 from typing import Any
 
+from auction.formats import strict
 from auction.recount.rules import Round
 
 from .case import Absent, Case, Failed
 
 CUT = "requests are missing at the end of the journal"
+TIME = re.compile("[0-9]{4}-[01][0-9]-[0-3][0-9]T[0-2][0-9]:[0-5][0-9]:[0-5][0-9]Z")
 CHANGED = (
     "a request up to this closing was changed, left out, or added after the digest was published"
 )
@@ -75,8 +78,8 @@ def check_digests(case: Case) -> str:
             faults.append(
                 f"round {number} was published, but the journal has no closing of it: {CUT}"
             )
-        elif case.rounds[number]["digest"] != case.closings[number - 1]:
-            published = short(case.rounds[number]["digest"])
+        elif case.rounds[number].get("digest") != case.closings[number - 1]:
+            published = short(case.rounds[number].get("digest"))
             found = short(case.closings[number - 1])
             faults.append(
                 f"round {number} was published with {published}, but the journal has {found}: "
@@ -84,10 +87,10 @@ def check_digests(case: Case) -> str:
             )
     if faults:
         raise Failed(*faults)
-    return (
-        f"the {len(case.rounds)} published digests are those of the journal, so no request up to "
-        "them was changed"
-    )
+    count = f"the {len(case.rounds)} digests of {case.published} are those of the journal"
+    if case.is_record:
+        return f"{count}; this is a record, so that proves only that it agrees with itself"
+    return f"{count}, so no request up to them was changed after someone saved them there"
 
 
 def page_of(
@@ -108,8 +111,22 @@ def page_of(
     return {"ended": closed.ended, "products": products, "round": number}
 
 
+def is_as_served(text: bytes, found: dict[str, Any], page: dict[str, Any]) -> bool:
+    """Whether a file is byte for byte the page of a round, as the conductor or `auction close`
+    writes it.
+
+    Its digest and its seed have checks of their own, and no file proves when it was published.
+    """
+    page = {**page, "digest": found.get("digest"), "seed": found.get("seed")}
+    if "published" in found:
+        page["published"] = found["published"]
+        if not TIME.fullmatch(str(page["published"])):
+            return False
+    return text in (strict.published(page), json.dumps(page).encode())
+
+
 def check_results(case: Case) -> str:
-    """Compares the published results of each round with those of the recount."""
+    """Compares the published results of each round, byte for byte, with those of the recount."""
     names = [product.name for product in case.setup.products]
     supplies = [product.supply for product in case.setup.products]
     faults = []
@@ -117,10 +134,15 @@ def check_results(case: Case) -> str:
         if number not in case.rounds:
             faults.append(f"the results of round {number} were not published")
             continue
-        page = {key: case.rounds[number].get(key) for key in ("ended", "products", "round")}
-        if page != page_of(names, supplies, number, closed):
+        found, page = case.rounds[number], page_of(names, supplies, number, closed)
+        if page != {key: found.get(key) for key in page}:
             faults.append(
                 f"the published results of round {number} are not those of the journal by the rules"
+            )
+        elif not is_as_served(case.text(f"rounds/{number}.json"), found, page):
+            faults.append(
+                f"rounds/{number}.json is not byte for byte the page that the server gives: other "
+                "readers may find other results in it"
             )
     if faults:
         raise Failed(*faults)
@@ -129,23 +151,36 @@ def check_results(case: Case) -> str:
 
 
 def check_announcements(case: Case) -> str:
-    """Checks that each round was announced with the digest that was published with it."""
+    """Checks that each round was announced with the digest that was published with it.
+
+    No other round may be announced, and announcements are numbered from 1.
+    """
     made = case.json("announcements.json")["announcements"]
     announced = {one["key"]: re.findall(r"\b[0-9a-f]{64,}\b", one["text"]) for one in made}
     faults = [
-        f"round {number} was published with {short(page['digest'])}, and not announced with this "
-        "digest"
+        f"round {number} was published with {short(page.get('digest'))}, and not announced with "
+        "this digest"
         for number, page in case.rounds.items()
-        if announced.get(f"closed-{number}") != [page["digest"]]
+        if announced.get(f"closed-{number}") != [page.get("digest")]
     ]
+    closings = {f"closed-{number}" for number in case.rounds}
+    faults += [
+        f"{key} is announced, and no such round was published"
+        for key in announced
+        if key.startswith("closed-") and key not in closings
+    ]
+    if [one["number"] for one in made] != list(range(1, len(made) + 1)):
+        faults.append("the announcements are not numbered from 1: one was added or left out")
+    if len(announced) < len(made):
+        faults.append("two announcements have one key")
     if faults:
         raise Failed(*faults)
     return f"the digests of {len(case.rounds)} rounds were announced as they were published"
 
 
 def check_winners(case: Case) -> str:
-    """Compares the published winners with those of the recount."""
-    winners, auction = case.json("winners.json"), case.counted.auction
+    """Compares the published winners, byte for byte, with those of the recount."""
+    winners, auction = case.text("winners.json"), case.counted.auction
     if not auction.ended:
         raise Failed("winners are published, but by the journal the auction has not ended")
     last = auction.rounds[-1]
@@ -157,7 +192,7 @@ def check_winners(case: Case) -> str:
         }
         for bidder, slip in zip(case.setup.bidders, last.slips)
     ]
-    if winners != {"bidders": bidders, "round": len(auction.rounds)}:
+    if winners != strict.published({"bidders": bidders, "round": len(auction.rounds)}):
         raise Failed("the published winners or payments are not those of the journal by the rules")
     return f"what {len(bidders)} bidders won and pay is what the rules say"
 

@@ -1,11 +1,12 @@
 """The files that are checked, and their content."""
 import functools
 import hashlib
-import json
 import re
 from pathlib import Path
 from typing import Any
 
+from auction.formats import strict
+from auction.formats.record import INDEX
 from auction.recount import rules as recount
 from auction.recount.formats import Record, Setup, records_in, setup_in
 
@@ -21,11 +22,20 @@ class Absent(Exception):
 class Case:
     """A set-up document, a journal, the folder of what was published, and files of receipts.
 
-    A check reads each when it needs it.
+    `commitment` is a copy of the commitment that someone saved. A check reads each when it needs
+    it.
     """
 
-    def __init__(self, setup: Path, journal: Path, published: Path, *receipts: Path) -> None:
+    def __init__(
+        self,
+        setup: Path,
+        journal: Path,
+        published: Path,
+        *receipts: Path,
+        commitment: Path | None = None,
+    ) -> None:
         self.paths, self.published, self.receipts = (setup, journal), published, receipts
+        self.commitment = commitment
 
     @functools.cached_property
     def document(self) -> bytes:
@@ -59,12 +69,25 @@ class Case:
         """The recount of the journal."""
         return recount.recounted(self.document, self.journal)
 
-    def json(self, name: str) -> Any:
-        """The value of a published file. Raises Absent if it does not exist."""
+    @property
+    def is_record(self) -> bool:
+        """Whether what was published is a record, with its index."""
+        return (self.published / INDEX).is_file()
+
+    def text(self, name: str) -> bytes:
+        """The bytes of a published file. Raises Absent if it does not exist."""
         path = self.published / name
         if not path.is_file():
             raise Absent(f"{path} is not there")
-        return json.loads(path.read_bytes())
+        return path.read_bytes()
+
+    def json(self, name: str) -> Any:
+        """The value of a file that must be written as the conductor writes it."""
+        text = self.text(name)
+        value = strict.value_in(text)
+        if text != strict.published(value):
+            raise Failed(f"{name} is not written as the conductor writes it")
+        return value
 
     @functools.cached_property
     def rounds(self) -> dict[int, dict[str, Any]]:
@@ -72,5 +95,7 @@ class Case:
         files = list((self.published / "rounds").glob("*.json"))
         if strange := [file for file in files if not re.fullmatch("[1-9][0-9]{0,15}", file.stem)]:
             raise Failed(f"{strange[0]} is no round")
-        files.sort(key=lambda file: int(file.stem))
-        return {int(file.stem): json.loads(file.read_bytes()) for file in files}
+        pages = {int(file.stem): strict.value_in(file.read_bytes()) for file in files}
+        if wrong := [number for number, page in pages.items() if not isinstance(page, dict)]:
+            raise Failed(f"rounds/{wrong[0]}.json is no page of a round")
+        return dict(sorted(pages.items()))

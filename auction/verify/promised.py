@@ -1,40 +1,96 @@
 """Checks of what was fixed earlier: the commitment, tie-breaking numbers, and receipts."""
-from auction.formats import receipts, ties
+import hashlib
+from collections.abc import Iterable
+
+from auction.formats import receipts, strict, ties
 from auction.recount.formats import closing_in, json_in, request_in
 
 from .case import Absent, Case, Failed
 
-COMMITMENT = "commitment.json"
+COMMITMENT, DRAW = "commitment.json", "draw.json"
 
 
 def commitment_of(case: Case) -> ties.Commitment:
-    """The published commitment."""
+    """The commitment: the named copy, or the published one."""
+    return ties.Commitment.of(strict.value_in(commitment_text(case)))
+
+
+def commitment_text(case: Case) -> bytes:
+    """The bytes of the commitment."""
+    if case.commitment is not None:
+        return case.commitment.read_bytes()
     if not (case.published / COMMITMENT).is_file():
         raise Failed(
             f"{case.published} has no {COMMITMENT}: nothing shows what was fixed before round 1"
         )
-    return ties.Commitment.read(case.published / COMMITMENT)
+    return case.text(COMMITMENT)
+
+
+def chain_of(case: Case) -> ties.Committed | None:
+    """The chain of the commitment, after the draw if one was published."""
+    chain = commitment_of(case).chain
+    drawn = (case.published / DRAW).is_file()
+    return chain.after(ties.Draw.of(case.json(DRAW)).words) if chain and drawn else chain
 
 
 def check_commitment(case: Case) -> str:
     """Checks that what was fixed before round 1 is about this set-up."""
-    commitment = commitment_of(case)
+    commitment, text = commitment_of(case), commitment_text(case)
+    if text != strict.published(commitment.value()):
+        raise Failed(f"{COMMITMENT} is not written as `auction commit` writes it")
+    if case.commitment is not None and case.text(COMMITMENT) != text:
+        raise Failed(f"{case.commitment} is another commitment than the one of {case.published}")
     if commitment.auction != case.setup_digest:
         raise Failed(
             f"{COMMITMENT} is about the set-up {commitment.auction}, but this one is "
             f"{case.setup_digest}"
         )
+    if commitment.chain and commitment.chain.draw:
+        raise Failed(f"{COMMITMENT} has the result of a draw, so it fixed nothing before the draw")
     chain = "a chain of seeds" if commitment.chain else "closings without tie-breaking numbers"
     return f"it is about this set-up, and fixed {chain} and the key of receipts"
 
 
+def check_draw(case: Case) -> str:
+    """Checks that a public draw was added to this commitment, and says whose copy that is."""
+    if not (case.published / DRAW).is_file():
+        raise Absent(
+            f"{case.published} has no {DRAW}, and without a public draw the operator may have "
+            "chosen among many chains"
+        )
+    draw, text = ties.Draw.of(case.json(DRAW)), commitment_text(case)
+    if commitment_of(case).chain is None:
+        raise Failed(f"{DRAW} is of an auction without tie-breaking numbers")
+    if draw != ties.Draw.added(text, draw.words):
+        raise Failed(
+            f"{DRAW} was added to the commitment {draw.commitment}, and not to this one, which is "
+            f"{hashlib.sha256(text).hexdigest()}"
+        )
+    if case.commitment is None and case.is_record:
+        raise Absent(
+            f"the record's draw is {draw.words!r}; that proves nothing without a commitment of "
+            "before the draw: give --commitment, a copy that someone saved then"
+        )
+    copy = case.commitment or case.published / COMMITMENT
+    return (
+        f"{draw.words!r} was added to {copy}, {draw.commitment}; if that was saved before the draw "
+        "and these words are what was drawn, nobody chose the chain"
+    )
+
+
 def pairs_that_matter(case: Case, number: int) -> set[tuple[int, int]]:
-    """The pairs of bidder and product with processed demand before a closing, or a bid in force."""
+    """The pairs of bidder and product that need a tie-breaking number in a closing.
+
+    They have processed demand, or a bid in force whose quantity differs from it.
+    """
     rounds = case.counted.auction.rounds
     demands = [slip.demands for slip in rounds[number - 2].slips] if number > 1 else []
     held = {(b, p) for b, row in enumerate(demands) for p, demand in enumerate(row) if demand}
     return held | {
-        (b, bid.product) for b, bids in rounds[number - 1].sheets.items() for bid in bids
+        (b, bid.product)
+        for b, bids in rounds[number - 1].sheets.items()
+        for bid in bids
+        if not demands or bid.quantity != demands[b][bid.product]
     }
 
 
@@ -43,7 +99,7 @@ def check_ties(case: Case) -> str:
 
     The seed must lead to the end of the chain.
     """
-    chain, setup = commitment_of(case).chain, case.setup
+    chain, setup = chain_of(case), case.setup
     bodies = [
         request_in(record.text).body for record in case.records if record.text.startswith(b"POST ")
     ]
@@ -54,12 +110,14 @@ def check_ties(case: Case) -> str:
         many = len(setup.bidders) * len(setup.products) > ties.MOST_TIES
         matter = pairs_that_matter(case, number) if many else set()
         try:
-            seed = None if seed is None else bytes.fromhex(seed)
+            seed = None if seed is None else ties.bytes_of(seed, ties.SEED)
             ties.check_ties(
                 chain, number, seed, listed, len(setup.bidders), len(setup.products), matter
             )
         except ties.TiesFault as fault:
             faults.append(str(fault))
+        except ValueError as fault:
+            faults.append(f"the seed of round {number}: {fault}")
     if faults:
         raise Failed(*faults)
     numbers = "follow from the chain that was fixed" if chain else "are none, as fixed"
@@ -67,35 +125,42 @@ def check_ties(case: Case) -> str:
 
 
 def check_receipts(case: Case) -> str:
-    """Checks that each receipt that a bidder saved is about a sheet of the journal.
-
-    The journal may have no further sheet of this bidder.
+    """Checks each bidder's file: the journal must have the sheet of each receipt at its place, and
+    no further sheet of this bidder.
     """
     if not case.receipts:
         raise Absent(
             "no bidder's receipts are given, and only they show a sheet cut or added before a "
             "closing"
         )
-    published, faults, count = commitment_of(case), [], 0
     tokens = {bidder.name: bidder.token for bidder in case.setup.bidders}
+    faults, empty, counts = list[str](), list[str](), dict[str, int]()
     for path in case.receipts:
         file = receipts.read_kept(path)
-        count += len(file.receipts)
-        if file.commitment != published:
-            faults.append(
-                f"{path.name}: its bidder saw another {COMMITMENT}, of another set-up, chain, or "
-                "key"
-            )
-        names = [kept.receipt.bidder for kept in file.receipts[:1]]
-        token = tokens.get(names[0], "") if names else ""
-        faults += [f"{path.name}: {fault}" for fault in receipts.faults(file, case.journal, token)]
+        if file.name is None:
+            empty.append(f"{path.name} has no receipt and names no bidder, so it proves nothing")
+            continue
+        counts[file.name] = counts.get(file.name, 0) + len(file.receipts)
+        if file.name not in tokens:
+            faults.append(f"{path.name}: the set-up has no bidder {file.name}")
+        found = receipts.faults(file, case.journal, tokens.get(file.name, ""), commitment_of(case))
+        faults += [f"{path.name}: {fault}" for fault in found]
     if faults:
         raise Failed(*faults)
-    return (
-        f"{count} receipts of {len(case.receipts)} bidders fit: the journal has these sheets, and "
-        "no others of them"
+    if not counts:
+        raise Absent("; ".join(empty))
+    return "; ".join([words_of(counts, tokens.keys()), *empty])
+
+
+def words_of(counts: dict[str, int], bidders: Iterable[str]) -> str:
+    """Of whose copies it holds that they fit, and of which bidders nothing is known."""
+    words = (
+        f"{sum(counts.values())} receipts of {', '.join(counts)} fit: the journal has these "
+        "sheets of theirs, and no others"
     )
+    others = [name for name in bidders if name not in counts]
+    return words + (f"; it proves nothing of the sheets of {', '.join(others)}" if others else "")
 
 
 COMMITMENT_CHECK = ("commitment", check_commitment)
-CHECKS = [("ties", check_ties), ("receipts", check_receipts)]
+CHECKS = [("ties", check_ties), ("draw", check_draw), ("receipts", check_receipts)]

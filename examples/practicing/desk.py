@@ -1,4 +1,6 @@
-"""Serves the browser: the pages for bidders and the public, a bidder's requests, and published files."""
+"""Serves the browser: the pages for bidders and the public, a bidder's requests, and published
+files.
+"""
 import http.client
 import http.server
 import json
@@ -42,7 +44,9 @@ class Visit(http.server.BaseHTTPRequestHandler):
         path = self.path.partition("?")[0]
         path = "/index.html" if path == "/" else path
         if self.headers.get("host", "").rpartition(":")[0] not in ("127.0.0.1", "localhost"):
-            self.refuse(400, "bad_head")  # A page from elsewhere asks here, by another name for this machine.
+            self.refuse(
+                400, "bad_head"
+            )  # A page from elsewhere asks here, by another name for this machine.
         elif REQUESTS.fullmatch(path):
             self.pass_on(path)
         elif self.command == "PUT":
@@ -70,7 +74,9 @@ class Visit(http.server.BaseHTTPRequestHandler):
             return self.refuse(413, "long_body")
         body = self.rfile.read(int(length)) if int(length) else None
         try:
-            status, page = self.server.auction.send(self.command, path, self.headers.get("authorization"), body)
+            status, page = self.server.auction.send(
+                self.command, path, self.headers.get("authorization"), body
+            )
         except (OSError, http.client.HTTPException):
             return self.refuse(502, "proxy")
         self.answer(status, KINDS[".json"], page)

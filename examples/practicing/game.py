@@ -40,16 +40,21 @@ PLACES = (
 )
 REQUIREMENT, LIMIT = 90, 120  # percent
 CROWD = 2.2  # aggregate demand in round 1, divided by supply
-# what a bidder's first block is worth above its opening price, as a part of that price; yours is never among the least
+# what a bidder's first block is worth above its opening price, as a part of that price; yours is
+# never among the least
 PREMIUM, YOUR_PREMIUM = (0.4, 1.6), (0.8, 1.6)
 
 Setup = dict[str, Any]
-Values = list[list[int]]  # for each product, what the first block is worth, the second, and so on; never rising
+Values = list[
+    list[int]
+]  # for each product, what the first block is worth, the second, and so on; never rising
 
 
 @dataclasses.dataclass
 class Game:
-    """A set-up in which each bidder has a token of this practice, and the values of each bidder in the same order."""
+    """A set-up in which each bidder has a token of this practice, and the values of each bidder in
+    the same order.
+    """
 
     setup: Setup
     values: list[Values]
@@ -75,7 +80,8 @@ class Game:
     def gain(self, bidder: int, demands: list[int], posted: list[int]) -> int:
         """What the blocks that a bidder won are worth to it, less what it pays for them."""
         return sum(
-            sum(row[:blocks]) - blocks * price for row, blocks, price in zip(self.values[bidder], demands, posted)
+            sum(row[:blocks]) - blocks * price
+            for row, blocks, price in zip(self.values[bidder], demands, posted)
         )
 
 
@@ -98,7 +104,10 @@ def drawn_products(chance: random.Random, count: int, version: int) -> list[dict
 
 
 def drawn_values(
-    chance: random.Random, products: list[dict[str, Any]], bidders: int, premium: tuple[float, float]
+    chance: random.Random,
+    products: list[dict[str, Any]],
+    bidders: int,
+    premium: tuple[float, float],
 ) -> Values:
     """Draws what each block of each product is worth to one bidder.
 
@@ -120,7 +129,9 @@ def activity_of(products: list[dict[str, Any]], values: Values) -> int:
 
 
 def within(eligibility: int, products: list[dict[str, Any]], values: Values) -> Values:
-    """The values without those of the least valuable blocks, so that the rest is within an eligibility."""
+    """The values without those of the least valuable blocks, so that the rest is within an
+    eligibility.
+    """
     left, activity = [list(row) for row in values], activity_of(products, values)
     order = sorted(
         (row[block] / product["opening"], place)
@@ -136,11 +147,21 @@ def within(eligibility: int, products: list[dict[str, Any]], values: Values) -> 
 
 
 def drawn(chance: random.Random, public: Setup, bidders: int) -> Game:
-    """Draws a game for a public set-up: you and rivals, each eligible for the blocks that it wants."""
+    """Draws a game for a public set-up: you and rivals, each eligible for the blocks that it
+    wants.
+    """
     products = public["products"]
-    names = [YOU, *RIVALS, *(f"Rival-{number}" for number in range(len(RIVALS) + 1, bidders))][:bidders]
-    values = [drawn_values(chance, products, bidders, YOUR_PREMIUM if name == YOU else PREMIUM) for name in names]
-    entries = [{"name": name, "eligibility": activity_of(products, rows)} for name, rows in zip(names, values)]
+    names = [YOU, *RIVALS, *(f"Rival-{number}" for number in range(len(RIVALS) + 1, bidders))][
+        :bidders
+    ]
+    values = [
+        drawn_values(chance, products, bidders, YOUR_PREMIUM if name == YOU else PREMIUM)
+        for name in names
+    ]
+    entries = [
+        {"name": name, "eligibility": activity_of(products, rows)}
+        for name, rows in zip(names, values)
+    ]
     return with_tokens({**public, "bidders": entries}, values, 0)
 
 
@@ -155,12 +176,18 @@ def with_tokens(setup: Setup, values: list[Values], you: int) -> Game:
 
 def new_game(chance: random.Random, products: int, bidders: int, version: int) -> Game:
     """Draws a game of drawn products."""
-    public = {"version": version, "requirement": REQUIREMENT, "products": drawn_products(chance, products, version)}
+    public = {
+        "version": version,
+        "requirement": REQUIREMENT,
+        "products": drawn_products(chance, products, version),
+    }
     return drawn(chance, {**public, "limit": LIMIT} if version == 2 else public, bidders)
 
 
 def game_of(chance: random.Random, path: pathlib.Path, bidders: int, you: str | None) -> Game:
-    """The game of a file: a set-up document, or the page that `GET /v1/products` gives, which names no bidders."""
+    """The game of a file: a set-up document, or the page that `GET /v1/products` gives, which names
+    no bidders.
+    """
     try:
         document = json.loads(path.read_text(encoding="utf-8-sig"))
         if "bidders" not in document:
@@ -171,10 +198,15 @@ def game_of(chance: random.Random, path: pathlib.Path, bidders: int, you: str | 
         place = 0 if you is None else names.index(you)
         premiums = [YOUR_PREMIUM if number == place else PREMIUM for number in range(len(names))]
         values = [
-            within(bidder["eligibility"], products, drawn_values(chance, products, len(names), premium))
+            within(
+                bidder["eligibility"], products, drawn_values(chance, products, len(names), premium)
+            )
             for bidder, premium in zip(document["bidders"], premiums)
         ]
         return with_tokens(document, values, place)
     except (OSError, ValueError, KeyError, TypeError, IndexError) as error:
         fault = f"{type(error).__name__} {error}"
-        sys.exit(f"{path} is neither a set-up document nor a page of products: {fault}. See docs/formats.md.")
+        sys.exit(
+            f"{path} is neither a set-up document nor a page of products: {fault}. "
+            "See docs/formats.md."
+        )

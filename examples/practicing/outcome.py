@@ -1,4 +1,6 @@
-"""The end of a practice: the player's blocks and gain, the gain of a bidder with its values, and the recounts."""
+"""The end of a practice: the player's blocks and gain, the gain of a bidder with its values, and
+the recounts.
+"""
 import json
 import pathlib
 import subprocess
@@ -8,14 +10,16 @@ from practicing.game import Game
 from practicing.rounds import Ending
 from practicing.server import TOP, Server
 
-RECOUNT = TOP / "scripts" / "recount.py"
+AUCTION = TOP / "auction" / "bin" / "auction"
 MORE = 100  # closings that a replay may need beyond those that were sent
 LINES = 40  # lines of a recount that the terminal shows
 
 
 def blocks_words(game: Game, demands: list[int]) -> str:
     """Blocks with their products, such as `2 Albany, 1 Boston`."""
-    won = [f"{blocks} {product['name']}" for product, blocks in zip(game.products, demands) if blocks]
+    won = [
+        f"{blocks} {product['name']}" for product, blocks in zip(game.products, demands) if blocks
+    ]
     return ", ".join(won) or "nothing"
 
 
@@ -43,22 +47,26 @@ def your_words(game: Game, ending: Ending) -> str:
 def sincere_words(program: pathlib.Path, game: Game, ending: Ending) -> str:
     """The words for what a bidder that follows the player's values would have won.
 
-    A replay with the same tie-breaking numbers computes it. Empty if it has no result, such as for values whose
-    activity is above the eligibility.
+    A replay with the same tie-breaking numbers computes it. Empty if it has no result, such as for
+    values whose activity is above the eligibility.
     """
     more = {**ending.closings[-1], "ties": []}
     scripts = [{"kind": "sincere", "limits": rows} for rows in game.values]
-    document = json.dumps({"closings": [*ending.closings, *[more] * MORE], "scripts": scripts, "setup": game.setup})
+    document = json.dumps(
+        {"closings": [*ending.closings, *[more] * MORE], "scripts": scripts, "setup": game.setup}
+    )
     played = subprocess.run([program, "replay"], input=document, capture_output=True, text=True)
     lines = [line.split() for line in played.stdout.splitlines()]
     won = [line for line in lines if line[:2] == ["won", game.names[game.you]]]
     if played.returncode or not won:
         return ""
-    demands, last_round = [int(blocks) for blocks in won[0][2:-1]], lines[: -len(game.names)][-len(game.products) :]
+    demands, last_round = [int(blocks) for blocks in won[0][2:-1]], lines[: -len(game.names)][
+        -len(game.products) :
+    ]
     gain = game.gain(game.you, demands, [int(line[3]) for line in last_round])
     return (
-        f" A bidder that follows your values in every round would have won {blocks_words(game, demands)} "
-        f"for {dollars(int(won[0][-1]))}: a gain of {dollars(gain)}."
+        " A bidder that follows your values in every round would have won "
+        f"{blocks_words(game, demands)} for {dollars(int(won[0][-1]))}: a gain of {dollars(gain)}."
     )
 
 
@@ -68,29 +76,46 @@ def recounts(program: pathlib.Path | None, folder: pathlib.Path) -> dict[str, st
     They are by the name of the program or script that printed them.
     """
     setup, journal = str(folder / "setup.json"), str(folder / "auction.journal")
-    commands = {"scripts/recount.py": [sys.executable, str(RECOUNT), setup, journal]}
+    commands = {"auction recount": [sys.executable, str(AUCTION), "recount", setup, journal]}
     if program:
-        commands["clock_auction audit"] = [str(program), "audit", "--setup", setup, "--journal", journal]
-    done = {name: subprocess.run(command, capture_output=True, text=True) for name, command in commands.items()}
+        commands["clock_auction audit"] = [
+            str(program),
+            "audit",
+            "--setup",
+            setup,
+            "--journal",
+            journal,
+        ]
+    done = {
+        name: subprocess.run(command, capture_output=True, text=True)
+        for name, command in commands.items()
+    }
     return {name: each.stdout + each.stderr for name, each in done.items()}
 
 
 def recount_words(program: pathlib.Path | None, ending: Ending, folder: pathlib.Path) -> str:
-    """The last lines of the recounts, and whether they agree with each other and with the server."""
+    """The last lines of the recounts, and whether they agree with each other and the server."""
     texts = recounts(program, folder)
     text, names = next(iter(texts.values())), " and ".join(f"`{name}`" for name in sorted(texts))
     (folder / "audit.txt").write_text(text)
     wanted = [
-        f"won {bidder['name']} {' '.join(map(str, bidder['demands']))} {payment(bidder['demands'], ending.posted)}"
+        f"won {bidder['name']} {' '.join(map(str, bidder['demands']))} "
+        f"{payment(bidder['demands'], ending.posted)}"
         for bidder in ending.bidders
     ]
     won = [line for line in text.splitlines() if line.startswith("won ")]
-    verdict = f"That is what the server showed: the blocks and payments of all {len(wanted)} bidders."
+    verdict = (
+        f"That is what the server showed: the blocks and payments of all {len(wanted)} bidders."
+    )
     if set(texts.values()) != {text} or won != wanted:
-        verdict = f"THIS IS NOT what the server showed, or the recounts differ. Please report it, with {folder}."
+        verdict = (
+            "THIS IS NOT what the server showed, or the recounts differ. "
+            f"Please report it, with {folder}."
+        )
     shown = "\n".join("    " + line for line in text[text.rfind("round ") :].splitlines()[:LINES])
     return (
-        f"{names} {'count' if len(texts) > 1 else 'counts'} the auction again, from its set-up and its journal.\n"
+        f"{names} {'count' if len(texts) > 1 else 'counts'} the auction again, "
+        "from its set-up and its journal.\n"
         f"The last round, and what each bidder won and pays:\n\n{shown}\n\n{verdict}"
     )
 

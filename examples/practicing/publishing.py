@@ -8,7 +8,9 @@ from typing import Any
 
 def utc(seconds: float) -> str:
     """A time in the format of published files."""
-    return datetime.datetime.fromtimestamp(seconds, datetime.timezone.utc).strftime("%Y-%m-%dT%H:%M:%SZ")
+    return datetime.datetime.fromtimestamp(seconds, datetime.timezone.utc).strftime(
+        "%Y-%m-%dT%H:%M:%SZ"
+    )
 
 
 def put(path: pathlib.Path, page: object) -> None:
@@ -31,13 +33,17 @@ class Board:
     def announce(self, text: str) -> None:
         """Shows words to the player, on the page and in the terminal."""
         number = len(self.announced) + 1
-        self.announced.append({"key": f"practice-{number}", "number": number, "text": text, "time": utc(time.time())})
+        self.announced.append(
+            {"key": f"practice-{number}", "number": number, "text": text, "time": utc(time.time())}
+        )
         put(self.public / "announcements.json", {"announcements": self.announced})
         print(f"\n{time.strftime('%H:%M:%S')}  {text}", flush=True)
 
     def open_round(self, number: int, closes: float | None, note: str | None = None) -> None:
         """Adds the window of a round to the timetable."""
-        self.windows.append({"round": number, "opens": utc(time.time()), "closes": None, "note": note})
+        self.windows.append(
+            {"round": number, "opens": utc(time.time()), "closes": None, "note": note}
+        )
         self.close_at(number, closes)
 
     def close_at(self, number: int, closes: float | None) -> None:
@@ -61,7 +67,10 @@ class Board:
 
     def close_round(self, page: dict[str, Any], digest: str) -> None:
         """Publishes a closed round as the server shows it, with the digest of its closing."""
-        put(self.public / "rounds" / f"{page['round']}.json", {**page, "digest": digest, "published": utc(time.time())})
+        put(
+            self.public / "rounds" / f"{page['round']}.json",
+            {**page, "digest": digest, "published": utc(time.time())},
+        )
 
     def winners(self, number: int, results: list[dict[str, Any]], posted: list[int]) -> None:
         """Publishes what each bidder won and pays."""

@@ -1,10 +1,13 @@
-"""Plays the rounds of a practice: rivals bid at random moments; a round closes after its time, or if all have bid."""
+"""Plays the rounds of a practice: rivals bid at random moments; a round closes after its time, or
+if all have bid.
+"""
 import dataclasses
 import random
 import time
 from typing import Any
 
-import journal
+from auction.formats.journal import Journal
+from auction.formats.setup import Setup
 from bidder import bids_of
 from practicing.game import Game
 from practicing.publishing import Board
@@ -41,7 +44,9 @@ class Pace:
 
 @dataclasses.dataclass(frozen=True)
 class Ending:
-    """The end of an auction: the closings that were sent, the last posted prices, and each bidder's results."""
+    """The end of an auction: the closings that were sent, the last posted prices, and each bidder's
+    results.
+    """
 
     closings: list[Page]
     posted: list[int]
@@ -60,23 +65,40 @@ def closed_words(number: int, above: list[str]) -> str:
     if not above:
         return f"Round {number} is closed. No product has excess demand: the auction has ended."
     rise = "Its clock price rises" if len(above) == 1 else "Their clock prices rise"
-    return f"Round {number} is closed. Excess demand: {listed(above)}. {rise} by {INCREMENT} percent."
+    return (
+        f"Round {number} is closed. Excess demand: {listed(above)}. {rise} by {INCREMENT} percent."
+    )
 
 
 class Rounds:
     """An auction from its first round to its last."""
 
-    def __init__(self, game: Game, server: Server, board: Board, chance: random.Random, pace: Pace) -> None:
-        self.game, self.server, self.board, self.chance, self.pace = game, server, board, chance, pace
-        self.scripted = [bidder for bidder in range(len(game.names)) if bidder != game.you or not pace.has_player]
+    def __init__(
+        self, game: Game, server: Server, board: Board, chance: random.Random, pace: Pace
+    ) -> None:
+        self.game, self.server, self.board, self.chance, self.pace = (
+            game,
+            server,
+            board,
+            chance,
+            pace,
+        )
+        self.scripted = [
+            bidder for bidder in range(len(game.names)) if bidder != game.you or not pace.has_player
+        ]
         self.closings: list[Page] = []
+        self.journal = Journal(
+            server.folder / "auction.journal", Setup.read(server.folder / "setup.json")
+        )
 
     def token(self, bidder: int) -> str:
         return self.game.setup["bidders"][bidder]["token"]
 
     def play(self) -> Ending:
         """Plays all rounds. Returns the end of the auction."""
-        number, prices = 1, [(product["opening"], product["opening"]) for product in self.game.products]
+        number, prices = 1, [
+            (product["opening"], product["opening"]) for product in self.game.products
+        ]
         while True:
             self.open(number, prices)
             page = self.close(number)
@@ -93,8 +115,13 @@ class Rounds:
         """Opens a round, and returns once it must close."""
         begun = time.time()
         closes = None if number == 1 and self.pace.has_player else begun + self.pace.seconds
-        self.board.open_round(number, closes, "It closes after you submit bids." if closes is None else None)
-        moments = sorted(((begun + self.chance.uniform(0, self.pace.lazy), who) for who in self.scripted), reverse=True)
+        self.board.open_round(
+            number, closes, "It closes after you submit bids." if closes is None else None
+        )
+        moments = sorted(
+            ((begun + self.chance.uniform(0, self.pace.lazy), who) for who in self.scripted),
+            reverse=True,
+        )
         everyone = False
         while closes is None or time.time() < closes:
             while moments and moments[-1][0] <= time.time():
@@ -112,7 +139,9 @@ class Rounds:
         self.server.page("/v1/me/bids", self.token(bidder), {"bids": bids, "round": number})
 
     def has_bid(self) -> bool:
-        """Whether the player has nothing left to send: its bids are in force, or it has no eligibility."""
+        """Whether the player has nothing left to send: its bids are in force, or it has no
+        eligibility.
+        """
         if not self.pace.has_player:
             return True
         token = self.token(self.game.you)
@@ -133,9 +162,15 @@ class Rounds:
     def close(self, number: int) -> Page:
         """Closes the round, publishes it, and returns its page."""
         count = len(self.game.products)
-        increment = {"increments": [INCREMENT] * count} if self.game.setup["version"] == 2 else {"increment": INCREMENT}
+        increment = (
+            {"increments": [INCREMENT] * count}
+            if self.game.setup["version"] == 2
+            else {"increment": INCREMENT}
+        )
         closing = {**increment, "ties": self.ties()}
-        self.server.page("/v1/close", self.game.setup["operator"], {**closing, "round": number}, "POST")
+        self.server.page(
+            "/v1/close", self.game.setup["operator"], {**closing, "round": number}, "POST"
+        )
         self.closings.append(closing)
         page = self.server.page(f"/v1/rounds/{number}")
         self.board.close_round(page, self.digest())
@@ -146,6 +181,5 @@ class Rounds:
 
     def digest(self) -> str:
         """The digest of everything accepted so far, from the journal."""
-        files = (self.server.folder / name for name in ("setup.json", "auction.journal"))
-        *_, (_, digest) = journal.whole_texts_of(*(file.read_bytes() for file in files))
-        return digest
+        self.journal.read_on()
+        return self.journal.digest.hex()

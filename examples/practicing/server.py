@@ -19,7 +19,9 @@ PATIENCE = 600  # seconds in which a server that is built first must answer
 
 
 def program_of(given: pathlib.Path | None) -> pathlib.Path | None:
-    """The program: the given one, the built one, or the one on the PATH. None if there is only the kit."""
+    """The program: the given one, the built one, or the one on the PATH. None if there is only the
+    kit.
+    """
     found = shutil.which("clock_auction")
     for path in [given] if given else [BUILT, *([pathlib.Path(found)] if found else [])]:
         if os.access(path, os.X_OK):
@@ -27,7 +29,10 @@ def program_of(given: pathlib.Path | None) -> pathlib.Path | None:
     if given:
         sys.exit(f"{given} is not a program.")
     if not shutil.which("rt"):
-        sys.exit("There is no server to practice with: no built program, no `clock_auction` on the PATH, and no `rt`.")
+        sys.exit(
+            "There is no server to practice with: no built program, no `clock_auction` on the "
+            "PATH, and no `rt`."
+        )
     return None
 
 
@@ -35,14 +40,35 @@ class Server:
     """One auction on a port of this machine, with its journal in a folder."""
 
     def __init__(self, program: pathlib.Path | None, folder: pathlib.Path, port: int) -> None:
-        self.program, self.folder, self.port, self.log = program, folder, port, folder / "server.log"
-        words = ["serve", "--setup", str(folder / "setup.json"), "--journal", str(folder / "auction.journal")]
+        self.program, self.folder, self.port, self.log = (
+            program,
+            folder,
+            port,
+            folder / "server.log",
+        )
+        words = [
+            "serve",
+            "--setup",
+            str(folder / "setup.json"),
+            "--journal",
+            str(folder / "auction.journal"),
+        ]
         words += ["--port", str(port), "--connections", str(CONNECTIONS)]
-        command = [str(program), *words] if program else ["rt", "try", "--seconds", str(DAY), "--", *words]
+        command = (
+            [str(program), *words]
+            if program
+            else ["rt", "try", "--seconds", str(DAY), "--", *words]
+        )
         with open(self.log, "wb") as log:
-            # Ctrl+C must reach only this script, and everything that the kit starts must stop together.
+            # Ctrl+C must reach only this script, and everything that the kit starts must stop
+            # together.
             self.process = subprocess.Popen(
-                command, cwd=CRATE, stdin=subprocess.DEVNULL, stdout=log, stderr=log, start_new_session=True
+                command,
+                cwd=CRATE,
+                stdin=subprocess.DEVNULL,
+                stdout=log,
+                stderr=log,
+                start_new_session=True,
             )
 
     def wait(self) -> None:
@@ -55,9 +81,13 @@ class Server:
             except OSError:
                 pass
             if self.process.poll() is not None:
-                sys.exit(f"The server ended: {self.log.read_text(errors='replace')[-2000:].strip()}")
+                sys.exit(
+                    f"The server ended: {self.log.read_text(errors='replace')[-2000:].strip()}"
+                )
             time.sleep(0.05)
-        sys.exit(f"The server did not answer within {PATIENCE} seconds. Its output is in {self.log}.")
+        sys.exit(
+            f"The server did not answer within {PATIENCE} seconds. Its output is in {self.log}."
+        )
 
     def stop(self) -> None:
         """Ends the server and everything that it started. Its journal is whole at any moment."""
@@ -73,19 +103,25 @@ class Server:
         """Sends one request on a connection of its own. Returns the reply's status and page."""
         link = http.client.HTTPConnection("127.0.0.1", self.port, timeout=300)
         try:
-            link.request(method, path, body, {"authorization": authorization} if authorization else {})
+            link.request(
+                method, path, body, {"authorization": authorization} if authorization else {}
+            )
             reply = link.getresponse()
             return reply.status, reply.read()
         finally:
             link.close()
 
-    def page(self, path: str, token: str | None = None, value: object = None, method: str = "PUT") -> dict[str, Any]:
+    def page(
+        self, path: str, token: str | None = None, value: object = None, method: str = "PUT"
+    ) -> dict[str, Any]:
         """Returns the page for a path, after sending a value if there is one.
 
         A refusal ends the script.
         """
         body = None if value is None else json.dumps(value, separators=(",", ":")).encode()
-        status, page = self.send("GET" if body is None else method, path, f"Bearer {token}" if token else None, body)
+        status, page = self.send(
+            "GET" if body is None else method, path, f"Bearer {token}" if token else None, body
+        )
         if status != 200:
             sys.exit(f"The server refused {path}: {page.decode(errors='replace')}")
         return json.loads(page)

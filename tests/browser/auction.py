@@ -5,6 +5,7 @@ import ssl
 import subprocess
 import sys
 import tempfile
+import time
 import urllib.error
 import urllib.request
 from email.message import Message
@@ -55,12 +56,14 @@ class Auction(Site):
         assert self.server is not None
         self.server.kill()
 
-    def begin_conductor(self) -> None:
-        """Starts the conductor, without a timetable."""
+    def begin_conductor(self, publish: int) -> None:
+        """Starts the conductor, without a timetable. Pages are withheld for `publish` seconds after
+        a closing.
+        """
         files = {"setup": "setup.json", "token": "operator.token", "journal": "auction.journal"}
         url = f"http://127.0.0.1:{self.inside}"
         (self.folder / "operator.token").write_text(OPERATOR)
-        settings = {"url": url, "port": self.server_port, **files}
+        settings = {"url": url, "port": self.server_port, "publish": publish, **files}
         (self.folder / "conductor.json").write_text(json.dumps(settings))
         quiet = subprocess.DEVNULL
         command = [sys.executable, str(AUCTION), "run", str(self.folder)]
@@ -94,6 +97,17 @@ class Auction(Site):
                 return reply.status, reply.headers
         except urllib.error.HTTPError as refused:
             return refused.code, refused.headers
+
+    def withhold(self) -> None:
+        """Withholds all pages from now on, as at the end of a window."""
+        now = int(time.time()) // 10
+        for ten in range(now - 1, now + 60):
+            (self.folder / "gate" / f"curtain-{ten}").touch()
+
+    def show(self) -> None:
+        """Shows pages again."""
+        for file in (self.folder / "gate").glob("curtain-*"):
+            file.unlink()
 
     def logs(self) -> str:
         """All that nginx wrote."""

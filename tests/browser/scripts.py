@@ -85,13 +85,14 @@ const element = document.getElementById(arguments[0]);
 new MutationObserver(() => window.said.push(element.textContent))
     .observe(element, {childList: true, characterData: true, subtree: true});"""
 
-# elements whose text does not fit into them, rows whose cells reach beyond them, letters outside
-# their chart; and what reaches beyond the window
+# elements whose text does not fit into them, but those that may end in dots, and on a narrow phone
+# the words of a connection, which then is a dot; rows whose cells reach beyond them, letters
+# outside their chart; and what reaches beyond the window
 CUT = """const all = [...document.querySelectorAll('body *')];
 const seen = all.filter(e => e.checkVisibility() && e.getClientRects().length);
 const kinds = 'p, h1, h2, dt, dd, td, th, button, label, li, small, figcaption';
 const cuts = e => getComputedStyle(e).display !== 'inline'
-    && getComputedStyle(e).textOverflow !== 'ellipsis' && !e.matches('.heard, .heard *');
+    && !e.matches('.heard, .heard *, .c-name, .c-worth, .top h1, .latest, .latest *, #link.good');
 const texts = seen.filter(e => e.matches(kinds) && !e.closest('thead, dialog')
     && e.scrollWidth > e.clientWidth + 1 && cuts(e));
 const bottom = e => e.getBoundingClientRect().bottom;
@@ -107,7 +108,8 @@ return [...texts, ...rows, ...letters, ...wide]
     .map(e => e.tagName + '#' + e.id + ' ' + e.textContent.slice(0, 30));"""
 
 # the least contrast of a text with what is around it, and whose
-CONTRAST = """const canvas = document.createElement('canvas').getContext('2d', {willReadFrequently: true});
+CONTRAST = """const options = {willReadFrequently: true};
+const canvas = document.createElement('canvas').getContext('2d', options);
 const bytes = color => {
     canvas.clearRect(0, 0, 1, 1);
     canvas.fillStyle = color;
@@ -172,7 +174,8 @@ SMALL = """return [...document.querySelectorAll(
     .map(each => each.id || each.textContent);"""
 
 # whether three points of the element with the focus, at its top, middle and foot, show that element
-HIDDEN = """const a = document.activeElement, b = a.getBoundingClientRect(), x = (b.left + b.right) / 2;
+HIDDEN = """const a = document.activeElement, b = a.getBoundingClientRect();
+const x = (b.left + b.right) / 2;
 if (a === document.body) return '';
 const seen = [b.top + 2, (b.top + b.bottom) / 2, b.bottom - 2].filter(y => {
     const e = document.elementFromPoint(x, y);

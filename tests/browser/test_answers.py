@@ -3,7 +3,6 @@ withheld, if bids come another way, and to unknown tokens.
 """
 import datetime
 import re
-import time
 
 import pytest
 from selenium.webdriver.common.keys import Keys
@@ -146,28 +145,17 @@ def test_an_answer_may_come_after_its_round_was_closed(auction: Auction, x: Wind
 # ---- Pages that are withheld
 
 
-def withhold(auction: Auction, is_withheld: bool) -> None:
-    """Draws the curtain of the next minutes, or lifts it."""
-    now = int(time.time()) // 10
-    for ten in range(now - 1, now + 60):
-        file = auction.folder / "gate" / f"curtain-{ten}"
-        if is_withheld:
-            file.touch()
-        else:
-            file.unlink(missing_ok=True)
-
-
 def test_a_round_that_is_closing_is_no_outage(auction: Auction, x: Window) -> None:
     auction.put(X, 1, bid(0, 1, 100))
     auction.put(Y, 1, bid(0, 2, 100))
     enter(auction, x)
-    withhold(auction, True)
+    auction.withhold()
     x.says("todo", "The round is closing; its results follow.")
     assert (x.kind("todo"), x.text("link")) == ("off", "Connected")
     auction.close(1)
     x.says("todo", "The round is closing")
     assert x.text("round") == "Round 1" and is_connected(x)
-    withhold(auction, False)
+    auction.show()
     x.says("round", "Round 2")
     x.says("message", "Round 1 is closed.")
 
@@ -175,17 +163,17 @@ def test_a_round_that_is_closing_is_no_outage(auction: Auction, x: Window) -> No
 def test_nothing_can_be_submitted_while_a_round_is_closing(auction: Auction, x: Window) -> None:
     enter(auction, x)
     x.bid(0, 1, 100)
-    withhold(auction, True)
+    auction.withhold()
     x.says("send", "The round is closing")
     assert x.at("send").get_attribute("aria-disabled") == "true"
 
 
 def test_a_bidder_who_enters_while_a_round_is_closing_waits(auction: Auction, x: Window) -> None:
-    withhold(auction, True)
+    auction.withhold()
     x.open(auction.address(), X)
     x.says("say", "The round is closing; its results follow. You will be entered then.")
     assert not x.is_seen("frame")
-    withhold(auction, False)
+    auction.show()
     x.says("round", "Round 1")
     x.until("the form for the token is gone", lambda: not x.is_seen("door"))
 

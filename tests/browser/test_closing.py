@@ -1,4 +1,4 @@
-"""The operator closes rounds by the page: increments, refusals, closings elsewhere, and the seed."""
+"""The operator closes rounds by the page: increments, refusals, closings elsewhere, and seeds."""
 import json
 
 import pytest
@@ -205,7 +205,14 @@ def test_activity_above_eligibility_is_allowed_up_to_the_limit(limited: Auction,
 # ---- Closings with numbers from a seed
 
 
-def test_the_conductor_closes_what_the_page_asks_for(begin: Begin, operator: Window) -> None:
+@pytest.mark.parametrize(
+    "publish",
+    [0, pytest.param(30, marks=pytest.mark.slow)],
+    ids=["results at once", "results after 30 seconds"],
+)
+def test_the_conductor_closes_what_the_page_asks_for(
+    begin: Begin, operator: Window, publish: int
+) -> None:
     """Three rounds: the first by the page itself, the others by the conductor."""
     auction = begin(example("one_product"), has_ties=True)
     enter(auction, operator, OPERATOR)
@@ -218,12 +225,13 @@ def test_the_conductor_closes_what_the_page_asks_for(begin: Begin, operator: Win
     operator.click("ask")
     operator.says("say", "⚠ Not closed: round 2 needs tie-breaking numbers from its seed.")
     assert not operator.is_seen("question")
-    auction.begin_conductor()
+    auction.begin_conductor(publish)
     enter(auction, operator, OPERATOR)
     operator.says("waits", "Conductor: Round 2 has no window.")
     operator.says("missing", "All bidders with eligibility have submitted bids.")
     close_round(operator)
     operator.says("say", "Round 2 is closed. The current round is 3.")
+    operator.says("waits", "Conductor: Round 3 has no window.")
     operator.says("missing", "No bids from: X, Y.")
     operator.noted()
     close_round(operator)
@@ -231,9 +239,11 @@ def test_the_conductor_closes_what_the_page_asks_for(begin: Begin, operator: Win
     operator.says("say", "Round 3 is closed. The auction has ended.")
     sent = json.loads(operator.run("return window.sent[0]"))
     assert sent == {"increment": 10, "round": 3, "without_sheets": True}
+    last = auction.folder / "public/rounds/3.json"
+    operator.until("round 3 is published", last.exists)
     chain = Commitment.read(auction.folder / "public/commitment.json").chain
     for number in (1, 2, 3):
-        page = json.loads((auction.folder / f"public/rounds/{number}.json").read_text())
+        page = json.loads(last.with_name(f"{number}.json").read_text())
         closing = json.loads((auction.folder / f"kept/closing-{number}.json").read_text())
         check_ties(chain, number, bytes.fromhex(page["seed"]), closing["ties"], 2, 1)
         assert len(closing["ties"]) == (0 if number == 1 else 2)

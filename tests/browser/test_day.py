@@ -5,7 +5,7 @@ import time
 import pytest
 
 from tests.browser import scripts
-from tests.browser.auction import OPERATORS, Auction, X, Y, bid, example
+from tests.browser.auction import OPERATORS, Auction, X, Y, bid, busy, example
 from tests.browser.conftest import Begin
 from tests.browser.people import enter
 from tests.browser.published import TIME, Published, shows
@@ -85,13 +85,13 @@ def test_the_time_left_is_by_the_servers_clock(day: Published, x: Window) -> Non
     words, drawn = x.run("return window.drawn")
     minutes, seconds = map(int, words.split(":"))
     left, really = minutes * 60 + seconds, closes - drawn / 1000
-    assert really - 3 < left <= really
+    assert really - 3 * busy() < left <= really
 
 
 def test_the_last_minute_stands_out_and_is_read_out(day: Published, x: Window) -> None:
-    day.timetable(1, (-60, 66))
+    day.timetable(1, (-60, 80))
     enter(day.auction, x)
-    shows(x, "Open until .*", r"1:0\d")
+    shows(x, "Open until .*", r"1:[012]\d")
     x.run(scripts.SAID, "called")
     x.becomes(lambda: x.kind("clock"), "last")
     x.becomes(lambda: x.kind("todo"), "bad")
@@ -99,7 +99,7 @@ def test_the_last_minute_stands_out_and_is_read_out(day: Published, x: Window) -
         "it is read out",
         lambda: "1 minute left in round 1." in x.run("return window.said"),
     )
-    assert x.run("return document.title").startswith("⚠ 0:5")
+    assert re.match(r"⚠ 0:\d\d · Round 1 · X", x.run("return document.title"))
     day.timetable(1, (-60, 30))
     x.says("called", "20 seconds left in round 1.")
 
@@ -145,16 +145,12 @@ def test_a_round_that_takes_no_bids(
 def test_a_closing_round_says_when_its_results_appear(day: Published, x: Window) -> None:
     day.timetable(1, (-60, -1, 600))
     enter(day.auction, x)
-    now = int(time.time()) // 10
-    curtain = [day.auction.folder / "gate" / f"curtain-{now + ten}" for ten in range(-1, 12)]
-    for file in curtain:
-        file.touch()
+    day.auction.withhold()
     try:
         pattern = re.compile(rf"The round is closing; results appear at {TIME}\.")
         x.until("when its results appear", lambda: pattern.fullmatch(x.text("todo")))
     finally:
-        for file in curtain:
-            file.unlink()
+        day.auction.show()
 
 
 # ---- Announcements

@@ -29,7 +29,7 @@ def second_round(auction: Auction) -> Auction:
 
 @pytest.fixture
 def ended(second_round: Auction) -> Auction:
-    """After round 2, in which X reduced to 0, and was left with 1 block. Each has won 1 for $103."""
+    """After round 2, in which X reduced to 0, and was left with 1 block. Each has won 1 block."""
     second_round.put(X, 2, bid(0, 0, 103))
     second_round.put(Y, 2, bid(0, 1, 110))
     second_round.close(2)

@@ -3,6 +3,7 @@ screen reader and for the keyboard. With `--pictures DIR`, it saves pictures for
 """
 import pathlib
 import re
+from collections.abc import Iterator
 
 
 import pytest
@@ -10,10 +11,10 @@ from selenium.webdriver.common.keys import Keys
 
 from tests.browser import scripts
 from tests.browser.auction import Auction, X, Y, Z, bid, example
-from tests.browser.conftest import Begin
+from tests.browser.conftest import Begin, window_of
 from tests.browser.people import enter
 from tests.browser.published import Published
-from tests.browser.window import Window
+from tests.browser.window import Browser, Window
 from tests.lib.setups import OPERATOR
 
 PRICES = {"North-1": 1200, "North-2": 900, "Middle-1": 1450}
@@ -137,18 +138,20 @@ STATES = [bidders_page, wrong_bid, closed_rounds, announcements, highest_prices,
 STATES += [operators_page, operators_highest_prices, public_page]
 
 
-@pytest.fixture(params=STATES, ids=lambda state: state.__name__.replace("_", " "))
-def page(request: pytest.FixtureRequest, x: Window) -> Window:
-    """A window that shows a state of a page."""
-    request.param(request, x)
-    return x
+@pytest.fixture(scope="module", params=STATES, ids=lambda state: state.__name__.replace("_", " "))
+def opened(request: pytest.FixtureRequest, first_browser: Browser) -> Iterator[Window]:
+    """A window that shows a state of a page. The tests of the state share it."""
+    for window in window_of(first_browser):
+        request.param(request, window)
+        yield window
 
 
-@pytest.fixture(params=STATES[:6], ids=lambda state: state.__name__.replace("_", " "))
-def bidding(request: pytest.FixtureRequest, x: Window) -> Window:
-    """A window that shows a state of the bidder's page."""
-    request.param(request, x)
-    return x
+@pytest.fixture
+def page(opened: Window) -> Window:
+    """The window, as wide and high as at first."""
+    opened.size(1280, 900)
+    opened.settle()
+    return opened
 
 
 def test_nothing_is_cut_off_or_beyond_the_window(page: Window) -> None:
@@ -161,6 +164,7 @@ def test_nothing_is_cut_off_or_beyond_the_window(page: Window) -> None:
             page.settle()
             letters = "wide" if is_wide else "its own"
             found += [f"{each} at {wide}, {letters} letters" for each in page.run(scripts.CUT)]
+    page.run(scripts.WIDE_LETTERS, False)
     assert found == []
 
 
@@ -258,6 +262,17 @@ def test_the_first_row_is_near_the_top(
     assert x.run(script) < most
 
 
+@pytest.mark.parametrize("wide", [1600, 1024, 390])
+def test_without_values_no_worth_is_shown(
+    request: pytest.FixtureRequest, x: Window, wide: int
+) -> None:
+    x.size(wide, 900)
+    bidders_page(request, x)
+    x.settle()
+    script = "return [...document.querySelectorAll('.c-worth')].some(e => e.checkVisibility())"
+    assert not x.run(script)
+
+
 def test_25_rows_are_seen_of_a_long_table(begin: Begin, x: Window) -> None:
     setup = example("two_products")
     one = setup["products"][0]
@@ -278,13 +293,12 @@ def test_pictures(
     x.size(1440, 900)
     enter(auction, x)
     x.bid(0, 1, int(re.sub(r"\D", "", x.column("clock")[0])) - 40)
-    operator.size(1440, 1250)
     enter(auction, operator, OPERATOR)
     operator.says("missing", "No bids from: Y")
     assert x.row(0).startswith("Reduce"), "the picture shows the effect of a bid"
     if pictures:
-        x.picture(pictures / "bidder.png")
-        operator.picture(pictures / "operator.png")
+        x.picture(pictures / "bidder.png", 1440, 620)
+        operator.picture(pictures / "operator.png", 1440)
     x.size(390, 844)
     x.dark(True)
     x.bid(0, 1, 1)
@@ -292,5 +306,5 @@ def test_pictures(
     x.settle()
     assert "price" in x.row(0), "the picture shows an error at its row"
     if pictures:
-        x.picture(pictures / "bidder_narrow.png")
+        x.picture(pictures / "bidder_narrow.png", 390, 844)
     x.dark(False)

@@ -45,7 +45,7 @@ def test_no_token_is_kept(begin: Begin, x: Window, y: Window, operator: Window) 
 @pytest.mark.parametrize("name", FILES)
 def test_a_file_of_the_pages_is_served_with_its_rule(shared: Auction, name: str) -> None:
     inside = shared.address(OPERATORS).replace(OPERATORS, name)
-    addresses = [inside] if name.startswith("operator") else [inside, shared.address(name)]
+    addresses = [inside] if name.startswith("operator") else [inside, shared.address() + name]
     for address in addresses:
         status, head = shared.head(address)
         assert status == 200 and RULE in head["Content-Security-Policy"], address
@@ -53,4 +53,4 @@ def test_a_file_of_the_pages_is_served_with_its_rule(shared: Auction, name: str)
 
 @pytest.mark.parametrize("name", [name for name in FILES if name not in FOR_BIDDERS])
 def test_the_operators_files_are_not_there_for_bidders(shared: Auction, name: str) -> None:
-    assert shared.head(shared.address(name))[0] == 404
+    assert shared.head(shared.address() + name)[0] == 404

@@ -1,11 +1,10 @@
 """The public page: closed rounds, their chart and digest, and at the end the winners."""
 import pathlib
 import re
-import time
 
 import pytest
 
-from tests.browser.auction import Auction, X, Y, bid, example
+from tests.browser.auction import X, Y, bid, example
 from tests.browser.conftest import Begin
 from tests.browser.published import TIME, Published
 from tests.browser.window import Window
@@ -146,15 +145,11 @@ def test_of_the_server_the_page_asks_for_the_products_only(
 
 def test_a_page_that_is_withheld_is_no_outage(begin: Begin, x: Window) -> None:
     day = begun(begin)
-    now = int(time.time()) // 10
-    curtain = [day.auction.folder / "gate" / f"curtain-{now + ten}" for ten in range(-1, 60)]
-    for file in curtain:
-        file.touch()
+    day.auction.withhold()
     day.timetable(1, (-60, -1, 600))
     x.open(day.auction.address(PAGE))
     pattern = re.compile(rf"The round is closing; results appear at {TIME}\.")
     x.until("it is said when they appear", lambda: pattern.fullmatch(x.text("link")))
-    for file in curtain:
-        file.unlink()
+    day.auction.show()
     x.says("round", "Round 1")
     x.becomes(lambda: x.text("link"), "")

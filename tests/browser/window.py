@@ -113,9 +113,12 @@ class Window:
         """
         self.driver.execute_async_script(scripts.FRAMES)
 
-    def picture(self, file: pathlib.Path) -> None:
-        """Saves a picture of what is seen."""
+    def picture(self, file: pathlib.Path, wide: int, high: int = 0) -> None:
+        """Saves a picture of the page at a size, or else of all its height."""
         self.run("document.activeElement.blur(); window.scrollTo(0, 0)")
+        self.size(wide, high or 900)
+        self.settle()
+        self.size(wide, high or self.run("return document.documentElement.scrollHeight"))
         self.settle()
         file.parent.mkdir(parents=True, exist_ok=True)
         file.write_bytes(base64.b64decode(self.cdp("Page.captureScreenshot")["data"]))

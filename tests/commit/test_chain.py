@@ -1,6 +1,7 @@
 """Tie-breaking numbers come from the seeds to which the operator committed."""
 import hashlib
 import itertools
+import json
 import pathlib
 import subprocess
 from collections.abc import Callable
@@ -8,7 +9,7 @@ from typing import NamedTuple
 
 import pytest
 
-from auction.formats.ties import Commitment, Committed, TiesFault, check_ties, tie_number
+from auction.formats.ties import Commitment, Committed, Draw, TiesFault, check_ties, tie_number
 from tests.close.auction import CloseAuction, lists_each_once, set_up
 
 SIZE = 20  # bidders, and products
@@ -34,6 +35,12 @@ def number_by_openssl(seed: bytes, message: str) -> int:
     return int(done.stdout[:12], 16)
 
 
+def published_draw(auction: CloseAuction) -> str:
+    """The published result of the draw, or nothing."""
+    file = auction.public / "draw.json"
+    return Draw.of(json.loads(file.read_text())).words if file.exists() else ""
+
+
 def play(auction: CloseAuction, draw: str) -> Played:
     """Plays rounds in which each bidder asks for a block of each product, above the supply."""
     files = (auction.setup_file, auction.kept, auction.public)
@@ -47,6 +54,8 @@ def play(auction: CloseAuction, draw: str) -> Played:
         price = auction.ask(f"GET /v1/rounds/{number}")["products"][0]["next"]
     chain = Commitment.read(auction.public / "commitment.json").chain
     assert chain is not None
+    assert chain.draw == ""
+    chain = chain.after(published_draw(auction))
     seeds = [bytes.fromhex(auction.stored(f"round-{number}.json")["seed"]) for number in ROUNDS]
     ties = {number: auction.ties(number) for number in ROUNDS}
     return Played(chain, [chain.end, *seeds], ties)
@@ -77,7 +86,9 @@ def test_the_number_of_the_example_in_the_formats() -> None:
 
 
 @pytest.mark.parametrize("draw", DRAWS.values(), ids=DRAWS)
-def test_the_commitment_has_the_draw(auctions: dict[str, Played], draw: str) -> None:
+def test_the_draw_is_published_next_to_the_commitment(
+    auctions: dict[str, Played], draw: str
+) -> None:
     assert auctions[draw].chain.draw == draw
 
 

@@ -1,4 +1,6 @@
 """`auction commit` makes what is missing once, and replaces nothing."""
+import hashlib
+import json
 import pathlib
 
 import pytest
@@ -39,6 +41,7 @@ REFUSED = {
     "no-ties": ("--no-ties",),
     "a-draw-of-two-lines": ("--draw", "\n"),
     "a-draw-that-is-too-long": ("--draw", "x" * 201),
+    "a-draw-without-words": ("--draw", ""),
     "a-draw-without-ties": ("--no-ties", "--draw", "1"),
 }
 
@@ -131,3 +134,40 @@ def test_no_ties_is_refused_if_a_closing_can_list_all_pairs(small: CloseAuction)
     assert said.status == 1
     assert "promised" in said.errors
     assert small.round() == 2
+
+
+# ---- A draw
+
+
+DRAW = ("--draw", "5 17 33")
+
+
+def test_a_draw_changes_no_byte_of_the_commitment(small: CloseAuction) -> None:
+    before = (small.public / "commitment.json").read_bytes()
+    said = committed(small, *DRAW)
+    assert said.status == 0
+    assert (small.public / "commitment.json").read_bytes() == before
+    digest = hashlib.sha256(before).hexdigest()
+    assert said.output == f'{{"commitment":"{digest}","draw":"5 17 33"}}\n'
+    assert (small.public / "draw.json").read_text() == said.output
+
+
+def test_a_second_draw_is_refused(small: CloseAuction) -> None:
+    assert committed(small, *DRAW).status == 0
+    before = (small.public / "draw.json").read_bytes()
+    assert committed(small, "--draw", "1 2 3").status == 1
+    assert (small.public / "draw.json").read_bytes() == before
+
+
+@pytest.mark.parametrize(
+    ("opens", "status"),
+    [("2020-01-01T15:00:00Z", 1), ("2220-01-01T15:00:00Z", 0)],
+    ids=["open", "not-open"],
+)
+def test_a_draw_is_taken_only_before_the_first_window_opens(
+    small: CloseAuction, opens: str, status: int
+) -> None:
+    windows = [{"round": 1, "opens": opens, "closes": "2221-01-01T00:00:00Z"}]
+    (small.public / "timetable.json").write_text(json.dumps({"windows": windows}))
+    assert committed(small, *DRAW).status == status
+    assert (small.public / "draw.json").exists() == (status == 0)

@@ -1,5 +1,4 @@
 """`auction commit`, killed before each of its steps: the next call publishes what it had begun."""
-import dataclasses
 import json
 import pathlib
 
@@ -8,7 +7,7 @@ import pytest
 from auction.conductor import commitment
 from auction.conductor.commitment import Places
 from auction.formats.setup import Setup
-from auction.formats.ties import Commitment
+from auction.formats.ties import Commitment, Draw
 from tests.close.auction import set_up
 from tests.lib.disk import killed_at
 
@@ -34,10 +33,13 @@ def published(places: Places) -> Commitment | None:
     return Commitment.read(places.commitment) if places.commitment.exists() else None
 
 
-def with_draw(before: Commitment) -> Commitment:
-    """The commitment with the result of the draw, and no other change."""
-    assert before.chain is not None
-    return dataclasses.replace(before, chain=dataclasses.replace(before.chain, draw=DRAW))
+def published_draw(places: Places) -> str | None:
+    """What everyone sees of the draw, which is of the published commitment."""
+    if not places.draw.exists():
+        return None
+    draw = Draw.of(json.loads(places.draw.read_bytes()))
+    assert draw == Draw.added(places.commitment.read_bytes(), draw.words)
+    return draw.words
 
 
 @pytest.mark.parametrize("step", range(1, STEPS + 1))
@@ -54,18 +56,17 @@ def test_after_a_kill_it_publishes_what_it_had_begun(
 
 
 @pytest.mark.parametrize("step", range(1, DRAW_STEPS + 1))
-def test_after_a_kill_in_a_draw_it_publishes_the_draw_or_what_was_before(
+def test_after_a_kill_in_a_draw_it_publishes_the_draw_or_nothing(
     setup: Setup, places: Places, step: int
 ) -> None:
     before = commitment.make(places, setup)
-    wanted = with_draw(before)
     with killed_at(step) as disk:
         commitment.make(places, setup, draw=DRAW)
     assert disk.has_killed
-    seen = published(places)
-    made = commitment.make(places, setup)
-    assert made in ((before, wanted) if seen == before else (wanted,))
-    assert published(places) == made
+    seen = published_draw(places)
+    assert commitment.make(places, setup) == before
+    assert published_draw(places) in ((None, DRAW) if seen is None else (DRAW,))
+    assert published(places) == before
 
 
 @pytest.mark.parametrize("step", range(1, DRAW_STEPS + 1))
@@ -76,9 +77,9 @@ def test_after_a_kill_in_a_draw_the_draw_can_be_given_again(
     with killed_at(step):
         commitment.make(places, setup, draw=DRAW)
     commitment.make(places, setup)
-    made = commitment.make(places, setup, draw=DRAW)
-    assert made == with_draw(before)
-    assert published(places) == made
+    assert commitment.make(places, setup, draw=DRAW) == before
+    assert published_draw(places) == DRAW
+    assert published(places) == before
 
 
 def test_it_has_no_step_after_the_last(setup: Setup, places: Places) -> None:

@@ -7,9 +7,9 @@ from auction.formats.ties import Commitment, check_ties
 from tests.lib.conducted import SECRET, ConductedAuction
 
 
-def finish(auction: ConductedAuction) -> list[str]:
+def finish(auction: ConductedAuction, step: float = 10) -> list[str]:
     """Plays to the end, in which nothing goes wrong any more. Returns the audit without digests."""
-    auction.play()
+    auction.play(step=step)
     return check(auction)
 
 
@@ -24,7 +24,8 @@ def check(auction: ConductedAuction) -> list[str]:
     pages = [auction.page(f"public/rounds/{number}.json") for number in rounds]
     assert [page["digest"] for page in pages] == digests
     assert [page["ended"] for page in pages] == [False] * (auction.rounds - 1) + [True]
-    assert not list((auction.folder / "gate").iterdir())
+    doors = [file.name for file in (auction.folder / "gate").iterdir()]
+    assert all(name.startswith("curtain-") for name in doors)
     check_announcements(auction, digests)
     check_files(auction, rounds)
     check_numbers(auction, pages)

@@ -1,19 +1,21 @@
 """Auctions whose conductor is killed before its steps, by itself or together with the machine."""
 import pathlib
 
+from auction.conductor.clock import utc
 from auction.conductor.closing import last_closed
 from tests.conductor.finished import check
+from tests.lib.clock import BEGIN
 from tests.lib.conducted import ConductedAuction, Times, conducted
 
 WINDOWS: Times = [(30, 60), (120, 150), (210, 240)]
 CLOSED = [70, 160, 250]  # the drain of ten seconds after each window
 # The steps of an auction that nobody disturbs: writes, syncs, and requests and replies of closings.
-STEPS = range(1, 193)
+STEPS = range(1, 209)
 
 
-def undisturbed(program: pathlib.Path) -> tuple[list[str], int]:
+def undisturbed(program: pathlib.Path, publish: int = 0) -> tuple[list[str], int]:
     """The audit of the auction that nobody disturbs, and how many steps it takes."""
-    with conducted(program, WINDOWS) as auction:
+    with conducted(program, WINDOWS, missed=100, publish=publish) as auction:
         auction.disk.count = 0
         auction.play(step=15)
         assert auction.closed_at() == CLOSED
@@ -43,12 +45,22 @@ def check_moment(auction: ConductedAuction) -> None:
     assert public.published() <= closed, "a round is published that is not closed"
 
 
-def audit_if_killed(program: pathlib.Path, step: int, with_the_machine: bool) -> list[str]:
+def check_curtain(auction: ConductedAuction, publish: int) -> None:
+    """No round was published before its curtain lifted."""
+    for number in range(1, auction.rounds + 1):
+        _, closes = auction.window(number)
+        published = auction.page(f"public/rounds/{number}.json")["published"]
+        assert published >= utc(BEGIN + closes + publish), "published before the curtain lifted"
+
+
+def audit_if_killed(
+    program: pathlib.Path, step: int, with_the_machine: bool, publish: int = 0
+) -> list[str]:
     """The audit of the auction whose conductor is killed before one step.
 
     The machine is back after 20 seconds, and the conductor at once or after three.
     """
-    with conducted(program, WINDOWS) as auction:
+    with conducted(program, WINDOWS, missed=100, publish=publish) as auction:
 
         def after_kill() -> None:
             auction.disk.kill_at = 0
@@ -64,6 +76,7 @@ def audit_if_killed(program: pathlib.Path, step: int, with_the_machine: bool) ->
         auction.disk.count, auction.disk.kill_at = 0, step
         auction.play(after_kill=after_kill, step=15)
         check_gate(auction)
+        check_curtain(auction, publish)
         return check(auction)
 
 
@@ -74,7 +87,7 @@ def audit_if_killed_again_and_again(program: pathlib.Path) -> tuple[list[str], i
     returns how often it was killed.
     """
     kills = 0
-    with conducted(program, WINDOWS) as auction:
+    with conducted(program, WINDOWS, missed=100) as auction:
 
         def after_kill() -> None:
             nonlocal kills

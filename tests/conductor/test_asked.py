@@ -53,15 +53,33 @@ def test_a_round_is_closed_early_with_the_increment_of_the_page(
     with_sheets: ConductedAuction,
 ) -> None:
     ask(with_sheets)
-    assert with_sheets.look() is State.CLOSED
+    with_sheets.play(State.CLOSED)
     assert not is_left(with_sheets)
     assert not with_sheets.is_open()
     assert with_sheets.page("kept/closing-1.json")["increment"] == 20
 
 
+def test_an_early_end_is_announced_and_published(with_sheets: ConductedAuction) -> None:
+    with_sheets.wait(95, 5)
+    ask(with_sheets)
+    with_sheets.play(State.CLOSED)
+    assert with_sheets.window(1) == (60, 160)
+    window = with_sheets.page("public/timetable.json")["windows"][0]
+    assert window["closes"] == "2026-11-28T12:02:40Z"
+    words = "Round 1 ends at 12:02:40 UTC on November 28, earlier than announced before."
+    assert with_sheets.announced(words) == 1
+
+
+def test_the_drain_follows_an_early_end(with_sheets: ConductedAuction) -> None:
+    with_sheets.wait(95, 5)
+    ask(with_sheets)
+    with_sheets.play(State.CLOSED, step=1)
+    assert with_sheets.closed_at() == [170]
+
+
 def test_a_request_closes_one_round(with_sheets: ConductedAuction) -> None:
     ask(with_sheets)
-    assert with_sheets.look() is State.CLOSED
+    with_sheets.play(State.CLOSED)
     ask(with_sheets, age=5)
     assert with_sheets.look() is State.BEFORE
     assert not is_left(with_sheets)
@@ -69,13 +87,22 @@ def test_a_request_closes_one_round(with_sheets: ConductedAuction) -> None:
 
 def test_a_later_round_is_closed_early(with_sheets: ConductedAuction) -> None:
     ask(with_sheets)
-    assert with_sheets.look() is State.CLOSED
+    with_sheets.play(State.CLOSED)
     with_sheets.play(State.OPEN)
     with_sheets.bid()
     ask(with_sheets, round=2)
-    assert with_sheets.look() is State.CLOSED
+    with_sheets.play(State.CLOSED)
     assert not is_left(with_sheets)
     finish(with_sheets)
+
+
+def test_a_round_without_sheets_is_not_ended(conduct: Conduct) -> None:
+    auction = conduct()
+    auction.play(State.OPEN)
+    ask(auction)
+    assert auction.look() is State.HELD
+    assert auction.look() is State.OPEN
+    assert auction.window(1) == (60, 360)
 
 
 @pytest.fixture
@@ -88,9 +115,9 @@ def unplanned(conduct: Conduct) -> ConductedAuction:
 def test_without_sheets_the_round_waits_for_a_word(unplanned: ConductedAuction) -> None:
     ask(unplanned)
     assert unplanned.look() is State.HELD
+    assert "but nobody has a sheet in force" in unplanned.words
     assert not is_left(unplanned)
     assert unplanned.look() is State.UNPLANNED
-    assert "but nobody has a sheet in force" in unplanned.words
 
 
 def both_bid(auction: ConductedAuction, quantity: int = 2) -> None:
@@ -104,7 +131,7 @@ def test_a_closing_that_the_server_refuses_makes_the_round_wait(
 ) -> None:
     both_bid(unplanned)
     ask(unplanned, increment=51)
-    assert unplanned.look() is State.HELD
+    unplanned.play(State.HELD)
     assert not is_left(unplanned)
     assert "'increment'" in unplanned.words
 
@@ -116,19 +143,38 @@ def test_without_a_server_the_request_stays(unplanned: ConductedAuction) -> None
     assert unplanned.look() is State.GONE
     assert is_left(unplanned)
     unplanned.begin_server()
-    assert unplanned.look() is State.CLOSED
+    unplanned.play(State.CLOSED)
     assert not is_left(unplanned)
 
 
 def test_a_request_that_says_so_closes_a_round_without_sheets(unplanned: ConductedAuction) -> None:
     both_bid(unplanned)
     ask(unplanned)
-    assert unplanned.look() is State.CLOSED
+    unplanned.play(State.CLOSED)
     ask(unplanned, round=2, without_sheets=True)
-    assert unplanned.look() is State.CLOSED
+    unplanned.play(State.CLOSED)
     assert not is_left(unplanned)
     unplanned.rounds = 2
     finish(unplanned)
+
+
+def closes_in_spite_of_a_kill(auction: ConductedAuction, step: int) -> bool:
+    """Looks until a round is published, and kills the conductor before one step.
+
+    Returns whether it was killed.
+    """
+    was_killed = False
+    auction.disk.count, auction.disk.kill_at = 0, step
+    for _ in range(20):
+        if auction.look() is None:
+            was_killed, auction.disk.kill_at = True, 0
+            auction.conductor = auction.fresh()
+        elif auction.conductor.context.public.published() == 1:
+            break
+        else:
+            auction.clock.sleep(5)
+    auction.disk.kill_at = 0
+    return was_killed
 
 
 def test_killed_before_each_step_of_a_closing_the_round_is_closed_once(
@@ -141,12 +187,7 @@ def test_killed_before_each_step_of_a_closing_the_round_is_closed_once(
             both_bid(auction, quantity=1)
             auction.look()
             ask(auction)
-            auction.disk.count, auction.disk.kill_at = 0, step
-            was_killed = auction.look() is None
-            auction.disk.kill_at = 0
-            auction.conductor = auction.fresh()
-            auction.look()
-            auction.look()
+            was_killed = closes_in_spite_of_a_kill(auction, step)
             assert auction.conductor.context.public.published() == 1, f"killed before step {step}"
             ask(auction, round=2, without_sheets=True)
             auction.play()

@@ -18,9 +18,18 @@ def opened(conduct: Conduct) -> ConductedAuction:
 def test_extend_moves_the_end_and_the_later_windows(opened: ConductedAuction) -> None:
     commands.extend(opened.context(), 2)
     assert opened.window(1) == (60, 480)
-    assert opened.window(2)[0] == 510
+    assert opened.window(2)[0] == 480 + 50
     finish(opened)
     assert opened.announced("Round 1 is open until 12:08") == 1
+
+
+def test_extend_before_the_window_says_when_it_opens(conduct: Conduct) -> None:
+    auction = conduct()
+    auction.play(State.BEFORE)
+    commands.extend(auction.context(), 2)
+    assert auction.window(1) == (60, 480)
+    words = "Round 1 is open from 12:01 UTC on November 28 to 12:08 UTC on November 28, longer"
+    assert auction.announced(words) == 1
 
 
 @pytest.mark.parametrize("minutes", (0, -1, 1e9, float("nan")))

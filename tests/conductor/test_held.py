@@ -43,7 +43,8 @@ def test_a_word_for_another_round_is_refused(without_sheets: ConductedAuction) -
 
 
 def test_a_word_must_say_without_sheets(without_sheets: ConductedAuction) -> None:
-    commands.close_next(without_sheets.context(), 1, False)
+    fault = refusal(commands.close_next, without_sheets.context(), 1, False)
+    assert "nobody has a sheet in force: add --without-sheets" in fault
     without_sheets.wait(60)
     assert without_sheets.state is State.HELD
     assert without_sheets.conductor.context.public.published() == 0
@@ -84,10 +85,10 @@ def test_a_window_that_nobody_opened_waits(conduct: Conduct) -> None:
     auction.clock.sleep(900)  # nobody runs while the window of round 2 comes and goes
     auction.conductor = auction.fresh()
     auction.play(State.HELD)
-    assert "not open as announced" in auction.words
+    assert "its window was not open as announced" in auction.words
     auction.put("X", 2, 2, 110)  # straight at the server
     auction.look()
-    assert "its window was not open as announced. To close it: next 2." in auction.words
+    assert "To close it: next 2 --without-sheets." in auction.words
     commands.extend(auction.context(), 5)
     finish(auction)
 
@@ -96,7 +97,7 @@ def test_a_window_that_opened_65_seconds_late_waits(conduct: Conduct) -> None:
     auction = conduct()
     auction.clock.sleep(125)
     auction.play(State.HELD)
-    assert "not open as announced" in auction.words
+    assert "bidders could not reach the auction for a part of its window" in auction.words
     assert auction.conductor.context.journal.in_force() == ["X", "Y"]
     commands.close_next(auction.context(), 1, False)
     finish(auction)

@@ -51,7 +51,7 @@ def test_the_first_rule_that_applies_counts(
 @pytest.mark.parametrize("version", (1, 2))
 def test_an_auction_has_the_increments_of_its_timetable(conduct: Conduct, version: int) -> None:
     auction = conduct([], document=small_setup(version), rounds=4)
-    windows = ((60, 120), (150, 210), (240, 300), (330, 390))
+    windows = ((60, 120), (170, 230), (280, 340), (390, 450))
     assert take(auction, *windows, increments=RISING) == ""
     finish(auction)
     bodies = [auction.page(f"kept/closing-{number}.json") for number in (1, 2, 3, 4)]

@@ -50,7 +50,7 @@ def test_resume_gives_the_time_that_was_left_and_moves_later_windows(
     commands.resume(paused.context(), 15)
     windows = [paused.window(number) for number in (1, 2, 3)]
     assert windows[0] == (1260 + 900, 1260 + 1200), "300 seconds were left"
-    assert [after[0] - before[1] for before, after in zip(windows, windows[1:])] == [30, 30]
+    assert [after[0] - before[1] for before, after in zip(windows, windows[1:])] == [50, 50]
     finish(paused)
     assert paused.announced("The auction is paused. A fire alarm.") == 1
     continues = "Round 1 is open from 12:36 UTC on November 28 to 12:41 UTC on November 28."

@@ -2,13 +2,16 @@
 
 It changes nothing that begins soon for the worse.
 """
+import json
+
 import pytest
 
 from auction.conductor import commands
 from auction.conductor.report import State
+from auction.conductor.timetable import TimetableFault
 from tests.conductor.conftest import Conduct
 from tests.conductor.finished import finish
-from tests.conductor.plans import take
+from tests.conductor.plans import day_of, take
 from tests.lib.conducted import ConductedAuction, refusal
 
 FIRST = ((400, 700), (800, 1000), (1100, 1300), (1400, 1500))
@@ -26,6 +29,7 @@ def unplanned(conduct: Conduct) -> ConductedAuction:
     [
         pytest.param([(200, 500)], "within the 300 s of notice", id="without notice"),
         pytest.param([(400, 700), (720, 900)], "20 s after round 1 closes", id="too close"),
+        pytest.param([(400, 700), (740, 900)], "need 50 s between them", id="no time for results"),
         pytest.param([(400, 700), (600, 900)], "after round 1 closes", id="overlapping"),
         pytest.param([(0, 60)], "are in the past", id="in the past"),
     ],
@@ -96,3 +100,57 @@ def test_no_timetable_is_taken_after_the_end(announced: ConductedAuction) -> Non
     finish(announced)
     fault = refusal(commands.plan, announced.context(), announced.folder / "timetable.json")
     assert "the auction ended" in fault
+
+
+def check(auction: ConductedAuction, *windows: tuple[int, int]) -> None:
+    """What `auction check` does with a timetable."""
+    path = auction.folder / "timetable.json"
+    path.write_text(json.dumps(day_of(*windows)))
+    commands.check(auction.context(), path)
+
+
+@pytest.mark.parametrize(
+    "windows",
+    [
+        pytest.param([(400, 700), (740, 900)], id="no time for results"),
+        pytest.param([(400, 700), (600, 900)], id="overlapping"),
+    ],
+)
+def test_check_refuses_breaks_that_cannot_be_kept(
+    unplanned: ConductedAuction, windows: list[tuple[int, int]]
+) -> None:
+    with pytest.raises(TimetableFault, match="need 50 s between them"):
+        check(unplanned, *windows)
+
+
+def test_check_takes_what_plan_takes(unplanned: ConductedAuction) -> None:
+    check(unplanned, *FIRST)
+    assert unplanned.lines == [
+        "2026-11-28T12:06:40Z 2026-11-28T12:11:40Z",
+        "2026-11-28T12:13:20Z 2026-11-28T12:16:40Z",
+        "2026-11-28T12:18:20Z 2026-11-28T12:21:40Z",
+        "2026-11-28T12:23:20Z 2026-11-28T12:25:00Z",
+    ]
+
+
+@pytest.mark.parametrize(
+    ("publish", "gap"), [pytest.param(0, 50, id="no curtain"), pytest.param(30, 70, id="curtain")]
+)
+def test_the_shortest_breaks_are_kept(conduct: Conduct, publish: int, gap: int) -> None:
+    auction = conduct([], publish=publish, notice=0)
+    windows = [(60 + (60 + gap) * number, 120 + (60 + gap) * number) for number in range(3)]
+    assert take(auction, *windows) == ""
+    finish(auction, step=1)
+    assert not auction.announced("later than announced")
+    assert [auction.window(number) for number in (1, 2, 3)] == windows
+
+
+def test_a_closed_round_is_stored_before_its_curtain_lifts(conduct: Conduct) -> None:
+    auction = conduct([(60, 120), (200, 260), (340, 400)], publish=30)
+    auction.play(State.CLOSED, step=1)
+    assert (auction.folder / "kept/results-1.json").exists()
+    assert auction.conductor.context.public.published() == 0
+    auction.play(State.CURTAIN, step=1)
+    auction.play(State.BEFORE, step=1)
+    published = auction.page("public/rounds/1.json")["published"]
+    assert published == "2026-11-28T12:02:30Z"

@@ -1,4 +1,7 @@
-"""A minute of a window in which nobody saw the server makes the round wait for a word."""
+"""A share of a window in which bidders could not reach the auction makes the round wait.
+
+In these auctions it is more than 20 percent of 300 seconds.
+"""
 import pytest
 
 from auction.conductor import commands
@@ -31,7 +34,7 @@ def test_50_seconds_without_a_server_do_not_wait(conduct: Conduct) -> None:
 def test_80_seconds_without_a_server_wait(conduct: Conduct) -> None:
     auction = without_server(conduct, 80)
     auction.play(State.HELD)
-    assert "of its window nobody saw the server answer" in auction.words
+    assert "bidders could not reach the auction for a part of its window" in auction.words
     said = [words for _, state, words in auction.states if state is State.OPEN]
     assert any("It will wait for your word" in words for words in said)
     commands.close_next(auction.context(), 1, False)
@@ -75,3 +78,16 @@ def test_a_window_in_which_no_conductor_looks(
     if waits:
         commands.close_next(auction.context(), 1, False)
     finish(auction)
+
+
+@pytest.mark.parametrize(
+    ("away", "waits"), [pytest.param(48, True, id="48 s"), pytest.param(8, False, id="8 s")]
+)
+def test_a_short_window_that_bidders_cannot_reach(conduct: Conduct, away: int, waits: bool) -> None:
+    auction = conduct([(60, 110), (180, 230), (300, 350)])
+    auction.play(State.OPEN, step=1)
+    auction.bid()
+    setattr(auction.conductor.context, "is_reached", lambda _now, _window: False)
+    auction.wait(away, 1)
+    auction.conductor = auction.fresh()
+    auction.play(State.HELD if waits else State.CLOSED, step=1)

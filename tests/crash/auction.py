@@ -20,9 +20,15 @@ class Auction:
         """The file of the set-up document."""
         return self.folder / "setup.json"
 
-    def file_of(self, worker: int) -> Path:
-        """The journal that only this worker uses."""
-        return self.folder / f"worker{worker}.journal"
+    def journal_of(self, worker: int, content: bytes) -> Path:
+        """The journal that only this worker uses, with these bytes.
+
+        It is a new file each time. On ext4, a file that is written again is flushed to the disk.
+        """
+        file = self.folder / f"worker{worker}.journal"
+        file.unlink(missing_ok=True)
+        file.write_bytes(content)
+        return file
 
     def server(self, journal: Path | None = None, **options: Any) -> Server:
         """A server, with or without a journal."""

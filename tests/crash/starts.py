@@ -1,6 +1,9 @@
 """Starts the program on each file that a power loss can leave."""
 from collections import Counter
-from dataclasses import dataclass
+from dataclasses import dataclass, field
+from functools import partial
+from itertools import islice
+from pathlib import Path
 
 from tests.crash.auction import Auction, last_line
 from tests.crash.moments import Moment, Texts
@@ -10,10 +13,12 @@ from tests.crash.shims import Shims
 from tests.crash.states import Kind, State, states_of
 from tests.lib.journals import HEAD
 from tests.lib.runs import Run
-from tests.lib.waiting import in_parallel
+from tests.lib.waiting import WORKERS, in_processes
 
-# `serve` also starts one state of this number: of those that must be resumed, and of the others.
-SAMPLE_OF_RESUMED, SAMPLE = 90, 8
+
+def sample_of(kind: Kind) -> int:
+    """`serve` also starts on one state in this number."""
+    return 90 if kind.must_resume() else 8
 
 
 @dataclass(frozen=True)
@@ -31,40 +36,47 @@ class Losses:
     filler: bytes
 
 
+@dataclass
 class Starts:
-    """The starts on all states of a kind: their counts, and what is wrong with them."""
+    """The starts on states: their counts, and what is wrong with them."""
 
-    def __init__(self, losses: Losses, kind: Kind) -> None:
-        self.losses = losses
-        self.counts: Counter[str] = Counter()
-        self.faults: list[str] = []
-        self.sample = SAMPLE_OF_RESUMED if kind.must_resume() else SAMPLE
-        states = states_of(losses.moments, losses.texts, losses.filler)
-        in_parallel(self.start, enumerate(state for state in states if state.kind == kind))
+    counts: Counter[str] = field(default_factory=Counter)
+    faults: list[str] = field(default_factory=list)
 
-    def start(self, worker: int, numbered: tuple[int, State]) -> None:
-        """Starts the program on one state."""
-        number, state = numbered
-        file = self.losses.auction.file_of(worker)
-        file.write_bytes(state.file)
-        found = self.losses.auction.audit(file)
-        fault = fault_of_audit(state, found, self.losses.texts, self.losses.audits)
+    def add(self, state: State, found: Run, texts: Texts, fault: str | None) -> None:
+        """Counts a state by its result, and notes its fault."""
+        is_resumed = found.status == 0
+        has_lost = texts.whole_in(state.file) < state.moment.replied
+        self.counts["states"] += 1
+        self.counts["resumed without a request that got a reply"] += is_resumed and has_lost
+        self.faults += [f"{state}: {fault}"] if fault else []
+
+
+def starts_on(losses: Losses, kind: Kind) -> Starts:
+    """Starts the program on all states of a kind."""
+    starts = Starts()
+    for part in in_processes(partial(starts_of_worker, losses, kind)):
+        starts.counts += part.counts
+        starts.faults += part.faults
+    return starts
+
+
+def starts_of_worker(losses: Losses, kind: Kind, worker: int) -> Starts:
+    """Starts the program on the states of a kind that are of this worker's number."""
+    starts = Starts()
+    states = states_of(losses.moments, losses.texts, losses.filler)
+    mine = islice((state for state in states if state.kind == kind), worker, None, WORKERS)
+    for number, state in enumerate(mine):
+        file = losses.auction.journal_of(worker, state.file)
+        found = losses.auction.audit(file)
+        fault = fault_of_audit(state, found, losses.texts, losses.audits)
         if file.read_bytes() != state.file:
             fault = fault or "audit changed the file"
-        if number % self.sample == 0:
-            fault = fault or fault_of_serve(self.losses, worker, state, found)
-            self.counts["served"] += 1
-        self.count(state, found)
-        if fault:
-            self.faults.append(f"{state}: {fault}")
-
-    def count(self, state: State, found: Run) -> None:
-        """Counts a state by its result."""
-        is_resumed = found.status == 0
-        has_lost = self.losses.texts.whole_in(state.file) < state.moment.replied
-        self.counts["states"] += 1
-        self.counts["resumed" if is_resumed else "refused"] += 1
-        self.counts["resumed without a request that got a reply"] += is_resumed and has_lost
+        if number % sample_of(kind) == 0:
+            fault = fault or fault_of_serve(losses, file, state, found)
+            starts.counts["served"] += 1
+        starts.add(state, found, losses.texts, fault)
+    return starts
 
 
 def fault_of_audit(state: State, found: Run, texts: Texts, audits: list[Run]) -> str | None:
@@ -85,10 +97,10 @@ def fault_of_audit(state: State, found: Run, texts: Texts, audits: list[Run]) ->
     return None if found in refusals else f"the start is not refused by {faults}: {found}"
 
 
-def fault_of_serve(losses: Losses, worker: int, state: State, audited: Run) -> str | None:
+def fault_of_serve(losses: Losses, file: Path, state: State, audited: Run) -> str | None:
     """Starts a server on a state. What is wrong with its output, its file, and its calls."""
     auction, texts = losses.auction, losses.texts
-    file, record = auction.file_of(worker), auction.folder / f"record{worker}"
+    record = file.with_suffix(".record")
     environment = losses.shims.record(file, record)
     with auction.server(file, connections=1, environment=environment) as server:
         if audited.status != 0:

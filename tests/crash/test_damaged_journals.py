@@ -1,5 +1,7 @@
 """Journals that are truncated, changed, or continued by other bytes, or that no server wrote."""
 import random
+from functools import partial
+from itertools import islice
 from pathlib import Path
 
 import pytest
@@ -10,7 +12,7 @@ from tests.crash.requests import BIDDERS, closing, page, sheet
 from tests.lib.http import text_of
 from tests.lib.journals import FRONT, HEAD, journal_of
 from tests.lib.runs import Run
-from tests.lib.waiting import in_parallel
+from tests.lib.waiting import WORKERS, in_processes
 
 KIND_LENGTH = 24
 MARK_LENGTH = 8
@@ -18,17 +20,29 @@ MARK_LENGTH = 8
 LENGTH = 1926
 
 
+def audits_of(auction: Auction, files: dict[int, bytes], worker: int) -> dict[int, str]:
+    """Audits each file of a worker's number. Returns the last lines, by the files' keys."""
+    lines = {}
+    for key in islice(files, worker, None, WORKERS):
+        file = auction.journal_of(worker, files[key])
+        lines[key] = last_line(auction.audit(file))
+        assert file.read_bytes() == files[key], "`audit` changed the file"
+    return lines
+
+
+def audited(auction: Auction, files: dict[int, bytes]) -> dict[int, str]:
+    """Audits all files."""
+    lines: dict[int, str] = {}
+    for part in in_processes(partial(audits_of, auction, files)):
+        lines |= part
+    return lines
+
+
 def test_a_truncated_journal_is_read_as_its_first_requests(auction: Auction, ten: Ten) -> None:
-    audited: dict[int, str] = {}
-
-    def audit(worker: int, length: int) -> None:
-        file = auction.file_of(worker)
-        file.write_bytes(ten.content[:length])
-        audited[length] = last_line(auction.audit(file))
-
-    in_parallel(audit, range(len(ten.content) + 1))
-    assert len(audited) == LENGTH + 1
-    assert differing(audited, {length: line_of_truncated(ten, length) for length in audited}) == {}
+    files = {length: ten.content[:length] for length in range(LENGTH + 1)}
+    assert files[LENGTH] == ten.content
+    found = audited(auction, files)
+    assert differing(found, {length: line_of_truncated(ten, length) for length in files}) == {}
 
 
 def line_of_truncated(ten: Ten, length: int) -> str:
@@ -38,21 +52,14 @@ def line_of_truncated(ten: Ten, length: int) -> str:
 
 
 def test_a_changed_byte_is_found(auction: Auction, ten: Ten) -> None:
-    audited: dict[int, str] = {}
-    written: list[int] = []
+    files = {place: with_changed(ten.content, place) for place in range(LENGTH)}
+    found = audited(auction, files)
+    assert differing(found, {place: line_of_changed(ten, place) for place in files}) == {}
 
-    def audit(worker: int, place: int) -> None:
-        byte = bytes([ten.content[place] ^ 1])
-        changed = ten.content[:place] + byte + ten.content[place + 1 :]
-        file = auction.file_of(worker)
-        file.write_bytes(changed)
-        audited[place] = last_line(auction.audit(file))
-        written.extend([place] if file.read_bytes() != changed else [])
 
-    in_parallel(audit, range(len(ten.content)))
-    assert len(audited) == LENGTH
-    assert differing(audited, {place: line_of_changed(ten, place) for place in audited}) == {}
-    assert written == [], "`audit` changed the file"
+def with_changed(content: bytes, place: int) -> bytes:
+    """The bytes with one bit of the one at an index changed."""
+    return content[:place] + bytes([content[place] ^ 1]) + content[place + 1 :]
 
 
 def line_of_changed(ten: Ten, place: int) -> str:
@@ -70,7 +77,8 @@ def line_of_changed(ten: Ten, place: int) -> str:
 
 def differing(found: dict[int, str], wanted: dict[int, str]) -> dict[int, tuple[str, str]]:
     """The found lines that are not the wanted ones, with these."""
-    return {place: (line, wanted[place]) for place, line in found.items() if line != wanted[place]}
+    assert len(found) == len(wanted)
+    return {key: (found[key], line) for key, line in wanted.items() if found[key] != line}
 
 
 # ---- Bytes after the journal

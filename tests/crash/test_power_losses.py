@@ -11,7 +11,7 @@ from tests.crash.moments import moments_of, texts_in
 from tests.crash.record import Recorded
 from tests.crash.requests import BIDDERS, sheet
 from tests.crash.shims import Shims
-from tests.crash.starts import Losses, Starts
+from tests.crash.starts import Losses, sample_of, starts_on
 from tests.crash.states import (
     CUT,
     CUT_PAGES,
@@ -52,9 +52,7 @@ def losses(auction: Auction, shims: Shims, recorded: list[Recorded]) -> Losses:
     texts = texts_in(document, (auction.folder / "recorded.journal").read_bytes())
     audits = []
     for end in texts.ends:
-        file = auction.folder / "first.journal"
-        file.write_bytes(texts.journal[:end])
-        audits.append(auction.audit(file))
+        audits.append(auction.audit(auction.journal_of(0, texts.journal[:end])))
     others = [sheet(token, 1, 100, 1) for token in BIDDERS] * (len(texts.journal) // 500)
     filler = journal_of(document, others)
     return Losses(auction, shims, texts, moments_of(recorded, texts), audits, filler)
@@ -80,9 +78,9 @@ def test_there_are_15622_files() -> None:
     ids=[kind.name.replace(" ", "-").replace(",", "") for kind in STATES],
 )
 def test_each_file_is_resumed_or_refused(losses: Losses, kind: Kind, count: int) -> None:
-    starts = Starts(losses, kind)
+    starts = starts_on(losses, kind)
     assert starts.counts["states"] == count
-    assert starts.counts["served"] * starts.sample >= count
+    assert starts.counts["served"] * sample_of(kind) >= count
     assert starts.faults == []
     has_lost = starts.counts["resumed without a request that got a reply"] > 0
     assert has_lost == (kind in LOSING), starts.counts

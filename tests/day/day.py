@@ -10,6 +10,7 @@ from collections.abc import Iterator
 from typing import Any
 
 from auction.conductor.clock import utc
+from auction.conductor.decision import whole_ten
 from tests.day.bidding import Bidder, Reader, Sent
 from tests.lib.conducted import small_setup
 from tests.lib.paths import AUCTION, auction
@@ -17,6 +18,7 @@ from tests.lib.setups import OPERATOR
 from tests.lib.site import Site
 from tests.lib.waiting import wait_for
 
+GAP = 12  # seconds of drain and the longest closing
 MARGIN = 0.15  # seconds by which a request's time is not known
 DAY = 86_400
 Window = tuple[float, float]
@@ -58,6 +60,7 @@ class Day:
             "token": "operator.token",
             "journal": "auction.journal",
             "drain": 2,
+            "missed": 100,
             "publish": 0,
             "between": self.between,
             "notice": 0,
@@ -122,7 +125,7 @@ class Day:
     def times(self) -> Iterator[tuple[int, int]]:
         """When each round opens and closes. No window crosses midnight."""
         first = int(time.time() + self.slowness) // 10 * 10 + 10
-        length = self.window + (-(-(self.between + 4) // 10) * 10 if self.rounds > 1 else 10)
+        length = self.window + whole_ten(GAP + self.between)
         if first // DAY != (first + self.rounds * length) // DAY:
             first = (first // DAY + 1) * DAY
         for number in range(self.rounds):

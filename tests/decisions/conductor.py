@@ -41,6 +41,7 @@ def observed(world: World) -> Observed:
         world.now,
         world.passed,
         world.step - world.set_at,
+        False,
         0.5 if world.missed else 0.0,
         plan,
         world.gate,

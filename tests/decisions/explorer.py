@@ -6,8 +6,8 @@ Any event may come between what the conductor observed and what it does. In each
 - a closing is made for a journal that does not change any more, sent while the curtain is drawn,
   and with no doubt that a person has not released;
 - no page shows a closing before its curtain lifts;
-- if nothing else happens, the auction comes to its end or to a person; after a kill it comes to the same
-  one, or to one doubt more.
+- if nothing else happens, the auction comes to its end or to a person; after a kill it comes to
+  the same one, or to one doubt more.
 """
 from collections import deque
 from collections.abc import Callable

@@ -76,7 +76,8 @@ def with_an_open_inner_door() -> Decide:
             return action
         look = Look(seen, LIMITS)
         window = look.window
-        wide = Gate(window.opens, window.closes, look.lifts, window.closes, look.lifts)
+        draws, lifts = LIMITS.curtain(window.closes, window.closes)
+        wide = Gate(window.opens, window.closes, lifts, draws, lifts)
         if seen.gate != wide:
             return SetGate(wide)
         return plain(dataclasses.replace(seen, gate=action.gate))

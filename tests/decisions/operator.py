@@ -2,7 +2,7 @@
 """
 from collections.abc import Iterator
 
-from auction.conductor.decision import TEN, Look
+from auction.conductor.decision import TEN, Look, Reason
 from tests.decisions.conductor import observed
 from tests.decisions.world import GAP, LIMITS, World, with_window
 
@@ -36,9 +36,7 @@ def commanded(world: World) -> Iterator[World]:
             marked=world.pending(),
         )
     if world.doubts - world.released:
-        yield spent(
-            world, released=world.released | world.doubts, true_word=world.true_word | world.doubts
-        )
+        yield released(world)
     if world.paused or world.fixed is not None:
         return
     if window.opens <= world.now < window.closes - TEN:
@@ -54,6 +52,17 @@ def commanded(world: World) -> Iterator[World]:
             "announced": False,
         }
     yield new_window(spent(world), changes)
+
+
+def released(world: World) -> World:
+    """A word: the doubts so far hold the round no more, and the clock is right from now on."""
+    return spent(
+        world,
+        doubts=world.doubts - {Reason.CLOCK},
+        released=(world.released | world.doubts) - {Reason.CLOCK},
+        set_at=world.step,
+        true_word=world.true_word | world.doubts,
+    )
 
 
 def with_gate(world: World) -> World:

@@ -30,7 +30,7 @@ MISTAKES = [
     Mistake("no sheets are no doubt", lambda: without("nobody has a sheet"), COMMAND),
     Mistake("an outage is no doubt", lambda: without("missed more than"), PAGE),
     Mistake("a clock that was set is no doubt", lambda: without("differ by more"), STEP),
-    Mistake("a doubt holds nothing", lambda: without("a doubt stands"), COMMAND),
+    Mistake("a doubt holds nothing", lambda: without("a doubt is not released"), COMMAND),
     Mistake("connections are not waited for", lambda: without("before the last change"), COMMAND),
     Mistake(
         "the closing is made while the inner door is open",

@@ -13,6 +13,7 @@ import pytest
 
 from tests.docs.shell import OPERATOR, Shell
 from tests.docs.texts import CARD_ROUND, MACHINE, ROUNDS, sections_of, text_of
+from tests.lib.http import compact
 from tests.lib.paths import TOP
 from tests.lib.waiting import wait_for
 
@@ -109,12 +110,20 @@ class Machine:
         self.shell.say("kill %1 %2")
 
     def second_receipt(self) -> None:
-        """Fetches the receipt of X's sheet of round 2, as soon as it is published."""
+        """Saves round 2, and fetches the receipt of X's sheet as soon as it is published."""
+        page = "https://localhost:8443/public/rounds/2.json"
+        _, status = self.curl(f"-f -o saved/rounds/2.json {page}")
+        assert status == 0
         wait_for("X's second receipt", (self.auction / "receipts/X/2-1.json").exists, 20)
         _, status = self.curl(
             "-H @x.head https://localhost:8443/receipts/2/1.json >> receipts.jsonl"
         )
         assert status == 0
+        (product, quantity, price), *_ = MACHINE[1]["X"]
+        bids = [{"price": price, "product": product, "quantity": quantity}]
+        sent = compact({"bids": bids, "round": 2}).decode()
+        with open(self.auction / "receipts.jsonl", "a", encoding="utf-8") as file:
+            file.write(json.dumps({"sent": sent}) + "\n")
 
 
 @NEEDED

@@ -125,3 +125,12 @@ def test_missing_schemas_are_said_in_one_line(
     assert main(["explain", "sheet", "it"]) == 2
     words = capsys.readouterr().err
     assert words.count("\n") == 1 and "sheet.schema.json is not installed" in words
+
+
+def test_missing_package_is_named() -> None:
+    lines = ("import sys", "sys.modules['jsonschema'] = None", "from auction.cli import main")
+    code = "; ".join([*lines, "sys.exit(main(['explain', 'setup', '-']))"])
+    words = [sys.executable, "-c", code]
+    done = subprocess.run(words, cwd=TOP, input="{}", capture_output=True, text=True, timeout=60)
+    assert (done.returncode, done.stdout) == (2, "")
+    assert done.stderr == "auction explain needs Debian's package python3-jsonschema\n"

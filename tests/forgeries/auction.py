@@ -78,14 +78,19 @@ class WitnessedAuction(Served):
 
     # ---- Rounds
 
-    def send(self, name: str, quantity: int, price: int) -> None:
-        """Sends a sheet with a bidder's token, which is accepted."""
-        self.put(name * 16, self.number, bid(quantity, price))
+    def send(self, name: str, quantity: int, price: int) -> str:
+        """Sends a sheet with a bidder's token, which is accepted. Returns its body."""
+        return self.put(name * 16, self.number, bid(quantity, price))
+
+    def say_sent(self, name: str, body: str) -> None:
+        """The bidder keeps what it sent."""
+        with open(self.folder / f"{name}.sent", "a", encoding="utf-8") as file:
+            file.write(json.dumps({"sent": body}) + "\n")
 
     def bid(self) -> None:
         """Sends the sheets of the current round. Each bidder saves its receipts."""
         for name, quantity, price in ROUNDS[self.number - 1]:
-            self.send(name, quantity, price)
+            self.say_sent(name, self.send(name, quantity, price))
         words = [self.setup_file, self.journal_file, self.kept, self.receipts]
         self.succeed("receipts", *words, "--once")
         for name in BIDDERS:
@@ -94,9 +99,12 @@ class WitnessedAuction(Served):
     def save_receipts(self, name: str) -> None:
         """Writes a bidder's file of receipts."""
         names = {file: [int(part) for part in file.stem.split("-")] for file in self.files_of(name)}
-        files = [self.saved / "commitment.json", *sorted(names, key=lambda file: names[file])]
-        text = "".join(file.read_text().strip() + "\n" for file in files)
-        (self.folder / f"{name}.jsonl").write_text(text)
+        sent = self.folder / f"{name}.sent"
+        files = [sent] if sent.exists() else []
+        files += sorted(names, key=lambda file: names[file])
+        lines = [file.read_text().strip() for file in (self.saved / "commitment.json", *files)]
+        lines.insert(1, json.dumps({"bidder": name}))
+        (self.folder / f"{name}.jsonl").write_text("".join(f"{line}\n" for line in lines))
 
     def files_of(self, name: str) -> list[pathlib.Path]:
         """The receipts of a bidder."""

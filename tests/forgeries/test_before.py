@@ -91,7 +91,8 @@ def test_the_victim_s_receipts_show_it(forged: Forged) -> None:
 def test_check_receipts_shows_it(forged: Forged) -> None:
     auction = forged.auction
     file = auction.folder / f"{forged.victim}.jsonl"
-    done = auction.run("check-receipts", file, auction.journal_file)
+    copy = "--commitment", auction.saved / "commitment.json"
+    done = auction.run("check-receipts", file, auction.journal_file, *copy)
     assert done.returncode == 1
     assert done.stdout.startswith("FAILED ")
 

@@ -11,14 +11,14 @@ from auction.verify.findings import ABSENT, FAILED, OK, findings
 from tests.lib.conducted import conducted
 from tests.lib.paths import auction
 
-WITHOUT_RECORD = ["receipts", "tables", "index"]
+WITHOUT_RECORD = ["draw", "receipts", "tables", "index"]
 # Each false word: its file, the right word, the false one, and the checks that fail.
 FALSE_WORDS = [
     ("rounds/2.json", '"posted":', '"posted":1', "results"),
     ("rounds/2.json", '"ended":false', '"ended":true', "results"),
     ("rounds/2.json", '"digest":"', '"digest":"0', "digests announcements"),
     ("rounds/2.json", '"seed":"', '"seed":"00', "ties"),
-    ("rounds/2.json", '"seed":', '"seeds":', "ties"),
+    ("rounds/2.json", '"seed":', '"seeds":', "results ties"),
     ("announcements.json", "Its digest is ", "Its digest is 0", "announcements"),
     ("winners.json", '"pays":', '"pays":1', "winners"),
     ("winners.json", '"demands":[', '"demands":[1', "winners"),
@@ -67,7 +67,7 @@ def test_a_record_of_it_verifies(folder: pathlib.Path, tmp_path: pathlib.Path) -
     done = auction("record", *files, record)
     assert done.returncode == 0, done
     assert results_of(folder, record, FAILED) == []
-    assert results_of(folder, record, ABSENT) == ["receipts"]
+    assert results_of(folder, record, ABSENT) == ["draw", "receipts"]
 
 
 @pytest.mark.parametrize(

@@ -165,11 +165,31 @@ def test_a_changed_index_shows(honest: WitnessedAuction, copy: pathlib.Path) -> 
     assert "index" in honest.failed(published=copy)
 
 
-def test_without_its_index_a_folder_is_no_record(
+def test_a_record_without_its_index_is_no_record(
     honest: WitnessedAuction, copy: pathlib.Path
 ) -> None:
     (copy / INDEX).unlink()
-    assert honest.failed(published=copy) == {}
+    assert list(honest.failed(published=copy)) == ["index"]
+
+
+def test_a_record_without_its_index_and_with_a_false_table_is_shown(
+    honest: WitnessedAuction, copy: pathlib.Path
+) -> None:
+    (copy / INDEX).unlink()
+    change(copy / "winners.csv")
+    assert list(honest.shown(published=copy)) == ["index"]
+
+
+def test_a_folder_without_an_index_says_what_was_not_checked(
+    honest: WitnessedAuction, copy: pathlib.Path
+) -> None:
+    """A witness may have notes next to what it saved."""
+    saved = copy / "saved"
+    shutil.copytree(honest.saved, saved)
+    (saved / "notes.txt").write_text("seen at noon\n")
+    done = honest.run("verify", *honest.words(None, saved, ""))
+    assert "SHA256SUMS, and notes.txt were not checked\n" in done.stdout
+    assert done.returncode == 0
 
 
 def test_the_index_shows_an_added_file(honest: WitnessedAuction, copy: pathlib.Path) -> None:
@@ -185,6 +205,65 @@ def test_the_content_shows_a_changed_or_removed_table_if_the_index_is_made_again
     how(copy / name)
     write_index(copy)
     assert "tables" in honest.failed(published=copy)
+
+
+# ---- Files that a forger adds or exchanges, and then makes the index again
+
+
+def add_notice(folder: pathlib.Path) -> None:
+    (folder / "notice.csv").write_text("round,price\n3,1\n")
+
+
+def add_hidden(folder: pathlib.Path) -> None:
+    (folder / "rounds/.3.csv").write_text("price\n")
+
+
+def add_link(folder: pathlib.Path) -> None:
+    (folder / "link").symlink_to(folder / "rounds")
+
+
+def repeat_line(folder: pathlib.Path) -> None:
+    index = (folder / INDEX).read_text().splitlines(keepends=True)
+    (folder / INDEX).write_text("".join([*index, index[0]]))
+
+
+def exchange_journal(folder: pathlib.Path) -> None:
+    journal = folder / "auction.journal"
+    journal.write_bytes(journal.read_bytes()[:-1])
+
+
+def exchange_set_up(folder: pathlib.Path) -> None:
+    setup = folder / "setup.json"
+    setup.write_bytes(setup.read_bytes() + b"\n")
+
+
+# Each change, whether the index is made again, the checks that fail, and what they say.
+ADDED: dict[str, tuple[Callable[[pathlib.Path], None], bool, str, str]] = {
+    "a-false-table": (add_notice, True, "tables", "notice.csv is no file of a record"),
+    "a-hidden-file": (add_hidden, True, "tables", "rounds/.3.csv is no file of a record"),
+    "a-link-to-a-folder": (add_link, False, "tables index", "link is no file of a record"),
+    "another-README": (lambda folder: change(folder / "README.txt"), True, "tables", "README.txt"),
+    "a-line-twice": (repeat_line, False, "index", "SHA256SUMS is not written as"),
+    "another-journal": (exchange_journal, True, "tables", "another file than the one that is"),
+    "another-set-up": (exchange_set_up, True, "tables", "another file than the one that is"),
+}
+
+
+@pytest.mark.parametrize(("how", "again", "checks", "words"), ADDED.values(), ids=ADDED)
+def test_a_file_that_is_not_of_this_record_is_shown(
+    honest: WitnessedAuction,
+    copy: pathlib.Path,
+    how: Callable[[pathlib.Path], None],
+    again: bool,
+    checks: str,
+    words: str,
+) -> None:
+    how(copy)
+    if again:
+        write_index(copy)
+    failed = honest.failed(published=copy)
+    assert list(failed) == checks.split()
+    assert words in failed[checks.split()[0]]
 
 
 # ---- Before the end

@@ -58,7 +58,8 @@ class ConductedAuction:
 
     `states` has the conductor's reports, each once. `opens` has the rounds and times at which the
     gate was open to bidders. `sent` has the sheets that were accepted. The auction ends with round
-    `rounds`, in which X wants one block less.
+    `rounds`, in which X wants one block less. `connections` are those that the
+    conductor sees on their way to the server.
     """
 
     def __init__(
@@ -72,7 +73,7 @@ class ConductedAuction:
         **settings: Any,
     ) -> None:
         self.program, self.rounds = program, rounds
-        self.clock = clock or FakeClock()
+        self.clock, self.connections = clock or FakeClock(), frozenset[str]()
         self.port, self.disk = free_port(), Disk()
         memory = MEMORY if os.path.isdir(MEMORY) else None
         self.folder = pathlib.Path(tempfile.mkdtemp(prefix="conductor-", dir=memory))
@@ -81,7 +82,8 @@ class ConductedAuction:
         self.opens: list[tuple[int, float]] = []
         self.sent: set[tuple[int, str]] = set()
         self.until = 0.0
-        self.write(json.dumps(document or small_setup()), settings)
+        self.document = json.dumps(document or small_setup())
+        self.write(self.document, settings)
         self.begin_server()
         self.conductor = self.fresh()
         if windows:
@@ -91,10 +93,12 @@ class ConductedAuction:
         """Writes set-up, token, settings, and the commitment."""
         usual = {
             "url": f"http://127.0.0.1:{self.port}",
+            "port": self.port,
             "setup": "setup.json",
             "token": "operator.token",
             "journal": "auction.journal",
             "publish": 0,
+            "missed": 20,
             "between": 30,
             "notice": 60,
         }
@@ -113,6 +117,13 @@ class ConductedAuction:
 
     def kill_server(self) -> None:
         self.server.kill()
+
+    def begin_again(self) -> None:
+        """Begins another auction with the same set-up, in a folder that was cleared."""
+        (self.folder / "setup.json").write_text(self.document)
+        commit(self.folder)
+        self.begin_server()
+        self.conductor = self.fresh()
 
     def stop(self) -> None:
         if self.server.child.poll() is None:
@@ -136,6 +147,7 @@ class ConductedAuction:
             return page
 
         self.let_ask(conductor, ask_in_steps)
+        setattr(conductor.observer, "pending", lambda _port: self.connections)
         return conductor
 
     def let_ask(self, conductor: Conductor, ask: Callable[..., Any]) -> None:

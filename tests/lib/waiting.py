@@ -1,13 +1,13 @@
 """Waiting for a condition, and work on several processors."""
+import multiprocessing
 import os
-import threading
 import time
-from collections.abc import Callable, Iterable
-from concurrent.futures import ThreadPoolExecutor
+from collections.abc import Callable
+from concurrent.futures import ProcessPoolExecutor
 from typing import TypeVar
 
 WORKERS = os.cpu_count() or 1
-Item = TypeVar("Item")
+Result = TypeVar("Result")
 
 
 def wait_for(
@@ -22,28 +22,11 @@ def wait_for(
         time.sleep(every)
 
 
-def in_parallel(work: Callable[[int, Item], None], items: Iterable[Item]) -> None:
-    """Calls `work` on each item as soon as a worker is free, with the worker's number.
+def in_processes(work: Callable[[int], Result]) -> list[Result]:
+    """Calls `work` with each worker's number, each in a process of its own. Returns the results.
 
-    After the first failure, no further item is begun, and the failure is raised here.
+    Processes start other programs faster than threads: Python starts one program at a time.
     """
-    rest, lock = iter(items), threading.Lock()
-    has_failed = threading.Event()
-
-    def next_item() -> Item | None:
-        """The next item, or None if there is none or a worker has failed."""
-        with lock:
-            return None if has_failed.is_set() else next(rest, None)
-
-    def work_off(worker: int) -> None:
-        """Works on items until there is none."""
-        try:
-            while (item := next_item()) is not None:
-                work(worker, item)
-        except BaseException:
-            has_failed.set()
-            raise
-
-    with ThreadPoolExecutor(WORKERS) as pool:
-        for done in [pool.submit(work_off, worker) for worker in range(WORKERS)]:
-            done.result()
+    fork = multiprocessing.get_context("fork")
+    with ProcessPoolExecutor(WORKERS, mp_context=fork) as pool:
+        return list(pool.map(work, range(WORKERS)))

@@ -4,9 +4,9 @@ The program in calls/ plays the scenarios. `rt try` runs it over a copy of the c
 proofs, with C functions that count allocations and refuse one.
 
 It plays a scenario without a refusal, and then once for each allocation of the watched calls, with
-that one refused. Exactly one call must then report out of memory, by its fault of that name or by the bytes of the reply 503.
-Each reading call must return what it returned before. The repeated call must lead to the result
-without a refusal.
+that one refused. Exactly one call must then report out of memory, by its fault of that name or by
+the bytes of the reply 503. Each reading call must return what it returned before. The repeated call
+must lead to the result without a refusal.
 
 A request that only reads a page must allocate once, for its reply, although its sender and a rival
 have sheets in force. So an out-of-memory reply says nothing about the sheets.

@@ -63,6 +63,10 @@ const RULES = {
     ({ given, now }) => isOpen(given) && now.todo.kind === "done",
     ({ now }) => !/not known|Submit again|No answer/.test(now.message.words),
   ],
+  "nothing is called in force while that is not known": [
+    ({ given }) => isUnknown(given),
+    ({ now }) => !now.send.again && now.todo.kind !== "done" && now.isUnsaved !== false,
+  ],
   "the button calls in force what is in force": [
     ({ now }) => now.send.again,
     ({ given }) => JSON.stringify(given.inForce.bids) === JSON.stringify(sent(given.form.bids)),
@@ -107,6 +111,10 @@ const RULES = {
   ],
 };
 
+/** Whether a submission had no answer, and the bids in force were not loaded since then. */
+const isUnknown = (given) => isOpen(given) && given.form.bids.length > 0
+  && given.act?.kind === "lost" && given.act.round === given.me.round
+  && given.act.asked >= given.inForce.asked;
 const isOpen = (given) => !given.me.ended && given.me.eligibility > 0;
 
 test("there are more than 60,000 combinations", () => assert.equal(SEEN.length, 60_480));

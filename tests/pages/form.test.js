@@ -50,8 +50,9 @@ for (const [quantity, price, wanted] of NUMBERS) {
   });
   for (const line of [`A;${quantity};${price}`, `A,"${quantity}","${price}"`]) {
     test(`a line of a file: ${line}`, () => {
-      const { bids } = readBids(A, line);
+      const { bids, wrong } = readBids(A, line);
       assert.deepEqual(bids.length ? [bids[0].quantity, bids[0].price ?? 110] : null, wanted);
+      assert.equal(wrong.length, wanted ? 0 : 1);
     });
   }
 }

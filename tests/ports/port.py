@@ -11,8 +11,8 @@ from tests.lib import setups
 from tests.lib.tls import addresses
 
 PRODUCTS, BIDDERS = 4096, 512
-# A client that has no answer after BLOCKED seconds counts as blocked. One that is not blocked has an
-# answer within LATE seconds, also on a busy machine: nginx gives up on slow clients after 10 s.
+# A client that has no answer after BLOCKED seconds counts as blocked. One that is not blocked has
+# an answer within LATE seconds, also on a busy machine: nginx gives up on slow clients after 10 s.
 BLOCKED, LATE = 1.0, 8.0
 ADDRESSES = addresses()
 TLS = ssl.create_default_context()

@@ -109,8 +109,23 @@ class ReceiptsAuction(Served):
     def check(
         self, file: pathlib.Path, journal: bytes | None = None, **environment: str
     ) -> tuple[int, str]:
-        """Runs `auction check-receipts`: its status, and what it printed on both streams."""
+        """Runs `auction check-receipts` with the published commitment: its status, and what it
+        printed on both streams.
+        """
+        copy = "--commitment", self.public / "commitment.json"
+        return self.check_with(file, journal, *copy, **environment)
+
+    def check_with(
+        self,
+        file: pathlib.Path,
+        journal: bytes | None = None,
+        *words: object,
+        **environment: str,
+    ) -> tuple[int, str]:
+        """Runs `auction check-receipts` with further words."""
         published = self.folder / "published.journal"
         published.write_bytes(self.forged() if journal is None else journal)
-        done = self.run("check-receipts", file, published, env={**os.environ, **environment})
+        done = self.run(
+            "check-receipts", file, published, *words, env={**os.environ, **environment}
+        )
         return done.returncode, done.stdout + done.stderr

@@ -9,7 +9,9 @@ from typing import Any
 import pytest
 
 from auction.conductor.chain import Chain
+from auction.formats.receipts import Receipt
 from auction.formats.setup import Setup
+from auction.formats.signatures import sign
 from examples import bidder
 from tests.lib.http import answer_to, text_of
 from tests.receipts.auction import ReceiptsAuction
@@ -30,6 +32,10 @@ class Pages:
 
     def ask(self, path: str, shape: object, may_lack: bool) -> Any:
         return self.pages.get(path)
+
+
+def receipts_of(pages: Pages, file: pathlib.Path) -> bidder.Receipts:
+    return bidder.Receipts(pages, file, "X")
 
 
 def printed(call: Callable[[], object]) -> str:
@@ -82,7 +88,9 @@ def short_wait(monkeypatch: pytest.MonkeyPatch) -> None:
 
 
 def test_it_reports_each_receipt(pages: Pages, file: pathlib.Path) -> None:
-    own = bidder.Receipts(pages, file)
+    own = receipts_of(pages, file)
+    for sheet in SHEETS:
+        own.note(bidder.text_of(sheet))
     words = [printed(lambda: own.await_one(sheet)) for sheet in SHEETS]
     assert words == [f"receipt of sheet {number} of round 1\n" for number in (1, 2)]
 
@@ -90,8 +98,9 @@ def test_it_reports_each_receipt(pages: Pages, file: pathlib.Path) -> None:
 @pytest.fixture
 def own(pages: Pages, file: pathlib.Path) -> bidder.Receipts:
     """The bidder's receipts, once it has both."""
-    found = bidder.Receipts(pages, file)
+    found = receipts_of(pages, file)
     for sheet in SHEETS:
+        found.note(bidder.text_of(sheet))
         printed(lambda: found.await_one(sheet))
     return found
 
@@ -109,7 +118,43 @@ def test_it_reports_a_missing_receipt(own: bidder.Receipts) -> None:
 def test_started_again_it_has_its_receipts(
     own: bidder.Receipts, pages: Pages, file: pathlib.Path
 ) -> None:
-    assert bidder.Receipts(pages, file).have == own.have == {(1, 1), (1, 2)}
+    again = receipts_of(pages, file)
+    assert (again.have, again.sent) == (own.have, own.sent)
+    assert own.have == {(1, 1), (1, 2)}
+
+
+def test_it_reports_a_sheet_that_it_did_not_send(
+    two: ReceiptsAuction, pages: Pages, file: pathlib.Path
+) -> None:
+    """Its second sheet was put in, and the operator signed it."""
+    own = receipts_of(pages, file)
+    own.note(bidder.text_of(SHEETS[0]))
+    assert "WARNING" not in printed(lambda: own.await_one(SHEETS[0]))
+    assert "WARNING: sheet 2 of round 1 was accepted in your name" in printed(lambda: own.take(1))
+    status, words = two.check(file)
+    assert status == 1
+    assert "round 1, sheet 2: the file does not say that X sent this sheet" in words
+
+
+def test_it_reports_a_sheet_that_was_put_in_again(
+    two: ReceiptsAuction, pages: Pages, file: pathlib.Path
+) -> None:
+    """It sent its first sheet once, and two receipts of this sheet come."""
+    own = receipts_of(pages, file)
+    own.note(bidder.text_of(SHEETS[0]))
+    printed(lambda: own.await_one(SHEETS[0]))
+    signer = two.signer()
+    again = Receipt.of(signer.sheets.setup.digest, "X", 1, 2, two.texts()[0])
+    page = again.page(sign(signer.key, again.message()))
+    pages.pages["/receipts/1/2.json"] = json.loads(page)
+    assert "WARNING: sheet 2 of round 1" in printed(lambda: own.take(1))
+
+
+def test_started_again_it_knows_what_it_sent(pages: Pages, file: pathlib.Path) -> None:
+    """It was killed between its sheet and the receipt."""
+    receipts_of(pages, file).note(bidder.text_of(SHEETS[0]))
+    again = receipts_of(pages, file)
+    assert "WARNING" not in printed(lambda: again.take(1))
 
 
 @pytest.mark.parametrize(
@@ -128,7 +173,7 @@ def test_it_reports_a_wrong_receipt(
 ) -> None:
     first = "/receipts/1/1.json"
     wrong = {**pages.pages[first], **change}
-    own = bidder.Receipts(Pages({COMMITMENT: pages.pages[COMMITMENT], first: wrong}), file)
+    own = receipts_of(Pages({COMMITMENT: pages.pages[COMMITMENT], first: wrong}), file)
     words = printed(lambda: own.await_one(SHEETS[0]))
     assert "this is not a receipt of sheet 1 of round 1" in words
 
@@ -137,16 +182,16 @@ def test_it_reports_a_wrong_receipt(
 
 
 def test_without_a_commitment_it_says_that_there_are_no_receipts(file: pathlib.Path) -> None:
-    words = printed(lambda: bidder.Receipts(Pages({}), file).await_one(SHEETS[0]))
+    words = printed(lambda: receipts_of(Pages({}), file).await_one(SHEETS[0]))
     assert words == "no commitment is published, so sheets have no receipts\n"
 
 
 def test_another_commitment_ends_it(
     pages: Pages, file: pathlib.Path, commitment: dict[str, Any]
 ) -> None:
-    bidder.Receipts(pages, file)
+    receipts_of(pages, file)
     with pytest.raises(SystemExit, match="another commitment"):
-        bidder.Receipts(Pages({COMMITMENT: {**commitment, "key": "another"}}), file)
+        receipts_of(Pages({COMMITMENT: {**commitment, "key": "another"}}), file)
 
 
 @pytest.mark.parametrize(
@@ -165,11 +210,11 @@ def test_it_reports_a_seed_that_is_not_the_committed_one(
         chain = Chain.read(two.kept / "chain.json", Setup.read(two.setup_file))
         seed = (chain.seed(int(seed)) or b"").hex()
     pages.pages[f"/public/rounds/{number}.json"] = {"seed": seed}
-    own = bidder.Receipts(pages, file)
+    own = receipts_of(pages, file)
     words = printed(lambda: own.check_seed(number))
     assert words == "" if is_right else f"the seed of round {number} is not" in words
 
 
 def test_it_says_nothing_of_a_seed_that_is_not_published(pages: Pages, file: pathlib.Path) -> None:
-    own = bidder.Receipts(pages, file)
+    own = receipts_of(pages, file)
     assert printed(lambda: own.check_seed(4)) == ""

@@ -11,7 +11,7 @@ from auction.conductor import commands
 from auction.conductor.report import State
 from auction.conductor.settings import Settings
 from auction.explain.schemas import schema
-from auction.receipts import Desk, Sheets
+from auction.receipts import Sheets, Signer
 from tests.conductor.asking import ask
 from tests.lib import timetables
 from tests.lib.conducted import ConductedAuction, conducted
@@ -48,7 +48,7 @@ def sign(auction: ConductedAuction) -> None:
     folder, context = auction.folder / "receipts", auction.context()
     folder.mkdir()
     key = (auction.folder / "kept/receipts.pem").read_bytes()
-    Desk(Sheets(context.settings.journal, context.setup), key, folder).look()
+    Signer(Sheets(context.settings.journal, context.setup), key, folder).publish()
 
 
 @pytest.fixture(scope="module")

@@ -39,12 +39,13 @@ def findings(*command: object) -> str:
     """What a command prints if it ends with another status than 0."""
     words = list(map(str, command))
     ran = subprocess.run(words, cwd=TOP, capture_output=True, text=True, timeout=280)
-    return ran.stdout + ran.stderr if ran.returncode else ""
+    said = ran.stdout + ran.stderr
+    return said or f"{words[0]} ended with status {ran.returncode}" if ran.returncode else ""
 
 
 @pytest.mark.needs("black")
 def test_black_changes_nothing() -> None:
-    assert not findings("/usr/bin/black", "--check", "-q", *PYTHON_FILES)
+    assert not findings("/usr/bin/black", "--check", *PYTHON_FILES)
 
 
 @pytest.mark.needs("flake8")

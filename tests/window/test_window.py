@@ -71,6 +71,9 @@ class Conducted:
             "between": 10,
             "notice": 0,
             "drain": DRAIN,
+            "missed": 50,
+            "bidders": f"https://localhost:{site.outside}",
+            "authority": "cert.pem",
             "publish": PUBLISH,
         }
         (self.folder / "conductor.json").write_text(json.dumps(settings))

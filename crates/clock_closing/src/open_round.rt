@@ -1,4 +1,4 @@
-ghost use Rattle.std.specs.Prelude.{◌≡◌, ◌≢◌, ◌<◌, ◌≤◌, None, length, slice_index_or};
+ghost use Rattle.std.specs.Prelude.{◌≡◌, ◌≢◌, ◌<◌, ◌≤◌, [], None, length, slice_index_or};
 ghost use Rattle.std.specs.Prelude.{option_copied, IfOk, IfErr};
 ghost use Rattle.clock_terms.specs.{Eligibility.{activity}, Faults.{IsRefusal}};
 ghost use Rattle.clock_terms.specs.Increments.{AreIncrements};
@@ -180,13 +180,25 @@ impl<'a> OpenRound<'a> {
         Row::of(alloc, self.setup, asked.as_slice())
     }
 
+    /// Returns an empty list with room for a request for each bid in force, so that
+    /// it rarely grows.
+    fn no_requests(&self, alloc: Global) -> Result<Changes, NoMemory>
+        ensures { IfOk result (λ none. none ≡ []) }
+    {
+        let mut count = 0usize;
+        for sheet in self.sheets {
+            count = count.saturating_add(bids_of(sheet.as_ref()).len());
+        }
+        Ok(Changes::from_vec(Vec::with_capacity(alloc, count)?))
+    }
+
     /// All bidders' requests, in the order of processing. Requires round 2 or later.
     fn requests(&self, alloc: Global, ties: &Ties) -> Result<Changes, NoMemory>
         requires { 2 ≤ self.now.before.public_state.round }
         ensures ordered { IfOk result (λ list. list ≡ rules.requests self.now.before ties.now) }
         ensures all { IfOk result (AreRequests self.now.before) }
     {
-        let mut changes = Changes::new(alloc);
+        let mut changes = self.no_requests(alloc)?;
         for bidder in 0..self.bidders() {
             changes = with_changes_of(
                 alloc,

@@ -1,10 +1,11 @@
 -- The checks of a replay document, one by one as the code makes them, are those of the definition, and a document that
 -- passes all is a replay. Comparing each price with the next shows that none is above an earlier one.
-use Rattle.std.proofs.Common.{◌≡◌, ℕ, ◌+◌, ◌<◌, ◌≤◌, All, ◌&&◌, ◌==◌, Bool, true, false, nat_le, if◌then◌else◌, List}
+use Rattle.std.proofs.Common.{◌≡◌, ℕ, ◌+◌, ◌-◌, ◌<◌, ◌≤◌, All, ◌&&◌, ◌==◌, Bool, true, false, nat_le, if◌then◌else◌}
+use Rattle.std.proofs.Common.{List}
 use Rattle.std.proofs.Common.{[], ◌∷◌, zero, suc, length}
 use Rattle.std.proofs.Common.{get_or, drop, zip, None, Some, refl, sym, ap, subst, ◌∙◌, arith}
 use Rattle.std.specs.Prelude.{EachIndex}
-use Rattle.std.specs.List.{IsAllAdjacentAnswer, list_all}
+use Rattle.std.specs.List.{IsAllAdjacentAnswer, AllWithin, list_all}
 use Rattle.std.proofs.lemmas.Bool.{and_parts, le-leb, leb-true, eqb-true}
 use Rattle.std.proofs.lemmas.Bool.Decides.{nat_tests}
 use Rattle.std.proofs.lemmas.List.{get_or_default}
@@ -16,7 +17,7 @@ use Rattle.clock_terms.specs.declared.setup.Product.{Product}
 use Rattle.clock_terms.specs.declared.setup.Bidder.{Bidder}
 use Rattle.clock_terms.specs.Demands.{row_of}
 use Rattle.clock_terms.specs.Faults.{first_fault, in_turn}
-use Rattle.clock_terms.specs.Limits.{SetupFields, IsSetup, cap_of}
+use Rattle.clock_terms.specs.Limits.{SetupFields, IsSetup, cap_of, product_at, no_product}
 use Rattle.clock_terms.proofs.FaultLaws.{both_pass, turn_passed, turn_failed, turn_none}
 use Rattle.clock_replays.specs.declared.replay.Script.{Script}
 use Rattle.clock_replays.specs.declared.replay.Script.TheVariants.{Literal, Sincere}
@@ -141,6 +142,47 @@ pub limits_passed : (bidder : ℕ) (products : List Product) (limits : List (Lis
 limits_passed bidder products limits i product prices same h first listed is = turn_passed (limit_checks bidder) (zip
     products limits) i (product, prices) (omega (arith, length-zip products limits)) (zip_at products limits i product
     prices same h first (listed ∙ get_or_default limits i [] prices h)) (one_list bidder i product prices true is)
+
+-- a product without limits has no fault
+none_passed : (bidder : ℕ) (products : List Product) (limits : List (List ℕ)) (i : ℕ)
+    → length limits ≡ length products → i < length limits → row_of limits i ≡ []
+    → first_fault (in_turn (limit_checks bidder) i (drop i (zip products limits)))
+    ≡ first_fault (in_turn (limit_checks bidder) (i + 1) (drop (i + 1) (zip products limits)))
+none_passed bidder products limits i same h none =
+    let product : Product = product_at products i in
+    let within : i < length products = omega (arith, h, same) in
+    limits_passed bidder products limits i product [] same h
+    (get_or_default products i no_product product within) (sym none) no_limits
+  where
+    no_limits : are_limits (product_at products i) [] ≡ true
+    no_limits = ap (λ (test : Bool). test && true) (le-leb 0 (product_at products i).cap (omega arith))
+
+-- and so do all products from one up to another
+so_many_passed : (bidder : ℕ) (products : List Product) (limits : List (List ℕ)) (d i : ℕ)
+    → length limits ≡ length products → i + d ≤ length limits
+    → ((k : ℕ) → i ≤ k → k < i + d → row_of limits k ≡ [])
+    → first_fault (in_turn (limit_checks bidder) i (drop i (zip products limits)))
+    ≡ first_fault (in_turn (limit_checks bidder) (i + d) (drop (i + d) (zip products limits)))
+so_many_passed bidder products limits zero i same h none =
+    let on : i ≡ i + 0 = omega arith in
+    ap (λ (k : ℕ). first_fault (in_turn (limit_checks bidder) k (drop k (zip products limits)))) on
+so_many_passed bidder products limits (suc d) i same h none =
+    let on : (i + 1) + d ≡ i + suc d = omega arith in
+    none_passed bidder products limits i same (omega (arith, h)) (none i (omega arith) (omega arith))
+    ∙ so_many_passed bidder products limits d (i + 1) same (omega (arith, h))
+    (λ k low high. none k (omega (arith, low)) (omega (arith, high)))
+    ∙ ap (λ (k : ℕ). first_fault (in_turn (limit_checks bidder) k (drop k (zip products limits)))) on
+
+pub all_passed : (bidder : ℕ) (products : List Product) (limits : List (List ℕ)) (i to : ℕ)
+    → length limits ≡ length products → i ≤ to → to ≤ length limits
+    → AllWithin (λ prices. prices ≡ []) limits i to
+    → first_fault (in_turn (limit_checks bidder) i (drop i (zip products limits)))
+    ≡ first_fault (in_turn (limit_checks bidder) to (drop to (zip products limits)))
+all_passed bidder products limits i to same least most none =
+    let on : i + (to - i) ≡ to = omega (arith, least) in
+    so_many_passed bidder products limits (to - i) i same (omega (arith, most, on))
+    (λ k low high. none k [] low (omega (arith, high, on)))
+    ∙ ap (λ (k : ℕ). first_fault (in_turn (limit_checks bidder) k (drop k (zip products limits)))) on
 
 -- no limits are left
 pub limits_end : (bidder : ℕ) (products : List Product) (limits : List (List ℕ)) (i : ℕ) → length limits ≤ i

@@ -8,10 +8,12 @@ use Rattle.std.proofs.lemmas.List.FromFn.{length-map-range_with_len, get_or-map-
 use Rattle.std.proofs.lemmas.List.FromFn.{fill_by_all}
 use Rattle.std.specs.List.{range_with_len, AllWithin}
 use Rattle.clock_replays.specs.PackedLimits.{limits_for, limits_of}
-use Rattle.std.proofs.lemmas.List.{length-append}
+use Rattle.std.proofs.lemmas.List.{length-append, get_or_default}
+use Rattle.clock_terms.specs.Demands.{row_of}
 use Rattle.clock_replays.specs.EndedRows.{rows_from}
 use Rattle.clock_replays.specs.inside.EndedRows.{AreEnds}
-use Rattle.clock_replays.specs.inside.PackedLimits.{AreRising}
+use Rattle.clock_replays.specs.inside.PackedLimits.{AreRising, packed_limits}
+use Rattle.clock_replays.specs.declared.limit_lists.LimitRows.{LimitRows}
 use Rattle.clock_replays.proofs.EndedRowLaws.{length-rows, one_more}
 
 -- the first product with a row has the first one
@@ -115,6 +117,44 @@ smaller_before products count product (suc place) rising within ahead k d low hi
     let same : suc place - 1 ≡ place = omega arith in
     smaller_up_to 0 products count product place rising (omega (arith, within))
     (subst (λ (n : ℕ). get_or products n 0 < product) same (ahead (omega arith))) k d low (omega (arith, high))
+
+-- a product with a row is below the count
+pub below_count : (from : ℕ) (products : List ℕ) (count place : ℕ) → AreRising from products count
+    → place < length products → get_or products place 0 < count
+unfolding AreRising
+below_count from [] count place rising within = absurd (omega (arith, within))
+below_count from (limited ∷ products) count zero rising within =
+    omega (arith, from_within (limited + 1) products count rising.1)
+below_count from (limited ∷ products) count (suc place) rising within =
+    below_count (limited + 1) products count place rising.1 (omega (arith, within))
+
+-- the list of a product is its row
+pub listed : (rows : LimitRows) (lists : List (List ℕ)) (product : ℕ) → packed_limits rows ≡ lists
+    → product < length lists
+    → limits_for rows.products.items (rows_from 0 rows.ends.items rows.prices.items) product ≡ row_of lists product
+listed rows lists product same below =
+    let limits = limits_for rows.products.items (rows_from 0 rows.ends.items rows.prices.items) in
+    let within : product < rows.count =
+    omega (arith, length-map-range_with_len limits 0 rows.count, ap length same, below) in
+    sym (get_or-map-range_with_len limits 0 rows.count product product [] within (omega arith))
+    ∙ ap (λ (all : List (List ℕ)). row_of all product) same
+
+-- as many products as are counted have lists
+pub counted : (rows : LimitRows) (lists : List (List ℕ)) → packed_limits rows ≡ lists → rows.count ≡ length lists
+counted rows lists same =
+    let limits = limits_for rows.products.items (rows_from 0 rows.ends.items rows.prices.items) in
+    omega (arith, length-map-range_with_len limits 0 rows.count, ap length same)
+
+-- from a product up to that of the row at its place, or up to the count, none has limits
+pub none_between : (rows : LimitRows) (lists : List (List ℕ)) (product place to : ℕ) → packed_limits rows ≡ lists
+    → AreRising 0 rows.products.items rows.count → AllWithin (λ other. other < product) rows.products.items 0 place
+    → (place < length rows.products.items → to ≤ get_or rows.products.items place 0) → to ≤ length lists
+    → AllWithin (λ limits. limits ≡ []) lists product to
+none_between rows lists product place to same rising smaller next most k d low high =
+    let within : k < length lists = omega (arith, high, most) in
+    get_or_default lists k d [] within ∙ sym (listed rows lists k same within)
+    ∙ missing 0 rows.products.items (rows_from 0 rows.ends.items rows.prices.items) rows.count k place rising
+    (λ i e first last. omega (arith, smaller i e first last, low)) (λ inside. omega (arith, next inside, high))
 
 -- one more row does not change other products
 others : (products : List ℕ) (rows : List (List ℕ)) (new : ℕ) (row : List ℕ) (product : ℕ)

@@ -1,6 +1,7 @@
 //! The limits of a sincere script, packed, since a bidder has none for most products.
 ghost use Rattle.std.specs.Prelude.{◌≡◌, ℕ, ◌<◌, ◌≤◌, List, [], ◌++◌, ◌∷◌, length, replicate};
 ghost use Rattle.std.specs.Prelude.{slice_index, IfOk, OnOk};
+ghost use Rattle.std.specs.List.{AllWithin};
 ghost use Rattle.clock_terms.specs.Demands.{row_of};
 ghost use Rattle.clock_replays.specs.{EndedRows.{rows_from}, PackedLimits.{limits_of}};
 ghost use Rattle.clock_replays.specs.inside.PackedLimits.{ArePacked, IsPlaceOf, packed_limits};
@@ -147,6 +148,26 @@ impl LimitLists {
         ensures { result ≡ length self.now }
     {
         self.rows.count
+    }
+
+    /// Returns the first product from `product` on that has limits, or the number of products if
+    /// there is none. `from` is as in [`LimitLists::list`].
+    #[inline(always)]
+    pub fn next_limited(&self, product: usize, from: &mut usize) -> usize
+        requires { product ≤ length self.now }
+        ensures least { product ≤ result }
+        ensures within { result ≤ length self.now }
+        ensures passed { AllWithin (λ limits. limits ≡ []) self.now product result }
+    {
+        let rows = &self.rows;
+        let place = rows.place_of(product, *from);
+        *from = place;
+        let products = rows.products.as_slice();
+        if place < products.len() {
+            products[place] as usize
+        } else {
+            rows.count
+        }
     }
 
     /// Returns the limits for `product`. Requires a product of these lists. Start with 0 in `from`,

@@ -252,11 +252,14 @@ fn script_fault(bidder: u64, products: &[Product], script: &Script) -> Option<Sc
     let Script::Sincere(limits) = script else {
         return None;
     };
+    // A product without limits has no fault, and most have none.
     let mut from = 0;
-    for product in 0..limits.count() {
+    let mut product = limits.next_limited(0, &mut from);
+    'limited: while product < limits.count() {
         if !are_limits(&products[product], limits.list(product, &mut from)) {
             return Some(ScriptFault::Limits(bidder, product as u64));
         }
+        product = limits.next_limited(product + 1, &mut from);
     }
     None
 }

@@ -9,7 +9,7 @@ use crate::setups::setup_in;
 use clock_device::NoMemory;
 use clock_fixtures::{ONE_PRODUCT, TWO_PRODUCTS};
 use clock_money::Point;
-use clock_order::{Tie, TieFault, Ties, ordered};
+use clock_order::{Tie, TieFault, Ties, are_in_order, ordered, put_by_code};
 use clock_terms::{Change, Changes, Kind};
 use std::alloc::Global;
 
@@ -121,6 +121,65 @@ fn changes_go_by_point_and_then_by_tie_number_and_bidder(rt: HostRuntime) {
         let first = first_in(rt.alloc(), row.0, row.1, &row.2);
         assert_is_at(&rt, row.1, first, Some(row.3));
     }
+}
+
+/// Requests of 8 bidders for 64 products in chains of 4, as a closing makes them: by bidder,
+/// product, and place. Products differ in the range of their prices.
+fn many(alloc: Global) -> Option<Changes> {
+    let mut changes = Changes::new(alloc);
+    for number in 0..2048u32 {
+        let product = number / 4 % 64;
+        let range = 1 + product as u64 % 20;
+        let price = 100 + number as u64 % (range + 1);
+        let Some(mut one) = change(number / 256, &(product, 100, price, 100 + range)) else {
+            return None;
+        };
+        one.place = number % 4;
+        if changes.push(one).is_err() {
+            return None;
+        }
+    }
+    Some(changes)
+}
+
+/// Two reductions that codes do not tell apart, in the wrong order.
+fn close(alloc: Global) -> Option<Changes> {
+    let (Some(x), Some(y)) = (change(0, &CLOSE.0), change(1, &CLOSE.1)) else {
+        return None;
+    };
+    both(alloc, &x, &y).ok()
+}
+
+/// Whether codes put requests into the order of processing.
+fn is_by_code(alloc: Global, list: &[Tie], changes: Option<Changes>) -> Option<bool> {
+    let (Some(mut changes), Some(Ok(ties))) = (changes, ties_of(alloc, TWO_PRODUCTS, list)) else {
+        return None;
+    };
+    let put = put_by_code(alloc, &mut changes, &ties);
+    let is_right = are_in_order(changes.as_slice(), &ties);
+    drop(ties);
+    drop(changes);
+    match put {
+        Ok(()) => Some(is_right),
+        Err(_) => None,
+    }
+}
+
+#[test]
+fn codes_put_the_requests_of_a_closing_in_order(rt: HostRuntime) {
+    let none = is_by_code(rt.alloc(), &[], many(rt.alloc()));
+    assert_is(&rt, none, Some(true));
+    let some = is_by_code(rt.alloc(), ties![(0, 0, 2), (1, 1, 1)], many(rt.alloc()));
+    assert_is(&rt, some, Some(true));
+}
+
+#[test]
+fn requests_in_the_wrong_order_are_noticed(rt: HostRuntime) {
+    assert_is(
+        &rt,
+        is_by_code(rt.alloc(), &[], close(rt.alloc())),
+        Some(false),
+    );
 }
 
 /// Lists of tie-breaking numbers, and their faults in the auction of one product.

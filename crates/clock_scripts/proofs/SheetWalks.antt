@@ -2,7 +2,7 @@
 use Rattle.std.proofs.Common.{◌≡◌, ◌≢◌, ℕ, ◌+◌, ◌-◌, ◌<◌, ◌≤◌, ◌==◌, Bool, true, false, zero, suc, List, [], ◌∷◌, ◌++◌}
 use Rattle.std.proofs.Common.{flat_map, get_or, slice_index}
 use Rattle.std.proofs.Common.{append_assoc, append-nil, length, refl, sym, ap, ap₂, ◌∙◌, arith}
-use Rattle.std.specs.List.{range_with_len}
+use Rattle.std.specs.List.{AllWithin, range_with_len}
 use Rattle.std.specs.Prelude.{if◌then◌else◌}
 use Rattle.std.proofs.lemmas.Bool.{ne_eqb}
 use Rattle.std.proofs.lemmas.Grind.{flat_map-append}
@@ -85,6 +85,14 @@ pub opening_for : (prices : List PricePair) (lists : List (List ℕ)) (product :
     → Adds (bids_text (opening_bids product pair list)) text next → Adds (first_text prices lists product) text next
 opening_for prices lists product pair list text next priced listed added =
     together (ap bids_text (sym (ap₂ (opening_bids product) priced listed))) added
+
+-- products without limits have no bids in the first round
+pub no_limits_for : (prices : List PricePair) (lists : List (List ℕ)) (from to : ℕ)
+    → AllWithin (λ limits. limits ≡ []) lists from to → (product : ℕ) → from ≤ product → product < to
+    → first_text prices lists product ≡ []
+no_limits_for prices lists from to none product low high =
+    ap bids_text (ap (opening_bids product (prices_at prices product)) (none product [] low high)
+    ∙ none_wanted product (prices_at prices product) [] 0 refl refl)
 
 -- the processed demand in a later one
 pub later_for : (prices : List PricePair) (demands : List ℕ) (lists : List (List ℕ)) (product held : ℕ)

@@ -1,7 +1,7 @@
 //! The texts of bids before their quantities. Most bids keep a demand at the clock price, so the
 //! text of a product and a price serves many bidders, and is made once.
 
-ghost use Rattle.std.specs.Prelude.{◌≡◌, ◌<◌, OnOk};
+ghost use Rattle.std.specs.Prelude.{◌≡◌, ◌==◌, ◌&&◌, ◌<◌, OnOk};
 ghost use Rattle.clock_views.specs.inside.Values.{Adds};
 ghost use Rattle.clock_scripts.specs.Sincere.{bid_for};
 ghost use Rattle.clock_scripts.specs.inside.{Bodies.{bid_text}, Prefixes.{PrefixFields, IsPrefix}};
@@ -59,6 +59,14 @@ impl BidPrefix {
         }
     }
 
+    /// Returns whether the text is for a product at a price.
+    #[inline(always)]
+    fn is_for(&self, product: u64, price: u64) -> bool
+        ensures { result ≡ (self.now.product == product && self.now.price == price) }
+    {
+        self.product == product && self.price == price
+    }
+
     /// Appends a bid for a quantity of one digit.
     #[inline(always)]
     fn push_bid(&self, text: &mut Vec<u8>, quantity: u64) -> Result<(), NoMemory>
@@ -86,6 +94,15 @@ impl BidPrefixes {
     pub fn new(alloc: Global) -> BidPrefixes {
         BidPrefixes {
             list: Vec::new(alloc),
+        }
+    }
+
+    /// Returns whether there is a text for a product at a price.
+    #[inline(always)]
+    fn has(&self, product: u64, price: u64) -> bool {
+        match self.list.get(product as usize) {
+            Some(prefix) => prefix.is_for(product, price),
+            None => false,
         }
     }
 
@@ -118,12 +135,14 @@ impl BidPrefixes {
             (Adds (bid_text (bid_for product quantity price)) text.old.items text.new.items) }
     {
         if quantity < 10 {
+            if !self.has(product, price) {
+                self.make(product, price)?;
+            }
             if let Some(prefix) = self.list.get(product as usize) {
-                if prefix.product == product && prefix.price == price {
+                if prefix.is_for(product, price) {
                     return prefix.push_bid(text, quantity);
                 }
             }
-            self.make(product, price)?;
         }
         push_bid(text, product, quantity, price)
     }

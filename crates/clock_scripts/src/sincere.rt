@@ -69,7 +69,27 @@ fn push_held(
     Ok(())
 }
 
-/// Appends the bids of the first round, product by product.
+/// Appends the bid of the first round for a product, if a block is wanted.
+#[inline(always)]
+fn push_wanted(
+    text: &mut Vec<u8>,
+    product: u64,
+    pair: &PricePair,
+    limits: &[u64],
+    prefixes: &mut BidPrefixes,
+) -> Result<(), NoMemory>
+    ensures { OnOk result (Adds (bids_text (rules.opening_bids product pair.now limits.now))
+        text.old.items text.new.items) }
+{
+    let price = pair.start.get();
+    let wanted = limits.iter().filter(|limit| price <= **limit).count() as u64;
+    if wanted == 0 {
+        return Ok(());
+    }
+    prefixes.push_bid(text, product, wanted, price)
+}
+
+/// Appends the bids of the first round. The loop visits only products with limits, which are few.
 fn push_first(
     text: &mut Vec<u8>,
     prices: &[PricePair],
@@ -81,14 +101,11 @@ fn push_first(
         (Adds (bids_text (first_sheet prices.now limits.now)) text.old.items text.new.items) }
 {
     let mut from = 0;
-    for (product, pair) in prices.iter().enumerate() {
-        let price = pair.start.get();
+    let mut product = limits.next_limited(0, &mut from);
+    'limited: while product < prices.len() {
         let list = limits.list(product, &mut from);
-        let wanted = list.iter().filter(|limit| price <= **limit).count() as u64;
-        if wanted == 0 {
-            continue;
-        }
-        prefixes.push_bid(text, product as u64, wanted, price)?;
+        push_wanted(text, product as u64, &prices[product], list, prefixes)?;
+        product = limits.next_limited(product + 1, &mut from);
     }
     Ok(())
 }

@@ -16,7 +16,7 @@ loop-bidder-preserved c =
     let prices : c.self.inside.prices.now ≡ c.args.self.now.before.public_state.prices =
     ap (λ (round : OpenRoundFields). round.before.public_state.prices) c.self.view_is in
     let demands = ap (λ (held : Holding). held.demands) c.own.ensures.held in
-    let added = rw (prices, demands, c.sheet.ensures) at c.in_ok-changes.ensures.exact in
+    let added = rw (prices, demands, c.sheet.ensures) at c.in_ok-changes-2.ensures.exact in
     added
     ∙ ap (λ (xs : List Change). xs ++ requests_by c.args.self.now.before c.loop-bidder.bidder) c.loop-bidder.invariant
     ∙ sym (flat_map-range_more (requests_by c.args.self.now.before) c.loop-bidder.bidder)

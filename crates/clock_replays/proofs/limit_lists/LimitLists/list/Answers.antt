@@ -1,31 +1,17 @@
 -- The search finds the row of the product, if it has one, and the ends give its prices.
-use Rattle.std.proofs.Common.{◌≡◌, ◌-◌, ◌<◌, ◌≤◌, List, ℕ, [], ◌∷◌, length, get_or, take, drop, sym, ap, ◌∙◌, arith}
+use Rattle.std.proofs.Common.{◌≡◌, ◌-◌, ◌<◌, ◌≤◌, List, ℕ, ◌∷◌, length, get_or, take, drop, sym, ap, ◌∙◌, arith}
 use Rattle.std.proofs.Common.{rules}
-use Rattle.std.proofs.lemmas.List.FromFn.{length-map-range_with_len, get_or-map-range_with_len}
 use Rattle.clock_terms.specs.Demands.{row_of}
 use Rattle.clock_replays.specs.EndedRows.{rows_from}
-use Rattle.clock_replays.specs.PackedLimits.{limits_for}
 use Rattle.clock_replays.specs.inside.EndedRows.{AreEnds}
-use Rattle.clock_replays.specs.inside.PackedLimits.{packed_limits}
-use Rattle.clock_replays.specs.declared.limit_lists.LimitRows.{LimitRows}
 use Rattle.clock_replays.proofs.EndedRowLaws.{length-rows, row_at, end_within}
-use Rattle.clock_replays.proofs.PackedLimitLaws.{found, missing}
+use Rattle.clock_replays.proofs.PackedLimitLaws.{found, listed, missing}
 use Rattle.clock_replays.proofs.limit_lists.LimitLists.list.Goals.{then-place-products-via-then-place-products}
 use Rattle.clock_replays.proofs.limit_lists.LimitLists.list.Goals.{
   then-place-products-via-else-place-products+then-products-place,
 }
 use Rattle.clock_replays.proofs.limit_lists.LimitLists.list.Goals.{then-place-eq0, else-place-eq0}
 use Rattle.clock_replays.proofs.limit_lists.LimitLists.list.Goals as goal
-
--- the list of a product is its row
-listed : (rows : LimitRows) (lists : List (List ℕ)) (product : ℕ) → packed_limits rows ≡ lists → product < length lists
-    → limits_for rows.products.items (rows_from 0 rows.ends.items rows.prices.items) product ≡ row_of lists product
-listed rows lists product same below =
-    let limits = limits_for rows.products.items (rows_from 0 rows.ends.items rows.prices.items) in
-    let within : product < rows.count =
-    omega (arith, length-map-range_with_len limits 0 rows.count, ap length same, below) in
-    sym (get_or-map-range_with_len limits 0 rows.count product product [] within (omega arith))
-    ∙ ap (λ (all : List (List ℕ)). row_of all product) same
 
 -- the ends of a row, read from slices
 bounds : {products_read products ends_read ends prices_read prices : List ℕ} (place : ℕ) → products_read ≡ products

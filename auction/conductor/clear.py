@@ -1,0 +1,86 @@
+"""Puts an auction's files away whole, so that the folder can begin another auction."""
+import contextlib
+import fcntl
+import os
+import shutil
+import socket
+from collections.abc import Iterator
+from pathlib import Path
+
+from . import disk
+from .clock import utc
+from .settings import Folders, Settings
+
+# What nginx's folder has of an auction, besides the set-up and the journal. conductor.json stays.
+OWN = (
+    "asked",
+    "bidders.map",
+    "gate",
+    "kept",
+    "operator",
+    "public",
+    "receipts",
+    "sheet.conf",
+    "state",
+)
+CACHES = ("tmp/cache", "tmp/status")  # pages of the last auction, which nginx would still serve
+
+
+class ClearFault(Exception):
+    """Why nothing is put away."""
+
+
+def clear(folder: Path, now: float) -> tuple[Path, list[str]]:
+    """Moves an auction's files to a new folder in `past`.
+
+    Returns that folder, and what is left elsewhere. If this is killed, the next call continues.
+    """
+    settings = Settings.read(folder)
+    with unused(Folders(folder).state / "run.lock", "a conductor"):
+        with unused(settings.journal, "a server"):
+            if listens(settings.port):
+                raise ClearFault(f"a server runs at port {settings.port}")
+            new = folder / "past" / "new"
+            files = [folder / name for name in OWN] + [settings.journal, settings.setup]
+            there = [file for file in files if file.exists() and folder in file.parents]
+            if not there and not new.exists():
+                raise ClearFault(f"{folder} has no files of an auction")
+            disk.make_folder(new.parent, 0o700)
+            disk.make_folder(new, 0o700)
+            for file in there:
+                disk.move(file, new / file.name)
+            for name in CACHES:
+                empty(folder / name)
+            past = new.parent / utc(now)
+            disk.move(new, past)
+    left = [str(file) for file in (settings.journal, settings.setup) if file.exists()]
+    return past, left
+
+
+@contextlib.contextmanager
+def unused(path: Path, who: str) -> Iterator[None]:
+    """While this lasts, nobody else locks this file. A ClearFault if somebody has it."""
+    if not path.exists():
+        yield
+        return
+    with open(path, "rb") as file:
+        try:
+            fcntl.flock(file, fcntl.LOCK_EX | fcntl.LOCK_NB)
+        except OSError as error:
+            raise ClearFault(f"{who} runs: it has {path}") from error
+        yield
+
+
+def listens(port: int) -> bool:
+    """Whether a process listens at this port."""
+    with socket.socket() as asked:
+        return asked.connect_ex(("127.0.0.1", port)) == 0
+
+
+def empty(folder: Path) -> None:
+    """Removes what is in a folder, if there is one."""
+    for entry in folder.iterdir() if folder.is_dir() else ():
+        if entry.is_dir():
+            shutil.rmtree(entry)
+        else:
+            os.unlink(entry)

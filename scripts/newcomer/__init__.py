@@ -1,1 +1,0 @@
-"""The parts of `.ci/practice`, which does with examples/practice what a newcomer does."""

@@ -1,0 +1,115 @@
+"""`auction clear` puts an auction's files away whole, and the folder begins another auction."""
+import contextlib
+import fcntl
+import pathlib
+import shutil
+
+import pytest
+
+from auction.conductor.clear import ClearFault, clear
+from auction.conductor.report import State
+from tests.conductor.conftest import Conduct
+from tests.conductor.finished import finish
+from tests.lib.conducted import ConductedAuction
+from tests.lib.disk import Disk, Killed
+from tests.lib.paths import auction as auction_command
+
+OWN = {"asked", "gate", "kept", "operator", "public", "state", "auction.journal", "setup.json"}
+
+
+@pytest.fixture
+def ended(conduct: Conduct) -> ConductedAuction:
+    """An auction that has ended, and whose server has stopped."""
+    auction = conduct()
+    finish(auction)
+    auction.kill_server()
+    (auction.folder / "tmp/cache/a").mkdir(parents=True)
+    (auction.folder / "tmp/cache/a/page").write_text("round 3")
+    return auction
+
+
+def names(folder: pathlib.Path) -> set[str]:
+    return {file.name for file in folder.iterdir()}
+
+
+def test_all_files_of_the_auction_are_put_away(ended: ConductedAuction) -> None:
+    past, left = clear(ended.folder, ended.clock.wall())
+    assert names(past) == OWN
+    assert not left
+    assert names(ended.folder) == {"conductor.json", "operator.token", "past", "tmp"}
+    assert past.parent.stat().st_mode & 0o777 == 0o700
+
+
+def test_cached_pages_are_removed(ended: ConductedAuction) -> None:
+    clear(ended.folder, ended.clock.wall())
+    assert not list((ended.folder / "tmp/cache").iterdir())
+
+
+def test_a_journal_elsewhere_is_named(ended: ConductedAuction, tmp_path: pathlib.Path) -> None:
+    journal = tmp_path / "auction.journal"
+    shutil.move(ended.folder / "auction.journal", journal)
+    settings = ended.folder / "conductor.json"
+    settings.write_text(settings.read_text().replace('"auction.journal"', f'"{journal}"'))
+    _, left = clear(ended.folder, ended.clock.wall())
+    assert left == [str(journal)]
+
+
+def test_nothing_is_put_away_while_a_server_runs(ended: ConductedAuction) -> None:
+    ended.begin_server()
+    before = names(ended.folder)
+    with pytest.raises(ClearFault, match="a server runs"):
+        clear(ended.folder, ended.clock.wall())
+    assert names(ended.folder) == before
+
+
+def test_nothing_is_put_away_while_a_conductor_runs(ended: ConductedAuction) -> None:
+    with open(ended.folder / "state/run.lock", "w", encoding="utf-8") as lock:
+        fcntl.flock(lock, fcntl.LOCK_EX)
+        with pytest.raises(ClearFault, match="a conductor runs"):
+            clear(ended.folder, ended.clock.wall())
+
+
+def test_a_folder_without_an_auction_is_refused(ended: ConductedAuction) -> None:
+    clear(ended.folder, ended.clock.wall())
+    with pytest.raises(ClearFault, match="no files of an auction"):
+        clear(ended.folder, ended.clock.wall())
+
+
+def test_killed_before_each_step_the_next_call_continues(conduct: Conduct) -> None:
+    step, was_killed = 0, True
+    while was_killed:
+        step += 1
+        ended = conduct()
+        ended.kill_server()
+        disk = Disk(step, counts_reads=True)
+        with contextlib.suppress(Killed), disk.in_use():
+            clear(ended.folder, ended.clock.wall())
+        was_killed = disk.has_killed
+        with contextlib.suppress(ClearFault):  # after its last step all is put away
+            clear(ended.folder, ended.clock.wall())
+        (past,) = (ended.folder / "past").iterdir()
+        assert names(past) == OWN
+    assert step > 20
+
+
+def test_the_next_auction_does_not_end_by_the_last_ones_plan(ended: ConductedAuction) -> None:
+    """The windows of the last auction are over, and a sheet is in force."""
+    clear(ended.folder, ended.clock.wall())
+    ended.begin_again()
+    assert ended.put("X", 1, 2, 100)
+    for _ in range(3):
+        assert ended.look() is State.UNPLANNED
+    assert ended.current_round() == 1
+
+
+def test_the_command_says_where_the_files_are(ended: ConductedAuction) -> None:
+    ran = auction_command("clear", ended.folder)
+    assert ran.returncode == 0, ran.stderr
+    assert "The auction's files are in" in ran.stdout
+
+
+def test_the_command_refuses_while_a_server_runs(ended: ConductedAuction) -> None:
+    ended.begin_server()
+    ran = auction_command("clear", ended.folder)
+    assert ran.returncode == 1
+    assert "auction clear: a server runs" in ran.stderr

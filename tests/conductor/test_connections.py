@@ -1,0 +1,51 @@
+"""A round is not closed while a request is on its way to the server."""
+import pytest
+
+from auction.conductor.report import State
+from tests.conductor.conftest import Conduct
+from tests.conductor.finished import finish
+from tests.lib.conducted import ConductedAuction
+
+
+@pytest.fixture
+def waiting(conduct: Conduct) -> ConductedAuction:
+    """An auction whose window and drain are over while a request is on its way."""
+    auction = conduct()
+    auction.play(State.DRAINING)
+    auction.connections = frozenset({"a"})
+    auction.clock.sleep(10)
+    auction.look()
+    return auction
+
+
+def test_a_closing_waits_for_a_request_that_is_on_its_way(waiting: ConductedAuction) -> None:
+    waiting.wait(400)
+    assert waiting.state is State.DRAINING
+    assert "Requests are on their way to the server" in waiting.words
+    assert waiting.current_round() == 1
+    waiting.connections = frozenset()
+    assert waiting.look() is State.CLOSED
+
+
+def test_a_sheet_that_comes_while_the_closing_waits_counts(waiting: ConductedAuction) -> None:
+    assert waiting.put("X", 1, 1, 100)
+    waiting.connections = frozenset()
+    waiting.rounds = 1
+    finish(waiting)
+
+
+def test_a_connection_from_after_the_shut_doors_is_not_waited_for(
+    waiting: ConductedAuction,
+) -> None:
+    waiting.connections = frozenset({"b"})
+    assert waiting.look() is State.CLOSED
+
+
+def test_a_conductor_that_starts_then_waits_for_all_that_it_finds(
+    waiting: ConductedAuction,
+) -> None:
+    waiting.connections = frozenset({"b"})
+    waiting.conductor = waiting.fresh()
+    assert waiting.look() is State.DRAINING
+    waiting.connections = frozenset()
+    assert waiting.look() is State.CLOSED
