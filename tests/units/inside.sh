@@ -127,7 +127,7 @@ expect "its report is for nginx's workers only" \
     test "$(stat -c %a:%G $folder/operator/conductor.json)" = 640:auction-nginx
 expect "nginx's workers write what the page asks for" \
     test "$(stat -c %a:%G $folder/asked)" = 2770:auction-nginx
-first=$(( $(date +%s) / 10 * 10 + 10 ))
+first=$(( $(date +%s) / 10 * 10 + 20 ))
 at() { date -u -d "@$1" +%T; }
 cat > "$folder/timetable.json" << END
 {"days":[{"date":"$(date -u -d "@$first" +%F)","windows":["$(at $first)-$(at $((first + 10)))"]}]}
