@@ -8,8 +8,11 @@ OPERATOR = "OPERATOROPERATOR"
 
 @dataclass(frozen=True)
 class Size:
-    """Of a replay: each bidder wants blocks of a share of the products, up to limits that are at most `growth` times
-    the opening price."""
+    """The size of a replay.
+
+    Each bidder wants blocks of a share of the products, up to limits that are at most `growth`
+    times the opening price.
+    """
 
     seed: str
     products: int
@@ -38,7 +41,9 @@ def product(chance, number):
 
 
 def limits(chance, size, opening):
-    """Up to which price each block of a product is wanted, never rising. Most products are not wanted."""
+    """Up to which price each block of a product is wanted, never rising. Most products are not
+    wanted.
+    """
     wanted = chance.randint(1, 4) if chance.random() < size.share else 0
     top = opening * math.exp(chance.uniform(0, math.log(size.growth)))
     return sorted((int(top * chance.uniform(0.5, 1)) for _ in range(wanted)), reverse=True)
@@ -58,7 +63,9 @@ def replay(size):
     for number in range(size.bidders):
         rows = [limits(chance, size, one["opening"]) for one in products]
         units = sum(one["units"] * len(row) for one, row in zip(products, rows))
-        bidders.append({"name": f"B{number:03}", "token": f"T{number:024}", "eligibility": units + 1})
+        bidders.append(
+            {"name": f"B{number:03}", "token": f"T{number:024}", "eligibility": units + 1}
+        )
         scripts.append({"kind": "sincere", "limits": rows})
     closings = [{"increment": 10, "ties": ties(chance, size)} for _ in range(120)]
     return {"closings": closings, "scripts": scripts, "setup": setup(products, bidders)}

@@ -1,5 +1,5 @@
-// The columns of the grid of bids, and the groups of rows that can be shown alone. Each is a
-// function of the view `v`, which grid.js keeps, and of a product's place `p`.
+// The columns of the grid of bids, and the groups of rows that can be shown by themselves. Each is
+// a function of the view `v`, which grid.js stores, and of the place `p` of a product.
 
 import {dollars, make, number} from "./page.js";
 

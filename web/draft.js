@@ -1,4 +1,4 @@
-// The draft of the form: what is typed, kept in this tab's session storage, so that it survives a
+// The draft of the form: what is typed, stored in this tab's session storage, so that it survives a
 // reload, Back, and a tab that the browser discards. It has no token, and is bound to the auction,
 // the bidder, and the round.
 

@@ -207,8 +207,9 @@ def faults(
             "its bidder saw another commitment.json, of another set-up, chain, or key: it was "
             "shown another one, or changed its file"
         )
-    found += [fault for kept in file.receipts for fault in false_words(true, kept)]
-    receipts = [kept for kept in file.receipts if not list(false_words(true, kept))]
+    judged = [(kept, list(false_words(true, kept))) for kept in file.receipts]
+    found += [fault for _, words in judged for fault in words]
+    receipts = [kept for kept, words in judged if not words]
     found += [fault for kept in receipts for fault in other_sheet(kept)]
     found += unsent(receipts, file.sent) + repeated(file)
     return found + differences(receipts, sheets_in(journal), token)

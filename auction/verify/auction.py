@@ -173,6 +173,11 @@ def check_announcements(case: Case) -> str:
         faults.append("the announcements are not numbered from 1: one was added or left out")
     if len(announced) < len(made):
         faults.append("two announcements have one key")
+    faults += [
+        f"announcement {one['number']} has other parts than an announcement"
+        for one in made
+        if one.keys() != {"key", "number", "text", "time"} or not TIME.fullmatch(one["time"])
+    ]
     if faults:
         raise Failed(*faults)
     return f"the digests of {len(case.rounds)} rounds were announced as they were published"

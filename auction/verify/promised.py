@@ -17,13 +17,11 @@ def commitment_of(case: Case) -> ties.Commitment:
 
 def commitment_text(case: Case) -> bytes:
     """The bytes of the commitment."""
-    if case.commitment is not None:
-        return case.commitment.read_bytes()
     if not (case.published / COMMITMENT).is_file():
         raise Failed(
             f"{case.published} has no {COMMITMENT}: nothing shows what was fixed before round 1"
         )
-    return case.text(COMMITMENT)
+    return case.commitment.read_bytes() if case.commitment else case.text(COMMITMENT)
 
 
 def chain_of(case: Case) -> ties.Committed | None:

@@ -85,9 +85,9 @@ const element = document.getElementById(arguments[0]);
 new MutationObserver(() => window.said.push(element.textContent))
     .observe(element, {childList: true, characterData: true, subtree: true});"""
 
-# elements whose text does not fit into them, but those that may end in dots, and on a narrow phone
-# the words of a connection, which then is a dot; rows whose cells reach beyond them, letters
-# outside their chart; and what reaches beyond the window
+# Elements whose text does not fit into them. Some may end in dots, and on a narrow phone the words
+# of a connection are a dot. Also rows whose cells reach beyond them, letters outside their chart,
+# and what reaches beyond the window.
 CUT = """const all = [...document.querySelectorAll('body *')];
 const seen = all.filter(e => e.checkVisibility() && e.getClientRects().length);
 const kinds = 'p, h1, h2, dt, dd, td, th, button, label, li, small, figcaption';

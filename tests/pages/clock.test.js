@@ -76,7 +76,7 @@ for (const [seconds, words] of [[0, "0:00"], [59, "0:59"], [600, "10:00"], [3723
   });
 }
 
-// The server's clock is `ahead` of the tab's, and replies take up to 400 ms, in each direction.
+// The server's clock is `ahead` of the tab's, and a reply takes at most 400 ms, in each direction.
 for (const ahead of [-3_600_000, -900, 0, 1, 1500, 86_400_000]) {
   test(`the clock is never behind the server's, ${ahead} ms ahead of the tab's`, () => {
     const clock = new Clock();

@@ -90,8 +90,8 @@ test("products are numbered from 0, unless the name of one is a number", () => {
 });
 
 // How a closing prepares the form, of one product: what it is about, what is typed, what was
-// submitted, the processed demand, what the form has then, and how many rows are maintained,
-// emptied, and left.
+// submitted, and the processed demand. Then what the form has, and the numbers of rows that are
+// maintained, emptied, and left.
 const bid = (quantity, price) => ({ product: 0, quantity, price });
 const CLOSINGS = [
   ["submitted, and maintained", [["2", ""]], [bid(2, 110)], 2, [["2", ""]], [1, 0, 0]],

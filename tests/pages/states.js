@@ -1,5 +1,5 @@
-// States of the bidder's page for tests: two products, round 2, two blocks of A held. `state`
-// changes what differs.
+// States of the page of a bidder for tests: two products, round 2, a demand of two blocks of A.
+// `state` changes what differs.
 
 import { plain } from "../../web/shown.js";
 

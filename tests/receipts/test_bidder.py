@@ -178,6 +178,50 @@ def test_it_reports_a_wrong_receipt(
     assert "this is not a receipt of sheet 1 of round 1" in words
 
 
+class Reply(io.BytesIO):
+    """A reply of the server or of nginx."""
+
+    def __init__(self, status: int, page: dict[str, Any]) -> None:
+        super().__init__(json.dumps(page).encode())
+        self.status, self.reason = status, ""
+
+
+class Opener:
+    """Answers each request with the next reply, or raises it if it is an exception."""
+
+    def __init__(self, *replies: Reply | Exception) -> None:
+        self.replies = list(replies)
+
+    def open(self, request: object, timeout: float) -> Reply:
+        reply = self.replies.pop(0)
+        if isinstance(reply, Exception):
+            raise reply
+        return reply
+
+
+WINDOW = (409, {"code": "window"})
+TAKEN = (200, {"accepted": True, "bids": 1, "round": 1})
+ATTEMPTS: dict[str, tuple[list[Any], int]] = {
+    "taken-at-once": ([TAKEN], 1),
+    "after-two-closed-windows": ([WINDOW, WINDOW, TAKEN], 1),
+    "after-a-lost-reply": ([OSError("lost"), TAKEN], 2),
+    "after-a-closed-window-and-a-lost-reply": ([WINDOW, OSError("lost"), TAKEN], 2),
+}
+
+
+@pytest.mark.parametrize(("replies", "wanted"), ATTEMPTS.values(), ids=ATTEMPTS)
+def test_it_stores_each_sheet_that_may_have_been_taken(
+    pages: Pages, file: pathlib.Path, replies: list[Any], wanted: int
+) -> None:
+    """A sheet that no window took counts for none. One whose reply is lost may count for one."""
+    auction = bidder.Auction("http://127.0.0.1:1", "X" * 16, 0.001)
+    auction.receipts = receipts_of(pages, file)
+    made = [one if isinstance(one, Exception) else Reply(*one) for one in replies]
+    auction.opener = Opener(*made)
+    printed(lambda: auction.ask("/v1/me/bids", bidder.ACCEPTED, SHEETS[0]))
+    assert file.read_text().count('{"sent": ') == wanted
+
+
 # ---- Commitments and seeds
 
 

@@ -2,6 +2,7 @@
 --     fault_line fault     `fault: WORDS` and a line feed
 --     of_setup fault, of_opening fault, of_script fault      the fault of a document
 --     of_journal fault      the fault of a file that is not accepted as the journal, or of its disk
+--     of_level fault      the fault of a journal and its mirror
 use Rattle.std.specs.Prelude.{ℕ, List, ◌++◌, codes, decimal}
 use Rattle.clock_setup.specs.declared.fault.Place.{Place}
 use Rattle.clock_setup.specs.declared.fault.Place.TheVariants as place
@@ -15,6 +16,8 @@ use Rattle.clock_scripts.specs.declared.fault.SimFault.{SimFault}
 use Rattle.clock_scripts.specs.declared.fault.SimFault.TheVariants as in_simulation
 use Rattle.clock_journal.specs.declared.recovery.JournalFault.{JournalFault}
 use Rattle.clock_journal.specs.declared.recovery.JournalFault.TheVariants as in_journal
+use Rattle.clock_journal.specs.declared.mirror.LevelFault.{LevelFault}
+use Rattle.clock_journal.specs.declared.mirror.LevelFault.TheVariants as in_mirror
 use Rattle.clock_http.specs.Codes.{code_text}
 use Rattle.clock_answers.specs.declared.fault.Fault.{Fault}
 use Rattle.clock_answers.specs.declared.fault.Fault.TheVariants as fault
@@ -97,6 +100,11 @@ of_journal in_journal.NoMemory = fault.Memory
 of_journal in_journal.Failed = fault.Journal
 of_journal other = fault.Recovery other
 
+-- the fault of a journal and its mirror, or of their disks
+abbrev pub of_level : LevelFault → Fault
+of_level (in_mirror.Differs place) = fault.Differs place
+of_level in_mirror.Failed = fault.Journal
+
 -- the words for a file that is not accepted as the journal, or for its disk
 abbrev pub recovery_words : JournalFault → List ℕ
 recovery_words in_journal.Unknown = codes "journal_unknown"
@@ -119,6 +127,7 @@ fault_words (fault.Simulation inner) = simulation_words inner
 fault_words fault.Journal = codes "journal"
 fault_words fault.JournalBusy = codes "journal_busy"
 fault_words (fault.Recovery inner) = recovery_words inner
+fault_words (fault.Differs place) = codes "journal_differs " ++ decimal place
 fault_words fault.Bind = codes "bind"
 fault_words fault.Output = codes "output"
 fault_words fault.Accept = codes "accept"

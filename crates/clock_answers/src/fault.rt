@@ -1,6 +1,7 @@
 ghost use Rattle.std.specs.Prelude.{◌≡◌, ◌++◌, ◌||◌, codes, is_err};
 ghost use Rattle.clock_device.specs.Streams.{WritesText};
-ghost use Rattle.clock_answers.specs.FaultLines.{of_journal, of_opening, of_script, of_setup};
+ghost use Rattle.clock_answers.specs.FaultLines.{of_journal, of_level, of_opening, of_script};
+ghost use Rattle.clock_answers.specs.FaultLines.{of_setup};
 ghost use Rattle.clock_answers.specs.FaultLines.{fault_line, fault_words, opening_words};
 ghost use Rattle.clock_answers.specs.FaultLines.{place_words};
 ghost use Rattle.clock_answers.specs.FaultLines.{script_words, setup_words};
@@ -9,7 +10,7 @@ ghost use Rattle.clock_answers.specs.inside.Lines.{spaced_number, spaced_code, t
 
 use clock_device::{Failed, NoMemory, Sink, write_all, write_number};
 use clock_http::Code;
-use clock_journal::JournalFault;
+use clock_journal::{JournalFault, LevelFault};
 use clock_replays::ScriptFault;
 use clock_scripts::SimFault;
 use clock_setup::{OpeningFault, Place, SetupFault};
@@ -41,6 +42,8 @@ pub enum Fault {
     JournalBusy,
     /// The file is not accepted as the journal.
     Recovery(JournalFault),
+    /// The journal and its mirror differ at this byte, and neither is a prefix of the other.
+    Differs(usize),
     /// The port could not be opened.
     Bind,
     /// A write failed.
@@ -100,6 +103,17 @@ impl From<JournalFault> for Fault {
             JournalFault::NoMemory => Fault::Memory,
             JournalFault::Failed => Fault::Journal,
             _ => Fault::Recovery(fault),
+        }
+    }
+}
+
+impl From<LevelFault> for Fault {
+    ghost from_gives = { λ fault given. given ≡ of_level fault };
+
+    fn from(fault: LevelFault) -> Fault {
+        match fault {
+            LevelFault::Differs(place) => Fault::Differs(place),
+            LevelFault::Failed => Fault::Journal,
         }
     }
 }
@@ -190,6 +204,7 @@ fn words_of(fault: Fault) -> Words
         Fault::Recovery(JournalFault::Refused(place)) => { words!("journal_refused", place as u64) }
         Fault::Recovery(JournalFault::NoMemory) => words!("memory"),
         Fault::Recovery(JournalFault::Failed) => words!("journal"),
+        Fault::Differs(place) => words!("journal_differs", place as u64),
         Fault::Bind => words!("bind"),
         Fault::Output => words!("output"),
         Fault::Accept => words!("accept"),

@@ -3,7 +3,7 @@ use Rattle.std.proofs.Common.{◌≡◌, Option, Some, None, Err, refl}
 use Rattle.clock_device.specs.Reports.{IsUnread, IsUnused, Reading, SinkReport, SourceReport, Writing}
 use Rattle.clock_device.specs.Writings.{WritesNothing}
 use Rattle.clock_answers.specs.Input.{IsReadingOf}
-use Rattle.clock_commands.specs.Run.{ComesTo, IsRunOf, Shows, refused, stopped}
+use Rattle.clock_commands.specs.Run.{ComesTo, IsRunOf, Shows, ShowsSome, refused, stopped}
 use Rattle.clock_answers.specs.FaultLines.{fault_line}
 use Rattle.clock_words.specs.declared.words.Job.{Job}
 use Rattle.clock_answers.specs.declared.fault.Fault.{Fault}
@@ -25,15 +25,16 @@ read_failed job reading sink other unused is = absurd is
 
 -- words that ask for no job are refused, and nothing is read
 pub refused_run : (asked : Option Job) → asked ≡ None → (source : SourceReport) → IsUnread source → (sink : SinkReport)
-    → IsUnused sink → (shown : Writing) → ComesTo asked (record { before = source; after = source })
+    → IsUnused sink → (shown : Writing) → ShowsSome shown → ComesTo asked (record { before = source; after = source })
     (record { before = sink; after = sink }) shown 2
-refused_run asked none source unread sink unused shown = (
+refused_run asked none source unread sink unused shown message = (
   refused,
   refl,
   (
     none,
     record { bytes = same_bytes source.left; none = unread.uncounted; unfailed = unread.unfailed },
     untouched sink unused,
+    message,
   ),
 )
 

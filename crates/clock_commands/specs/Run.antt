@@ -4,7 +4,8 @@
 --     HasEnding job reading output shown ending     how a run ends, if its arguments ask for that
 --         job or none
 --     ComesTo job reading output shown status     a run with this exit status ends so
-use Rattle.std.specs.Prelude.{◌≡◌, ◌⊎◌, ℕ, List, Option, Some, None, Result, Ok, Err, false}
+use Rattle.std.specs.Prelude.{◌≡◌, ◌≤◌, ◌⊎◌, ℕ, List, Option, Some, None, Result, Ok, Err, false}
+use Rattle.std.specs.Prelude.{length}
 use Rattle.std.specs.Io.KnownBytes.{Keeps}
 use Rattle.clock_device.specs.Reports.{Reading, Writing}
 use Rattle.clock_device.specs.Writings.{WritesFront, WritesNothing, WritesWhole}
@@ -52,6 +53,10 @@ exit_status refused = 2
 abbrev pub Shows : Writing → List ℕ → Type 0
 Shows shown text = WritesWhole shown text ⊎ WritesFront shown text
 
+-- so was some text that is not empty
+abbrev pub ShowsSome : Writing → Type 0
+ShowsSome shown = (text : List ℕ) × (1 ≤ length text) × Shows shown text
+
 -- no read was made: the bytes that the source reports are unchanged
 pub record MakesNoRead (reading : Reading) : Type 0 where
   pub bytes : Keeps reading.before.left reading.after.left
@@ -64,7 +69,7 @@ RunsJob asked reading output result =
     (job : Job) × (asked ≡ Some job) × IsRunOf job reading output result
 
 -- A printed answer comes without a fault line, and a fault with its line. Words that ask for no job
--- are refused, and nothing is read. `Memory` can come before the words are known.
+-- are refused with a message, and nothing is read. `Memory` can come before the words are known.
 abbrev pub HasEnding : Option Job → Reading → Writing → Writing → RunEnding → Type 0
 HasEnding asked reading output shown printed =
     RunsJob {U = Unit {0}} asked reading output (Ok tt) × WritesNothing shown
@@ -73,7 +78,7 @@ HasEnding asked reading output shown (stopped fault.Memory) = IsReadingOf readin
 HasEnding asked reading output shown (stopped cause) =
     RunsJob {U = Unit {0}} asked reading output (Err cause) × Shows shown (fault_line cause)
 HasEnding asked reading output shown refused =
-    (asked ≡ None) × MakesNoRead reading × WritesNothing output
+    (asked ≡ None) × MakesNoRead reading × WritesNothing output × ShowsSome shown
 
 -- the run ends in one of these ways, and its exit status says which
 abbrev pub ComesTo : Option Job → Reading → Writing → Writing → ℕ → Type 0

@@ -1,10 +1,10 @@
-ghost use Rattle.std.specs.Prelude.{◌≢◌, ◌≤◌, ℕ, List, IfOk, IfSome, map};
+ghost use Rattle.std.specs.Prelude.{◌≢◌, ◌≤◌, ℕ, List, IfOk, IfSome, length, map};
 ghost use Rattle.clap.specs.Words.{kind_of};
 ghost use Rattle.clock_device.specs.Reports.{IsUnread, IsUnused};
 ghost use Rattle.clock_words.specs.Words.{IsAsked, IsJob, IsParsing, job_of};
 ghost use Rattle.clock_answers.specs.FaultLines.{fault_line};
 ghost use Rattle.clock_answers.specs.Input.{most_document_reads};
-ghost use Rattle.clock_commands.specs.Run.{ComesTo, IsRunOf, Shows};
+ghost use Rattle.clock_commands.specs.Run.{ComesTo, IsRunOf, Shows, ShowsSome};
 
 use crate::answer::answer;
 use clap::Error;
@@ -77,12 +77,12 @@ pub fn parsed_command<R: Source, W: Sink, F: Sink>(
             }
         },
         Ok(_) => {
-            let _ = write_all(faults, NOT_HERE.as_bytes());
+            show_message(NOT_HERE, faults);
             2
         }
         Err(error) => match usage_of(alloc, error) {
             Some(usage) => {
-                let _ = write_all(faults, usage.as_bytes());
+                show_message(&usage, faults);
                 drop(usage);
                 2
             }
@@ -92,6 +92,24 @@ pub fn parsed_command<R: Source, W: Sink, F: Sink>(
             }
         },
     }
+}
+
+/// Writes a message, or a prefix of it if a write fails.
+fn show_message<F: Sink>(message: &str, faults: &mut F)
+    requires { IsUnused (F.report faults.old) }
+    ensures { ShowsSome (record { before = F.report faults.old; after = F.report faults.new }) }
+{
+    let _ = write_all(faults, some_message(message).as_bytes());
+}
+
+/// Returns a message, or a line in place of an empty one.
+fn some_message(message: &str) -> &str
+    ensures { 1 ≤ length result.now }
+{
+    if message.is_empty() {
+        return "error\n";
+    }
+    message
 }
 
 /// Returns clap's message for refused arguments, or `None` if out of memory.

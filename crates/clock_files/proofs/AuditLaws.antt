@@ -13,7 +13,9 @@ use Rattle.clock_front.specs.declared.front.response.Effect.TheVariants.{Nothing
 use Rattle.clock_reports.specs.FinalReport.{report_of}
 use Rattle.clock_reports.specs.Reports.{ReportFields}
 use Rattle.clock_journal.specs.Recovering.{AreTextsOf, record_at}
+use Rattle.clock_journal.specs.Resuming.{NoneRefused}
 use Rattle.clock_journal.specs.declared.recovery.Recovered.{Recovered}
+use Rattle.clock_server.specs.Keeping.{IsRefused}
 use Rattle.clock_server.proofs.Telling.{CountsOn, counts_text}
 use Rattle.clock_files.specs.Audits.{IsAuditOf, IsRecounted, audited, closed_after, closing_digests, with_digest}
 
@@ -56,9 +58,11 @@ enough_for_report first texts house digests given report recounted is same =
 -- what is printed for an auction that stands for all texts of a file
 pub audit_is : (setup setup_new : SetupFields) (first bytes given shown : List ℕ) (texts : List (List ℕ))
     (recovered : Recovered) → given ≡ bytes → setup_new ≡ setup → AreTextsOf first given texts recovered
-    → shown ≡ audited setup_new first (reverse texts) → IsAuditOf setup first bytes shown recovered
-audit_is setup setup_new first bytes given shown texts recovered same same_setup are is = record {
+    → NoneRefused (IsRefused setup) [] texts → shown ≡ audited setup_new first (reverse texts)
+    → IsAuditOf setup first bytes shown recovered
+audit_is setup setup_new first bytes given shown texts recovered same same_setup are accepted is = record {
   texts = texts;
   are = subst (λ (file : List ℕ). AreTextsOf first file texts recovered) same are;
+  accepted = accepted;
   shown_is = is ∙ ap (λ (of_setup : SetupFields). audited of_setup first (reverse texts)) same_setup;
 }

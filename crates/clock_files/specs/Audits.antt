@@ -21,6 +21,7 @@ use Rattle.clock_front.specs.declared.front.response.Effect.TheVariants.{Nothing
 use Rattle.clock_answers.specs.FaultLines.{of_journal}
 use Rattle.clock_answers.specs.declared.fault.Fault.{Fault}
 use Rattle.clock_journal.specs.Recovering.{AreTextsOf, IsFound, record_at}
+use Rattle.clock_journal.specs.Resuming.{NoneRefused}
 use Rattle.clock_journal.specs.declared.recovery.JournalFault.{JournalFault}
 use Rattle.clock_journal.specs.declared.recovery.Recovered.{Recovered}
 use Rattle.clock_server.specs.Keeping.{IsRefused}
@@ -65,9 +66,11 @@ abbrev pub audited : SetupFields → List ℕ → List (List ℕ) → List ℕ
 audited setup first texts =
     text_of_rounds setup (closed_after setup texts) (closing_digests setup first texts)
 
--- these are the texts of the file, and the rounds of all of them are printed
+-- these are the texts of the file, each is accepted after those before it, and the rounds of all of
+-- them are printed
 pub record IsAuditOf (setup : SetupFields) (first bytes shown : List ℕ)
     (recovered : Recovered) : Type 0 where
   pub texts : List (List ℕ)
   pub are : AreTextsOf first bytes texts recovered
+  pub accepted : NoneRefused (IsRefused setup) [] texts
   pub shown_is : shown ≡ audited setup first (reverse texts)

@@ -4,8 +4,8 @@ ghost use Rattle.clock_terms.specs.Limits.{SetupFields};
 ghost use Rattle.clock_server.specs.Keeping.{IsRefused};
 ghost use Rattle.clock_files.specs.Audits.{IsAuditOf, IsRecounted, IsAuditFault, audited};
 
+use crate::document::front_in;
 use crate::files::{digits_of, file_bytes, journal_bytes, tell_all};
-use crate::serving::front_in;
 use clock_answers::Fault;
 use clock_device::{NoMemory, Sink, Text};
 use clock_front::{Effect, Front};

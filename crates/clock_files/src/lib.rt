@@ -3,10 +3,12 @@
 #![tactic(auto)]
 
 mod audit;
+mod document;
 mod files;
 mod journal_text;
 mod serving;
 
 pub use audit::{Recount, audit_of, tell_audit};
+pub use document::{ReadAuction, front_in, read_auction};
 pub use journal_text::{listing_of, tell_texts};
-pub use serving::{front_in, serve, serve_fault};
+pub use serving::{mirrored, serve, serve_fault, serve_read, server_fault};

@@ -11,3 +11,4 @@ pub mod Passing
 pub mod Starting
 pub mod Lists
 pub mod OwnStarts
+pub mod Mirrored

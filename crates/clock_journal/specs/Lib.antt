@@ -2,6 +2,8 @@ pub mod Format
 pub mod Reading
 pub mod Crash
 pub mod Disks
+pub mod Mirrors
+pub mod Levels
 pub mod Logged
 pub mod Recovering
 pub mod Resuming

@@ -9,6 +9,8 @@ use std::io::Write;
 
 /// A file that can be appended to, truncated, and synced.
 ///
+/// Make no call after one that failed.
+///
 /// In contracts, a disk is its bytes, those that are synced, and whether a call has failed. A crash
 /// leaves all that is synced, and a prefix of what was appended since. If the disk reveals its
 /// `moments`, these are all states that a crash could find, the last one first.
@@ -22,15 +24,23 @@ pub trait Durable {
     ghost moments: { Self → Option (List Moment) } = { λ disk. None };
 
     /// Appends `bytes`, or a prefix of them at `Err`.
+    ///
+    /// Requires that no call has failed.
     fn append(&mut self, bytes: &[u8]) -> Result<(), Failed>
+        requires unfailed { has_failed self.old ≡ false }
+        ensures unseen { written self.old ≡ None → written self.new ≡ None }
         ensures written { WritesText (written self.old) (written self.new) bytes.now result }
         ensures synced { synced self.new ≡ synced self.old }
         ensures moments { Passes (moments self.old) (moments self.new) (synced self.old)
             (written self.new) }
         ensures failed { has_failed self.new ≡ (has_failed self.old || is_err result) };
 
-    /// Puts all bytes of the file on the disk.
+    /// Puts all bytes of the file on the disk. At `Err`, a crash may leave any prefix of those that
+    /// were not synced before.
+    ///
+    /// Requires that no call has failed: a failed sync that is repeated may report success.
     fn sync(&mut self) -> Result<(), Failed>
+        requires unfailed { has_failed self.old ≡ false }
         ensures written { written self.new ≡ written self.old }
         ensures ok { OnOk result (synced self.new ≡ written self.old) }
         ensures err { OnErr result (synced self.new ≡ synced self.old) }
@@ -38,11 +48,13 @@ pub trait Durable {
             (written self.old) }
         ensures failed { has_failed self.new ≡ (has_failed self.old || is_err result) };
 
-    /// Truncates the file to `place` bytes, and syncs it.
+    /// Truncates the file to `place` bytes, and syncs it. A shorter file is unchanged. At `Err`,
+    /// the file is truncated or unchanged.
     ///
-    /// Requires a synced file, so that a crash leaves these bytes.
+    /// Requires a synced file, so that a crash leaves these bytes, and that no call has failed.
     fn cut(&mut self, place: usize) -> Result<(), Failed>
-        requires { synced self.old ≡ written self.old }
+        requires synced { synced self.old ≡ written self.old }
+        requires unfailed { has_failed self.old ≡ false }
         ensures written { CutsTo (written self.old) (written self.new) place result }
         ensures synced { OnOk result (synced self.new ≡ written self.new) }
         ensures moments { Passes (moments self.old) (moments self.new)
@@ -87,7 +99,13 @@ impl<F: Write + OpenFile> Durable for FileDisk<F> {
     }
 
     fn cut(&mut self, place: usize) -> Result<(), Failed> {
-        if self.file.set_len(place as u64).is_err() || self.file.sync_all().is_err() {
+        let Ok(metadata) = self.file.metadata() else {
+            self.has_failed = true;
+            return Err(Failed);
+        };
+        // a place past the end would make the file longer
+        let length = metadata.len().min(place as u64);
+        if self.file.set_len(length).is_err() || self.file.sync_all().is_err() {
             self.has_failed = true;
             return Err(Failed);
         }

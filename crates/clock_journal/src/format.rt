@@ -1,8 +1,8 @@
 //! The bytes of a journal: digests, its head, and its records.
 
 ghost use Rattle.std.specs.Prelude.{◌≡◌, ◌≤◌, ◌++◌};
-ghost use Rattle.sha2.specs.Sha256.{sha256};
-ghost use Rattle.clock_journal.specs.{Format.{head, link, mark, most_text}, Reading.{next}};
+ghost use Rattle.clock_journal.specs.Format.{document_digest, head, link, mark, most_text};
+ghost use Rattle.clock_journal.specs.Reading.{next};
 ghost use Rattle.clock_journal.specs.inside.Shown.{IsRecord, shown};
 
 use sha2::{Digest, Sha256};
@@ -23,7 +23,7 @@ pub fn link_of(chain: &Link, text: &[u8]) -> Link
 
 /// Returns the digest of a set-up document, which is in the head of its journal.
 pub fn digest_of(document: &[u8]) -> Link
-    ensures { result ≡ sha256 document.now }
+    ensures { result ≡ document_digest document.now }
 {
     Sha256::digest(document)
 }

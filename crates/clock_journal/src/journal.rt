@@ -51,6 +51,7 @@ impl<D: Durable> Journal<D> {
     /// Continues the journal there: syncs the file, and truncates what is torn. On an empty file,
     /// or one with a torn head, it begins the journal. Calls `tell` before the disk is changed.
     ///
+    /// - `ok`: the machine took all texts of the file, and refuses none of them.
     /// - `own`: on what a crash left of a journal with no text that the machine refuses, it fails
     ///   only if memory runs out or a call of the disk fails.
     /// - `left`: at `Failed`, a call of the disk failed; at any other fault, the disk is unchanged.
@@ -72,6 +73,7 @@ impl<D: Durable> Journal<D> {
         ensures ok { IfOk result (λ recovered. (texts : List (List ℕ))
             × AreTextsOf self.old.chain bytes.now texts recovered
             × M.stands_for machine.new self.old.chain (reverse texts)
+            × NoneRefused (M.refuses (M.rules machine.old)) [] texts
             × (self.old.written ≡ Some bytes.now → HasTexts self.old.chain texts self.new)) }
         ensures err { IfErr result (IsNotResumed (M.refuses (M.rules machine.old))
             (M.stands_for machine.new self.old.chain) self.old.chain bytes.now) }
@@ -86,6 +88,7 @@ impl<D: Durable> Journal<D> {
         ensures any_tail { (synced : List ℕ) (texts : List (List ℕ))
             → self.old.written ≡ Some bytes.now → self.old.synced ≡ Some synced
             → StaysSo self.old self.new (λ left. BeginsWithTexts self.old.chain left texts) }
+        ensures chain { IfOk result (λ recovered. self.new.chain ≡ recovered.chain) }
         ensures unfailed { OnOk result (self.new.has_failed ≡ false) }
         ensures rules { M.rules machine.new ≡ M.rules machine.old }
     {

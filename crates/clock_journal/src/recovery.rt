@@ -2,6 +2,7 @@
 
 ghost use Rattle.std.specs.Prelude.{◌≡◌, [], ◌∷◌, List, ℕ, Err, IfErr, IfOk, OnOk, reverse};
 ghost use Rattle.clock_journal.specs.Recovering.{AreTextsOf, IsFound, record_at};
+ghost use Rattle.clock_journal.specs.Resuming.{NoneRefused};
 
 use crate::format::{
     BEFORE_TEXT, HEAD_LENGTH, KIND, KIND_LENGTH, Link, Next, head_of, next_record,
@@ -41,11 +42,15 @@ pub trait Machine {
     /// By these rules, a machine that took these texts refuses this one.
     ghost refuses: { Self.Rules → List (List ℕ) → List ℕ → Type 0 };
 
-    /// Takes the next text, whose record is `at`.
+    /// Takes the next text, whose record is `at`. It takes no text that it refuses.
+    ///
+    /// At `Err`, it has taken part of the text, or nothing. Do not use it again.
     fn take(&mut self, text: &[u8], at: &Record) -> Result<(), TakeError>
         ensures taken { OnOk result ((digest : List ℕ) (past : List (List ℕ))
             → stands_for self.old digest past → at.now ≡ record_at digest past text.now
             → stands_for self.new digest (text.now ∷ past)) }
+        ensures accepted { OnOk result ((digest : List ℕ) (past : List (List ℕ))
+            → stands_for self.old digest past → refuses (rules self.old) past text.now → ⊥) }
         ensures refused { (digest : List ℕ) (past : List (List ℕ))
             → result ≡ Err TakeError.Refused → stands_for self.old digest past
             → refuses (rules self.old) past text.now }
@@ -86,8 +91,10 @@ pub enum JournalFault {
 /// Gives a machine all texts of a file, in order, each with its record. `digest` is that of the
 /// set-up document. If the file begins with the journal of some texts, the machine takes these
 /// first, and `Damaged` names no place before their end: by `whatever_follows` of
-/// [`law_of_journals`](crate::law_of_journals), a file has one list of texts only. So what a crash
-/// left of a journal is not damaged, and the machine takes every text that was on the disk.
+/// [`law_of_journals`](crate::law_of_journals), a file has one list of texts only.
+///
+/// So what a crash left of a journal is not damaged, and the machine takes every text that was on
+/// the disk. No text that it takes is one that it refuses.
 ///
 /// Requires a machine without texts.
 ///
@@ -101,7 +108,8 @@ pub fn recover<M: Machine>(
     requires { M.stands_for machine.old digest.now [] }
     ensures ok { IfOk result (λ recovered. (texts : List (List ℕ))
         × AreTextsOf digest.now bytes.now texts recovered
-        × M.stands_for machine.new digest.now (reverse texts)) }
+        × M.stands_for machine.new digest.now (reverse texts)
+        × NoneRefused (M.refuses (M.rules machine.old)) [] texts) }
     ensures err { IfErr result (IsFound (M.refuses (M.rules machine.old)) digest.now bytes.now) }
     ensures rules { M.rules machine.new ≡ M.rules machine.old }
 {

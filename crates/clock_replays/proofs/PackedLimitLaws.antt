@@ -139,7 +139,7 @@ listed rows lists product same below =
     sym (get_or-map-range_with_len limits 0 rows.count product product [] within (omega arith))
     ∙ ap (λ (all : List (List ℕ)). row_of all product) same
 
--- as many products as are counted have lists
+-- the number of products that have lists is the one that was counted
 pub counted : (rows : LimitRows) (lists : List (List ℕ)) → packed_limits rows ≡ lists → rows.count ≡ length lists
 counted rows lists same =
     let limits = limits_for rows.products.items (rows_from 0 rows.ends.items rows.prices.items) in

@@ -7,7 +7,7 @@ use Rattle.clock_journal.proofs.OwnStarts.{not_refused_push}
 use Rattle.clock_server.specs.Keeping.{IsAccepted, IsRefused, is_change, logged_after}
 use Rattle.clock_server.proofs.EffectLaws.{logged_when}
 
-not_both : (changes : Bool) → changes ≡ true → changes ≡ false → ⊥
+pub not_both : (changes : Bool) → changes ≡ true → changes ≡ false → ⊥
 not_both changes one other = let bad : true ≡ false = sym one ∙ other in cc
 
 pub accepted_push : (setup : SetupFields) (texts : List (List ℕ)) (text : List ℕ)

@@ -1,12 +1,13 @@
 -- GenerationsContinue, by induction on the generations: each leaves an auction's own file to the next.
-use Rattle.std.proofs.Common.{◌≡◌, ◌≤◌, inl, inr, ℕ, List, [], ◌∷◌, ◌++◌, length, take, Option, Some, None, Result, Ok}
+use Rattle.std.proofs.Common.{◌≡◌, ◌<◌, ◌≤◌, inl, inr, ℕ, List, [], ◌∷◌, ◌++◌, length, take, Option, Some, None, Result}
+use Rattle.std.proofs.Common.{Ok}
 use Rattle.std.proofs.Common.{Err}
 use Rattle.std.proofs.Common.{refl, sym, ap, ◌∙◌, subst, arith, length-append, append-nil, reverse}
 use Rattle.std.proofs.lemmas.List.{take_at}
 use Rattle.clock_terms.specs.Limits.{SetupFields}
 use Rattle.clock_house.specs.House.{HouseFields}
 use Rattle.clock_front.specs.Fronts.{StandsForTexts}
-use Rattle.clock_journal.specs.Crash.{LeavesJournal}
+use Rattle.clock_journal.specs.Crash.{IsEnd, IsFile, LeavesJournal}
 use Rattle.clock_journal.specs.Disks.{CouldBeLeft, LeaveOnly, MayBeLeft, Moment}
 use Rattle.clock_journal.specs.Logged.{HasTexts, JournalState}
 use Rattle.clock_journal.proofs.Files.{some_head}
@@ -19,15 +20,17 @@ use Rattle.clock_journal.proofs.OwnStarts.{not_refused_take}
 use Rattle.clock_server.specs.Accepted.{IsOwnFile}
 use Rattle.clock_server.specs.Keeping.{IsAccepted, IsRefused}
 use Rattle.clock_server.proofs.AcceptedLaws.{accepted_after, accepted_push}
-use Rattle.clock_server.specs.Exchanges.{Exchange}
-use Rattle.clock_server.specs.Generations.{AreRestarts, ContinueFrom, EndsGeneration, Generation, GenerationsContinue}
-use Rattle.clock_server.specs.Generations.{IsGeneration, LeftSince, MayLeave, failed, served}
+use Rattle.clock_server.specs.Exchanges.{Exchange, SendsNothing}
+use Rattle.clock_server.specs.Generations.{AreRestarts, ContinueFrom, EndsGeneration, EndsWith, Generation}
+use Rattle.clock_server.specs.Generations.{GenerationsContinue, LeftSince, MayLeave, Serves, ServesFile}
+use Rattle.clock_server.specs.Generations.{failed, served}
+use Rattle.clock_server.specs.declared.generation.ServerFault.TheVariants.{Serve}
 use Rattle.clock_server.specs.declared.serving.ServeFault.{ServeFault}
 use Rattle.clock_server.specs.declared.serving.ServeFault.TheVariants as fault
 use Rattle.clock_server.specs.Serving.{ServerState, AreServed, EndsServing, IsUnlogged, RepliesTo}
 use Rattle.clock_server.specs.Serving.{Walks}
-use Rattle.clock_server.proofs.Served.{state}
-use Rattle.clock_server.proofs.Untouched.{left_all}
+use Rattle.clock_server.proofs.Served.{served_none, state}
+use Rattle.clock_server.proofs.Untouched.{left_all, take_all}
 
 -- ---- accepted texts that are on the disk
 
@@ -55,38 +58,42 @@ accepted_walk setup digest first (one ∷ others) last (next, step, walks) has =
 
 -- ---- one generation
 
--- from accepted texts on the disk, the file at the end has these, and at most one more
-abbrev EndsWith : SetupFields → List ℕ → JournalState → HouseFields → JournalState → Type 0
-EndsWith setup digest before house last = (texts : List (List ℕ))
-    → HasAccepted setup digest (state texts before None) → StandsForTexts (reverse texts) house
-    → (more : List (List ℕ)) × (length more ≤ 1) × IsOwnFile setup digest (texts ++ more) (length texts) last
+-- after texts that the house stands for: what more the file may have at the end. If these are accepted and on the disk,
+-- it is an own file
+abbrev EndsSo : SetupFields → JournalState → HouseFields → Option Exchange → JournalState → Type 0
+EndsSo setup before house unlogged end = (texts : List (List ℕ)) (rounds : Option (List ℕ))
+    → StandsForTexts (reverse texts) house → (more : List (List ℕ))
+    × EndsWith setup (state texts before rounds) unlogged end more
+    × ((digest : List ℕ) → HasAccepted setup digest (state texts before rounds)
+    → IsOwnFile setup digest (texts ++ more) (length texts) end)
 
 -- all connections were served
-all_logged : (setup : SetupFields) (digest : List ℕ) (last : JournalState) (house : HouseFields)
-    → EndsWith setup digest last house last
-all_logged setup digest last house texts has stands = (
+all_logged : (setup : SetupFields) (last : JournalState) (house : HouseFields) → EndsSo setup last house None last
+all_logged setup last house texts rounds stands = (
   [],
-  omega arith,
-  subst (λ (all : List (List ℕ)). IsOwnFile setup digest all (length texts) last) (sym (append-nil texts)) (record {
-    accepted = has.0;
-    leaves = λ left may. inl (left_all digest texts last left has.1 may);
-  }),
+  (refl, refl),
+  λ digest has. subst (λ (all : List (List ℕ)). IsOwnFile setup digest all (length texts) last)
+      (sym (append-nil texts)) (record {
+        accepted = has.0;
+        leaves = λ left may. inl (left_all digest texts last left has.1 may);
+      }),
 )
 
 -- the text of the last could not be logged
-one_unlogged : (setup : SetupFields) (digest : List ℕ) (before last : JournalState) (house : HouseFields)
-    (one : Exchange) → house.setup ≡ setup → IsUnlogged one.reading before last house
-    → EndsWith setup digest before house last
-one_unlogged setup digest before last house one same unlogged texts has stands = (
-  unlogged.text ∷ [],
-  omega arith,
-  record {
-    accepted = accepted_push setup texts unlogged.text has.0 (subst (λ (of_setup : SetupFields).
-        IsAccepted of_setup (reverse texts) unlogged.text) same (unlogged.accepted (reverse texts) stands));
-    leaves = λ left may. inl ((unlogged.moments digest texts has.1).at_end left
-        (subst (λ (bytes : Option (List ℕ)). MayBeLeft bytes last.written left) unlogged.on_disk may));
-  },
-)
+one_unlogged : (setup : SetupFields) (before last : JournalState) (house : HouseFields) (one : Exchange)
+    → house.setup ≡ setup → SendsNothing one → IsUnlogged one.reading before last house
+    → EndsSo setup before house (Some one) last
+one_unlogged setup before last house one same nothing unlogged texts rounds stands =
+    let accepted = subst (λ (of_setup : SetupFields). IsAccepted of_setup (reverse texts) unlogged.text) same
+    (unlogged.accepted (reverse texts) stands) in (
+      unlogged.text ∷ [],
+      (unlogged.text, unlogged.arrived, accepted, nothing, unlogged.failed, refl),
+      λ digest has. record {
+        accepted = accepted_push setup texts unlogged.text has.0 accepted;
+        leaves = λ left may. inl ((unlogged.moments digest texts has.1).at_end left
+            (subst (λ (bytes : Option (List ℕ)). MayBeLeft bytes last.written left) unlogged.on_disk may));
+      },
+    )
 
 -- what is in the file is what a crash may leave of it
 pub own_left : (setup : SetupFields) (digest : List ℕ) (texts : List (List ℕ)) (least : ℕ) (journal : JournalState)
@@ -95,53 +102,104 @@ pub own_left : (setup : SetupFields) (digest : List ℕ) (texts : List (List ℕ
 own_left setup digest texts least journal synced bytes is written own =
     own.leaves bytes (now_left journal.synced journal.written synced bytes is written)
 
--- the texts of the file, which the auction stands for; all are on the disk, if contracts see its bytes
-abbrev IsResumed : List ℕ → List ℕ → Option (List ℕ) → JournalState → HouseFields → Recovered → Type 0
-IsResumed digest bytes written journal house recovered = (texts : List (List ℕ))
+-- the bytes have all of these texts
+all_left : (digest bytes : List ℕ) (texts : List (List ℕ)) (recovered : Recovered)
+    → AreTextsOf digest bytes texts recovered → LeavesJournal digest bytes texts (length texts)
+all_left digest bytes texts recovered those = elim those.end_is [
+  | inl whole ↦ inl (record {
+    count = length texts;
+    enough = omega arith;
+    most = omega arith;
+    first = subst (λ (all : List (List ℕ)). IsFile digest bytes all IsEnd) (sym (take_all texts)) whole.0;
+  })
+  | inr torn ↦ inr (ap length torn.1, torn.0)
+]
+
+-- the texts of the file, which the auction stands for, and none of which it refuses; all are on the disk, if contracts
+-- see its bytes
+abbrev pub IsResumed : SetupFields → List ℕ → List ℕ → Option (List ℕ) → JournalState → HouseFields → Recovered
+    → Type 0
+IsResumed setup digest bytes written journal house recovered = (texts : List (List ℕ))
     × AreTextsOf digest bytes texts recovered × StandsForTexts (reverse texts) house
-    × (written ≡ Some bytes → HasTexts digest texts journal)
+    × NoneRefused (IsRefused setup) [] texts × (written ≡ Some bytes → HasTexts digest texts journal)
 
 module _ (setup : SetupFields) (found first : JournalState) (bytes : List ℕ) (old : HouseFields) (same : old.setup
-    ≡ setup) (recovered : Recovered) (resumes : IsResumed found.chain bytes found.written first old
-    recovered) where
+    ≡ setup) (recovered : Recovered) (resumes : IsResumed setup found.chain bytes found.written first old
+    recovered) (chained : first.chain ≡ recovered.chain) where
+  -- from texts that the house stands for
+  module _ (exchanges : List Exchange) (rounds : Option (List ℕ)) (before last : JournalState) (house : HouseFields)
+      (unlogged : Option Exchange) (are : AreServed exchanges None rounds first before old house) (ends_so : EndsSo
+      setup before house unlogged last) (texts : List (List ℕ)) (stands : StandsForTexts (reverse texts) old) where
+    abbrev end : List (List ℕ)
+    end = (are texts stands).0
+
+    walked : Walks setup (state texts first None) exchanges (state end before rounds)
+    walked = subst (λ (of_setup : SetupFields). Walks of_setup (state texts first None) exchanges
+        (state end before rounds)) same (are texts stands).1
+
+    abbrev from : Serves setup texts exchanges unlogged last
+    from = let ends = ends_so end rounds (are texts stands).2 in record {
+      resumed = first;
+      last = state end before rounds;
+      walks = walked;
+      more = ends.0;
+      ends = ends.1;
+    }
+
+    own_then : NoneRefused (IsRefused setup) [] texts → HasTexts found.chain texts first
+        → IsOwnFile setup found.chain (from.last.texts ++ from.more) (length from.last.texts) last
+    own_then accepted has = (ends_so end rounds (are texts stands).2).2 found.chain
+        (accepted_walk setup found.chain (state texts first None) exchanges (state end before rounds) walked
+        (accepted, has))
+
   serves : (exchanges : List Exchange) (rounds : Option (List ℕ)) (before last : JournalState)
-      (house : HouseFields) → AreServed exchanges None rounds first before old house
-      → EndsWith setup found.chain before house last
-      → found.written ≡ Some bytes → IsGeneration setup found.chain (served found exchanges last)
-  serves exchanges rounds before last house are ends_with written texts least synced is own =
-      let those = left_first found.chain bytes resumes.0 texts least recovered resumes.1
-      (own_left setup found.chain texts least found synced bytes is written own) in
-      let has = subst (λ (all : List (List ℕ)). HasTexts found.chain all first) those.3 (resumes.3 written) in
-      let ends = are (take those.0 texts)
-      (subst (λ (all : List (List ℕ)). StandsForTexts (reverse all) old) those.3 resumes.2) in
-      let walks = subst (λ (of_setup : SetupFields). Walks of_setup (state (take those.0 texts) first None) exchanges
-      (state ends.0 before rounds)) same ends.1 in
-      let own_end =
-      ends_with ends.0 (accepted_walk setup found.chain (state (take those.0 texts) first None) exchanges (state ends.0
-      before rounds) walks (not_refused_take (IsRefused setup) [] texts those.0 own.accepted, has)) ends.2 in
-      record {
-        count = those.0;
-        enough = those.1;
-        most = those.2;
-        resumed = first;
-        has = has;
-        last = state ends.0 before rounds;
-        walks = walks;
-        more = own_end.0;
-        few = own_end.1;
-        own = own_end.2;
-      }
+      (house : HouseFields) (unlogged : Option Exchange) → AreServed exchanges None rounds first before old house
+      → EndsSo setup before house unlogged last → ServesFile setup bytes exchanges unlogged found last
+  serves exchanges rounds before last house unlogged are ends_so = record {
+    texts = resumes.0;
+    file = all_left found.chain bytes resumes.0 recovered resumes.1;
+    accepted = resumes.3;
+    serves = from exchanges rounds before last house unlogged are ends_so resumes.0 resumes.2;
+    chained = chained ∙ resumes.1.chain_is;
+    generation = λ written texts least synced is own.
+        let those = left_first found.chain bytes resumes.0 texts least recovered resumes.1
+        (own_left setup found.chain texts least found synced bytes is written own) in
+        let has = subst (λ (all : List (List ℕ)). HasTexts found.chain all first) those.3 (resumes.4 written) in
+        let stands = subst (λ (all : List (List ℕ)). StandsForTexts (reverse all) old) those.3 resumes.2 in
+        record {
+          count = those.0;
+          enough = those.1;
+          most = those.2;
+          serves = from exchanges rounds before last house unlogged are ends_so (take those.0 texts) stands;
+          has = has;
+          own = own_then exchanges rounds before last house unlogged are ends_so (take those.0 texts) stands
+              (not_refused_take (IsRefused setup) [] texts those.0 own.accepted) has;
+        };
+  }
 
   served_all : (exchanges : List Exchange) (rounds : Option (List ℕ)) (last : JournalState)
       (new : HouseFields) → AreServed exchanges None rounds first last old new
-      → found.written ≡ Some bytes → IsGeneration setup found.chain (served found exchanges last)
+      → ServesFile setup bytes exchanges None found last
   served_all exchanges rounds last new are =
-      serves exchanges rounds last last new are (all_logged setup found.chain last new)
+      serves exchanges rounds last last new None are (all_logged setup last new)
+
+  -- in EndsGeneration
+  abbrev EndsServed : {U : Type 0} → ℕ → List Exchange → JournalState → Result U ServeFault → Type 0
+  EndsServed count exchanges last (Ok done) =
+      (length exchanges ≡ count) × ServesFile setup bytes exchanges None found last
+  EndsServed count exchanges last (Err fault.Accept) =
+      (length exchanges < count) × ServesFile setup bytes exchanges None found last
+  EndsServed count exchanges last (Err fault.Journal) =
+      (some : List Exchange) × (one : Exchange) × (exchanges ≡ some ++ one ∷ [])
+      × (length exchanges ≤ count) × ServesFile setup bytes some (Some one) found last
+
+  -- none was accepted
+  pub ends_before : ServesFile setup bytes [] None found first
+  ends_before = served_all [] None first old (served_none None first old)
 
   pub ends_by : (U : Type 0) (count : ℕ) (exchanges : List Exchange) (rounds : Option (List ℕ))
       (last : JournalState) (new : HouseFields) (end : Result U ServeFault)
-      → EndsServing count exchanges None rounds first last old new end
-      → EndsGeneration setup count exchanges bytes found last (Ok end)
+      → EndsServing count exchanges None rounds first last old new end → EndsServed count exchanges last end
   ends_by U count exchanges rounds last new (Ok done) ends =
       (ends.0, served_all exchanges rounds last new ends.1)
   ends_by U count exchanges rounds last new (Err fault.Accept) ends =
@@ -151,10 +209,16 @@ module _ (setup : SetupFields) (found first : JournalState) (bytes : List ℕ) (
     ends.1,
     ends.2,
     ends.3,
-    ends.7,
-    serves ends.0 rounds ends.4 last ends.5 ends.6
-        (one_unlogged setup found.chain ends.4 last ends.5 ends.1 (ends.8 ∙ same) ends.9),
+    serves ends.0 rounds ends.4 last ends.5 (Some ends.1) ends.6
+        (one_unlogged setup ends.4 last ends.5 ends.1 (ends.8 ∙ same) ends.7 ends.9),
   )
+
+  -- the same, of all faults of serving
+  pub ends_fault : (U E : Type 0) (count : ℕ) (exchanges : List Exchange) (last : JournalState) (why : ServeFault)
+      → EndsServed {U = U} count exchanges last (Err why)
+      → EndsGeneration {U = U} {E = E} setup count exchanges bytes found last (Err (Serve why))
+  ends_fault U E count exchanges last fault.Accept ends = ends
+  ends_fault U E count exchanges last fault.Journal ends = ends
 
 -- ---- generations
 
@@ -193,13 +257,13 @@ continue_from setup digest texts least Leaves (failed found why end ∷ others) 
                 left ends.1 since
           ]) follow.3,
     )
-continue_from setup digest texts least Leaves (served found exchanges end ∷ others) accepted safe follow =
+continue_from setup digest texts least Leaves (served found exchanges unlogged end ∷ others) accepted safe follow =
     let own : IsOwnFile setup digest texts least found =
     record { accepted = accepted; leaves = λ left may. safe left (follow.2 left may) } in
     let from = follow.0 texts least follow.1.0 follow.1.1 own in (
       from,
-      continue_from setup digest (from.last.texts ++ from.more) (length from.last.texts)
-          (MayLeave (served found exchanges end)) others from.own.accepted
+      continue_from setup digest (from.serves.last.texts ++ from.serves.more) (length from.serves.last.texts)
+          (MayLeave (served found exchanges unlogged end)) others from.own.accepted
           (λ left may. from.own.leaves left may) follow.3,
     )
 

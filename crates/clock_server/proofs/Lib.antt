@@ -9,3 +9,4 @@ mod Served
 mod Ends
 mod Bytes
 mod GenerationLaws
+mod MirroredLaws

@@ -8,7 +8,7 @@ use Rattle.clock_journal.specs.Logged.{JournalState, HasTexts, file_of}
 use Rattle.clock_journal.proofs.Moments.{front_leaves}
 use Rattle.clock_journal.proofs.Passing.{leave_none}
 
-take_all : {A : Type 0} (xs : List A) → take (length xs) xs ≡ xs
+pub take_all : {A : Type 0} (xs : List A) → take (length xs) xs ≡ xs
 take_all [] = refl
 take_all (x ∷ xs) = ap (λ ys. x ∷ ys) (take_all xs)
 

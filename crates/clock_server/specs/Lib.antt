@@ -4,4 +4,5 @@ pub mod Exchanges
 pub mod Serving
 pub mod Laws
 pub mod Generations
+pub mod MirroredGenerations
 pub mod inside

@@ -1,2 +1,3 @@
 -- What only proofs and private functions use: no clause of a public call cites it.
 pub mod Served
+pub mod NotTaken

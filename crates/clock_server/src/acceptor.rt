@@ -7,6 +7,7 @@ ghost use Rattle.clock_server.specs.Exchanges.{Came, Exchange, Offer, Sends};
 
 use crate::request_log::RequestLog;
 use clock_device::{Failed, FromReader, Sink, Source, ToWriter, write_all};
+use clock_journal::Recovered;
 use std::net::{TcpListener, TcpStream};
 
 /// The receiver of the reply on one connection, sent in a single call.
@@ -102,6 +103,41 @@ pub trait Acceptor {
             } ∷ []) };
 }
 
+/// A source of connections that begins to listen when a journal was resumed, such as a port.
+pub trait Listen: Acceptor {
+    /// Why it does not listen.
+    type Fault;
+
+    /// Begins to listen, and accepts no connection. `recovered` is what the journal had.
+    ///
+    /// Requires that no connection is open. At `Err`, it does not listen; accept no connection.
+    fn listen(&mut self, recovered: Recovered) -> Result<(), Self::Fault>
+        requires { Self.offer self.old ≡ None }
+        ensures open { Self.offer self.new ≡ None }
+        ensures coming { Self.coming self.new ≡ Self.coming self.old }
+        ensures closed { Self.closed self.new ≡ Self.closed self.old }
+        ensures failed { Self.has_failed self.new ≡ Self.has_failed self.old };
+}
+
+/// Accepts the next connection of a port.
+pub fn accept_on(
+    listener: &TcpListener,
+) -> Result<Connection<FromReader<TcpStream>, ToWriter<TcpStream>>, Failed>
+    ensures source { IfOk result
+        (λ one. ⟦<FromReader<TcpStream> as Source>⟧.report one.source ≡ unread None) }
+    ensures sink { IfOk result
+        (λ one. ⟦<ToWriter<TcpStream> as Sink>⟧.report one.sink ≡ unused None) }
+{
+    let Ok((stream, _peer)) = listener.accept() else {
+        return Err(Failed);
+    };
+    let Ok(reader) = stream.try_clone() else {
+        return Err(Failed);
+    };
+    let (source, sink) = (FromReader::new(reader), ToWriter::new(stream));
+    Ok(Connection { source, sink })
+}
+
 /// The connections of a TCP port. In contracts, it shows no bytes, since sockets show none.
 #[derive(Drop)]
 pub struct PortAcceptor<'a> {
@@ -142,17 +178,12 @@ impl Acceptor for PortAcceptor<'_> {
     ghost has_failed = { λ listening. listening.has_failed };
 
     fn accept(&mut self) -> Result<Connection<FromReader<TcpStream>, ToWriter<TcpStream>>, Failed> {
-        let Ok((stream, _peer)) = self.listener.accept() else {
-            self.has_failed = true;
-            return Err(Failed);
-        };
-        let Ok(reader) = stream.try_clone() else {
+        let Ok(one) = accept_on(self.listener) else {
             self.has_failed = true;
             return Err(Failed);
         };
         self.is_open = true;
-        let (source, sink) = (FromReader::new(reader), ToWriter::new(stream));
-        Ok(Connection { source, sink })
+        Ok(one)
     }
 
     fn close(&mut self, connection: Connection<FromReader<TcpStream>, ToWriter<TcpStream>>)

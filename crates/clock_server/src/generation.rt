@@ -1,16 +1,19 @@
 //! One generation of a server: it replays the texts of its journal, and serves.
-ghost use Rattle.std.specs.Prelude.{◌≡◌, [], ◌∷◌, List, ℕ, Err, IfOk, None, Ok, true, false};
+ghost use Rattle.std.specs.Prelude.{◌≡◌, [], ◌∷◌, List, ℕ, Err, IfOk, None, Ok, OnOk, true, false};
 ghost use Rattle.clock_terms.specs.Limits.{SetupFields};
 ghost use Rattle.clock_front.specs.{Effects.{effect as effect_of}, Fronts.{StandsForTexts}};
-ghost use Rattle.clock_server.specs.Keeping.{GrowsBy, IsRefused};
+ghost use Rattle.clock_server.specs.Keeping.{GrowsBy, IsAccepted, IsRefused};
+ghost use Rattle.clock_server.specs.inside.NotTaken.{not_taken_by};
 ghost use Rattle.clock_server.specs.Exchanges.{Came, Exchange, bytes_given};
 ghost use Rattle.clock_server.specs.Generations.{EndsGeneration, GenerationsContinue};
+ghost use Rattle.clock_server.specs.MirroredGenerations.{MirroredGenerationsContinue};
 
-use crate::acceptor::Acceptor;
+use crate::acceptor::Listen;
+use crate::request_log::{Announced, Announcer};
 use crate::serving::{ServeFault, serve_all};
 use clock_front::{Effect, Front};
 use clock_http::{Code, frame};
-use clock_journal::{Durable, Journal, JournalFault, Machine, Record, Recovered, TakeError};
+use clock_journal::{Durable, JournalFault, Machine, Record, Recovered, TakeError, law_of_mirrors};
 use clock_processor::Processor;
 use std::alloc::Global;
 
@@ -36,14 +39,16 @@ impl<P: Processor> Machine for ReplayedAuction<P> {
     }
 }
 
-/// Gives a front the next text of its journal, and returns what the text changed. Errors:
-/// `NoMemory` if the reply says so; `Refused` for any other text that changes nothing, since no
-/// server logged it.
+/// Gives a front the next text of its journal, and returns what the text changed. It takes no text
+/// that changes nothing, since no server logged it. Errors: `NoMemory` if the reply says so;
+/// `Refused` for any other text that changes nothing. Do not use the front after an `Err`.
 pub fn take_text<P: Processor>(front: &mut Front<P>, text: &[u8]) -> Result<Effect, TakeError>
     ensures taken { (texts : List (List ℕ)) → StandsForTexts texts front.old
         → IfOk result (λ effect. effect ≡ effect_of front.old.setup texts text.now) }
     ensures stands { (texts : List (List ℕ)) → StandsForTexts texts front.old
         → IfOk result (λ effect. StandsForTexts (text.now ∷ texts) front.new) }
+    ensures accepted { (texts : List (List ℕ)) → StandsForTexts texts front.old
+        → OnOk result (IsAccepted front.old.setup texts text.now) }
     ensures refused { (texts : List (List ℕ)) → result ≡ Err TakeError.Refused
         → StandsForTexts texts front.old → IsRefused front.old.setup texts text.now }
     ensures setup { front.new.setup ≡ front.old.setup }
@@ -52,15 +57,34 @@ pub fn take_text<P: Processor>(front: &mut Front<P>, text: &[u8]) -> Result<Effe
     if response.effect != Effect::Nothing {
         return Ok(response.effect);
     }
-    match response.reply.code() {
-        Code::Memory => Err(TakeError::NoMemory),
-        _ => Err(TakeError::Refused),
+    Err(not_taken(response.reply.code()))
+}
+
+/// Returns why a text that changes nothing was not taken, by the code of its reply.
+fn not_taken(code: Code) -> TakeError
+    ensures { result ≡ not_taken_by code }
+{
+    match code {
+        Code::Memory => TakeError::NoMemory,
+        _ => TakeError::Refused,
     }
 }
 
-/// Runs one generation of a server: resumes the journal of a file with [`Journal::resume`], and
-/// serves `count` connections with [`serve_all`]. The program makes these two calls itself. `Err`
-/// is a start that failed, and `Ok` has what [`serve_all`] returned.
+/// Why a server ended before it served all connections.
+///
+/// - `Start`: its journal could not be resumed.
+/// - `Listen`: it could not listen for connections.
+/// - `Serve`: not all connections could be served.
+#[derive(Clone, Copy, Debug, PartialEq, Eq)]
+pub enum ServerFault<E> {
+    Start(JournalFault),
+    Listen(E),
+    Serve(ServeFault),
+}
+
+/// Runs one generation of a server: resumes the journal of a file with [`Journal::resume`], listens
+/// for connections, and serves `count` of them with [`serve_all`]. The program serves with this
+/// call. `bytes` are all bytes of the file. They are freed before it listens.
 ///
 /// If the file is what a crash left of this auction's journal, the start is not refused, and each
 /// reply is the right one after the logged texts. What a crash leaves after that is this auction's
@@ -68,30 +92,45 @@ pub fn take_text<P: Processor>(front: &mut Front<P>, text: &[u8]) -> Result<Effe
 ///
 /// Requires an auction without texts, a journal that has not failed, and connections of which none
 /// is open and none has failed.
-pub fn serve_from<P: Processor, D: Durable, C: Acceptor, F: FnOnce(Recovered)>(
+///
+/// Errors: `Start`, `Listen`, or `Serve`, of the first of these calls that fails. Do not use the
+/// auction and the journal afterward.
+pub fn serve_from<P: Processor, D: Durable, A: Announcer, C: Listen, F: FnOnce(Recovered)>(
     alloc: Global,
     auction: &mut ReplayedAuction<P>,
-    journal: &mut Journal<D>,
-    bytes: &[u8],
+    log: &mut Announced<D, A>,
+    bytes: Vec<u8>,
     tell: F,
     connections: &mut C,
     count: u64,
-) -> Result<Result<(), ServeFault>, JournalFault>
+) -> Result<(), ServerFault<C::Fault>>
     requires fresh { StandsForTexts [] auction.old.front }
-    requires unfailed { journal.old.has_failed ≡ false }
+    requires unfailed { log.old.journal.has_failed ≡ false }
     requires callable { F.IsAlwaysCallable tell }
     requires closed { C.offer connections.old ≡ None }
     requires taken { C.has_failed connections.old ≡ false }
     ensures generation { (exchanges : List Exchange)
         × GrowsBy (C.closed connections.old) (C.closed connections.new) exchanges
         × Came (C.coming connections.old) (C.coming connections.new) (bytes_given exchanges)
-        × EndsGeneration auction.old.front.setup count exchanges bytes.now journal.old journal.new
-        result }
+        × EndsGeneration auction.old.front.setup count exchanges bytes.items log.old.journal
+        log.new.journal result }
     ensures closed { C.offer connections.new ≡ None }
-    ensures taken { result ≡ Ok (Err ServeFault.Accept) → C.has_failed connections.new ≡ true }
+    ensures taken { result ≡ Err (ServerFault.Serve ServeFault.Accept)
+        → C.has_failed connections.new ≡ true }
 {
-    journal.resume(auction, bytes, tell)?;
-    Ok(serve_all(alloc, &mut auction.front, journal, connections, count))
+    let resumed = log.journal.resume(auction, bytes.as_slice(), tell);
+    drop(bytes);
+    let recovered = match resumed {
+        Ok(recovered) => recovered,
+        Err(fault) => return Err(ServerFault::Start(fault)),
+    };
+    if let Err(fault) = connections.listen(recovered) {
+        return Err(ServerFault::Listen(fault));
+    }
+    match serve_all(alloc, &mut auction.front, log, connections, count) {
+        Ok(()) => Ok(()),
+        Err(fault) => Err(ServerFault::Serve(fault)),
+    }
 }
 
 /// The second headline, a law, which does nothing when it runs: generations that start on what a
@@ -99,3 +138,11 @@ pub fn serve_from<P: Processor, D: Durable, C: Acceptor, F: FnOnce(Recovered)>(
 pub fn law_of_generations()
     ensures { GenerationsContinue }
 {}
+
+/// The third promise, a law: the same of a journal in two files, of which each crash may lose one.
+pub fn law_of_mirrored_generations()
+    ensures { MirroredGenerationsContinue }
+{
+    law_of_mirrors();
+    law_of_generations();
+}

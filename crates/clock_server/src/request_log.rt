@@ -6,7 +6,7 @@ ghost use Rattle.clock_journal.specs.Logged.{IsAppended, JournalState};
 ghost use Rattle.clock_server.specs.Keeping.{GrowsBy, no_journal};
 
 use clock_device::Failed;
-use clock_journal::{Durable, Journal, MOST_TEXT};
+use clock_journal::{Durable, Journal, Link, MOST_TEXT};
 
 /// What logs the accepted texts of an auction before they get their reply.
 ///
@@ -53,6 +53,32 @@ impl<D: Durable> RequestLog for Journal<D> {
     }
 
     fn round_closed(&mut self, _round: u64) {}
+}
+
+/// Announces closed rounds.
+pub trait Announcer {
+    /// Announces a closed round, after the reply to its closing. `digest` is that of the closing
+    /// and of all texts before it.
+    fn round_closed(&mut self, round: u64, digest: &Link);
+}
+
+/// A journal that announces each closed round.
+#[derive(Drop)]
+pub struct Announced<D: Durable, A> {
+    pub journal: Journal<D>,
+    pub announcer: A,
+}
+
+impl<D: Durable, A: Announcer> RequestLog for Announced<D, A> {
+    ghost journal = { λ log. log.journal };
+
+    fn log(&mut self, text: &[u8]) -> Result<(), Failed> {
+        self.journal.log(text)
+    }
+
+    fn round_closed(&mut self, round: u64) {
+        self.announcer.round_closed(round, self.journal.chain());
+    }
 }
 
 /// Logs nothing.

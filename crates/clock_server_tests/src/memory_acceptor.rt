@@ -6,7 +6,8 @@ ghost use Rattle.clock_server.specs.{Exchanges.{Exchange, Offer}, Keeping.{Grows
 ghost use Rattle.clock_server_tests.specs.MemoryAcceptor.{MemoryAcceptorState};
 
 use clock_device::{Bounded, Failed, Items, ListSink, ListSource, NoMemory, Stop};
-use clock_server::{Acceptor, Connection};
+use clock_journal::Recovered;
+use clock_server::{Acceptor, Connection, Listen};
 use std::alloc::Global;
 use std::marker::Model;
 
@@ -109,6 +110,18 @@ impl<'a> MemoryAcceptor<'a> {
         ensures { result.now ≡ self.now.closed }
     {
         self.closed.as_slice()
+    }
+}
+
+/// Listening for connections in memory has no fault.
+#[derive(Clone, Copy, Debug, PartialEq, Eq)]
+pub struct NoFault;
+
+impl Listen for MemoryAcceptor<'_> {
+    type Fault = NoFault;
+
+    fn listen(&mut self, _recovered: Recovered) -> Result<(), NoFault> {
+        Ok(())
     }
 }
 

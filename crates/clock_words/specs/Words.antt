@@ -57,11 +57,12 @@ most_port = 65535
 abbrev pub most_served : ℕ
 most_served = 1000000
 
--- `serve --setup FILE --port N --connections K [--journal FILE]`
+-- `serve --setup FILE --port N --connections K [--journal FILE [--mirror FILE]]`
 abbrev pub serve_grammar : App
-serve_grammar = with_rule (with_rule (with_rule (with_rule (new_app (codes "serve"))
+serve_grammar = with_rule (with_rule (with_rule (with_rule (with_rule (new_app (codes "serve"))
     (needed_rule (codes "setup"))) (number_rule (codes "port") most_port))
-    (number_rule (codes "connections") most_served)) (option_rule (codes "journal"))
+    (number_rule (codes "connections") most_served)) (option_rule (codes "journal")))
+    (option_rule (codes "mirror"))
 
 -- a command on two files, such as `audit --setup FILE --journal FILE`
 abbrev pub files_grammar : Text → App
@@ -98,12 +99,13 @@ number_within least most text = if is_unsigned_in least most text
 abbrev pub number_of : Text → ℕ → ℕ → List Row → Option ℕ
 number_of name least most options = option_and_then (number_within least most) (one_of name options)
 
--- the arguments of `serve`: set-up file, port, number of connections, journal file if any
+-- the arguments of `serve`: set-up file, port, number of connections, journal files if any
 pub record ServingFields : Type 0 where
   pub setup : Text
   pub port : ℕ
   pub connections : ℕ
   pub journal : Option Text
+  pub mirror : Option Text
 
 -- the arguments of `journal` and `audit`: set-up file and journal file
 pub record FilesFields : Type 0 where
@@ -126,6 +128,7 @@ serving_from options =
       port = port;
       connections = connections;
       journal = first_of (codes "journal") options;
+      mirror = first_of (codes "mirror") options;
     })
     (number_of (codes "connections") 1 most_served options))
     (number_of (codes "port") 1 most_port options)) (first_of (codes "setup") options)
@@ -158,6 +161,7 @@ serving_fields serving = record {
   port = serving.port;
   connections = serving.connections;
   journal = option_map (λ text. text.now) serving.journal;
+  mirror = option_map (λ text. text.now) serving.mirror;
 }
 
 -- the files that are named, as contracts see them

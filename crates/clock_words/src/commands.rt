@@ -101,11 +101,13 @@ fn serve_command<'a>(alloc: Global) -> Result<Command<'a>, AllocError>
     let port = "Port of 127.0.0.1 to listen at, 1 to 65535";
     let served = "Connections to serve before ending, 1 to 1000000";
     let purpose = "Log of accepted sheets and closings, created if it does not exist";
+    let second = "Second file of the journal, on another disk";
     named(alloc, "serve", about, SERVE_HELP)
         .arg(needed_option(alloc, "setup", SETUP_FILE))?
         .arg(number_option(alloc, "port", MOST_PORT, port))?
         .arg(number_option(alloc, "connections", MOST_SERVED, served))?
-        .arg(option(alloc, "journal", "FILE", purpose))
+        .arg(option(alloc, "journal", "FILE", purpose))?
+        .arg(option(alloc, "mirror", "FILE", second))
 }
 
 /// Makes a command on a set-up file and a journal.

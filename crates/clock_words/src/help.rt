@@ -65,6 +65,10 @@ restarted with both files resumes where the last one ended, even after a crash. 
 `journal N HEX` before `ready PORT`: the number of logged requests, and the last digest. After each closing
 it prints `closed ROUND HEX`. Without `--journal`, nothing is stored.
 
+With `--mirror` too, each of these is on the disks of both files before its reply is sent. A start continues
+from the longer file, and brings the other up to it, which may be new, empty or shorter. If neither file is a
+prefix of the other, it ends with `fault: journal_differs N`. N is the first byte that differs.
+
 Exit status: 0, or 1 with a line such as `fault: file`, `fault: setup_shape`, `fault: bind` or `fault: accept`,
 and with a journal `fault: journal`, `fault: journal_busy`, `fault: journal_unknown`, `fault: journal_setup`,
 `fault: journal_damaged 56` or `fault: journal_refused 56`.

@@ -34,6 +34,8 @@ pub struct Serving<'a> {
     pub connections: u64,
     /// The file of the journal, if there is to be one.
     pub journal: Option<&'a str>,
+    /// The second file of the journal, if there is to be one.
+    pub mirror: Option<&'a str>,
 }
 
 /// The arguments of `journal` and `audit`.
@@ -103,6 +105,7 @@ fn serving_with<'a>(options: &ArgMatches<'a>) -> Option<Serving<'a>>
         port: port as u16,
         connections,
         journal: text_in(options, "journal"),
+        mirror: text_in(options, "mirror"),
     })
 }
 

@@ -6,12 +6,12 @@ ghost use Rattle.clock_front.specs.Fronts.{StandsForTexts};
 use super::crash_disk::{CrashDisk, Passed};
 use super::loops::{Sent, assert_written, clients};
 use crate::comparing::{assert_is, assert_is_at, made_at};
-use crate::memory_acceptor::MemoryAcceptor;
+use crate::memory_acceptor::{MemoryAcceptor, NoFault};
 use clock_fixtures::{ACCEPTED, BIDS_OF_X, FIRST_ROUND, NO_BIDS, ONE_PRODUCT, PUT, STATUS};
 use clock_front::Front;
-use clock_journal::{Journal, JournalFault, Link, Recovered};
+use clock_journal::{Journal, Link, Recovered};
 use clock_processor::Plain;
-use clock_server::{ReplayedAuction, ServeFault, serve_from};
+use clock_server::{Announced, Announcer, ReplayedAuction, ServeFault, ServerFault, serve_from};
 use clock_setup::{SetupFault, read_setup};
 use std::alloc::Global;
 use std::process::Abort;
@@ -55,32 +55,48 @@ const NOT_STARTED: &str = "not started";
 const NOT_LOGGED: &str = "not logged";
 
 /// How a generation ended, by its result.
-fn ended_by(end: Result<Result<(), ServeFault>, JournalFault>) -> &'static str {
+fn ended_by(end: Result<(), ServerFault<NoFault>>) -> &'static str {
     match end {
-        Err(_) => NOT_STARTED,
-        Ok(Ok(())) => SERVED,
-        Ok(Err(ServeFault::Accept)) => "not accepted",
-        Ok(Err(ServeFault::Journal)) => NOT_LOGGED,
+        Ok(()) => SERVED,
+        Err(ServerFault::Start(_)) => NOT_STARTED,
+        Err(ServerFault::Listen(_)) => "not listening",
+        Err(ServerFault::Serve(ServeFault::Accept)) => "not accepted",
+        Err(ServerFault::Serve(ServeFault::Journal)) => NOT_LOGGED,
     }
 }
+
+/// Announces nothing.
+#[derive(Drop)]
+struct Silent;
+
+impl Announcer for Silent {
+    fn round_closed(&mut self, _round: u64, _digest: &Link) {}
+}
+
+/// A journal on such a disk.
+type Log<'a, R> = Announced<CrashDisk<'a, R>, Silent>;
 
 /// Runs one generation of a server on a file. Returns how it ended, or `None` if memory runs out.
 fn generation<R: Abort>(
     alloc: Global,
-    journal: &mut Journal<CrashDisk<'_, R>>,
+    log: &mut Log<'_, R>,
     file: &[u8],
     listed: &mut MemoryAcceptor<'_>,
     count: u64,
 ) -> Option<&'static str>
-    requires unfailed { journal.old.has_failed ≡ false }
+    requires unfailed { log.old.journal.has_failed ≡ false }
     requires closed { listed.old.offer ≡ None }
     requires taken { listed.old.has_failed ≡ false }
 {
     let Ok(mut auction) = auction(alloc) else {
         return None;
     };
+    let Ok(file) = file.to_vec(alloc) else {
+        drop(auction);
+        return None;
+    };
     let tell = |_recovered: Recovered| {};
-    let end = serve_from(alloc, &mut auction, journal, file, tell, listed, count);
+    let end = serve_from(alloc, &mut auction, log, file, tell, listed, count);
     drop(auction);
     Some(ended_by(end))
 }
@@ -110,16 +126,16 @@ fn assert_left(rt: &impl Abort, moments: &[Passed], run: &Run<'_>) {
 fn serve<R: Abort>(
     rt: &R,
     alloc: Global,
-    journal: &mut Journal<CrashDisk<'_, R>>,
+    log: &mut Log<'_, R>,
     file: &[u8],
     sent: &[Sent<'_>],
     run: &Run<'_>,
 )
-    requires { journal.old.has_failed ≡ false }
+    requires { log.old.journal.has_failed ≡ false }
 {
     let clients = made_at(rt, run.0, clients(alloc, sent));
     let mut listed = MemoryAcceptor::new(alloc, clients.as_slice()).expect(rt, "connections");
-    let ended = generation(alloc, journal, file, &mut listed, sent.len() as u64);
+    let ended = generation(alloc, log, file, &mut listed, sent.len() as u64);
     assert_is_at(rt, run.0, ended, Some(run.1));
     assert_written(rt, listed.closed(), run.2);
     drop(listed);
@@ -135,11 +151,13 @@ fn run_server<R: Abort>(
     sent: &[Sent<'_>],
     run: &Run<'_>,
 ) -> Vec<u8> {
-    let mut journal = Journal::new(CrashDisk::new(rt, alloc, file, calls), DIGEST);
-    serve(rt, alloc, &mut journal, file, sent, run);
-    assert_left(rt, journal.disk().moments(), run);
-    let bytes = journal.disk().bytes().to_vec(alloc).ok();
-    drop(journal);
+    let journal = Journal::new(CrashDisk::new(rt, alloc, file, calls), DIGEST);
+    let announcer = Silent;
+    let mut log = Announced { journal, announcer };
+    serve(rt, alloc, &mut log, file, sent, run);
+    assert_left(rt, log.journal.disk().moments(), run);
+    let bytes = log.journal.disk().bytes().to_vec(alloc).ok();
+    drop(log);
     made_at(rt, run.0, bytes)
 }
 

@@ -3,3 +3,4 @@ mod crash_disk;
 mod crashes;
 mod loopback;
 mod loops;
+mod mirrors;

@@ -15,7 +15,7 @@ returns-in-Ok-run-clause-ending g c words parsing =
 pub returns-in-Some-clause-ending : goal.returns-in-Some-clause-ending
 returns-in-Some-clause-ending g c words parsing =
     let none : job_of words ≡ None = search (rules, parsing) in
-    refused_run (job_of words) none _ c.requires.unread _ c.requires.unwritten _
+    refused_run (job_of words) none _ c.requires.unread _ c.requires.unwritten _ c.show_message-in-Some.ensures
 
 pub returns-in-Err-run-clause-ending : goal.returns-in-Err-run-clause-ending
 returns-in-Err-run-clause-ending g c words parsing =

@@ -36,4 +36,4 @@ returns-clause-ok c =
     let all = c.in_ok-recovered.ensures.ok in
     audit_is c.args.recount.now.front.setup c.recover.new.machine.front.setup c.args.first.now c.args.bytes.items
     c.as_slice.result.now _ all.0 c.in_ok-recovered.recovered c.as_slice.ensures.value c.recover.ensures.rules
-    all.1 (c.in_ok-text.ensures c.args.first.now (reverse all.0) all.2)
+    all.1 all.3 (c.in_ok-text.ensures c.args.first.now (reverse all.0) all.2)

@@ -10,10 +10,12 @@ use Rattle.clock_journal.specs.Crash.{IsEnd, IsFile}
 use Rattle.clock_journal.specs.Reading.{Next, next, damaged, whole}
 use Rattle.clock_journal.specs.Recovering.{HasHead, record_at}
 use Rattle.clock_journal.specs.inside.Replays.{IsOnWay}
+use Rattle.clock_journal.specs.Resuming.{NoneRefused}
 use Rattle.clock_journal.specs.Logged.{file_of}
 use Rattle.clock_journal.specs.declared.recovery.Record.{Record}
 use Rattle.clock_journal.proofs.Lists.{many_bytes, reverse-newest, reverse-push}
 use Rattle.clock_journal.proofs.Moments.{file-push, last_link-push}
+use Rattle.clock_journal.proofs.OwnStarts.{not_refused_push}
 use Rattle.clock_journal.proofs.Files.{file_head_length, kind, length-head}
 use Rattle.clock_journal.proofs.TakenOver.{has_head, kind_of_head, long_head, not_same, other_head, short_headless}
 use Rattle.clock_journal.proofs.Tested.{same_where}
@@ -76,30 +78,35 @@ module _ (mid : List ℕ → List (List ℕ) → Type 0) (digest bytes chain : L
       subst (λ (n : ℕ). n < 256) (sym (get_or-drop (length file) bytes place 0)
       ∙ ap (λ (b : List ℕ). get_or b place 0) behind) (small (length file + place))
 
-  -- one more text was taken, with its record
-  on_way_more : (new : List ℕ → List (List ℕ) → Type 0) (text link_is : List ℕ) (record_is : Record)
+  -- one more text was taken, with its record, and is not refused
+  on_way_more : (new : List ℕ → List (List ℕ) → Type 0) (refuses : List (List ℕ) → List ℕ → Type 0)
+      (text link_is : List ℕ) (record_is : Record)
       → ((place : ℕ) → get_or bytes place 0 < 256) → next chain rest ≡ whole text → link_is ≡ link chain text
       → record_is ≡ record_at digest (reverse way.texts) text
       → ((first : List ℕ) (past : List (List ℕ)) → mid first past → record_is ≡ record_at first past text
       → new first (text ∷ past))
-      → IsOnWay new digest bytes link_is (count + 1) (drop (before_text + length text) rest)
-  on_way_more new text link_is record_is small is linked same taken =
+      → NoneRefused refuses [] way.texts → (refuses (reverse way.texts) text → ⊥)
+      → (more : IsOnWay new digest bytes link_is (count + 1) (drop (before_text + length text) rest))
+      × NoneRefused refuses [] more.texts
+  on_way_more new refuses text link_is record_is small is linked same taken fine not_refused =
       let file = file_of digest way.texts in
       let left = drop (before_text + length text) rest in
       let one = record_of (last_link digest way.texts) text in
       let rest_is : rest ≡ one ++ left = whole_record chain rest text (small_rest small) is
-      ∙ ap (λ (before : List ℕ). record_of before text ++ left) way.chain_is in
-      record {
-        texts = way.texts ++ text ∷ [];
-        fit = All-push Fits way.texts text way.fit (whole_fits chain rest text is);
-        file = way.file ∙ (ap (λ (b : List ℕ). file ++ b) rest_is ∙ (sym (append_assoc file one left)
-            ∙ ap (λ (b : List ℕ). b ++ left) (sym (file-push digest way.texts text))));
-        chain_is = linked ∙ (ap (λ (before : List ℕ). link before text) way.chain_is
-            ∙ sym (last_link-push digest way.texts text));
-        count_is = omega (arith, way.count_is, length-append way.texts (text ∷ []));
-        stands = subst (new digest) (sym (reverse-push way.texts text))
-            (taken digest (reverse way.texts) way.stands same);
-      }
+      ∙ ap (λ (before : List ℕ). record_of before text ++ left) way.chain_is in (
+        record {
+          texts = way.texts ++ text ∷ [];
+          fit = All-push Fits way.texts text way.fit (whole_fits chain rest text is);
+          file = way.file ∙ (ap (λ (b : List ℕ). file ++ b) rest_is ∙ (sym (append_assoc file one left)
+              ∙ ap (λ (b : List ℕ). b ++ left) (sym (file-push digest way.texts text))));
+          chain_is = linked ∙ (ap (λ (before : List ℕ). link before text) way.chain_is
+              ∙ sym (last_link-push digest way.texts text));
+          count_is = omega (arith, way.count_is, length-append way.texts (text ∷ []));
+          stands = subst (new digest) (sym (reverse-push way.texts text))
+              (taken digest (reverse way.texts) way.stands same);
+        },
+        not_refused_push refuses way.texts text fine not_refused,
+      )
 
 pub loop-chain-init : goal.loop-chain-init
 loop-chain-init g c =
@@ -117,6 +124,7 @@ loop-chain-init g c =
         count_is = refl;
         stands = c.requires;
       },
+      tt,
       refl,
     )
 
@@ -124,19 +132,24 @@ pub loop-chain-preserved : goal.loop-chain-preserved
 loop-chain-preserved g c =
     let mid = g.M.Machine.stands_for c.loop-chain.machine in
     let new = g.M.Machine.stands_for c.take.new.self in
+    let refuses = g.M.Machine.refuses (g.M.Machine.rules c.args.machine.now) in
     let digest = c.args.digest.now in
     let bytes = c.args.bytes.now in
     let text = c.in-Whole.text.now in
     let at = c.loop-chain in
     let way = at.invariant.0 in
-    let place = next_place mid digest bytes at.chain at.texts at.rest.now way in (
-      subst (λ rest. IsOnWay new digest bytes c.in-Whole.digest (at.texts + 1) rest)
-          (sym (take_rest at.rest.now (before_text + length text))) (on_way_more mid digest bytes at.chain at.texts
-          at.rest.now way new text c.in-Whole.digest _ (λ place. search rules) (sym c.in-Whole.ensures.next)
-          c.in-Whole.ensures.record.linked (next_entry digest way.texts text at.chain at.texts (length bytes
-          - length at.rest.now) c.in-Whole.digest way.count_is place way.chain_is c.in-Whole.ensures.record.linked)
-          c.in-Ok.ensures.taken),
-      c.in-Ok.ensures.rules ∙ at.invariant.1,
+    let place = next_place mid digest bytes at.chain at.texts at.rest.now way in
+    let more = subst (λ rest. (more : IsOnWay new digest bytes c.in-Whole.digest (at.texts + 1) rest)
+    × NoneRefused refuses [] more.texts) (sym (take_rest at.rest.now (before_text + length text)))
+    (on_way_more mid digest bytes at.chain at.texts at.rest.now way new refuses text c.in-Whole.digest _
+    (λ place. search rules) (sym c.in-Whole.ensures.next) c.in-Whole.ensures.record.linked (next_entry digest way.texts
+    text at.chain at.texts (length bytes - length at.rest.now) c.in-Whole.digest way.count_is place way.chain_is
+    c.in-Whole.ensures.record.linked) c.in-Ok.ensures.taken at.invariant.1
+    (subst (λ (by : List (List ℕ) → List ℕ → Type 0). by (reverse way.texts) text → ⊥)
+    (ap g.M.Machine.refuses at.invariant.2) (c.in-Ok.ensures.accepted digest (reverse way.texts) way.stands))) in (
+      more.0,
+      more.1,
+      c.in-Ok.ensures.rules ∙ at.invariant.2,
     )
 
 -- there are no more texts than bytes, so the count does not overflow
@@ -176,6 +189,7 @@ returns-then-eq-clause-ok g c = (
     );
   },
   c.requires,
+  tt,
 )
 
 pub returns-then-bytes-lt-HEAD_LENGTH-clause-err : goal.returns-then-bytes-lt-HEAD_LENGTH-clause-err
@@ -233,6 +247,7 @@ returns-in-Ended-clause-ok g c =
         );
       },
       way.stands,
+      at.invariant.1,
     )
 
 pub returns-in-Damaged-clause-err : goal.returns-in-Damaged-clause-err
@@ -262,7 +277,7 @@ returns-in-Err-Refused-clause-err g c =
           (sym c.in-Whole.ensures.next),
       next_place now digest bytes at.chain at.texts at.rest.now way,
       subst (λ (by : List (List ℕ) → List ℕ → Type 0). by (reverse way.texts) text)
-          (ap g.M.Machine.refuses at.invariant.1)
+          (ap g.M.Machine.refuses at.invariant.2)
           (c.take.ensures.refused digest (reverse way.texts) (search rules) way.stands),
     )
 

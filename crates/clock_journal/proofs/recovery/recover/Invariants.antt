@@ -1,10 +1,13 @@
-use Rattle.std.proofs.Common.{◌≡◌, length}
+use Rattle.std.proofs.Common.{◌≡◌, [], length}
 use Rattle.clock_journal.specs.inside.Replays.{IsOnWay}
+use Rattle.clock_journal.specs.Resuming.{NoneRefused}
 use Rattle.clock_journal.proofs.recovery.recover.Given as goal
 
--- some texts were taken and counted, and the rest is left
+-- some texts were taken and counted, none of which is refused, and the rest is left
 abbrev pub invariant-loop-chain : goal.invariant-loop-chain
-invariant-loop-chain g l = IsOnWay (g.M.Machine.stands_for l.machine) l.digest l.bytes l.chain l.texts l.rest
+invariant-loop-chain g l =
+    (way : IsOnWay (g.M.Machine.stands_for l.machine) l.digest l.bytes l.chain l.texts l.rest)
+    × NoneRefused (g.M.Machine.refuses (g.M.Machine.rules l.initial.machine)) [] way.texts
     × (g.M.Machine.rules l.machine ≡ g.M.Machine.rules l.initial.machine)
 
 abbrev pub decreases-loop-chain : goal.decreases-loop-chain

@@ -13,5 +13,7 @@ returns c =
     c.in_ok-arg-2.field-0 c.number_option.ensures c.in_ok-arg-2.ensures in
     let third = with_one _ c.in_ok-arg-2.field-0 second (number_rule (codes "connections") most_served)
     c.number_option-2.result c.in_ok-arg-3.field-0 c.number_option-2.ensures c.in_ok-arg-3.ensures in
-    with_one_more _ c.in_ok-arg-3.field-0 third
-    (option_rule (codes "journal")) c.option.result c.arg-4.result c.option.ensures c.arg-4.ensures
+    let fourth = with_one _ c.in_ok-arg-3.field-0 third (option_rule (codes "journal")) c.option.result
+    c.in_ok-arg-4.field-0 c.option.ensures c.in_ok-arg-4.ensures in
+    with_one_more _ c.in_ok-arg-4.field-0 fourth
+    (option_rule (codes "mirror")) c.option-2.result c.arg-5.result c.option-2.ensures c.arg-5.ensures
