@@ -109,9 +109,10 @@ def conductor(auction: Auction) -> str:
     if not (auction.folder / "conductor.json").exists():
         return "without settings: you close rounds by hand"
     report = auction.folder / "operator/conductor.json"
-    ensure(report.exists(), "it has settings, but never ran: `auction run FOLDER`")
+    start = "systemctl enable --now clock-auction-conductor, or `auction run FOLDER`"
+    ensure(report.exists(), f"it has settings, but never ran: {start}")
     age = time.time() - report.stat().st_mtime
-    ensure(age < STALE, f"its last report is {age:.0f} s old: `auction run FOLDER`")
+    ensure(age < STALE, f"its last report is {age:.0f} s old: {start}")
     return json.loads(report.read_bytes())["waits_for"]
 
 

@@ -1,6 +1,9 @@
 """A check, and what it found."""
 import dataclasses
+import json
 from collections.abc import Callable
+
+from auction.faults import in_words
 
 from .auction import Auction
 
@@ -31,6 +34,10 @@ class Check:
             return True, f"ok     {self.name}: {self.look(auction)}"
         except Fault as fault:
             words = str(fault)
-        except (OSError, ValueError, LookupError, TypeError, AttributeError) as error:
-            words = f"{type(error).__name__}: {error}"
+        except (json.JSONDecodeError, UnicodeDecodeError) as error:
+            words = f"a file is no JSON in UTF-8: {error}"
+        except (OSError, ValueError) as error:
+            words = in_words(str(error))
+        except (LookupError, TypeError, AttributeError) as error:
+            words = f"a file has not the form of docs/formats.md: {error}"
         return False, f"FAULT  {self.name}: {' '.join(words.split())}"

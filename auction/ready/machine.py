@@ -45,7 +45,8 @@ def clock(_: Auction) -> str:
         text=True,
         check=False,
     )
-    ensure(ran.stdout.strip() == "yes", f"it is not synchronized: run NTP {ran.stderr}")
+    advice = "apt install systemd-timesyncd, and wait a minute"
+    ensure(ran.stdout.strip() == "yes", f"it is not synchronized by NTP: {advice}")
     return "synchronized by NTP"
 
 

@@ -285,3 +285,15 @@ def test_first_document_of_readme_gives_its_lines(program: pathlib.Path) -> None
     document = (TOP / "examples/price_edges.json").read_bytes()
     done = subprocess.run([program], input=document, capture_output=True, timeout=60)
     assert done.stdout == (TOP / "crates/clock_auction/stdout").read_bytes()
+
+
+@pytest.mark.needs("rt")
+def test_the_kit_that_readme_names_is_the_one_that_proves() -> None:
+    ran = subprocess.run(["rt", "version"], capture_output=True, text=True, timeout=60)
+    kit = ran.stdout.strip()
+    assert f"    {kit}\n" in (TOP / "README.md").read_text()
+    assert f"`{kit}`" in text_of("assurance.md")
+
+
+def test_readme_says_that_no_license_is_granted() -> None:
+    assert "No license is granted yet" in (TOP / "README.md").read_text()

@@ -1,5 +1,4 @@
 """The session and the rehearsal of README.md print what it shows."""
-import subprocess
 from collections.abc import Callable
 from pathlib import Path
 
@@ -19,15 +18,3 @@ def test_each_line_of_readme_prints_what_is_below_it(
     typed.type_text(text.replace(JOURNAL, str(tmp_path / "one.journal")))
     assert typed.counts == {"typed": 14}
     assert typed.say("wait $!") == ("", 0), "the second server ends by itself"
-
-
-@pytest.mark.needs("rt")
-def test_the_kit_that_readme_names_is_the_one_that_proves() -> None:
-    ran = subprocess.run(["rt", "version"], capture_output=True, text=True, timeout=60)
-    kit = ran.stdout.strip()
-    assert f"    {kit}\n" in (TOP / "README.md").read_text()
-    assert f"`{kit}`" in (TOP / "docs/assurance.md").read_text()
-
-
-def test_readme_says_that_no_license_is_granted() -> None:
-    assert "No license is granted yet" in (TOP / "README.md").read_text()

@@ -65,8 +65,12 @@ before_the_reboot() {
     expect "the manual is there" test -s /usr/share/man/man8/auction.8.gz
     printf 'name,units,supply,opening\nA,1,2,100\nB,1,2,100\n' > /root/products.csv
     printf 'name,eligibility\nX,2\nY,2\nZ,1\n' > /root/bidders.csv
-    expect "auction init makes the folder" auction init $folder --host localhost \
+    rm -rf /root/drawn
+    expect "auction init makes a set-up of two spreadsheets" auction init /root/drawn \
         --products /root/products.csv --bidders /root/bidders.csv
+    # Without long names: `auction record` refuses public/names.json.
+    expect "auction init makes the folder" auction init $folder --host localhost \
+        --setup /root/drawn/setup.json
     python3 - << 'END'
 import json
 path = "/srv/auction/conductor.json"

@@ -323,7 +323,7 @@ WITH_REPORT = {**WITH_SETTINGS, "operator/conductor.json": "{}"}
 WITH_PERSONS = present({"persons.map": ""})
 
 FAULTS = [
-    Row("set-up", "JSONDecodeError", text("setup.json", lambda setup: setup[:-3])),
+    Row("set-up", "a file is no JSON in UTF-8", text("setup.json", lambda setup: setup[:-3])),
     Row("set-up", "two tokens are the same", text("setup.json", with_first_token(""))),
     Row("set-up", "at random: X", text("setup.json", with_first_token("X" * 16))),
     Row("set-up", "No such file", absent("setup.json")),

@@ -99,10 +99,9 @@ sleep 1
 systemctl start $unit
 within "where another has the journal it waits its turn" keeps
 expect "and the file was left until then" told_in_log "journal_busy"
-command=/usr/local/lib/clock_auction/auction/bin/auction
+command=/usr/bin/auction
 conductor=clock-auction-conductor.service
 folder=/srv/auction
-cp /etc/clock_auction/setup.json $folder/
 echo OPERATOROPERATOR > $folder/operator.token
 echo secret > $folder/key.pem
 cat > "$folder/conductor.json" << END
@@ -128,7 +127,7 @@ expect "its report is for nginx's workers only" \
     test "$(stat -c %a:%G $folder/operator/conductor.json)" = 640:auction-nginx
 expect "nginx's workers write what the page asks for" \
     test "$(stat -c %a:%G $folder/asked)" = 2770:auction-nginx
-first=$(( $(date +%s) / 10 * 10 + 10 ))
+first=$(( $(date +%s) / 10 * 10 + 20 ))
 at() { date -u -d "@$1" +%T; }
 cat > "$folder/timetable.json" << END
 {"days":[{"date":"$(date -u -d "@$first" +%F)","windows":["$(at $first)-$(at $((first + 10)))"]}]}
@@ -142,7 +141,7 @@ within "it closes the round, and the auction has ended" reports "The auction end
 digest=$(grep -oE '"digest": ?"[0-9a-f]{64}' $folder/public/rounds/1.json | tail -c 65)
 expect "it publishes the digest of the journal" \
     grep -qF "$digest" \
-    <(/usr/local/bin/clock_auction audit --setup $folder/setup.json --journal $journal)
+    <(/usr/bin/clock_auction audit --setup $folder/setup.json --journal $journal)
 public=$folder/public
 modes=$(stat -c %a $public $public/rounds $public/rounds/1.json | paste -sd ' ')
 expect "everyone may read what is public" test "$modes" = "755 755 644"

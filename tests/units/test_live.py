@@ -50,9 +50,9 @@ pytestmark = [
 
 
 def install(program: pathlib.Path, root: pathlib.Path) -> None:
-    """Installs the program, the command, and the units, as the operator's guide does."""
+    """Installs the program, the command, and the units, where the package has them."""
     lib, auction, units = (
-        root / path for path in ("usr/local/lib/clock_auction", "srv/auction", "etc/systemd/system")
+        root / path for path in ("usr/lib/clock-auction", "srv/auction", "etc/systemd/system")
     )
     for old in (
         lib,
@@ -63,8 +63,10 @@ def install(program: pathlib.Path, root: pathlib.Path) -> None:
         shutil.rmtree(old, ignore_errors=True)
     for name in ("seen", "called"):
         (root / name).unlink(missing_ok=True)
+    for name in ("auction", "clock_auction"):
+        (root / "usr/local/bin" / name).unlink(missing_ok=True)
+        (root / "usr/bin" / name).unlink(missing_ok=True)
     for folder in (
-        root / "etc/clock_auction",
         auction / "tmp/cache",
         units / "multi-user.target.wants",
     ):
@@ -72,10 +74,12 @@ def install(program: pathlib.Path, root: pathlib.Path) -> None:
     (auction / "tmp/cache/page").write_text("of another auction")
     for part in ("auction", "services"):
         shutil.copytree(TOP / part, lib / part)
-    shutil.copy(TOP / "services/nginx.conf", auction)
-    shutil.copy(EXAMPLES / "one_product.json", root / "etc/clock_auction/setup.json")
-    (root / "etc/clock_auction/setup.json").chmod(0o600)
-    shutil.copy(program, root / "usr/local/bin/clock_auction")
+    for name in ("nginx.conf", "clock-auction.nft"):
+        shutil.copy(TOP / "services" / name, auction)
+    shutil.copy(EXAMPLES / "one_product.json", auction / "setup.json")
+    (auction / "setup.json").chmod(0o600)
+    shutil.copy(program, root / "usr/bin/clock_auction")
+    (root / "usr/bin/auction").symlink_to("../lib/clock-auction/auction/bin/auction")
     shutil.copy(SCRIPT, root / "inside.sh")
     for unit in (TOP / "services").glob("*.service"):
         shutil.copy(unit, units)
