@@ -9,4 +9,6 @@ mod Served
 mod Ends
 mod Bytes
 mod GenerationLaws
+mod LeftOut
+mod Gets
 mod MirroredLaws

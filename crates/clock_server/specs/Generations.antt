@@ -13,6 +13,10 @@
 -- the network may fail at each call, and a failed write may have written any part of its bytes. A
 -- failed start is a generation too. The premise is that a crash leaves all synced bytes of a file,
 -- and some prefix of the rest (`MayBeLeft`).
+--
+-- Contracts see no byte of a real file, so what a crash leaves of it (`IsGeneration`) is stated of
+-- no real file. `serve_from` has one body for all disks, and cannot know which one it has: that it
+-- does the same on a file is an argument in words.
 --     Generation      a start that failed, or a start, the connections that were served, and one
 --         that could not be logged, if any
 --     EndsWith setup last unlogged end more      what the file may have in addition

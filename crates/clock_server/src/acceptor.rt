@@ -13,7 +13,8 @@ use std::net::{TcpListener, TcpStream};
 /// The receiver of the reply on one connection, sent in a single call.
 ///
 /// In contracts, an outlet shows what was written, and the journal when the first byte was sent. It
-/// shows no journal before that, and need not show it then.
+/// shows no journal before that, and need not show it then. None can, since a [`RequestLog`] has no
+/// call that reads: this binds only the caller, which is proved for every outlet.
 pub trait Outlet {
     ghost report: { Self → SinkReport };
 

@@ -11,6 +11,7 @@
 
 mod acceptor;
 mod generation;
+mod laws;
 mod request_log;
 mod serving;
 
@@ -19,5 +20,6 @@ pub use generation::{
     ReplayedAuction, ServerFault, law_of_generations, law_of_mirrored_generations, serve_from,
     take_text,
 };
+pub use laws::{law_gets_change_nothing, law_of_served_requests, law_reported_bytes};
 pub use request_log::{Announced, Announcer, NoLog, RequestLog};
-pub use serving::{ServeFault, law_reported_bytes, serve_all, serve_on};
+pub use serving::{ServeFault, serve_all, serve_on};

@@ -2,7 +2,6 @@ ghost use Rattle.std.specs.Prelude.{◌≡◌, ◌↔◌, List, IfErr, OnOk, Non
 ghost use Rattle.clock_device.specs.Reports.{IsUnread, IsUnused};
 ghost use Rattle.clock_server.specs.Keeping.{GrowsBy, no_journal};
 ghost use Rattle.clock_server.specs.Exchanges.{Came, Exchange, bytes_given};
-ghost use Rattle.clock_server.specs.Laws.{ReportedBytes};
 ghost use Rattle.clock_server.specs.Serving.{EndsServing};
 ghost use Rattle.clock_server.specs.inside.Served.{EndsTaken};
 
@@ -128,9 +127,3 @@ pub fn serve_on<P: Processor>(
     let mut port = PortAcceptor::new(listener);
     serve_all(alloc, front, &mut NoLog, &mut port, connections)
 }
-
-/// A law, which does nothing when it runs: if contracts see the bytes of a connection, its request
-/// was their beginning. That its client got the reply or a prefix of it is what `Sends` says.
-pub fn law_reported_bytes()
-    ensures { ReportedBytes }
-{}
