@@ -88,7 +88,7 @@ END
     first=$(( $(date +%s) / 10 * 10 + 20 ))
     echo "$first" > /first
     printf '{"days":[{"date":"%s","windows":["%s-%s","%s-%s"]}]}' "$(date -u -d "@$first" +%F)" \
-        "$(at $first)" "$(at $((first + 60)))" "$(at $((first + 85)))" "$(at $((first + 105)))" \
+        "$(at $first)" "$(at $((first + 60)))" "$(at $((first + 90)))" "$(at $((first + 110)))" \
         > $folder/timetable.json
     expect "it takes a timetable" auction plan $folder $folder/timetable.json
     within "it opens the window of round 1" reports "Round 1 is open"
