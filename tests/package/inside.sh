@@ -74,7 +74,7 @@ before_the_reboot() {
     python3 - << 'END'
 import json
 path = "/srv/auction/conductor.json"
-value = {**json.load(open(path)), "drain": 2, "between": 0, "notice": 0, "publish": 4}
+value = {**json.load(open(path)), "drain": 2, "between": 0, "notice": 0, "publish": 0}
 json.dump(value, open(path, "w"))
 END
     expect "the units start with the machine from now on" systemctl enable --now "${units[@]}"
@@ -88,7 +88,7 @@ END
     first=$(( $(date +%s) / 10 * 10 + 20 ))
     echo "$first" > /first
     printf '{"days":[{"date":"%s","windows":["%s-%s","%s-%s"]}]}' "$(date -u -d "@$first" +%F)" \
-        "$(at $first)" "$(at $((first + 70)))" "$(at $((first + 110)))" "$(at $((first + 140)))" \
+        "$(at $first)" "$(at $((first + 60)))" "$(at $((first + 90)))" "$(at $((first + 110)))" \
         > $folder/timetable.json
     expect "it takes a timetable" auction plan $folder $folder/timetable.json
     within "it opens the window of round 1" reports "Round 1 is open"
@@ -102,7 +102,7 @@ END
 after_the_reboot() {
     within "after the reboot all four run again" are_active
     within "Y bids in the same window" bid Y 1 0 100 1
-    expect "it is still round 1's window" test "$(date +%s)" -lt $(( $(cat /first) + 70 ))
+    expect "it is still round 1's window" test "$(date +%s)" -lt $(( $(cat /first) + 60 ))
     expect "X's sheet is in force" ask X /v1/me/bids -f
     within "Z bids" bid Z 1 1 100 1
     within "the conductor closes round 1" round_is 2
