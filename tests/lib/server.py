@@ -21,6 +21,7 @@ class Server:
         setup: str | pathlib.Path,
         journal: str | pathlib.Path | None = None,
         *,
+        mirror: str | pathlib.Path | None = None,
         connections: int | None = None,
         port: int | None = None,
         environment: Mapping[str, str] | None = None,
@@ -31,6 +32,7 @@ class Server:
         words += ["--port", str(self.port)]
         words += ["--connections", str(connections or MOST_CONNECTIONS)]
         words += [] if journal is None else ["--journal", journal]
+        words += [] if mirror is None else ["--mirror", mirror]
         self.child = subprocess.Popen(
             words,
             stdin=subprocess.DEVNULL,
