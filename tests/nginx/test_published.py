@@ -11,7 +11,16 @@ from tests.lib.tls import Client, connected
 from tests.nginx.recorder import Recorder
 from tests.nginx.requests import UNKNOWN, Bidder, get, head, replies_in
 
-PUBLISHED = ("commitment", "draw", "timetable", "announcements", "winners", "rounds/1", "rounds/12")
+PUBLISHED = (
+    "commitment",
+    "draw",
+    "names",
+    "timetable",
+    "announcements",
+    "winners",
+    "rounds/1",
+    "rounds/12",
+)
 NEVER_SHOWN = (
     "/public/plan.json",
     "/public/rounds/01.json",

@@ -23,7 +23,7 @@ PAGES = {
     "/v1/me/bids",
     "/v1/me/rounds/{n}",
 }
-FILES = {"commitment", "draw", "timetable", "announcements", "winners", "rounds/{n}"}
+FILES = {"commitment", "draw", "names", "timetable", "announcements", "winners", "rounds/{n}"}
 OTHERS = {"/receipts/{n}/{sheet}.json", "/openapi.json"}
 # Requests, in a number of seconds, more at once, and at the same time.
 LIMITS = {

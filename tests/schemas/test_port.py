@@ -66,7 +66,7 @@ def send_heads(port: Port) -> None:
 
 def publish(site: Site) -> None:
     """Writes each published file, and a receipt for each bidder."""
-    names = ("commitment", "draw", "timetable", "announcements", "winners", "rounds/1")
+    names = ("commitment", "draw", "names", "timetable", "announcements", "winners", "rounds/1")
     files = [site.folder / f"public/{name}.json" for name in names]
     folders = [site.folder / "receipts" / row["name"] for row in SETUP["bidders"]]
     for file in [*files, *(folder / "1-1.json" for folder in folders)]:
