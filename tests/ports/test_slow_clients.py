@@ -164,9 +164,10 @@ def test_nginx_is_not_blocked_by_100(
 def test_4200_silent_connections_do_not_block_nginx(behind: Port, others: Iterator[int]) -> None:
     """nginx has 4,096 connections, and ends some of these."""
     count, before = 4_200, resource.getrlimit(resource.RLIMIT_NOFILE)
-    if before[1] != resource.RLIM_INFINITY and before[1] < count + 200:
-        pytest.skip("needs 4,400 open files")
-    resource.setrlimit(resource.RLIMIT_NOFILE, (count + 200, before[1]))
+    if before[1] != resource.RLIM_INFINITY and before[1] < count + 1_000:
+        pytest.skip("needs 5,200 open files")
+    # This process has other files open too, such as the marks of ports.
+    resource.setrlimit(resource.RLIMIT_NOFILE, (max(before[0], count + 1_000), before[1]))
     silent = []
     try:
         for _ in range(count):
