@@ -115,10 +115,17 @@ class Trials:
             self.child = started(
                 [*command, "--summary", str(self.summary)], stdout=output, stderr=output
             )
+        self.waiting = threading.Thread(target=self.wait, daemon=True)
+        self.waiting.start()
+
+    def wait(self) -> None:
+        """Notes when the run has ended."""
+        self.child.wait()
+        self.ended = second()
 
     def counts(self) -> Counts:
-        status = self.child.wait()
-        self.ended = second()
+        self.waiting.join()
+        status = self.child.returncode
         print(f"---- tests: {self.name}, ended at second {self.ended}")
         print(self.output.read_text(encoding="utf-8"), flush=True)
         summary = self.summary.read_text() if self.summary.exists() else None
