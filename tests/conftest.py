@@ -65,9 +65,14 @@ def reason_of(report: Any) -> str:
 
 
 def counts_of(reporter: Any) -> dict[str, Any]:
-    """How many tests passed, failed, and were skipped, and why."""
+    """How many tests passed, failed, and were skipped, and why.
+
+    A test that is expected to fail counts as skipped: nobody may pass the gate by that mark.
+    """
     stats = reporter.stats
     skipped = Counter(reason_of(report) for report in stats.get("skipped", []))
+    skipped.update(f"xfail {report.nodeid}" for report in stats.get("xfailed", []))
+    skipped.update(f"xfail {report.nodeid}" for report in stats.get("xpassed", []))
     return {
         "passed": len(stats.get("passed", [])),
         "failed": len(stats.get("failed", [])) + len(stats.get("error", [])),

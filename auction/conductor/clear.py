@@ -17,6 +17,7 @@ OWN = (
     "bidders.map",
     "gate",
     "kept",
+    "letters",
     "operator",
     "public",
     "receipts",

@@ -29,6 +29,7 @@ TESTS = {
     "passes": "def test_one(): pass",
     "fails": "def test_one(): assert 1 == 2\n\n\ndef test_two(): pass",
     "needs": 'import pytest\n\n\n@pytest.mark.needs("no-such-command")\ndef test_one(): pass',
+    "is_expected_to_fail": "import pytest\n\n\n@pytest.mark.xfail\ndef test_one(): assert False",
     "is_killed": "import os\nimport signal\n\n\n"
     "def test_one(): os.killpg(os.getpgrp(), signal.SIGKILL)",
 }
@@ -94,6 +95,11 @@ def test_fails_if_a_command_is_missing(repository: Repository) -> None:
         "4 passed, 0 failed, 1 skipped",
     ]
     assert status == 1
+
+
+def test_fails_if_a_test_is_expected_to_fail(repository: Repository) -> None:
+    lines, status = repository.run("is_expected_to_fail")
+    assert (lines[-1], status) == ("4 passed, 0 failed, 1 skipped", 1)
 
 
 def test_passes_if_skips_are_allowed(repository: Repository) -> None:
