@@ -40,6 +40,14 @@ def test_all_files_of_the_auction_are_put_away(ended: ConductedAuction) -> None:
     assert past.parent.stat().st_mode & 0o777 == 0o700
 
 
+def test_letters_with_tokens_are_put_away(ended: ConductedAuction) -> None:
+    (ended.folder / "letters").mkdir(0o700)
+    (ended.folder / "letters/X.txt").write_text("Token: XXXXXXXXXXXXXXXX")
+    past, _ = clear(ended.folder, ended.clock.wall())
+    assert not (ended.folder / "letters").exists()
+    assert (past / "letters/X.txt").exists()
+
+
 def test_cached_pages_are_removed(ended: ConductedAuction) -> None:
     clear(ended.folder, ended.clock.wall())
     assert not list((ended.folder / "tmp/cache").iterdir())
