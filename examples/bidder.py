@@ -73,9 +73,11 @@ RECEIPT = {
     "auction": str,
     "bidder": str,
     "body": str,
+    "by": str,
     "round": int,
     "sheet": int,
     "signature": str,
+    "taken": str,
     "text": str,
 }
 
@@ -344,8 +346,8 @@ def digest_of(text):
 
 def is_signed(key, receipt):
     """Whether the committed key signed a receipt. Returns True if openssl is missing."""
-    fields = ("auction", "bidder", "round", "sheet", "body", "text")
-    lines = ["clock_auction receipt 1", *(f"{name} {receipt[name]}" for name in fields)]
+    fields = ("auction", "bidder", "by", "round", "sheet", "taken", "body", "text")
+    lines = ["clock_auction receipt 2", *(f"{name} {receipt[name]}" for name in fields)]
     files = {
         "key": f"-----BEGIN PUBLIC KEY-----\n{key}\n-----END PUBLIC KEY-----\n".encode(),
         "message": "".join(line + "\n" for line in lines).encode(),

@@ -10,13 +10,12 @@ const bytesOf = (text) => new TextEncoder().encode(text);
  * answer is yes.
  */
 async function isSigned(key, receipt) {
-  const lines = ["auction", "bidder", "round", "sheet", "body", "text"].map(
-    (name) => `${name} ${receipt[name]}\n`
-  );
+  const names = ["auction", "bidder", "by", "round", "sheet", "taken", "body", "text"];
+  const lines = names.map((name) => `${name} ${receipt[name]}\n`);
   const spki = Uint8Array.from([...atob(key)].map((letter) => letter.charCodeAt(0)));
   const pairs = receipt.signature.match(/../g) ?? [];
   const signature = Uint8Array.from(pairs.map((pair) => parseInt(pair, 16)));
-  const text = bytesOf("clock_auction receipt 1\n" + lines.join(""));
+  const text = bytesOf("clock_auction receipt 2\n" + lines.join(""));
   const { subtle } = crypto;
   const read = await subtle.importKey("spki", spki, "Ed25519", false, ["verify"]).catch(() => null);
   return !read || subtle.verify("Ed25519", read, signature, text);

@@ -38,6 +38,15 @@ def body_in(text: bytes) -> bytes:
     return b""
 
 
+def line_in(text: bytes, name: bytes) -> str:
+    """The value of a request's header line, or an empty text unless it has exactly one of them."""
+    lines = text.partition(b"\r\n\r\n")[0].split(b"\r\n")[1:]
+    found = [
+        value for key, _, value in (line.partition(b":") for line in lines) if key.lower() == name
+    ]
+    return found[0].strip(b" \t").decode("latin1") if len(found) == 1 else ""
+
+
 class JournalFault(Exception):
     """The journal cannot be read, is not this auction's, or is damaged."""
 

@@ -5,17 +5,20 @@ import json
 import re
 from collections import Counter
 from collections.abc import Iterator
+from datetime import UTC, datetime
 from pathlib import Path
 from typing import Any, NamedTuple, Self
 
 from auction.recount.formats import Refused, Request, request_in
-from .journal import body_in
+from .journal import body_in, line_in
 from .signatures import SIGNATURE, is_signed
 from .strict import value_in
 from .ties import Commitment, bytes_of, has_keys
 
 NAME = re.compile("[A-Za-z0-9_-]{1,32}")
-KEYS = ("auction", "bidder", "body", "round", "sheet", "signature", "text")
+TIME = re.compile("[0-9]{4}-[0-9]{2}-[0-9]{2}T[0-9]{2}:[0-9]{2}:[0-9]{2}Z")
+SECOND, LAST = re.compile("[0-9]{1,12}"), 253_402_300_799  # the last one of the year 9999
+KEYS = ("auction", "bidder", "body", "by", "round", "sheet", "signature", "taken", "text")
 
 
 class ReceiptsFault(ValueError):
@@ -28,24 +31,28 @@ class Receipt:
 
     `auction` is the digest of the set-up, and `bidder` the bidder's name. The digests are those of
     the body and of the whole request. `sheet` numbers this bidder's sheets of the round, from 1.
+    `taken` and `by` are when and by whom it was sent, as nginx wrote it into the request.
     """
 
     auction: str
     bidder: str
     body: str
+    by: str
     round: int
     sheet: int
+    taken: str
     text: str
 
     @classmethod
     def of(cls, auction: str, bidder: str, number: int, sheet: int, text: bytes) -> Self:
         """The receipt of a request in the journal."""
-        return cls(auction, bidder, digest_of(body_in(text)), number, sheet, digest_of(text))
+        whose = auction, bidder, digest_of(body_in(text)), person_in(text)
+        return cls(*whose, number, sheet, taken_in(text), digest_of(text))
 
     def message(self) -> bytes:
         """The signed bytes."""
-        fields = ("auction", "bidder", "round", "sheet", "body", "text")
-        lines = ["clock_auction receipt 1", *(f"{name} {getattr(self, name)}" for name in fields)]
+        fields = ("auction", "bidder", "by", "round", "sheet", "taken", "body", "text")
+        lines = ["clock_auction receipt 2", *(f"{name} {getattr(self, name)}" for name in fields)]
         return "".join(line + "\n" for line in lines).encode("ascii")
 
     def page(self, signature: bytes) -> str:
@@ -74,15 +81,37 @@ class Kept:
         checked_name(value["bidder"])
         if any(type(value[name]) is not int or value[name] < 1 for name in ("round", "sheet")):
             raise ValueError("a round or a sheet is not a whole number from 1 on")
+        if value["by"] != "":
+            checked_name(value["by"])
+        taken = value["taken"]
+        if taken != "" and not (isinstance(taken, str) and TIME.fullmatch(taken)):
+            raise ValueError("the time is not of the form 2026-11-30T13:00:00Z")
         signature = bytes_of(value.pop("signature"), SIGNATURE)
         return cls(Receipt(**value), signature, sent)
 
 
 def checked_name(name: Any) -> str:
-    """A bidder's name. Raises ValueError for any other value."""
+    """The name of a bidder or a person. Raises ValueError for any other value."""
     if not isinstance(name, str) or not NAME.fullmatch(name):
-        raise ValueError("the bidder's name")
+        raise ValueError("a name")
     return name
+
+
+def taken_in(text: bytes) -> str:
+    """The second at which nginx had this whole request, in UTC.
+
+    Empty if the request did not come through nginx.
+    """
+    second = line_in(text, b"taken")
+    if not SECOND.fullmatch(second) or int(second) > LAST:
+        return ""
+    return datetime.fromtimestamp(int(second), UTC).strftime("%Y-%m-%dT%H:%M:%SZ")
+
+
+def person_in(text: bytes) -> str:
+    """The person whose token the request had, or an empty text if it was the bidder's own."""
+    name = line_in(text, b"by")
+    return name if NAME.fullmatch(name) else ""
 
 
 def digest_of(data: bytes) -> str:
@@ -150,6 +179,8 @@ class Sheet(NamedTuple):
     number: int
     text: str
     body: str
+    taken: str
+    by: str
 
 
 def requests_in(journal: bytes) -> Iterator[tuple[bytes, Request]]:
@@ -179,8 +210,8 @@ def sheets_in(journal: bytes) -> list[Sheet]:
     for text, request in requests_in(journal):
         if request.method == b"PUT":
             counts[request.token] += 1
-            digests = digest_of(text), digest_of(request.body)
-            sheets.append(Sheet(request.token, number, counts[request.token], *digests))
+            parts = digest_of(text), digest_of(request.body), taken_in(text), person_in(text)
+            sheets.append(Sheet(request.token, number, counts[request.token], *parts))
         else:
             number, counts = number + 1, Counter()
     return sheets
@@ -294,6 +325,8 @@ def missing(receipts: list[Kept], sheets: list[Sheet]) -> list[str]:
             )
         elif there[0].body != receipt.body:
             found.append(f"{place_of(receipt)}: its body in the journal is another one")
+        elif (there[0].taken, there[0].by) != (receipt.taken, receipt.by):
+            found.append(f"{place_of(receipt)}: its time or person in the journal is another one")
     return found
 
 

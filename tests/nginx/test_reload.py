@@ -7,9 +7,10 @@ import pytest
 
 from tests.lib.paths import auction
 from tests.lib.site import Site
+from tests.lib.tls import Client
 from tests.lib.waiting import wait_for
 from tests.nginx.recorder import PRIVATE, Recorder
-from tests.nginx.requests import Bidder, get, put
+from tests.nginx.requests import Bidder, get, head, log_of, put
 from tests.nginx.running import SETUP
 
 NewBidder = Callable[[], Bidder]
@@ -20,7 +21,7 @@ FIRST, SECOND = "FIRSTPERSON00001", "SECONDPERSON0002"
 @pytest.fixture
 def reload(site: Site) -> Iterator[Callable[..., None]]:
     """Writes a file and has nginx read it. At the end, the files are as they were."""
-    names = ("bidders.map", "persons.map", "persons.map~", "sheet.conf")
+    names = ("bidders.map", "persons.map", "persons.map~", "by.map", "sheet.conf")
     before = {
         name: (site.folder / name).read_text() for name in names if (site.folder / name).exists()
     }
@@ -50,6 +51,7 @@ def persons(site: Site, recorder: Recorder, bidder: Bidder, reload: Callable[...
     text = text.replace(f"Bearer {bidder.token}", f"Bearer {FIRST}")
     both = [f'"Bearer {person}" "Bearer {bidder.token}";' for person in (FIRST, SECOND)]
     reload("persons.map", *both)
+    reload("by.map", f'"Bearer {FIRST}" "alice";', f'"Bearer {SECOND}" "bob";')
     reload("bidders.map", text, f'"Bearer {SECOND}" "{bidder.name}";')
     (site.folder / "persons.map~").write_text("\n".join(both))  # as an editor leaves it
     wait_for("a person's token is known", lambda: whose(site, SECOND) == bidder.token, 20, LOOK)
@@ -61,6 +63,41 @@ def test_two_persons_of_a_bidder_have_tokens_instead_of_its_own(
 ) -> None:
     found = [whose(site, token) for token in (bidder.token, FIRST, SECOND)]
     assert found == ["401", bidder.token, bidder.token]
+
+
+def test_a_sheet_names_the_person_who_sent_it(persons: str, site: Site, recorder: Recorder) -> None:
+    for token, name in ((FIRST, "alice"), (SECOND, "bob")):
+        recorder.reset()
+        assert put(site, token, b"{}").status == 200
+        assert f"By: {name}" in recorder.seen[0].head.split("\r\n")
+
+
+def test_the_log_names_the_person(persons: str, site: Site, bidder: Bidder) -> None:
+    whose(site, SECOND)
+    line = f'"bidder":"{bidder.name}","by":"bob",'
+    wait_for("the line", lambda: any(line in one for one in log_of(site)), 20)
+
+
+def test_a_sheet_that_comes_whole_after_its_token_was_taken_back_is_refused(
+    persons: str, site: Site, recorder: Recorder, reload: Callable[..., None]
+) -> None:
+    """Its head came before. The old worker of nginx waits for its body for five minutes."""
+    client, length, sent = Client(site.outside), 200, 0
+    client.send(head("PUT", "/v1/me/bids", SECOND, f"content-length: {length}"))
+    reload("bidders.map", persons)
+
+    def is_taken_back() -> bool:
+        nonlocal sent
+        client.send(b" ")  # nginx waits ten seconds for the next byte
+        sent += 1
+        return whose(site, SECOND) == "401"
+
+    wait_for("it is taken back", is_taken_back, 60, LOOK)
+    recorder.reset()
+    client.send(b" " * (length - sent))
+    reply = client.reply()
+    assert (reply.status, reply.json["code"]) == (401, "token")
+    assert not recorder.seen
 
 
 def test_a_persons_token_is_taken_back_and_no_other(

@@ -16,7 +16,7 @@ from tests.nginx.requests import Bidder, get, head, put, sends
 
 SLOW = 1.0  # seconds that a client waits between two parts of a request
 BODY = b'{"bids": [], "round": 1}'
-HANDED_ON = {"host", "connection", "authorization", "content-length"}
+HANDED_ON = {"host", "connection", "authorization", "content-length", "taken"}
 WAYS_TO_PRODUCTS = (
     "/v1/%70roducts",
     "//v1/products",
@@ -84,7 +84,7 @@ def test_a_slow_sheet_is_handed_on_whole_and_at_once(
 @pytest.mark.parametrize(
     "send", [in_two_parts, in_chunks, with_expect], ids=lambda send: send.__name__
 )
-def test_only_four_lines_of_a_head_are_handed_on_each_once(
+def test_only_these_lines_of_a_head_are_handed_on_each_once(
     site: Site, recorder: Recorder, bidder: Bidder, send: Callable[..., None]
 ) -> None:
     client = Client(site.outside)
@@ -222,3 +222,41 @@ def test_without_a_server_bidders_get_502_and_rounds_of_the_cache(
         }
     finally:
         recorder.listen()
+
+
+# ---- When a sheet was whole
+
+
+def line_of(request: Request, name: str) -> str:
+    """The value of a header line, or an empty text."""
+    lines = (line.partition(": ") for line in request.head.split("\r\n"))
+    return next((value for key, _, value in lines if key.lower() == name), "")
+
+
+def test_a_sheet_is_handed_on_with_the_second_at_which_it_was_whole(
+    site: Site, recorder: Recorder, bidder: Bidder
+) -> None:
+    client = Client(site.outside)
+    client.send(head("PUT", "/v1/me/bids", bidder.token, f"content-length: {len(BODY)}"))
+    client.send(BODY[:9])
+    time.sleep(1.1)  # the head came in an earlier second
+    before = int(time.time())
+    client.send(BODY[9:])
+    assert client.reply().status == 200
+    assert before <= int(line_of(recorder.seen[0], "taken")) <= time.time()
+
+
+def test_a_client_cannot_write_time_or_person(
+    site: Site, recorder: Recorder, bidder: Bidder
+) -> None:
+    client = Client(site.outside)
+    lines = ("taken: 1", "by: alice", f"content-length: {len(BODY)}")
+    client.send(head("PUT", "/v1/me/bids", bidder.token, *lines) + BODY)
+    assert client.reply().status == 200
+    assert int(line_of(recorder.seen[0], "taken")) > 1
+    assert line_of(recorder.seen[0], "by") == ""
+
+
+def test_a_page_is_asked_for_without_a_time(site: Site, recorder: Recorder, bidder: Bidder) -> None:
+    assert get(site, "/v1/me", bidder.token).status == 200
+    assert "taken" not in recorder.seen[0].names

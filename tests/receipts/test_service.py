@@ -13,7 +13,7 @@ from tests.receipts.auction import NAMES, ReceiptsAuction
 BURST = 60  # sheets at once
 # The receipts of the played auction, in the order of the journal.
 PLAYED = ["X/1-1", "Y/1-1", "X/1-2", "X/1-3", "X/1-4", "X/2-1"]
-FIELDS = ("auction", "bidder", "round", "sheet", "body", "text")
+FIELDS = ("auction", "bidder", "by", "round", "sheet", "taken", "body", "text")
 VERIFY = "openssl pkeyutl -verify -rawin -pubin -inkey key -sigfile signature -in message".split()
 REFUSED: dict[str, object] = {
     "no-body": None,
@@ -68,8 +68,10 @@ def values_of(played: ReceiptsAuction, name: str) -> dict[str, object]:
         "auction": digest_of(played.document),
         "bidder": name[0],
         "body": digest_of(text.partition(b"\r\n\r\n")[2]),
+        "by": "",
         "round": number,
         "sheet": sheet,
+        "taken": "",
         "text": digest_of(text),
     }
 
@@ -90,7 +92,7 @@ def test_openssl_accepts_the_signature(
     key = json.loads((played.public / "commitment.json").read_text())["key"]
     pem = f"-----BEGIN PUBLIC KEY-----\n{key}\n-----END PUBLIC KEY-----\n"
     values = values_of(played, name)
-    lines = ["clock_auction receipt 1", *(f"{field} {values[field]}" for field in FIELDS)]
+    lines = ["clock_auction receipt 2", *(f"{field} {values[field]}" for field in FIELDS)]
     page = json.loads(played.files()[f"{name}.json"])
     (tmp_path / "key").write_text(pem)
     (tmp_path / "message").write_text("".join(f"{line}\n" for line in lines))
