@@ -1,8 +1,8 @@
 """Fixtures of all tests, what they need, and the line that counts them.
 
 A test that lacks a command or a module is skipped. The last lines name what was missing, and
-`--summary FILE` writes the counts for the gate. Without `--allow-skips` a skipped test fails the
-run.
+`--summary FILE` writes the counts and the failed tests for the gate. Without `--allow-skips` a
+skipped test fails the run. `--only FILE` runs the tests whose names a file has.
 """
 import importlib.util
 import json
@@ -33,8 +33,21 @@ def pytest_addoption(parser: pytest.Parser) -> None:
         "--allow-skips", action="store_true", help="a skipped test does not fail the run"
     )
     parser.addoption("--summary", type=pathlib.Path, help="the file that gets the counts, as JSON")
+    parser.addoption("--only", type=pathlib.Path, help="a file with the names of the tests to run")
     parser.addoption("--full", action="store_true", help="tests/load plays in full size")
     parser.addoption("--debian", help="the folder of a small Debian, for the units under systemd")
+
+
+# ---- Which tests run
+
+
+def pytest_collection_modifyitems(config: pytest.Config, items: list[pytest.Item]) -> None:
+    file = config.getoption("--only")
+    if file is None:
+        return
+    names = set(json.loads(file.read_text()))
+    config.hook.pytest_deselected(items=[item for item in items if item.nodeid not in names])
+    items[:] = [item for item in items if item.nodeid in names]
 
 
 # ---- What a test needs
@@ -65,17 +78,20 @@ def reason_of(report: Any) -> str:
 
 
 def counts_of(reporter: Any) -> dict[str, Any]:
-    """How many tests passed, failed, and were skipped, and why.
+    """How many tests passed, failed, and were skipped, and why, and which ones failed.
 
-    A test that is expected to fail counts as skipped: nobody may pass the gate by that mark.
+    A test fails if any part of it does, also what it made ready or took down. A test that is
+    expected to fail counts as skipped: nobody may pass the gate by that mark.
     """
     stats = reporter.stats
+    failures = {report.nodeid for kind in ("failed", "error") for report in stats.get(kind, [])}
     skipped = Counter(reason_of(report) for report in stats.get("skipped", []))
     skipped.update(f"xfail {report.nodeid}" for report in stats.get("xfailed", []))
     skipped.update(f"xfail {report.nodeid}" for report in stats.get("xpassed", []))
     return {
-        "passed": len(stats.get("passed", [])),
-        "failed": len(stats.get("failed", [])) + len(stats.get("error", [])),
+        "passed": sum(report.nodeid not in failures for report in stats.get("passed", [])),
+        "failed": len(failures),
+        "failures": sorted(failures),
         "skipped": sum(skipped.values()),
         "needed": sorted(skipped),
     }

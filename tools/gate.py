@@ -7,6 +7,10 @@ the program with two compilers. During its first proofs, the tests run that need
 (the marker `early`): they read sources, documents, and tools. The other tests begin when the
 program is proved and built, next to the last proofs and edits.
 
+A few tests wait for real time, and fail on a machine that is busy enough. So failed tests, if they
+are few, run once more, one after the other, when all else has ended. The gate names each of them,
+and how it ended. A test that fails twice fails the gate.
+
 The last lines have the program's SHA-256, the seconds at which each crate was proved and each run
 of tests ended, the machine's pace, and the counts. A test that is skipped, because a package is
 missing, fails the gate unless it is called with --allow-skips.
@@ -14,6 +18,7 @@ missing, fails the gate unless it is called with --allow-skips.
 import argparse
 import atexit
 import hashlib
+import json
 import os
 import pathlib
 import re
@@ -24,11 +29,23 @@ import sys
 import tempfile
 import threading
 import time
+from collections.abc import Sequence
 
 TOP = pathlib.Path(__file__).resolve().parent.parent
 sys.path.insert(0, str(TOP))
 
-from tools.verdict import BUILT, Counts, counts_of_proofs, counts_of_trials, verdict
+from tools.verdict import (
+    BUILT,
+    Again,
+    Counts,
+    again,
+    counts_of_proofs,
+    counts_of_trials,
+    failures_in,
+    is_worth_again,
+    total,
+    verdict,
+)
 
 PROGRAM = TOP / "crates/clock_auction/out/clock_auction"
 PYTHON = "/usr/bin/python3"  # the one that has Debian's packages
@@ -128,8 +145,23 @@ class Trials:
         status = self.child.returncode
         print(f"---- tests: {self.name}, ended at second {self.ended}")
         print(self.output.read_text(encoding="utf-8"), flush=True)
-        summary = self.summary.read_text() if self.summary.exists() else None
-        return counts_of_trials(summary, status)
+        return counts_of_trials(self.summary_text(), status)
+
+    def summary_text(self) -> str | None:
+        """The summary, or None if the run was killed."""
+        return self.summary.read_text() if self.summary.exists() else None
+
+
+def run_again(folder: pathlib.Path, runs: Sequence[Trials], words: Sequence[str]) -> Again:
+    """Runs the failed tests of these runs once more, by themselves, if they are few."""
+    failures = failures_in(run.summary_text() for run in runs)
+    if not is_worth_again(failures):
+        return Again(())
+    names = folder / "failures.json"
+    names.write_text(json.dumps(failures))
+    second_run = Trials(folder, "again", f"--only={names}", *words)
+    second_run.counts()
+    return again(failures, second_run.summary_text())
 
 
 def pace() -> int:
@@ -146,6 +178,32 @@ def note_paces(paces: list[int]) -> None:
         paces.append(pace())
 
 
+def begun(folder: pathlib.Path, proofs: Proofs, flags: Sequence[str]) -> list[Trials]:
+    """Starts the tests: some at once, the others when the program is built."""
+    spread = ["--dist", "loadscope"]
+    runs = [Trials(folder, "early", "-m", "early", "-n", "2", *spread, *flags, priority=10)]
+    if proofs.build():
+        words = ["-m", "not early", "--full", "-n", str(PROCESSORS), *spread, *flags]
+        runs.append(Trials(folder, "program", *words))
+    return runs
+
+
+def tried(folder: pathlib.Path, proofs: Proofs, flags: Sequence[str]) -> tuple[Counts, Counts]:
+    """What the proofs come to, and the tests. Waits until all have ended."""
+    runs = begun(folder, proofs, flags)
+    trials = [run.counts() for run in reversed(runs)]
+    if proofs.is_built:
+        print(f"the program's sha256: {hashlib.sha256(PROGRAM.read_bytes()).hexdigest()}")
+    else:
+        trials.append(Counts(failed=1))
+    proved = proofs.counts()
+    ended = [f"tests {run.name} {run.ended}" for run in runs]
+    print(f"seconds: {', '.join([*proofs.proved, *ended])}")
+    repeated = run_again(folder, runs, ["--full", *flags])
+    print("".join(f"{line}\n" for line in repeated.lines()), end="")
+    return proved, repeated.applied(total(trials))
+
+
 def main() -> int:
     parser = argparse.ArgumentParser(prog=".ci/run", description=__doc__)
     parser.formatter_class = argparse.RawDescriptionHelpFormatter
@@ -157,30 +215,16 @@ def main() -> int:
     alone, paces = pace(), list[int]()
     threading.Thread(target=note_paces, args=(paces,), daemon=True).start()
     with tempfile.TemporaryDirectory(prefix="gate-") as name:
-        folder = pathlib.Path(name)
         proofs = Proofs()
         subprocess.run([TOP / "tools/packages"], check=False)
-        skips = ["--allow-skips"] if given.allow_skips else []
-        spread = ["--dist", "loadscope"]
-        early = Trials(folder, "early", "-m", "early", "-n", "2", *spread, *skips, priority=10)
-        runs = [early]
-        if proofs.build():
-            words = ["-m", "not early", "--full", "-n", str(PROCESSORS), *spread, *skips]
-            runs.append(Trials(folder, "program", *words))
-        trials = [run.counts() for run in reversed(runs)]
-        if proofs.is_built:
-            print(f"the program's sha256: {hashlib.sha256(PROGRAM.read_bytes()).hexdigest()}")
-        else:
-            trials.append(Counts(failed=1))
-        proved = proofs.counts()
-        ended = [f"tests {run.name} {run.ended}" for run in runs]
-        print(f"seconds: {', '.join([*proofs.proved, *ended])}")
-        median = int(statistics.median(paces)) if paces else "-"
-        print(
-            f"pace: md5sum of 256 MiB took {alone} ms before, and during the run {median}, "
-            f"the median of {len(paces)}"
-        )
-    lines, status = verdict(proved, trials, given.allow_skips)
+        flags = ["--allow-skips"] if given.allow_skips else []
+        proved, trials = tried(pathlib.Path(name), proofs, flags)
+    median = int(statistics.median(paces)) if paces else "-"
+    print(
+        f"pace: md5sum of 256 MiB took {alone} ms before, and during the run {median}, "
+        f"the median of {len(paces)}"
+    )
+    lines, status = verdict(proved, [trials], given.allow_skips)
     print("\n".join(lines), flush=True)
     return status
 

@@ -7,6 +7,7 @@ from collections.abc import Iterable, Sequence
 BUILT = re.compile(r"rt: clock_auction (proved|is kept)")
 ENDING = re.compile(r"(\d+) passed, (\d+) failed")
 BAD_EDIT = "BAD EDIT"
+MOST_AGAIN = 12  # of some 6,000 tests
 
 
 @dataclasses.dataclass(frozen=True)
@@ -67,6 +68,58 @@ def counts_of_trials(summary: str | None, status: int) -> Counts:
     if counts == Counts():
         return Counts(failed=1)
     return at_least_one_failure(counts, status)
+
+
+@dataclasses.dataclass(frozen=True)
+class Again:
+    """What a run of failed tests by themselves showed: which of them passed then."""
+
+    failures: tuple[str, ...]
+    passed: tuple[str, ...] = ()
+
+    def applied(self, counts: Counts) -> Counts:
+        """The counts of all tests, in which a test that passed by itself has passed."""
+        return dataclasses.replace(
+            counts,
+            passed=counts.passed + len(self.passed),
+            failed=counts.failed - len(self.passed),
+        )
+
+    def lines(self) -> list[str]:
+        """Names each test that failed, and says how it ended by itself."""
+        return [
+            f"{'passed' if name in self.passed else 'failed'} by itself: {name}"
+            for name in self.failures
+        ]
+
+
+def failures_in(summaries: Iterable[str | None]) -> tuple[str, ...]:
+    """The tests that failed, by the summaries of runs of pytest."""
+    return tuple(
+        name for text in summaries if text is not None for name in json.loads(text)["failures"]
+    )
+
+
+def is_worth_again(failures: Sequence[str]) -> bool:
+    """Whether failed tests run once more by themselves: if they are few.
+
+    A busy machine makes a few tests fail, which wait for real time. More is a fault.
+    """
+    return 0 < len(failures) <= MOST_AGAIN
+
+
+def again(failures: Sequence[str], summary: str | None) -> Again:
+    """What the second run showed, by its summary. Without one it was killed, and none passed.
+
+    A test that was not run, or was skipped, did not pass.
+    """
+    if summary is None:
+        return Again(tuple(failures))
+    value = json.loads(summary)
+    failed = value["failures"]
+    if value["passed"] + len(failed) != len(failures) or value["skipped"]:
+        return Again(tuple(failures))
+    return Again(tuple(failures), tuple(name for name in failures if name not in failed))
 
 
 def verdict(proofs: Counts, trials: Sequence[Counts], allow_skips: bool) -> tuple[list[str], int]:

@@ -2,6 +2,7 @@
 import json
 import os
 import pathlib
+import signal
 import subprocess
 import sys
 from collections.abc import Collection, Iterable
@@ -87,7 +88,10 @@ class CloseAuction(Served):
         return self.close(increment, "--yes", number, *options, **files)
 
     def begin_close(self, *words: object) -> subprocess.Popen[str]:
-        """Starts `auction close`, and does not wait for its end."""
+        """Starts `auction close`, and does not wait for its end.
+
+        Ctrl-C ends it, also if these tests run in the background, where it is ignored.
+        """
         return subprocess.Popen(
             [sys.executable, str(AUCTION), *self.words(*map(str, words))],
             stdin=subprocess.PIPE,
@@ -95,6 +99,7 @@ class CloseAuction(Served):
             stderr=subprocess.PIPE,
             text=True,
             env=ENVIRONMENT,
+            preexec_fn=lambda: signal.signal(signal.SIGINT, signal.SIG_DFL),
         )
 
     # ---- What it stored

@@ -6,6 +6,7 @@ from typing import IO
 import pytest
 
 from tests.close.auction import CloseAuction, lists_each_once, set_up
+from tests.lib.waiting import wait_for_read
 
 NONE = "round 1: 0 of 3 bidders have a sheet in force; not: B0, B1, B2\n"
 TWO = "round 1: 2 of 3 bidders have a sheet in force; not: B1\n"
@@ -72,6 +73,7 @@ def large(auction_of: Callable[[object], CloseAuction]) -> CloseAuction:
 def test_ctrl_c_at_the_question_closes_nothing(large: CloseAuction) -> None:
     process = large.begin_close("10")
     await_question(process.stdout)
+    wait_for_read(process.pid)
     process.send_signal(signal.SIGINT)
     _, errors = process.communicate(timeout=60)
     assert process.returncode == 1

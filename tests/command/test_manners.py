@@ -13,7 +13,7 @@ import pytest
 
 from auction.cli import COMMANDS
 from tests.lib.folders import open_folder
-from tests.lib.paths import EXAMPLES, TOP
+from tests.lib.paths import CHANGING, EXAMPLES, TOP
 
 pytestmark = pytest.mark.early
 
@@ -59,7 +59,7 @@ PYTHONS = re.compile(r"Traceback|\[Errno|\b[A-Z][A-Za-z]*Error\b|object has no|n
 def place() -> Iterator[pathlib.Path]:
     """A folder that any user can read, with the command, files that are right, and spoiled ones."""
     with open_folder() as folder:
-        shutil.copytree(TOP / "auction", folder / "auction")
+        shutil.copytree(TOP / "auction", folder / "auction", ignore=CHANGING)
         place = folder / "place"
         fill(place)
         made = run(place, "commit setup.json folder/kept folder/public")

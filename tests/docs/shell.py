@@ -12,7 +12,7 @@ from collections.abc import Callable, Iterable, Mapping, Sequence
 
 from tests.lib.documents import comparable, typed_lines
 from tests.lib.http import compact, reply_to, text_of
-from tests.lib.paths import PATHS, TOP
+from tests.lib.paths import CHANGING, PATHS, TOP
 from tests.lib.ports import free_port
 
 PORTS = ("8105", "8106", "8443")
@@ -64,7 +64,7 @@ class Shell:
         """
         repository = self.folder / "repository"
         for name in INSTALLED:
-            shutil.copytree(TOP / name, repository / name)
+            shutil.copytree(TOP / name, repository / name, ignore=CHANGING)
         (repository / "schemas").mkdir()
         shutil.copy(openapi, repository / "schemas" / "openapi.json")
         configuration = repository / "services/nginx.conf"

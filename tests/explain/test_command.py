@@ -10,7 +10,7 @@ from auction import installed as installed_files
 from auction.cli import main
 from auction.explain import form, schemas
 from tests.explain.cases import example
-from tests.lib.paths import TOP, auction
+from tests.lib.paths import CHANGING, TOP, auction
 
 WHOLE = example("one_product")
 TWICE = WHOLE.replace(b'"version"', b'"version":1,"version"')
@@ -98,7 +98,7 @@ def test_help_has_status_0(option: str) -> None:
 @pytest.fixture
 def installed(tmp_path: pathlib.Path) -> pathlib.Path:
     """The command, copied elsewhere without the repository."""
-    shutil.copytree(TOP / "auction", tmp_path / "auction")
+    shutil.copytree(TOP / "auction", tmp_path / "auction", ignore=CHANGING)
     return tmp_path / "auction/bin/auction"
 
 
@@ -109,7 +109,7 @@ def explain_by(command: pathlib.Path) -> subprocess.CompletedProcess[str]:
 
 
 def test_schemas_are_found_beside_the_package(installed: pathlib.Path) -> None:
-    shutil.copytree(TOP / "schemas", installed.parents[2] / "schemas")
+    shutil.copytree(TOP / "schemas", installed.parents[2] / "schemas", ignore=CHANGING)
     done = explain_by(installed)
     assert (done.returncode, done.stderr) == (1, "")
     assert done.stdout == '-:1:1: .: the key "round" is missing\n'

@@ -1,6 +1,7 @@
 """Where things are in this repository."""
 import os
 import pathlib
+import shutil
 import subprocess
 import sys
 from typing import Any
@@ -9,6 +10,9 @@ TOP = pathlib.Path(__file__).resolve().parents[2]
 EXAMPLES = TOP / "examples"
 BUILT = TOP / "crates" / "clock_auction" / "out" / "clock_auction"
 AUCTION = TOP / "auction" / "bin" / "auction"
+
+# What another test may be writing while a folder of this repository is copied.
+CHANGING = shutil.ignore_patterns("__pycache__", "out", ".openapi.json.*", "openapi.json")
 
 # The folders of Debian's commands, some of which only root has on the path.
 PATHS = f"{os.environ['PATH']}:/usr/sbin"

@@ -1,6 +1,7 @@
 """Waiting for a condition, and work on several processors."""
 import multiprocessing
 import os
+import pathlib
 import time
 from collections.abc import Callable
 from concurrent.futures import ProcessPoolExecutor
@@ -8,6 +9,10 @@ from typing import TypeVar
 
 WORKERS = os.cpu_count() or 1
 Result = TypeVar("Result")
+
+# The first words of /proc/PID/syscall while a process reads its standard input: the number of
+# `read`, on x86-64 and on ARM, and the file.
+READS = (["0", "0x0"], ["63", "0x0"])
 
 
 def wait_for(
@@ -20,6 +25,12 @@ def wait_for(
     while not condition():
         assert time.monotonic() <= end, f"not within {seconds} s: {what}"
         time.sleep(every)
+
+
+def wait_for_read(process: int, seconds: float = 60) -> None:
+    """Waits until a process sleeps in a read of its standard input."""
+    call = pathlib.Path(f"/proc/{process}/syscall")
+    wait_for("a read of the standard input", lambda: call.read_text().split()[:2] in READS, seconds)
 
 
 def in_processes(work: Callable[[int], Result]) -> list[Result]:

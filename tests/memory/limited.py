@@ -3,6 +3,7 @@ import os
 import pathlib
 import resource
 import subprocess
+import tempfile
 from collections.abc import Callable
 from typing import Any, NamedTuple
 
@@ -55,11 +56,18 @@ def started(
 
 
 def run(program: pathlib.Path, words: list[str], document: bytes, limit: int) -> End | None:
-    """The status, the output, and the error of a run, or None if the program did not start."""
-    child = started(program, words, limit, stdin=subprocess.PIPE)
+    """The status, the output, and the error of a run, or None if the program did not start.
+
+    The document is a file: how much memory its reading takes depends on the lengths of the reads,
+    and those of a pipe depend on the time.
+    """
+    with tempfile.TemporaryFile() as file:
+        file.write(document)
+        file.seek(0)
+        child = started(program, words, limit, stdin=file)
     if child is None:
         return None
-    output, error = child.communicate(document, SECONDS)
+    output, error = child.communicate(timeout=SECONDS)
     return child.returncode, output, error
 
 

@@ -77,6 +77,12 @@ class ReadyAuction:
         files = (self.folder / name for name in names)
         self.signing = self.site.begin_auction("receipts", *files)
 
+    def stop_signing(self) -> None:
+        """The service stands still until it is continued."""
+        state = pathlib.Path(f"/proc/{self.signing.pid}/stat")
+        self.signing.send_signal(signal.SIGSTOP)
+        wait_for("the service stands", lambda: state.read_text().rsplit(")", 1)[1][1] == "T", 30)
+
     def load_rules(self) -> None:
         """Loads the firewall's rules."""
         text = self.site.with_ports((TOP / "services/clock-auction.nft").read_text())
@@ -121,14 +127,17 @@ Fault = Callable[[ReadyAuction], Iterator[None]]
 def applied(fault: Fault, auction: ReadyAuction) -> Iterator[None]:
     """The auction with a fault, which is removed at the end.
 
-    A fault is a generator: it makes the fault, yields, and removes it.
+    A fault is a generator: it makes the fault, yields, and removes it. The service that signs
+    receipts stands still meanwhile: a fault must not end it.
     """
+    auction.stop_signing()
     steps = fault(auction)
     next(steps)
     try:
         yield
     finally:
         next(steps, None)
+        auction.signing.send_signal(signal.SIGCONT)
 
 
 def environment_of(folder: pathlib.Path, tools: pathlib.Path) -> dict[str, str]:

@@ -7,7 +7,7 @@ import sys
 
 import pytest
 
-from tests.lib.paths import TOP
+from tests.lib.paths import CHANGING, TOP
 
 pytestmark = pytest.mark.early
 
@@ -28,6 +28,8 @@ def test_early():
 TESTS = {
     "passes": "def test_one(): pass",
     "fails": "def test_one(): assert 1 == 2\n\n\ndef test_two(): pass",
+    "fails_once": "import pathlib\n\n\ndef test_one():\n    seen = pathlib.Path('seen')\n"
+    "    if not seen.exists():\n        seen.touch()\n        assert 1 == 2",
     "needs": 'import pytest\n\n\n@pytest.mark.needs("no-such-command")\ndef test_one(): pass',
     "is_expected_to_fail": "import pytest\n\n\n@pytest.mark.xfail\ndef test_one(): assert False",
     "is_killed": "import os\nimport signal\n\n\n"
@@ -41,7 +43,7 @@ class Repository:
     def __init__(self, folder: pathlib.Path) -> None:
         self.folder = folder
         for name in ("auction", "tools", "tests/lib", ".ci"):
-            shutil.copytree(TOP / name, folder / name)
+            shutil.copytree(TOP / name, folder / name, ignore=CHANGING)
         for name in ("pytest.ini", "tests/conftest.py"):
             shutil.copy(TOP / name, folder / name)
         self.write("tools/packages", "#!/bin/sh")
@@ -55,6 +57,11 @@ class Repository:
 
     def run(self, tests: str, *words: str, more: str = "") -> tuple[list[str], int]:
         """Runs the gate with these tests. Returns its last two lines and its status."""
+        lines, status = self.output(tests, *words, more=more)
+        return lines[-2:], status
+
+    def output(self, tests: str, *words: str, more: str = "") -> tuple[list[str], int]:
+        """Runs the gate with these tests. Returns its lines and its status."""
         self.write("tests/test_sample.py", TESTS[tests])
         self.write("bin/rt", PROOFS.replace("{more}", more))
         path = f"{self.folder / 'bin'}:{os.environ['PATH']}"
@@ -66,7 +73,7 @@ class Repository:
             text=True,
             timeout=120,
         )
-        return ran.stdout.splitlines()[-2:], ran.returncode
+        return ran.stdout.splitlines(), ran.returncode
 
 
 @pytest.fixture
@@ -86,6 +93,17 @@ def test_passes_if_proofs_and_tests_pass(repository: Repository) -> None:
 def test_fails_if_a_test_fails(repository: Repository) -> None:
     lines, status = repository.run("fails")
     assert (lines[-1], status) == ("5 passed, 1 failed, 0 skipped", 1)
+
+
+def test_names_a_test_that_fails_twice(repository: Repository) -> None:
+    lines, _ = repository.output("fails")
+    assert "failed by itself: tests/test_sample.py::test_one" in lines
+
+
+def test_passes_and_names_a_test_that_passes_by_itself(repository: Repository) -> None:
+    lines, status = repository.output("fails_once")
+    assert "passed by itself: tests/test_sample.py::test_one" in lines
+    assert (lines[-1], status) == ("5 passed, 0 failed, 0 skipped", 0)
 
 
 def test_fails_if_a_command_is_missing(repository: Repository) -> None:

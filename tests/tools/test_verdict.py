@@ -3,7 +3,17 @@ import json
 
 import pytest
 
-from tools.verdict import Counts, counts_of_proofs, counts_of_trials, verdict
+from tools.verdict import (
+    MOST_AGAIN,
+    Again,
+    Counts,
+    again,
+    counts_of_proofs,
+    counts_of_trials,
+    failures_in,
+    is_worth_again,
+    verdict,
+)
 
 pytestmark = pytest.mark.early
 
@@ -70,3 +80,46 @@ def test_line_before_the_last_names_what_skipped_tests_need() -> None:
     lines, _ = verdict(PASSED, [SKIPPED, PASSED], True)
     wanted = "rt: 5 passed, 0 failed, trials: 10 passed, 0 failed, 2 skipped (chromium)"
     assert lines[0] == wanted
+
+
+# ---- Failed tests, once more
+
+
+def summary_of(passed: int, failures: list[str], skipped: int = 0) -> str:
+    """The summary of a run of pytest."""
+    counts = {"passed": passed, "failed": len(failures), "skipped": skipped}
+    return json.dumps({**NOTHING, **counts, "failures": failures})
+
+
+def test_failures_are_those_of_all_runs() -> None:
+    assert failures_in([summary_of(3, ["b"]), None, summary_of(1, ["a"])]) == ("b", "a")
+
+
+@pytest.mark.parametrize(
+    ("count", "wanted"), [(0, False), (1, True), (MOST_AGAIN, True), (MOST_AGAIN + 1, False)]
+)
+def test_some_failed_tests_run_once_more_and_many_do_not(count: int, wanted: bool) -> None:
+    assert is_worth_again(["name"] * count) == wanted
+
+
+@pytest.mark.parametrize(
+    ("summary", "passed"),
+    [
+        pytest.param(summary_of(2, []), ("a", "b"), id="both-pass"),
+        pytest.param(summary_of(1, ["a"]), ("b",), id="one-fails-twice"),
+        pytest.param(summary_of(0, ["a", "b"]), (), id="both-fail-twice"),
+        pytest.param(summary_of(1, []), (), id="one-was-not-run"),
+        pytest.param(summary_of(1, ["a"], 1), (), id="one-was-skipped"),
+        pytest.param(None, (), id="killed"),
+    ],
+)
+def test_only_what_ran_by_itself_and_passed_has_passed(
+    summary: str | None, passed: tuple[str, ...]
+) -> None:
+    assert again(["a", "b"], summary) == Again(("a", "b"), passed)
+
+
+def test_a_test_that_passes_by_itself_is_counted_as_passed_and_named() -> None:
+    repeated = Again(("a", "b"), ("b",))
+    assert repeated.applied(Counts(7, 3, 1)) == Counts(8, 2, 1)
+    assert repeated.lines() == ["failed by itself: a", "passed by itself: b"]

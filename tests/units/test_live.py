@@ -14,7 +14,7 @@ from typing import Any
 
 import pytest
 
-from tests.lib.paths import EXAMPLES, TOP
+from tests.lib.paths import CHANGING, EXAMPLES, TOP
 
 SCRIPT = pathlib.Path(__file__).with_name("inside.sh")
 # What the script looks for, up to the first part that differs from run to run, and how often.
@@ -73,7 +73,7 @@ def install(program: pathlib.Path, root: pathlib.Path) -> None:
         folder.mkdir(parents=True, exist_ok=True)
     (auction / "tmp/cache/page").write_text("of another auction")
     for part in ("auction", "services"):
-        shutil.copytree(TOP / part, lib / part)
+        shutil.copytree(TOP / part, lib / part, ignore=CHANGING)
     for name in ("nginx.conf", "clock-auction.nft"):
         shutil.copy(TOP / "services" / name, auction)
     shutil.copy(EXAMPLES / "one_product.json", auction / "setup.json")
