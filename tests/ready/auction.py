@@ -78,10 +78,12 @@ class ReadyAuction:
         self.signing = self.site.begin_auction("receipts", *files)
 
     def stop_signing(self) -> None:
-        """The service stands still until it is continued."""
+        """The service does nothing until it is continued."""
         state = pathlib.Path(f"/proc/{self.signing.pid}/stat")
         self.signing.send_signal(signal.SIGSTOP)
-        wait_for("the service stands", lambda: state.read_text().rsplit(")", 1)[1][1] == "T", 30)
+        wait_for(
+            "the service is stopped", lambda: state.read_text().rsplit(")", 1)[1][1] == "T", 30
+        )
 
     def load_rules(self) -> None:
         """Loads the firewall's rules."""
@@ -128,7 +130,7 @@ def applied(fault: Fault, auction: ReadyAuction) -> Iterator[None]:
     """The auction with a fault, which is removed at the end.
 
     A fault is a generator: it makes the fault, yields, and removes it. The service that signs
-    receipts stands still meanwhile: a fault must not end it.
+    receipts is stopped meanwhile: a fault must not end it.
     """
     auction.stop_signing()
     steps = fault(auction)
