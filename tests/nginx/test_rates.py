@@ -110,7 +110,7 @@ def test_a_bidder_may_ask_2_times_a_second_and_60_times_at_once_from_all_address
     assert get(site, "/v1/me", new_bidder().token).status == 200, "another bidder"
 
 
-@pytest.mark.parametrize("path", ["/", "/public/timetable.json"])
+@pytest.mark.parametrize("path", ["/openapi.json", "/public/winners.json"])
 def test_an_address_may_ask_for_a_file_100_times_a_second_and_200_times_at_once(
     site: Site, recorder: Recorder, path: str
 ) -> None:
