@@ -70,15 +70,25 @@ class Plan:
 def make(folder: pathlib.Path, plan: Plan) -> None:
     """Makes a folder with all that an auction needs before it opens.
 
-    It is made next to its place, and renamed at the end: it is whole, or not there.
+    It is made next to its place, and renamed at the end: it is whole, or not there. Of two calls at
+    once, the second one waits for the first, and is refused.
     """
-    if folder.exists() and (not folder.is_dir() or any(folder.iterdir())):
-        raise FolderFault(f"{folder} is there already, and is not empty")
-    fresh = folder.with_name(f"{folder.name}.new")
-    shutil.rmtree(fresh, ignore_errors=True)
     old = os.umask(0o022)
     try:
-        fresh.mkdir(parents=True)
+        folder.parent.mkdir(parents=True, exist_ok=True)
+        with disk.locked_folder(folder.parent):
+            if folder.exists() and (not folder.is_dir() or any(folder.iterdir())):
+                raise FolderFault(f"{folder} is there already, and is not empty")
+            make_alone(folder, folder.with_name(f"{folder.name}.new"), plan)
+    finally:
+        os.umask(old)
+
+
+def make_alone(folder: pathlib.Path, fresh: pathlib.Path, plan: Plan) -> None:
+    """Makes a folder under another name, and renames it, while no other process makes one."""
+    shutil.rmtree(fresh, ignore_errors=True)
+    try:
+        fresh.mkdir()
         write_services(fresh, folder.absolute(), plan)
         make_folders(fresh)
         write_files(fresh, plan)
@@ -88,7 +98,6 @@ def make(folder: pathlib.Path, plan: Plan) -> None:
         os.rename(fresh, folder)
         disk.sync_folder(folder.parent)
     finally:
-        os.umask(old)
         shutil.rmtree(fresh, ignore_errors=True)
 
 

@@ -120,7 +120,7 @@ class Auction:
     def __init__(self, url, token, every):
         self.url, self.token, self.every = url.rstrip("/"), token, every
         self.products, self.receipts = None, None
-        self.is_in_doubt, self.is_closing = False, False
+        self.is_in_doubt, self.is_closing, self.is_waiting = False, False, False
         tls = (
             ssl.create_default_context(cafile=os.environ.get("CA"))
             if url.startswith("https")
@@ -153,6 +153,8 @@ class Auction:
                 if reply.status in WAITS and WAITS[reply.status] in text:
                     if reply.status == 503:
                         self.tell_closing()
+                    else:
+                        self.tell_waiting()
                     given_up = time.monotonic() + PATIENCE
                     is_noted = True  # this one was not taken, so the next is the one that is noted
                     time.sleep(self.every)
@@ -162,6 +164,7 @@ class Auction:
                 if reply.status >= 300 and reply.status not in BUSY:
                     sys.exit(f"{path} is refused: {reply.status} {text.decode(errors='replace')}")
                 if reply.status < 300 and has_shape(page := json.loads(text), shape, self.products):
+                    self.is_waiting = self.is_waiting and sheet is None
                     self.is_closing = self.is_closing and not path.startswith("/v1/")
                     return page
                 fault = f"{reply.status} {reply.reason}, not a page of the server: {text[:80]}"
@@ -178,17 +181,27 @@ class Auction:
 
         It says when the results appear, if that is published.
         """
-        if self.is_closing:
-            return
-        self.is_closing = True
+        if not self.is_closing:
+            self.is_closing, when = True, self.time_of("results")
+            words = f"results appear at {when}" if when else "its results follow"
+            print(f"The round is closing; {words}.", file=sys.stderr, flush=True)
+
+    def tell_waiting(self):
+        """Says, once before each window, that the sheet waits for it, and until when."""
+        if not self.is_waiting:
+            self.is_waiting, when = True, self.time_of("opens")
+            words = f"the round opens at {when}" if when else "the round is not open"
+            print(f"Waiting to send the sheet: {words}.", file=sys.stderr, flush=True)
+
+    def time_of(self, key):
+        """A time of the current round's window, by the published timetable, or None."""
         try:
             with self.opener.open(self.url + "/public/timetable.json", timeout=30) as reply:
                 table = json.loads(reply.read())
             window = next(each for each in table["windows"] if each["round"] == table["round"])
-            when = f"results appear at {window['results']}"
+            return window[key]
         except (OSError, http.client.HTTPException, KeyError, StopIteration, TypeError, ValueError):
-            when = "its results follow"
-        print(f"The round is closing; {when}.", file=sys.stderr, flush=True)
+            return None
 
     def prices(self, products, number):
         """The start-of-round and clock prices of a round."""

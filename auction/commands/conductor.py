@@ -5,11 +5,13 @@ one write.
 """
 import argparse
 import fcntl
+import json
 import os
 import pathlib
 import sys
 import time
 from collections.abc import Callable
+from typing import Any
 
 from auction.command import Command
 from auction.conductor import commands, report
@@ -61,20 +63,18 @@ def clear_folder(folder: pathlib.Path) -> None:
         print(f"{path} is not in {folder}: put it away too.")
 
 
-def status(context: Context, _: argparse.Namespace) -> None:
-    """Prints the last report.
+def status(context: Context, given: argparse.Namespace) -> None:
+    """Prints the last report, in words or as the object of JSON that it is.
 
     The exit status is 0, 3 if it waits for a person, and 1 if nobody writes the report.
     """
     shown = report.shown(context.folders)
     if not shown:
         sys.exit("no conductor has run yet")
-    print(f"{shown['state']}: {shown['waits_for']}")
-    if shown["sheets"] is not None and shown["state"] != report.State.ENDED.value:
-        missing = [name for name in context.setup.bidders if name not in shown["sheets"]]
-        others = f"; not: {', '.join(missing)}" if missing else ""
-        count = f"{len(shown['sheets'])} of {len(context.setup.bidders)}"
-        print(f"{count} bidders have a sheet in force{others}")
+    if given.json:
+        print(json.dumps(shown))
+    else:
+        say_report(context, shown)
     age = time.time() - report.time_of(shown)
     if age > report.STALE:
         sys.exit(
@@ -82,6 +82,16 @@ def status(context: Context, _: argparse.Namespace) -> None:
         )
     if report.State(shown["state"]) in report.WAITS_FOR_A_PERSON:
         sys.exit(3)
+
+
+def say_report(context: Context, shown: dict[str, Any]) -> None:
+    """Prints a report in words, with the bidders that have a sheet in force."""
+    print(f"{shown['state']}: {shown['waits_for']}")
+    if shown["sheets"] is not None and shown["state"] != report.State.ENDED.value:
+        missing = [name for name in context.setup.bidders if name not in shown["sheets"]]
+        others = f"; not: {', '.join(missing)}" if missing else ""
+        count = f"{len(shown['sheets'])} of {len(context.setup.bidders)}"
+        print(f"{count} bidders have a sheet in force{others}")
 
 
 def guarded(
@@ -108,6 +118,11 @@ def guarded(
 
 def add_folder(parser: argparse.ArgumentParser) -> None:
     parser.add_argument("folder", metavar="FOLDER", type=pathlib.Path)
+
+
+def add_status(parser: argparse.ArgumentParser) -> None:
+    add_folder(parser)
+    parser.add_argument("--json", action="store_true", help="print an object of JSON")
 
 
 def add_file(parser: argparse.ArgumentParser) -> None:
@@ -162,7 +177,7 @@ COMMANDS = (
     command(
         "status",
         "Prints what the conductor waits for; status 3 if that is a person.",
-        add_folder,
+        add_status,
         status,
     ),
     command(

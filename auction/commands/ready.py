@@ -4,8 +4,8 @@ FOLDER is nginx's. The set-up and the journal are those of FOLDER/conductor.json
 and auction.journal. NAME is the host that bidders use. GB is the space that the journal may need.
 
 Run it as root, with server and nginx running. It prints a line for each check, which begins with
-`ok` or `FAULT`, and then whether the auction is ready. The status is 0 if it is, and 1 if it is
-not. It changes nothing.
+`ok` or `FAULT`, and then whether the auction is ready. With --json it prints one object instead.
+The status is 0 if the auction is ready, and 1 if it is not. It changes nothing.
 """
 import argparse
 import json
@@ -26,12 +26,19 @@ def arguments(parser: argparse.ArgumentParser) -> None:
     parser.add_argument("--setup", metavar="FILE", type=Path)
     parser.add_argument("--journal", metavar="FILE", type=Path)
     parser.add_argument("--space", metavar="GB", type=float, default=5)
+    parser.add_argument("--json", action="store_true", help="print an object of JSON")
 
 
 def lines_of(auction: Auction) -> tuple[bool, list[str]]:
     """Whether the auction is ready, and a line for each check."""
     found = [check.finding(auction) for check in CHECKS]
     return all(well for well, _ in found), [line for _, line in found]
+
+
+def parts_of(line: str) -> dict[str, str | bool]:
+    """A line of a check as an object: its name, whether all is well, and the words."""
+    name, _, words = line[7:].partition(": ")
+    return {"check": name, "ok": line.startswith("ok"), "words": words}
 
 
 def named(folder: Path, key: str, usual: str) -> Path:
@@ -50,6 +57,9 @@ def run(given: argparse.Namespace) -> int:
     setup = given.setup or named(folder, "setup", "setup.json")
     journal = given.journal or named(folder, "journal", "auction.journal")
     well, lines = lines_of(Auction(folder, setup, journal, given.host, int(given.space * GB)))
+    if given.json:
+        print(json.dumps({"ready": well, "checks": [parts_of(line) for line in lines]}))
+        return 0 if well else 1
     print("\n".join(lines))
     faults = sum(line.startswith("FAULT") for line in lines)
     end = f"{faults} of {len(lines)} checks found a fault"

@@ -7,11 +7,15 @@ its output is the program's, two readings of the rules have led to the same auct
 
 It judges every sheet and every closing in the journal again. A fault is printed as the program
 prints it, as one line `fault: WORDS` on standard error, and the exit status is then 1.
+
+With --table, it prints one table of a record as CSV instead, also during the auction. The tables
+are those of docs/formats.md.
 """
 import argparse
 import sys
 
 from auction.command import Command
+from auction.formats import tables
 from auction.recount.formats import Refused
 from auction.recount.rules import recounted, report
 
@@ -19,6 +23,8 @@ from auction.recount.rules import recounted, report
 def arguments(parser: argparse.ArgumentParser) -> None:
     parser.add_argument("setup", metavar="SETUP")
     parser.add_argument("journal", metavar="JOURNAL")
+    names = [name.removesuffix(".csv") for name in tables.TABLES]
+    parser.add_argument("--table", choices=names, help="print this table as CSV")
 
 
 def bytes_of(path: str, fault: str) -> bytes:
@@ -32,10 +38,15 @@ def bytes_of(path: str, fault: str) -> bytes:
 
 def run(given: argparse.Namespace) -> int:
     try:
-        counted = recounted(bytes_of(given.setup, "file"), bytes_of(given.journal, "journal"))
+        document, journal = bytes_of(given.setup, "file"), bytes_of(given.journal, "journal")
+        counted = recounted(document, journal)
     except Refused as fault:
         sys.exit(f"fault: {fault}")
-    sys.stdout.writelines(line + "\n" for line in report(counted))
+    if given.table:
+        columns, rows = tables.TABLES[f"{given.table}.csv"]
+        sys.stdout.write(tables.table(columns, rows(tables.auction_in(document, journal, counted))))
+    else:
+        sys.stdout.writelines(line + "\n" for line in report(counted))
     return 0
 
 

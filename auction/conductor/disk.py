@@ -83,6 +83,17 @@ def locked(path: Path) -> Iterator[None]:
         yield
 
 
+@contextlib.contextmanager
+def locked_folder(path: Path) -> Iterator[None]:
+    """Waits until no other process has the lock of this folder, which needs no file of its own."""
+    opened = os.open(path, os.O_RDONLY)
+    try:
+        fcntl.flock(opened, fcntl.LOCK_EX)
+        yield
+    finally:
+        os.close(opened)
+
+
 def touch(path: Path) -> None:
     """Makes an empty file, which need not survive a power loss."""
     os.close(os.open(path, os.O_WRONLY | os.O_CREAT, PUBLIC))

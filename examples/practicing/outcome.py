@@ -70,22 +70,17 @@ def sincere_words(program: pathlib.Path, game: Game, ending: Ending) -> str:
     )
 
 
-def recounts(program: pathlib.Path | None, folder: pathlib.Path) -> dict[str, str]:
+def recounts(program: pathlib.Path, folder: pathlib.Path) -> dict[str, str]:
     """The recounts of an auction from its set-up and its journal.
 
     They are by the name of the program or script that printed them.
     """
     setup, journal = str(folder / "setup.json"), str(folder / "auction.journal")
-    commands = {"auction recount": [sys.executable, str(AUCTION), "recount", setup, journal]}
-    if program:
-        commands["clock_auction audit"] = [
-            str(program),
-            "audit",
-            "--setup",
-            setup,
-            "--journal",
-            journal,
-        ]
+    audit = [str(program), "audit", "--setup", setup, "--journal", journal]
+    commands = {
+        "auction recount": [sys.executable, str(AUCTION), "recount", setup, journal],
+        "clock_auction audit": audit,
+    }
     done = {
         name: subprocess.run(command, capture_output=True, text=True)
         for name, command in commands.items()
@@ -93,7 +88,7 @@ def recounts(program: pathlib.Path | None, folder: pathlib.Path) -> dict[str, st
     return {name: each.stdout + each.stderr for name, each in done.items()}
 
 
-def recount_words(program: pathlib.Path | None, ending: Ending, folder: pathlib.Path) -> str:
+def recount_words(program: pathlib.Path, ending: Ending, folder: pathlib.Path) -> str:
     """The last lines of the recounts, and whether they agree with each other and the server."""
     texts = recounts(program, folder)
     text, names = next(iter(texts.values())), " and ".join(f"`{name}`" for name in sorted(texts))
@@ -114,13 +109,12 @@ def recount_words(program: pathlib.Path | None, ending: Ending, folder: pathlib.
         )
     shown = "\n".join("    " + line for line in text[text.rfind("round ") :].splitlines()[:LINES])
     return (
-        f"{names} {'count' if len(texts) > 1 else 'counts'} the auction again, "
-        "from its set-up and its journal.\n"
+        f"{names} count the auction again, from its set-up and its journal.\n"
         f"The last round, and what each bidder won and pays:\n\n{shown}\n\n{verdict}"
     )
 
 
 def finish(game: Game, ending: Ending, server: Server) -> tuple[str, str]:
     """The words for the page about the end, and the further words for the terminal."""
-    sincere = sincere_words(server.program, game, ending) if server.program else ""
-    return your_words(game, ending) + sincere, recount_words(server.program, ending, server.folder)
+    words = your_words(game, ending) + sincere_words(server.program, game, ending)
+    return words, recount_words(server.program, ending, server.folder)

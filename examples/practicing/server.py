@@ -1,4 +1,4 @@
-"""The auction's server: the built program, or the source run by `rt try`. Also requests to it."""
+"""The auction's server: the built program, or the unproved one. Also requests to it."""
 import http.client
 import json
 import os
@@ -11,17 +11,14 @@ import time
 from typing import Any
 
 TOP = pathlib.Path(__file__).resolve().parents[2]
-CRATE = TOP / "crates" / "clock_auction"
-BUILT = CRATE / "out" / "clock_auction"
+BUILT = TOP / "crates" / "clock_auction" / "out" / "clock_auction"
+UNPROVED = TOP / "out" / "unproved" / "clock_auction"
 CONNECTIONS = 1_000_000
-DAY = 86_400  # seconds
-PATIENCE = 600  # seconds in which a server that is built first must answer
+PATIENCE = 60  # seconds in which a server must answer
 
 
-def program_of(given: pathlib.Path | None) -> pathlib.Path | None:
-    """The program: the given one, the built one, or the one on the PATH. None if there is only the
-    kit.
-    """
+def program_of(given: pathlib.Path | None) -> pathlib.Path:
+    """The program: the given one, the built one, the one on the PATH, or an unproved one."""
     found = shutil.which("clock_auction")
     for path in [given] if given else [BUILT, *([pathlib.Path(found)] if found else [])]:
         if os.access(path, os.X_OK):
@@ -33,13 +30,22 @@ def program_of(given: pathlib.Path | None) -> pathlib.Path | None:
             "There is no server to practice with: no built program, no `clock_auction` on the "
             "PATH, and no `rt`."
         )
-    return None
+    return unproved()
+
+
+def unproved() -> pathlib.Path:
+    """The unproved program, which is compiled if it is not kept. A line shows the progress."""
+    print("There is no built program, so this takes an unproved one.", flush=True)
+    compiled = subprocess.run([TOP / "tools" / "try-program"], stdout=subprocess.DEVNULL)
+    if compiled.returncode:
+        sys.exit("Without a program there is no practice.")
+    return UNPROVED
 
 
 class Server:
     """One auction on a port of this machine, with its journal in a folder."""
 
-    def __init__(self, program: pathlib.Path | None, folder: pathlib.Path, port: int) -> None:
+    def __init__(self, program: pathlib.Path, folder: pathlib.Path, port: int) -> None:
         self.program, self.folder, self.port, self.log = (
             program,
             folder,
@@ -54,17 +60,10 @@ class Server:
             str(folder / "auction.journal"),
         ]
         words += ["--port", str(port), "--connections", str(CONNECTIONS)]
-        command = (
-            [str(program), *words]
-            if program
-            else ["rt", "try", "--seconds", str(DAY), "--", *words]
-        )
         with open(self.log, "wb") as log:
-            # Ctrl+C must reach only this script, and everything that the kit starts must stop
-            # together.
+            # Ctrl+C must reach only this script.
             self.process = subprocess.Popen(
-                command,
-                cwd=CRATE,
+                [str(program), *words],
                 stdin=subprocess.DEVNULL,
                 stdout=log,
                 stderr=log,

@@ -1,19 +1,22 @@
 """`auction init` makes an auction's folder whole, or not at all."""
 import json
+import os
 import pathlib
 import shutil
 import stat
 import subprocess
+import sys
 import tempfile
 from collections.abc import Iterator
 
 import pytest
 from cryptography import x509
 
+from auction.conductor.chain import Chain
 from auction.folder import usual_journal
 from auction.formats.setup import Setup
 from auction.formats.ties import Commitment
-from tests.lib.paths import EXAMPLES, PATHS, TOP, auction
+from tests.lib.paths import AUCTION, EXAMPLES, PATHS, TOP, auction
 
 SETUP = EXAMPLES / "two_products.json"
 WORKER = "www-data"  # a user of Debian, with a group of the same name
@@ -174,3 +177,19 @@ def test_a_folder_that_is_there_stays_as_it_is(folder: pathlib.Path) -> None:
     done = auction("init", folder, "--setup", SETUP, "--user", WORKER)
     assert done.returncode == 1 and "is there already" in done.stderr
     assert {name: (folder / name).stat().st_mtime_ns for name in files_below(folder)} == before
+
+
+def test_of_calls_at_once_only_one_makes_the_folder(open_folder: pathlib.Path) -> None:
+    made = open_folder / "auction"
+    words = [sys.executable, AUCTION, "init", made, "--setup", SETUP, "--user", WORKER]
+    calls = [
+        subprocess.Popen(words, stdout=subprocess.DEVNULL, stderr=subprocess.PIPE, text=True)
+        for _ in range(4)
+    ]
+    ended = [(call.communicate(timeout=60)[1], call.returncode) for call in calls]
+    refused = [said for said, status in ended if status]
+    assert len(refused) == 3, ended
+    assert all("is there already, and is not empty" in said for said in refused), refused
+    chain = Chain.read(made / "kept/chain.json", Setup.read(made / "setup.json"))
+    assert Commitment.read(made / "public/commitment.json").chain == chain.committed()
+    assert os.listdir(open_folder) == ["auction"]

@@ -14,7 +14,13 @@ SECONDS = 240  # for a practice to end by itself, on a machine with other work
 class Practice:
     """One practice of a clone, in a folder of its own."""
 
-    def __init__(self, clone: pathlib.Path, folder: pathlib.Path, *words: str) -> None:
+    def __init__(
+        self,
+        clone: pathlib.Path,
+        folder: pathlib.Path,
+        *words: str,
+        environment: dict[str, str] | None = None,
+    ) -> None:
         self.folder, self.port, self.said = folder, free_port(2), ""
         script = clone / "examples" / "practice"
         given = ["--folder", str(folder), "--port", str(self.port), *words]
@@ -25,6 +31,7 @@ class Practice:
             stderr=subprocess.STDOUT,
             text=True,
             start_new_session=True,
+            env=environment,
         )
         assert self.process.stdout
         self.output = self.process.stdout

@@ -1,4 +1,4 @@
-"""examples/bidder.py while a round is closing, and its results are withheld."""
+"""examples/bidder.py while a round is closing, and while no window is open."""
 import json
 import os
 import pathlib
@@ -72,3 +72,26 @@ def test_a_closing_round_is_no_outage(
     lines = [line for line in bidder.errors.read_text().splitlines() if "receipt" not in line]
     assert len(lines) == 1 and words in lines[0], "once, and nothing of an outage"
     assert bidder.process.poll() is None
+
+
+@pytest.mark.parametrize(
+    "has_time, words",
+    [(True, "the round opens at 20"), (False, "the round is not open.")],
+    ids=["with a time", "without"],
+)
+def test_it_says_once_that_its_sheet_waits_for_a_window(
+    auction: Auction, tmp_path: pathlib.Path, has_time: bool, words: str
+) -> None:
+    (auction.folder / "gate/open").unlink()
+    if has_time:
+        Published(auction).timetable(1, (60, 120, 150))
+    bidder = Bidder(auction, tmp_path)
+    try:
+        wait_for("it is said", lambda: "Waiting" in bidder.errors.read_text(), 60)
+        (auction.folder / "gate/open").touch()
+        wait_for("the first sheet", lambda: "sheet" in bidder.said.read_text(), 60)
+    finally:
+        bidder.process.kill()
+        bidder.process.wait()
+    lines = [line for line in bidder.errors.read_text().splitlines() if "receipt" not in line]
+    assert len(lines) == 1 and words in lines[0], lines

@@ -1,15 +1,18 @@
 """Practices of each kind that play the player's part too, and end by themselves."""
 import json
+import os
 import pathlib
+import socket
 from collections.abc import Callable
 from typing import Any
 
 import pytest
 
 from tests.lib.paths import EXAMPLES
+from tests.lib.ports import free_port
 from tests.practice.conftest import Start
 from tests.practice.ending import CHECKS, Ending
-from tests.practice.practice import TOKEN
+from tests.practice.practice import TOKEN, Practice
 
 OWN = json.loads((EXAMPLES / "rehearsal_version_2.json").read_text())["setup"]
 PAGE = {key: OWN[key] for key in ("version", "requirement", "limit", "products")}
@@ -125,6 +128,10 @@ REFUSALS = {
     ),
     "no program": (["--program", "none"], "is not a program."),
     "no values": (["--setup", ONE, "--values", README], "README.md"),
+    "values of no product": (
+        ["--setup", ONE, "--values", "limits.json"],
+        "limits.json: no product is called Q.",
+    ),
     "a folder with a file": (["--folder", "full"], "is not empty"),
 }
 
@@ -137,7 +144,8 @@ def test_a_practice_is_refused_in_one_line(
     (tmp_path / "full" / "file").touch()
     bad = {**json.loads(pathlib.Path(ONE).read_text()), "requirement": 20}
     (tmp_path / "bad.json").write_text(json.dumps(bad))
-    here = ("full", "bad.json", "none")
+    (tmp_path / "limits.json").write_text(json.dumps({"A": [140], "Q": [140]}))
+    here = ("full", "bad.json", "limits.json", "none")
     practice = start(
         tmp_path / "new", *[str(tmp_path / word) if word in here else word for word in words]
     )
@@ -145,10 +153,40 @@ def test_a_practice_is_refused_in_one_line(
     assert said in practice.said and "Traceback" not in practice.said
 
 
-def test_a_port_in_use_is_refused(start: Start, tmp_path: pathlib.Path) -> None:
-    first = start(tmp_path / "first")
-    first.until("Your token")
-    second = start(tmp_path / "second", "--port", str(first.port))
-    assert second.rest() != 0
-    words = f"Port {first.port}: Address already in use. Choose another one with --port."
-    assert words in second.said and "Traceback" not in second.said
+@pytest.mark.parametrize("place", [0, 1], ids=["the page's", "the server's"])
+def test_a_port_in_use_is_refused(start: Start, tmp_path: pathlib.Path, place: int) -> None:
+    first = free_port(3) + 1
+    with socket.socket() as other:
+        other.setsockopt(socket.SOL_SOCKET, socket.SO_REUSEADDR, 1)
+        other.bind(("127.0.0.1", first + place))
+        other.listen()
+        practice = start(tmp_path / "new", "--port", str(first))
+        assert practice.rest() != 0
+    words = f"Port {first + place}: Address already in use. Choose another one with --port."
+    assert words in practice.said and "Traceback" not in practice.said
+
+
+# ---- Without a built program
+
+RT = """#!/bin/sh
+# As `rt try --seconds S -- WORDS`, with a program that is compiled already.
+shift 4
+exec {} "$@"
+"""
+
+
+def test_without_a_built_program_an_unproved_one_is_compiled_and_compared(
+    clone: pathlib.Path, program: pathlib.Path, tmp_path: pathlib.Path
+) -> None:
+    (tmp_path / "rt").write_text(RT.format(program))
+    (tmp_path / "rt").chmod(0o755)
+    words = ["--demo", "--seed", "5", "--products", "1", "--bidders", "2"]
+    environment = {**os.environ, "PATH": f"{tmp_path}:/usr/bin:/bin"}
+    practice = Practice(clone, tmp_path / "new", *words, environment=environment)
+    try:
+        assert practice.rest() == 0, practice.said
+    finally:
+        practice.stop()
+    assert "compiling, unproved: 0:00 of about 2 minutes" in practice.said
+    assert "A bidder that follows your values in every round would have won" in practice.said
+    assert "`auction recount` and `clock_auction audit` count the auction again" in practice.said

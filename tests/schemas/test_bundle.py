@@ -102,3 +102,10 @@ def test_each_refusal_of_a_sheet_by_the_server_is_described(description: Any) ->
     response = SERVER["components"]["responses"]["refused_sheet"]
     codes = response["content"]["application/json"]["schema"]["properties"]["code"]["enum"]
     assert description["components"]["responses"]["refused_sheet"]["x-codes"] == codes
+
+
+def test_each_fault_of_a_bid_is_explained(description: Any) -> None:
+    response = description["components"]["responses"]["refused_sheet"]
+    for code in response["x-codes"]:
+        assert f"{code} (" in response["description"], code
+    assert "keep_price (the quantity is the processed demand" in response["description"]
