@@ -34,7 +34,7 @@ def program_of(given: pathlib.Path | None) -> pathlib.Path:
 
 
 def unproved() -> pathlib.Path:
-    """The unproved program, which is compiled if it is not kept. A line shows the progress."""
+    """The unproved program, compiled unless it is there already. A line shows the progress."""
     print("There is no built program, so this takes an unproved one.", flush=True)
     compiled = subprocess.run([TOP / "tools" / "try-program"], stdout=subprocess.DEVNULL)
     if compiled.returncode:
