@@ -151,10 +151,7 @@ class Auction:
                 with self.opener.open(request, timeout=30) as reply:
                     text = reply.read()
                 if reply.status in WAITS and WAITS[reply.status] in text:
-                    if reply.status == 503:
-                        self.tell_closing()
-                    else:
-                        self.tell_waiting()
+                    self.tell(reply.status)
                     given_up = time.monotonic() + PATIENCE
                     is_noted = True  # this one was not taken, so the next is the one that is noted
                     time.sleep(self.every)
@@ -176,19 +173,16 @@ class Auction:
             time.sleep(self.every)
         sys.exit(f"{path}: no reply for {PATIENCE} seconds")
 
-    def tell_closing(self):
-        """Says, once in each closing, that the round is closing.
+    def tell(self, status):
+        """Says, once each time, that the round is closing, or that the sheet waits for a window.
 
-        It says when the results appear, if that is published.
+        It says until when, if that is published.
         """
-        if not self.is_closing:
+        if status == 503 and not self.is_closing:
             self.is_closing, when = True, self.time_of("results")
             words = f"results appear at {when}" if when else "its results follow"
             print(f"The round is closing; {words}.", file=sys.stderr, flush=True)
-
-    def tell_waiting(self):
-        """Says, once before each window, that the sheet waits for it, and until when."""
-        if not self.is_waiting:
+        if status == 409 and not self.is_waiting:
             self.is_waiting, when = True, self.time_of("opens")
             words = f"the round opens at {when}" if when else "the round is not open"
             print(f"Waiting to send the sheet: {words}.", file=sys.stderr, flush=True)
