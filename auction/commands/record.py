@@ -23,7 +23,7 @@ import sys
 
 from auction.command import Command
 from auction.conductor import disk
-from auction.formats import record
+from auction.formats import notices, record
 from auction.recount import rules as recount
 from auction.recount.formats import Refused
 
@@ -60,7 +60,8 @@ def published_in(folder: pathlib.Path) -> dict[str, bytes]:
     """The published files, by their names in the folder."""
     if not folder.is_dir():
         raise NoRecord(f"{folder} is not a folder")
-    found = sorted(str(path.relative_to(folder)) for path in folder.rglob("*.json"))
+    paths = [*folder.rglob("*.json"), *folder.glob(notices.NAME)]
+    found = sorted(str(path.relative_to(folder)) for path in paths)
     if strange := [name for name in found if not record.PUBLISHED.fullmatch(name)]:
         raise NoRecord(f"{folder} has {strange[0]}, which is never published during an auction")
     return {name: (folder / name).read_bytes() for name in found}

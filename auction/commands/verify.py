@@ -6,7 +6,8 @@ saved yourself during the auction. It may also be the record that `auction recor
 files and index are then checked too.
 
 Each RECEIPTS is a bidder's file of receipts. COPY is a commitment.json that someone saved before
-round 1, and before a public draw. Without it, the one in PUBLISHED counts.
+round 1, and before a public draw. Without it, the one in PUBLISHED counts. Each SAVED is a copy of
+notices.jsonl. One with other entries that the operator signed proves that there were two chains.
 
 Each check prints one line, or one for each thing that is wrong: `ok`, `FAILED`, or `absent` if
 there is nothing to check. The last line counts them. The status is 0 only if nothing failed.
@@ -19,6 +20,7 @@ import pathlib
 from collections import Counter
 
 from auction.command import Command
+from auction.formats.notices import NAME
 from auction.formats.strict import escaped
 from auction.verify.case import Case
 from auction.verify.findings import ABSENT, FAILED, OK, findings
@@ -32,17 +34,33 @@ def arguments(parser: argparse.ArgumentParser) -> None:
     parser.add_argument(
         "--commitment", metavar="COPY", type=pathlib.Path, help="a saved copy of commitment.json"
     )
+    parser.add_argument(
+        "--notices",
+        metavar="SAVED",
+        type=pathlib.Path,
+        action="append",
+        default=[],
+        help="a saved copy of notices.jsonl; may be given again",
+    )
+
+
+def lacking(case: Case) -> str:
+    """Says loudly that an auction has no notices."""
+    if (case.published / NAME).is_file():
+        return ""
+    return "; NO NOTICES: windows, increments, and announcements are not shown"
 
 
 def run(given: argparse.Namespace) -> int:
     counts: Counter[str] = Counter()
     files = given.setup, given.journal, given.published, *given.receipts
-    for found in findings(Case(*files, commitment=given.commitment)):
+    case = Case(*files, commitment=given.commitment, copies=given.notices)
+    for found in findings(case):
         counts[found.result] += 1
         print(escaped(f"{found.result:6} {found.subject}: {found.words}"), flush=True)
     verdict = "NOT verified" if counts[FAILED] else "verified"
     failed = f"{counts[OK]} checks hold, {counts[FAILED]} failed"
-    print(f"{verdict}: {failed}, {counts[ABSENT]} had nothing to check")
+    print(f"{verdict}: {failed}, {counts[ABSENT]} had nothing to check{lacking(case)}")
     return 1 if counts[FAILED] else 0
 
 

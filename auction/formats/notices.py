@@ -88,6 +88,12 @@ def checked_time(value: Any) -> str:
     return value
 
 
+def seconds_of(time: str) -> int:
+    """A time in seconds since 1970."""
+    moment = datetime.datetime.strptime(time, TIME)
+    return int(moment.replace(tzinfo=datetime.timezone.utc).timestamp())
+
+
 def checked_round(value: Any) -> None:
     if type(value) is not int or value < 1:
         raise ValueError(f"{value!r} is no round")

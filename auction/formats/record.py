@@ -9,6 +9,7 @@ from auction.recount import rules as recount
 INDEX = "SHA256SUMS"
 PUBLISHED = re.compile(
     r"(commitment|draw|names|timetable|announcements|winners|rounds/[1-9][0-9]{0,15})\.json"
+    r"|notices\.jsonl"
 )
 ABOUT = """The record of an auction of clock_auction. docs/formats.md of its repository lists these
 files and their columns, docs/auditors.md says what they prove.

@@ -6,6 +6,7 @@ from typing import Any
 from auction.formats import strict
 from auction.recount.rules import Round
 
+from .announced import announcement_faults, announcements_in
 from .case import Absent, Case, Failed
 
 CUT = "requests are missing at the end of the journal"
@@ -155,6 +156,8 @@ def check_announcements(case: Case) -> str:
 
     No other round may be announced, and announcements are numbered from 1.
     """
+    if not (case.published / "announcements.json").is_file() and announcements_in(case):
+        raise Failed("announcements.json is not there, and by the notices there were announcements")
     made = case.json("announcements.json")["announcements"]
     announced = {one["key"]: re.findall(r"\b[0-9a-f]{64,}\b", one["text"]) for one in made}
     faults = [
@@ -178,6 +181,7 @@ def check_announcements(case: Case) -> str:
         for one in made
         if one.keys() != {"key", "number", "text", "time"} or not TIME.fullmatch(one["time"])
     ]
+    faults = faults or announcement_faults(case, made)
     if faults:
         raise Failed(*faults)
     return f"the digests of {len(case.rounds)} rounds were announced as they were published"

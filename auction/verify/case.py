@@ -2,13 +2,16 @@
 import functools
 import hashlib
 import re
+from collections.abc import Sequence
 from pathlib import Path
 from typing import Any
 
-from auction.formats import strict
+from auction.formats import notices, strict
 from auction.formats.record import INDEX
 from auction.recount import rules as recount
 from auction.recount.formats import Record, Setup, records_in, setup_in
+
+COMMITMENT = "commitment.json"
 
 
 class Failed(Exception):
@@ -22,8 +25,8 @@ class Absent(Exception):
 class Case:
     """A set-up document, a journal, the folder of what was published, and files of receipts.
 
-    `commitment` is a copy of the commitment that someone saved. A check reads each when it needs
-    it.
+    `commitment` is a copy of the commitment that someone saved, and `copies` are such copies of the
+    notices. A check reads each when it needs it.
     """
 
     def __init__(
@@ -33,9 +36,10 @@ class Case:
         published: Path,
         *receipts: Path,
         commitment: Path | None = None,
+        copies: Sequence[Path] = (),
     ) -> None:
         self.paths, self.published, self.receipts = (setup, journal), published, receipts
-        self.commitment = commitment
+        self.commitment, self.copies = commitment, copies
 
     @functools.cached_property
     def document(self) -> bytes:
@@ -88,6 +92,19 @@ class Case:
         if text != strict.published(value):
             raise Failed(f"{name} is not written as the conductor writes it")
         return value
+
+    def commitment_text(self) -> bytes:
+        """The bytes of the commitment: of the named copy, or of the published one."""
+        if not (self.published / COMMITMENT).is_file():
+            raise Failed(
+                f"{self.published} has no {COMMITMENT}: nothing shows what was fixed before round 1"
+            )
+        return self.commitment.read_bytes() if self.commitment else self.text(COMMITMENT)
+
+    @functools.cached_property
+    def entries(self) -> list[notices.Entry]:
+        """The notices. Raises NoticesFault if they are no chain from the commitment on."""
+        return notices.notices_in(self.text(notices.NAME), self.commitment_text())
 
     @functools.cached_property
     def rounds(self) -> dict[int, dict[str, Any]]:

@@ -4,7 +4,7 @@ from typing import NamedTuple
 
 from auction.recount.formats import Refused
 
-from . import auction, folder, promised
+from . import announced, auction, folder, promised
 from .case import Absent, Case, Failed
 
 OK, FAILED, ABSENT = "ok", "FAILED", "absent"
@@ -13,6 +13,7 @@ CHECKS = [
     *auction.FILES,
     promised.COMMITMENT_CHECK,
     *auction.ROUNDS,
+    *announced.CHECKS,
     *promised.CHECKS,
     *folder.CHECKS,
 ]

@@ -2,26 +2,18 @@
 import hashlib
 from collections.abc import Iterable
 
-from auction.formats import receipts, strict, ties
+from auction.formats import notices, receipts, strict, ties
 from auction.recount.formats import closing_in, json_in, request_in
 
-from .case import Absent, Case, Failed
+from . import announced
+from .case import COMMITMENT, Absent, Case, Failed
 
-COMMITMENT, DRAW = "commitment.json", "draw.json"
+DRAW = "draw.json"
 
 
 def commitment_of(case: Case) -> ties.Commitment:
     """The commitment: the named copy, or the published one."""
-    return ties.Commitment.of(strict.value_in(commitment_text(case)))
-
-
-def commitment_text(case: Case) -> bytes:
-    """The bytes of the commitment."""
-    if not (case.published / COMMITMENT).is_file():
-        raise Failed(
-            f"{case.published} has no {COMMITMENT}: nothing shows what was fixed before round 1"
-        )
-    return case.commitment.read_bytes() if case.commitment else case.text(COMMITMENT)
+    return ties.Commitment.of(strict.value_in(case.commitment_text()))
 
 
 def chain_of(case: Case) -> ties.Committed | None:
@@ -33,7 +25,7 @@ def chain_of(case: Case) -> ties.Committed | None:
 
 def check_commitment(case: Case) -> str:
     """Checks that what was fixed before round 1 is about this set-up."""
-    commitment, text = commitment_of(case), commitment_text(case)
+    commitment, text = commitment_of(case), case.commitment_text()
     if text != strict.published(commitment.value()):
         raise Failed(f"{COMMITMENT} is not written as `auction commit` writes it")
     if case.commitment is not None and case.text(COMMITMENT) != text:
@@ -56,7 +48,7 @@ def check_draw(case: Case) -> str:
             f"{case.published} has no {DRAW}, and without a public draw the operator may have "
             "chosen among many chains"
         )
-    draw, text = ties.Draw.of(case.json(DRAW)), commitment_text(case)
+    draw, text = ties.Draw.of(case.json(DRAW)), case.commitment_text()
     if commitment_of(case).chain is None:
         raise Failed(f"{DRAW} is of an auction without tie-breaking numbers")
     if draw != ties.Draw.added(text, draw.words):
@@ -64,6 +56,9 @@ def check_draw(case: Case) -> str:
             f"{DRAW} was added to the commitment {draw.commitment}, and not to this one, which is "
             f"{hashlib.sha256(text).hexdigest()}"
         )
+    has_notices = (case.published / notices.NAME).is_file()
+    if has_notices and (faults := announced.draw_faults(case, draw.words)):
+        raise Failed(*faults)
     if case.commitment is None and case.is_record:
         raise Absent(
             f"the record's draw is {draw.words!r}; that proves nothing without a commitment of "
@@ -73,6 +68,7 @@ def check_draw(case: Case) -> str:
     return (
         f"{draw.words!r} was added to {copy}, {draw.commitment}; if that was saved before the draw "
         "and these words are what was drawn, nobody chose the chain"
+        + ("" if has_notices else ". Without notices, nothing shows that it was before round 1")
     )
 
 

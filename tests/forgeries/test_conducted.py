@@ -11,6 +11,7 @@ from auction.verify.findings import ABSENT, FAILED, OK, findings
 from tests.lib.conducted import conducted
 from tests.lib.paths import auction
 
+OF_NOTICES = ("notices", "copies", "rounds", "windows", "increments")
 WITHOUT_RECORD = ["draw", "receipts", "tables", "index"]
 # Each false word: its file, the right word, the false one, and the checks that fail.
 FALSE_WORDS = [
@@ -44,9 +45,13 @@ def copy(folder: pathlib.Path, tmp_path: pathlib.Path) -> pathlib.Path:
 
 
 def results_of(folder: pathlib.Path, published: pathlib.Path, wanted: str) -> list[str]:
-    """The subjects of the checks with a result, for what was published in a folder."""
+    """The subjects of the checks with a result, for what was published in a folder.
+
+    Those of notices are tried in test_announced.py.
+    """
     case = Case(folder / "setup.json", folder / "auction.journal", published)
-    return list(dict.fromkeys(found.subject for found in findings(case) if found.result == wanted))
+    subjects = dict.fromkeys(found.subject for found in findings(case) if found.result == wanted)
+    return [subject for subject in subjects if subject not in OF_NOTICES]
 
 
 def test_nothing_fails(folder: pathlib.Path) -> None:

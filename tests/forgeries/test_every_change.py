@@ -1,6 +1,7 @@
 """For random auctions, each single change of what was published, signed, or stored is shown, or is
 one of UNSEEN.
 """
+import datetime
 import json
 import pathlib
 import random
@@ -31,13 +32,12 @@ pytestmark = pytest.mark.early
 AUCTIONS = 8
 CHANGES = 10  # of each kind, in each auction
 TIME = re.compile(r"\d{4}-[01]\d-[0-3]\dT[0-2]\d:[0-5]\d:[0-5]\dZ", re.ASCII)
-DIGEST = re.compile(r"\b[0-9a-f]{64,}\b")
-OPTIONAL = ("published/announcements.json", "published/winners.json")
+OPTIONAL = ("published/notices.jsonl", "published/winners.json")
+SLACK = 60  # seconds by which a page's time may differ from the notices around its own
 # What nothing shows. Each is also in the table of docs/auditors.md.
 UNSEEN = {
-    "a file that need not be there": "announcements.json or winners.json are left out",
-    "a time": "when a round was published, or an announcement was made",
-    "words": "an announcement says something else about anything but a digest",
+    "a file that need not be there": "notices.jsonl or winners.json are left out: it says so",
+    "a time": "when a round was published, or an announcement was made, by a minute or so",
     "a statement more": "a bidder says that it sent a sheet which it did not send",
     "no statement": "a file without a receipt no longer names its bidder, and proves nothing",
     "no difference": "the file has the same values in another form, or lines in another order",
@@ -131,21 +131,36 @@ def values_in(text: bytes) -> list[Any] | None:
         return None
 
 
+def is_near(old: str, new: str, *, from_closing: bool) -> bool:
+    """Whether a time is as near to the one that the notices have as nothing can tell.
+
+    A round is published 1,780 s after its closing, and announced in the same second.
+    """
+    if not TIME.fullmatch(new):
+        return False
+    passed = (moment_of(new) - moment_of(old)).total_seconds()
+    return -(1780 if from_closing else 0) - SLACK <= passed <= SLACK
+
+
+def moment_of(time: str) -> datetime.datetime:
+    return datetime.datetime.strptime(time, "%Y-%m-%dT%H:%M:%SZ")
+
+
 def reason_of_round(old: Any, new: Any) -> str:
     same = {**old, "published": new["published"]} == new
-    return "a time" if same and TIME.fullmatch(new["published"]) else ""
+    return (
+        "a time" if same and is_near(old["published"], new["published"], from_closing=True) else ""
+    )
 
 
 def reason_of_announcements(old: Any, new: Any) -> str:
-    """Only words and times may differ, and no digest."""
-    pairs = list(zip(old["announcements"], new["announcements"], strict=True))
-    for one, other in pairs:
-        same = {**one, "text": other["text"], "time": other["time"]} == other
-        if not same or DIGEST.findall(one["text"]) != DIGEST.findall(other["text"]):
+    """Only times may differ."""
+    for one, other in zip(old["announcements"], new["announcements"], strict=True):
+        if {**one, "time": other["time"]} != other:
             return ""
-        if not TIME.fullmatch(other["time"]):
+        if not is_near(one["time"], other["time"], from_closing=False):
             return ""
-    return "words" if any(one["text"] != other["text"] for one, other in pairs) else "a time"
+    return "a time"
 
 
 def counted(values: list[Any]) -> Counter[str]:
@@ -178,10 +193,14 @@ def reason(name: str, old: bytes, new: bytes | None) -> str:
     """Why nothing shows this change: one of UNSEEN, or nothing if it must be shown."""
     if new is None:
         return "a file that need not be there" if name in OPTIONAL else ""
+    if name == "published/notices.jsonl":
+        return ""
     if name.endswith(".jsonl"):
         return reason_of_lines(old, new)
     try:
         values = json.loads(old), json.loads(new)
+        if values[0] == values[1]:
+            return ""
         if name.startswith("published/rounds/"):
             return reason_of_round(*values)
         if name == "published/announcements.json":

@@ -6,26 +6,15 @@ import pathlib
 from typing import Any
 
 import pytest
-from cryptography.hazmat.primitives import serialization
-from cryptography.hazmat.primitives.asymmetric.ed25519 import Ed25519PrivateKey
 
 from auction.formats import notices
 from auction.formats.notices import Entry, NoticesFault, appended, notices_in
 from auction.formats.signatures import public_of
 from auction.formats.strict import published
 from auction.formats.ties import Commitment
+from tests.forgeries.written import secret_of
 
 pytestmark = pytest.mark.early
-
-
-def secret_of(number: int) -> bytes:
-    """A secret key in PEM that is the same in each run."""
-    return Ed25519PrivateKey.from_private_bytes(bytes(32 * [number])).private_bytes(
-        serialization.Encoding.PEM,
-        serialization.PrivateFormat.PKCS8,
-        serialization.NoEncryption(),
-    )
-
 
 SECRET, OTHER = secret_of(1), secret_of(2)
 DIGEST = "ab" * 32

@@ -13,6 +13,35 @@ import pytest
 from auction.formats.receipts import Receipt, digest_of
 from auction.formats.signatures import public_of, sign
 from auction.formats.ties import LENGTH, seed_of
+from tests.forgeries.changes import (
+    CLOSINGS,
+    Change,
+    DRAWN,
+    FRIEND,
+    NOTHING,
+    PUT,
+    REPLAY,
+    Row,
+    TEXTS,
+    TRUE,
+    after,
+    before,
+    both,
+    drawn,
+    edited,
+    honest,
+    journal,
+    left_out,
+    lines,
+    made_record,
+    published,
+    set_up,
+    swapped,
+    value,
+    with_announcement,
+    with_text,
+    without,
+)
 from tests.forgeries.written import (
     BIDDERS,
     OTHER_KEY,
@@ -21,7 +50,6 @@ from tests.forgeries.written import (
     Forge,
     Promise,
     Texts,
-    document_of,
     file_of,
     pages_of,
     receipts_of,
@@ -33,106 +61,6 @@ from tests.lib.http import compact, text_of
 from tests.lib.journals import body_in
 
 pytestmark = pytest.mark.early
-TRUE = Promise(document_of())
-TEXTS = texts_of(TRUE)
-CLOSINGS = [place for place, text in enumerate(TEXTS) if text.startswith(b"POST ")]
-FRIEND = sheet("Q", 1, 1, 100)
-PUT_IN = sheet("Y", 3, 0, 118)
-NOTHING = ""
-Change = Callable[[Texts], Texts]
-Row = tuple[Forge, str, str]
-
-
-def without(place: int) -> Change:
-    return lambda texts: texts[:place] + texts[place + 1 :]
-
-
-def with_text(place: int, text: bytes) -> Change:
-    return lambda texts: [*texts[:place], text, *texts[place:]]
-
-
-def swapped(one: int, other: int) -> Change:
-    def change(texts: Texts) -> Texts:
-        made = list(texts)
-        made[one], made[other] = made[other], made[one]
-        return made
-
-    return change
-
-
-def edited(place: int, old: bytes, new: bytes) -> Change:
-    def change(texts: Texts) -> Texts:
-        assert texts[place].count(old) == 1, texts[place]
-        return [*texts[:place], texts[place].replace(old, new), *texts[place + 1 :]]
-
-    return change
-
-
-def after(change: Change) -> Forge:
-    """Changes the journal after the end. A witness has what was published before."""
-    return lambda found: found.replace(TRUE, change(TEXTS))
-
-
-def before(change: Change) -> Forge:
-    """Changes requests before the closing. What is published is by the changed ones."""
-    return lambda found: found.publish(TRUE, change(TEXTS))
-
-
-def journal(change: Callable[[bytes], bytes]) -> Forge:
-    """Changes the bytes of the journal, and makes no digest again."""
-
-    def forge(found: Evidence) -> None:
-        found.journal = change(found.journal)
-
-    return forge
-
-
-def set_up(old: bytes, new: bytes) -> Forge:
-    """Exchanges the set-up, and makes the journal's digests again."""
-    other = TRUE.document.replace(old, new, 1)
-    assert other != TRUE.document
-    return lambda found: found.replace(Promise(other), TEXTS)
-
-
-def published(name: str, change: Callable[[bytes], bytes]) -> Forge:
-    """Changes a published file."""
-
-    def forge(found: Evidence) -> None:
-        found.published[name] = change(found.published[name])
-
-    return forge
-
-
-def value(name: str, **changes: object) -> Forge:
-    """Changes values of a published file."""
-    return lambda found: found.put(name, {**found.page(name), **changes})
-
-
-def lines(name: str, change: Callable[[list[dict[str, object]]], object]) -> Forge:
-    """Changes a bidder's file."""
-    return lambda found: found.files.update({name: change(list(found.files[name]))})
-
-
-def both(*forges: Forge) -> Forge:
-    def forge(found: Evidence) -> None:
-        for one in forges:
-            one(found)
-
-    return forge
-
-
-def left_out(*names: str) -> Forge:
-    def forge(found: Evidence) -> None:
-        for name in names:
-            del found.published[name]
-
-    return forge
-
-
-def honest(found: Evidence) -> None:
-    """Nobody forges anything."""
-
-
 # ---- Journals
 
 
@@ -158,9 +86,6 @@ def with_ties(change: Callable[[list[list[int]]], list[list[int]]]) -> Change:
 def closing_of(body: object) -> bytes:
     return text_of("POST /v1/close", setups.OPERATOR, compact(body))
 
-
-REPLAY = with_text(len(TEXTS) - 1, TEXTS[11])
-PUT = with_text(len(TEXTS) - 1, PUT_IN)
 
 JOURNALS: dict[str, Row] = {
     "1-a-sheet-removed-after-the-end": (after(without(0)), NOTHING, "digests results rules"),
@@ -234,7 +159,7 @@ JOURNALS: dict[str, Row] = {
     "20-another-increment-than-announced": (
         lambda found: Evidence.__init__(found, TRUE, texts_of(TRUE)[:-1] + [TRUE.closing(3, 50)]),
         BIDDERS,
-        NOTHING,
+        "increments",
     ),
 }
 
@@ -250,13 +175,7 @@ JOURNALS["21-no-numbers-and-a-friend-first"] = (no_ties, BIDDERS, NOTHING)
 
 # ---- A public draw
 
-DRAWN = Promise(TRUE.document, draw="5 17 33")
 LATE = Promise(TRUE.document, secret=OTHER_SECRET, draw="5 17 33")
-
-
-def drawn(found: Evidence) -> None:
-    """Bidders' files begin before the draw, whose commitment is the same."""
-    Evidence.__init__(found, DRAWN, texts_of(DRAWN))
 
 
 def chosen_late(found: Evidence) -> None:
@@ -362,12 +281,6 @@ def back_dated(found: Evidence) -> None:
     )
 
 
-def with_announcement(found: Evidence, key: str, text: str) -> None:
-    made = found.page("announcements.json")["announcements"]
-    made.append({"key": key, "number": len(made) + 1, "text": text, "time": "2026-12-01T15:00:00Z"})
-    found.put("announcements.json", {"announcements": made})
-
-
 def without_announcement(found: Evidence) -> None:
     made = found.page("announcements.json")["announcements"]
     found.put("announcements.json", {"announcements": made[1:]})
@@ -385,7 +298,7 @@ def false_first(text: bytes) -> bytes:
 
 
 PUBLISHED: dict[str, Row] = {
-    "32-announcements-back-dated": (back_dated, NOTHING, NOTHING),
+    "32-announcements-back-dated": (back_dated, NOTHING, "announcements"),
     "33-a-round-announced-that-is-none": (
         lambda found: with_announcement(found, "closed-9", f"Its digest is {'0' * 64}."),
         NOTHING,
@@ -395,12 +308,12 @@ PUBLISHED: dict[str, Row] = {
     "34-no-announcements-and-no-winners": (
         left_out("announcements.json", "winners.json"),
         NOTHING,
-        NOTHING,
+        "announcements",
     ),
     "35-another-time-of-publication": (
         value("rounds/2.json", published="2026-11-01T15:00:00Z"),
         NOTHING,
-        NOTHING,
+        "windows",
     ),
     "36-a-payment-a-dollar-higher": (paid_more, NOTHING, "winners"),
     "38-false-products-first": (
@@ -413,10 +326,10 @@ PUBLISHED: dict[str, Row] = {
         NOTHING,
         "results",
     ),
-    "45-a-shorter-chain-harmless": (
+    "45-a-shorter-chain": (
         published("commitment.json", lambda text: text.replace(b"10000", b"3")),
         NOTHING,
-        NOTHING,
+        "notices",
     ),
     "45.1-the-same-and-a-bidder-s-file": (
         published("commitment.json", lambda text: text.replace(b"10000", b"3")),
@@ -433,10 +346,6 @@ PUBLISHED: dict[str, Row] = {
 }
 
 # ---- Records
-
-
-def made_record(found: Evidence) -> None:
-    found.make_record()
 
 
 def other_journal(found: Evidence) -> None:

@@ -3,15 +3,19 @@ bidders' files. A forger changes its requests, and everything else is made again
 """
 import dataclasses
 import functools
+import hashlib
 import json
 import pathlib
 from collections import Counter
 from collections.abc import Callable, Iterable
 from typing import Any
 
-from auction.formats import record, strict
+from cryptography.hazmat.primitives import serialization
+from cryptography.hazmat.primitives.asymmetric.ed25519 import Ed25519PrivateKey
+
+from auction.formats import notices, record, strict
 from auction.formats.receipts import Receipt, digest_of
-from auction.formats.signatures import new_key, public_of, sign
+from auction.formats.signatures import public_of, sign
 from auction.formats.ties import LENGTH, Commitment, Committed, Draw, seed_of, ties_of
 from auction.recount import rules
 from auction.verify.auction import page_of
@@ -22,11 +26,21 @@ from tests.lib.http import compact, text_of
 from tests.lib.journals import body_in, journal_of, token_in
 
 BIDDERS = "XYZQ"
-TIME = "2026-12-01T15:00:00Z"
+RULES = [{"percent": 10}]
 Texts = list[bytes]
 Lines = list[dict[str, Any]]
 
-KEY, OTHER_KEY = new_key(), new_key()
+
+def secret_of(number: int) -> bytes:
+    """A secret key in PEM that is the same in each run."""
+    return Ed25519PrivateKey.from_private_bytes(bytes(32 * [number])).private_bytes(
+        serialization.Encoding.PEM,
+        serialization.PrivateFormat.PKCS8,
+        serialization.NoEncryption(),
+    )
+
+
+KEY, OTHER_KEY = secret_of(1), secret_of(2)
 SECRET, OTHER_SECRET = bytes(31) + b"\1", bytes(31) + b"\2"
 
 
@@ -96,6 +110,76 @@ def payment_of(slip: rules.Slip, last: rules.Round) -> int:
     return sum(blocks * line.posted for blocks, line in zip(slip.demands, last.lines))
 
 
+def time_of(number: int, time: str) -> str:
+    """A time of the day of a round. Each is open from 14:00 to 14:30, and published at 15:00."""
+    return f"2026-12-{number:02}T{time}Z"
+
+
+def windows() -> list[dict[str, Any]]:
+    """The timetable's windows."""
+    return [
+        {"round": each, "opens": time_of(each, "14:00:00"), "closes": time_of(each, "14:30:00")}
+        for each in range(1, 9)
+    ]
+
+
+Said = list[tuple[str, dict[str, Any], str]]
+
+
+def said_of(promise: Promise, texts: Texts) -> Said:
+    """What an honest operator says of these requests: each kind, its words, and its time."""
+    counted = counted_of(promise.document, journal_of(promise.document, texts))
+    frozen = frozen_of(promise.document, texts)
+    said: Said = [
+        ("timetable", {"windows": windows()}, time_of(1, "09:00:00")),
+        ("increments", {"rules": RULES}, time_of(1, "09:00:00")),
+    ]
+    if promise.draw:
+        said.append(("draw", {"words": promise.draw}, time_of(1, "12:00:00")))
+    for number, (closed, digest) in enumerate(zip(counted.auction.rounds, counted.closings), 1):
+        said += [
+            ("opened", {"round": number, "opens": time_of(number, "14:00:00")}, "14:00:00"),
+            ("frozen", {"round": number, "digest": frozen[number - 1]}, "14:30:10"),
+            (
+                "closed",
+                {"round": number, "digest": digest, "increment": closed.increments[0]},
+                "14:30:20",
+            ),
+            ("published", {"round": number}, "15:00:00"),
+            ("announcement", announcement_of(number, digest), "15:00:00"),
+        ]
+        said[-5:] = [(kind, says, time_of(number, time)) for kind, says, time in said[-5:]]
+    if counted.auction.ended:
+        number = len(counted.auction.rounds)
+        said.append(("ended", {"round": number}, time_of(number, "15:00:00")))
+    return said
+
+
+def frozen_of(document: bytes, texts: Texts) -> list[str]:
+    """The journal's digest before each closing."""
+    digest, found = hashlib.sha256(document).digest(), list[str]()
+    for text in texts:
+        if text.startswith(b"POST "):
+            found.append(digest.hex())
+        digest = hashlib.sha256(digest + text).digest()
+    return found
+
+
+def announcement_of(number: int, digest: str) -> dict[str, str]:
+    return {
+        "key": f"closed-{number}",
+        "text": f"Round {number} is closed. Its digest is {digest}.",
+    }
+
+
+def chain_of(promise: Promise, said: Said) -> bytes:
+    """The notices that say this, signed by the operator."""
+    text = b""
+    for kind, says, time in said:
+        text = notices.appended(text, promise.commitment(), promise.key, kind, says, time)
+    return text
+
+
 def pages_of(promise: Promise, texts: Texts) -> dict[str, bytes]:
     """All that is published of these requests, by name."""
     counted = counted_of(promise.document, journal_of(promise.document, texts))
@@ -105,10 +189,10 @@ def pages_of(promise: Promise, texts: Texts) -> dict[str, bytes]:
     made = list[dict[str, Any]]()
     for number, (closed, digest) in enumerate(zip(auction.rounds, counted.closings), 1):
         seed = promise.seed(number)
-        known = {"digest": digest, "seed": seed and seed.hex(), "published": TIME}
+        time = time_of(number, "15:00:00")
+        known = {"digest": digest, "seed": seed and seed.hex(), "published": time}
         files[f"rounds/{number}.json"] = {**page_of(names, supplies, number, closed), **known}
-        text = f"Round {number} is closed. Its digest is {digest}."
-        made.append({"key": f"closed-{number}", "number": number, "text": text, "time": TIME})
+        made.append({**announcement_of(number, digest), "number": number, "time": time})
     files["announcements.json"] = {"announcements": made}
     if auction.ended:
         last = auction.rounds[-1]
@@ -119,6 +203,7 @@ def pages_of(promise: Promise, texts: Texts) -> dict[str, bytes]:
         files["winners.json"] = {"bidders": won, "round": len(auction.rounds)}
     pages = {name: strict.published(value) for name, value in files.items()}
     pages["commitment.json"] = promise.commitment()
+    pages["notices.jsonl"] = chain_of(promise, said_of(promise, texts))
     if promise.draw:
         draw = Draw.added(promise.commitment(), promise.draw)
         pages["draw.json"] = strict.published(draw.value())
@@ -161,6 +246,7 @@ class Evidence:
         self.published = pages_of(promise, texts)
         self.files = {name: file_of(promise, texts, name) for name in BIDDERS}
         self.commitment: bytes | None = None
+        self.copies = list[bytes]()
 
     def replace(self, promise: Promise, texts: Texts) -> None:
         """Exchanges set-up and journal after the end, with all digests made again."""
@@ -197,6 +283,8 @@ class Evidence:
             files[f"{name}.jsonl"] = "".join(lines).encode()
         if self.commitment is not None:
             files["copy.json"] = self.commitment
+        copies = {f"copy-{number}.jsonl": text for number, text in enumerate(self.copies)}
+        files |= copies
         for name, text in files.items():
             (folder / name).parent.mkdir(parents=True, exist_ok=True)
             (folder / name).write_bytes(text)
@@ -205,6 +293,7 @@ class Evidence:
             *(folder / name for name in ("setup.json", "auction.journal", "published")),
             *(folder / f"{name}.jsonl" for name in receipts),
             commitment=None if self.commitment is None else folder / "copy.json",
+            copies=[folder / name for name in copies],
         )
 
     def failed(self, folder: pathlib.Path, receipts: str = "") -> Failing:
