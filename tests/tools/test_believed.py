@@ -97,7 +97,8 @@ def crate(tmp_path: pathlib.Path) -> pathlib.Path:
     sums = "".join(f"    {title}: 0\n" for title in SUMS)
     (tmp_path / "docs/reading.md").write_text(sums, encoding="utf-8")
     (tmp_path / "tools").mkdir()
-    (tmp_path / "tools/believed").write_bytes(TOOL.read_bytes())
+    for name in ("believed", "specifications.py"):
+        (tmp_path / "tools" / name).write_bytes((TOOL.parent / name).read_bytes())
     return crate
 
 
