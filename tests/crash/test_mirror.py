@@ -5,34 +5,12 @@ from pathlib import Path
 import pytest
 
 from tests.crash.requests import SETUP_TEXT, closing, sheet
-from tests.lib.http import answer_to
+from tests.crash.two_files import Files
 from tests.lib.journals import HEAD, journal_of, texts_of
 from tests.lib.server import Server
 
 TEXTS = [sheet(letter * 16, 1, 100, 1) for letter in "XYZ"] + [closing(1)]
 OTHER_SETUP = SETUP_TEXT.replace(b'"opening":100', b'"opening":101')
-
-
-class Files:
-    """A set-up and the two files of its journal, which servers of the program log in."""
-
-    def __init__(self, program: Path, folder: Path) -> None:
-        self.program, self.setup = program, folder / "setup.json"
-        self.setup.write_bytes(SETUP_TEXT)
-        self.first, self.second = folder / "first.journal", folder / "second.journal"
-
-    def server(self) -> Server:
-        return Server(self.program, self.setup, self.first, mirror=self.second)
-
-    def play(self, texts: list[bytes]) -> None:
-        """Sends requests, each of which must be accepted, and kills the server."""
-        with self.server().ready() as server:
-            for text in texts:
-                assert answer_to(server.port, text)[0] == 200
-            server.kill()
-
-    def contents(self) -> list[bytes]:
-        return [file.read_bytes() for file in (self.first, self.second)]
 
 
 @pytest.fixture
