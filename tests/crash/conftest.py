@@ -5,6 +5,7 @@ from pathlib import Path
 
 from tests.crash.auction import Auction, auction_in
 from tests.crash.journals import Ten, journal_of_ten
+from tests.crash.pair_plan import planned_pair
 from tests.crash.record import Recorded, planned, record
 from tests.crash.shims import Shims
 
@@ -32,3 +33,12 @@ def recorded(auction: Auction, shims: Shims) -> list[Recorded]:
     """Three servers in turn on one journal, `recorded.journal`, and their system calls."""
     journal = auction.folder / "recorded.journal"
     return [record(auction, shims, journal, generation) for generation in planned()]
+
+
+@pytest.fixture(scope="module")
+def pair(auction: Auction, shims: Shims) -> list[Recorded]:
+    """Four servers in turn on a journal in two files, `one/` and `two/pair.journal`."""
+    first, second = (auction.folder / name / "pair.journal" for name in ("one", "two"))
+    for file in (first, second):
+        file.parent.mkdir()
+    return [record(auction, shims, first, generation, second) for generation in planned_pair()]

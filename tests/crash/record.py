@@ -1,5 +1,5 @@
 """Runs servers on one journal, and records each system call on which the journal depends."""
-from dataclasses import dataclass
+from dataclasses import dataclass, replace
 from enum import Enum
 from pathlib import Path
 
@@ -35,20 +35,25 @@ class Request:
 class Generation:
     """A server from start to end: its requests, and the call that is refused.
 
-    The call is refused once the file has this length.
+    The call is refused once the file has this length, on the second file if `is_mirror`.
     """
 
     requests: list[Request]
     refused: tuple[str, int] | None = None
+    is_mirror: bool = False
 
 
 @dataclass(frozen=True)
 class Call:
-    """A system call: its name, its index, length, or count, and its bytes."""
+    """A system call: its name, its index, length, or count, and its bytes.
+
+    `is_mirror` if it is about the second file of a journal.
+    """
 
     name: str
     number: int = 0
     content: bytes = b""
+    is_mirror: bool = False
 
 
 @dataclass(frozen=True)
@@ -71,6 +76,8 @@ def calls_in(record: Path) -> list[Call]:
 
 def call_in(line: str) -> Call:
     """The call in a line, as record_calls.c writes it."""
+    if line.startswith("mirror "):
+        return replace(call_in(line.removeprefix("mirror ")), is_mirror=True)
     name, *words = line.split(" ")
     match name:
         case "write":
@@ -125,9 +132,15 @@ class Plan:
         self.size += FRONT + len(text)
         self.ends(Request(text, Outcome.NO_REPLY), ("fdatasync", self.size))
 
-    def ends(self, last: Request | None = None, refused: tuple[str, int] | None = None) -> None:
+    def ends(
+        self,
+        last: Request | None = None,
+        refused: tuple[str, int] | None = None,
+        is_mirror: bool = False,
+    ) -> None:
         """Ends a generation, with the call that is refused, if any."""
-        self.generations.append(Generation(self.requests + ([last] if last else []), refused))
+        requests = self.requests + ([last] if last else [])
+        self.generations.append(Generation(requests, refused, is_mirror))
         self.requests = []
 
 
@@ -170,16 +183,23 @@ def plan_first(plan: Plan, x: str, y: str, z: str) -> None:
     plan.ends_by_write(padded(x, 2, next_price(100), 1000))
 
 
-def record(auction: Auction, shims: Shims, journal: Path, generation: Generation) -> Recorded:
+def record(
+    auction: Auction,
+    shims: Shims,
+    journal: Path,
+    generation: Generation,
+    mirror: Path | None = None,
+) -> Recorded:
     """Runs a generation."""
     lines = auction.folder / "record"
     refusal = None
     if generation.refused:
         call, size = generation.refused
-        refusal = shims.refuse(journal, call, size=size)
-    environment = shims.record(journal, lines, refusal)
-    connections = len(generation.requests)
-    with auction.server(journal, connections=connections, environment=environment) as server:
+        file = mirror if mirror and generation.is_mirror else journal
+        refusal = shims.refuse(file, call, size=size)
+    environment = shims.record(journal, lines, refusal, mirror)
+    options = {"mirror": mirror, "connections": len(generation.requests)}
+    with auction.server(journal, environment=environment, **options) as server:
         replies = [reply_to(server.port, request.text) for request in generation.requests]
         status, _errors = server.ended()
     outcomes = list(map(outcome_of, generation.requests, replies))

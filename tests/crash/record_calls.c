@@ -1,6 +1,7 @@
 /* Records, in order, the system calls on which a program's journal depends. Preloaded into the program.
  *
- * RECORD_FILE is the path of the journal. RECORD_TO is the file to which the lines are appended, one for each call:
+ * RECORD_FILE is the path of the journal, and RECORD_MIRROR that of its second file, if it has one, in another folder.
+ * RECORD_TO is the file to which the lines are appended, one for each call:
  *
  *     write PLACE HEX       these bytes were written to the journal, from this index on
  *     fdatasync, fsync      the journal was synced
@@ -9,6 +10,8 @@
  *     print HEX             these bytes are about to be written to standard output
  *     accept                a connection was accepted
  *     send COUNT            bytes are about to be sent on a connection
+ *
+ * A line about the second file, or its folder, begins with `mirror `.
  *
  * A call that failed and changed nothing has no line. Preload this library after refuse_calls.c. It then records only
  * calls that are not refused. The program has one thread, so the order of the lines is the order of the calls. */
@@ -63,15 +66,23 @@ static int is_at(int descriptor, const char *path) {
     return !fstat(descriptor, &one) && !stat(path, &other) && one.st_ino == other.st_ino && one.st_dev == other.st_dev;
 }
 
-static int is_journal(int descriptor) {
-    const char *path = getenv("RECORD_FILE");
-    return path && is_at(descriptor, path);
+static int is_in_folder_of(int descriptor, const char *path) {
+    char name[PATH_MAX];
+    return strlen(path) < sizeof name && is_at(descriptor, dirname(strcpy(name, path)));
 }
 
-static int is_folder(int descriptor) {
-    const char *path = getenv("RECORD_FILE");
-    char name[PATH_MAX];
-    return path && strlen(path) < sizeof name && is_at(descriptor, dirname(strcpy(name, path)));
+/* Returns how the line of a file begins, or NULL for a descriptor that is open on neither file. */
+static const char *file_of(int descriptor) {
+    const char *first = getenv("RECORD_FILE"), *second = getenv("RECORD_MIRROR");
+    if (first && is_at(descriptor, first)) return "";
+    return second && is_at(descriptor, second) ? "mirror " : NULL;
+}
+
+/* Returns how the line of a file's folder begins, or NULL for any other descriptor. */
+static const char *folder_of(int descriptor) {
+    const char *first = getenv("RECORD_FILE"), *second = getenv("RECORD_MIRROR");
+    if (first && is_in_folder_of(descriptor, first)) return "";
+    return second && is_in_folder_of(descriptor, second) ? "mirror " : NULL;
 }
 
 ssize_t write(int descriptor, const void *bytes, size_t count) {
@@ -81,12 +92,13 @@ ssize_t write(int descriptor, const void *bytes, size_t count) {
         put_line("print ");
         put_hex(bytes, count);
     }
-    if (!is_journal(descriptor)) return real(descriptor, bytes, count);
+    const char *file = file_of(descriptor);
+    if (!file) return real(descriptor, bytes, count);
     struct stat before;
     if (fstat(descriptor, &before)) abort();
     ssize_t done = real(descriptor, bytes, count);
     if (done > 0) {
-        put_line("write %ld ", (long)before.st_size);
+        put_line("%swrite %ld ", file, (long)before.st_size);
         put_hex(bytes, done);
     }
     return done;
@@ -97,8 +109,9 @@ ssize_t write(int descriptor, const void *bytes, size_t count) {
         static int (*real)(int);                                                \
         if (!real) real = dlsym(RTLD_NEXT, #name);                              \
         int failed = real(descriptor);                                          \
-        if (!failed && is_journal(descriptor)) put_line(#name "\n");            \
-        if (!failed && is_folder(descriptor)) put_line("folder\n");             \
+        const char *file = file_of(descriptor), *folder = folder_of(descriptor); \
+        if (!failed && file) put_line("%s" #name "\n", file);                   \
+        if (!failed && folder) put_line("%sfolder\n", folder);                  \
         return failed;                                                          \
     }
 SYNCS(fdatasync)
@@ -108,7 +121,8 @@ int ftruncate(int descriptor, off_t length) {
     static int (*real)(int, off_t);
     if (!real) real = dlsym(RTLD_NEXT, "ftruncate");
     int failed = real(descriptor, length);
-    if (!failed && is_journal(descriptor)) put_line("ftruncate %ld\n", (long)length);
+    const char *file = file_of(descriptor);
+    if (!failed && file) put_line("%sftruncate %ld\n", file, (long)length);
     return failed;
 }
 

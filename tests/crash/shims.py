@@ -26,16 +26,24 @@ class Shims:
         return os.environ | wanted | from_size | {"LD_PRELOAD": str(self.refusing)}
 
     def record(
-        self, file: Path, record: Path, refusal: dict[str, str] | None = None
+        self,
+        file: Path,
+        record: Path,
+        refusal: dict[str, str] | None = None,
+        mirror: Path | None = None,
     ) -> dict[str, str]:
-        """An environment that records the calls on a file in another, except for refused ones."""
+        """An environment that records the calls on a file in another, except for refused ones.
+
+        It records those on the second file of a journal, too.
+        """
         before = refusal or dict(os.environ)
         preloaded = f"{refusal['LD_PRELOAD']}:{self.recording}" if refusal else str(self.recording)
-        return before | {
-            "RECORD_FILE": str(file),
-            "RECORD_TO": str(record),
-            "LD_PRELOAD": preloaded,
-        }
+        second = {"RECORD_MIRROR": str(mirror)} if mirror else {}
+        return (
+            before
+            | second
+            | {"RECORD_FILE": str(file), "RECORD_TO": str(record), "LD_PRELOAD": preloaded}
+        )
 
 
 def built(name: str, folder: Path) -> Path:

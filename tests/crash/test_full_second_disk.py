@@ -38,7 +38,7 @@ def files(program: Path) -> Iterator[Files]:
 
 @pytest.fixture
 def load(files: Files) -> Load:
-    """The requests that a server got until it ended, since no byte more went on its second disk."""
+    """The requests that a server got until it ended, since its second disk took no more bytes."""
     load = Load(random.Random(105))
     with files.server() as server:
         load.send_to(server.port)
@@ -66,20 +66,20 @@ def test_a_start_on_the_full_disk_is_refused_and_changes_no_whole_record(
     assert files.contents()[1].startswith(before[1])
 
 
-def test_the_auction_goes_on_from_the_first_file(files: Files, load: Load) -> None:
+def test_the_auction_continues_from_the_first_file(files: Files, load: Load) -> None:
     texts = texts_in(files.contents()[0])
     with Server(files.program, files.setup, files.first) as server:
         assert server.ready().lines[0].split()[:2] == ["journal", str(len(texts))]
 
 
-def test_the_auction_goes_on_in_a_new_second_file(files: Files, load: Load) -> None:
+def test_the_auction_continues_in_a_new_second_file(files: Files, load: Load) -> None:
     texts = texts_in(files.contents()[0])
     files.second = files.second.parent.parent / "two.journal"
     assert files.first_line().split()[:2] == ["journal", str(len(texts))]
     assert [texts_in(content) for content in files.contents()] == [texts, texts]
 
 
-def test_the_auction_goes_on_from_a_copy_of_the_second_file(files: Files, load: Load) -> None:
+def test_the_auction_continues_from_a_copy_of_the_second_file(files: Files, load: Load) -> None:
     texts = texts_in(files.contents()[1])
     copy = shutil.copy(files.second, files.setup.parent / "copy.journal")
     with Server(files.program, files.setup, copy) as server:

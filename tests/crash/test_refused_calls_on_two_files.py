@@ -1,6 +1,6 @@
 """Refuses each system call of a server on each of the two files of its journal, in turn.
 
-Each refusal is a fault, both files keep each request that got a reply, and the next start goes on
+Each refusal is a fault, both files keep each request that got a reply, and the next start resumes
 from both files, and from the one whose calls were not refused.
 """
 from collections.abc import Callable
@@ -73,7 +73,7 @@ def test_a_refused_call_on_two_new_files(
 
 
 def assert_none_is_lost(files: Files, refused: Path, replied: list[bytes]) -> None:
-    """Fails if a file lacks requests with a reply, or a start on both, or one, does not go on."""
+    """Fails if a file lacks requests with a reply, or if a start does not resume all of them."""
     for content in files.contents():
         texts = texts_in(content)
         assert texts[: len(replied)] == replied
