@@ -1,20 +1,27 @@
-"""Receipts: each accepted sheet is signed and published as soon as the journal has it."""
-import dataclasses
+"""Receipts: each accepted sheet is signed. All that a look finds appear at the next second."""
+import fcntl
 import os
 import time
 from collections import Counter
 from collections.abc import Callable
 from pathlib import Path
+from typing import Protocol
 
 from auction.conductor import disk
 from auction.formats.journal import Entry, Journal, JournalFault
 from auction.formats.receipts import Receipt
 from auction.formats.setup import Setup
-from auction.formats.signatures import sign
+from auction.formats.signatures import secret_key
 
 # nginx's workers read them as the folder's group, and no other user does.
 FILE, FOLDER = 0o640, 0o750
-PERIOD = 0.25  # seconds after which the next receipts are published
+# No bidder has such a name. The link leads to one of the two folders.
+NOW, SIDES = ".now", (".a", ".b")
+FAULTS = (JournalFault, OSError, ValueError)
+
+
+class OtherAuction(Exception):
+    """The folder has another key than the one that was read: it is of another auction by now."""
 
 
 class Sheets(Journal):
@@ -37,44 +44,92 @@ class Sheets(Journal):
         self.fresh.append(Receipt.of(self.setup.digest, name, number, self.counts[name], text))
 
 
-@dataclasses.dataclass(frozen=True)
+class Shelf:
+    """Files that appear all at the same moment, however many they are.
+
+    Two folders have the same files. The link `.now` leads to the one that is seen. New files are
+    written to the other one, and then the link is changed. `seen/NAME` is a link too, so nginx
+    finds a bidder's files under its name.
+    """
+
+    def __init__(self, folder: Path, names: list[str]) -> None:
+        self.folder, self.names = folder, names
+        self.lacks: dict[str, dict[str, str]] = {side: {} for side in SIDES}
+
+    def seen(self) -> str:
+        """The folder that is seen, or an empty text if there is none yet."""
+        link = self.folder / NOW
+        return os.readlink(link) if link.is_symlink() else ""
+
+    def add(self, name: str, text: str) -> None:
+        """Notes a file that both folders must have."""
+        for side in SIDES:
+            self.lacks[side][name] = text
+
+    def write(self) -> int:
+        """Writes all files to the folder that is not seen. Returns how many are not seen yet."""
+        seen = self.seen()
+        if seen:
+            self.lacks[seen] = self.other_than_there(seen)
+        unseen = self.lacks[seen or SIDES[1]]
+        if unseen:
+            hidden = self.hidden(seen)
+            for name, text in self.other_than_there(hidden).items():
+                file = self.folder / hidden / name
+                for folder in (self.folder / hidden, file.parent):
+                    folder.mkdir(FOLDER, exist_ok=True)
+                disk.show(file, text, FILE)
+            self.lacks[hidden] = {}
+        return len(unseen)
+
+    def show(self) -> None:
+        """Shows what was written, by one change of the link."""
+        for name in self.names:
+            if not (self.folder / name).is_symlink():
+                disk.lead(self.folder / name, f"{NOW}/{name}")
+        disk.lead(self.folder / NOW, self.hidden(self.seen()))
+
+    def hidden(self, seen: str) -> str:
+        return next(side for side in SIDES if side != seen)
+
+    def other_than_there(self, side: str) -> dict[str, str]:
+        """The files that a folder lacks, or has with another text, as after a loss of power."""
+
+        def text_of(name: str) -> str | None:
+            file = self.folder / side / name
+            return file.read_text(encoding="utf-8") if file.exists() else None
+
+        return {name: text for name, text in self.lacks[side].items() if text_of(name) != text}
+
+
 class Signer:
-    """Signs by the secret key, and publishes in a folder that nginx reads."""
+    """Signs by the secret key, for a folder that nginx reads."""
 
-    sheets: Sheets
-    key: bytes
-    folder: Path
+    def __init__(self, sheets: Sheets, secret: bytes, folder: Path) -> None:
+        self.sheets, self.key = sheets, secret_key(secret)
+        self.folder, self.shelf = folder, Shelf(folder, sheets.setup.bidders)
+        self.unseen = 0
 
-    def file(self, receipt: Receipt) -> Path:
-        return self.folder / receipt.bidder / f"{receipt.round}-{receipt.sheet}.json"
-
-    def publish(self, pause: Callable[[], None] = lambda: None) -> int:
-        """Signs what the journal has and is not published. Returns how many receipts that is.
+    def look(self) -> None:
+        """Signs what the journal has, and writes it where nobody sees it yet.
 
         The journal is brought to the disk first: a receipt is never for a sheet that a crash could
-        still take. After the pause all are published at once. So the moment says nothing of how
-        many sheets came from others.
+        still take.
         """
         self.sheets.read_on()
-        missing = [receipt for receipt in self.sheets.fresh if not self.file(receipt).exists()]
-        if missing:
+        if self.sheets.fresh:
             sync(self.sheets.path)
-            for receipt in missing:
-                self.prepare(receipt)
-            pause()
-            for receipt in missing:
-                disk.put(self.file(receipt))
+        for receipt in self.sheets.fresh:
+            page = receipt.page(self.key.sign(receipt.message()))
+            self.shelf.add(f"{receipt.bidder}/{receipt.round}-{receipt.sheet}.json", page)
         self.sheets.fresh.clear()
-        return len(missing)
+        self.unseen = self.shelf.write()
 
-    def prepare(self, receipt: Receipt) -> None:
-        """Signs and writes a receipt.
-
-        After a crash it is there whole, or not at all and is signed again.
-        """
-        file = self.file(receipt)
-        file.parent.mkdir(FOLDER, exist_ok=True)
-        disk.prepare(file, receipt.page(sign(self.key, receipt.message())), FILE)
+    def show(self) -> int:
+        """Shows all that the look found. Returns how many receipts that is."""
+        if self.unseen:
+            self.shelf.show()
+        return self.unseen
 
 
 def sync(path: Path) -> None:
@@ -83,22 +138,74 @@ def sync(path: Path) -> None:
         os.fsync(file.fileno())
 
 
-def pause() -> None:
-    """Waits until the next moment at which receipts are published."""
-    time.sleep(PERIOD - time.monotonic() % PERIOD)
+# ---- The service
 
 
-def run(signer: Signer, say: Callable[[str], None]) -> None:
-    """Looks four times a second, for good. If that fails, says so once, and tries again."""
+class Clock(Protocol):
+    """What the service knows of time."""
+
+    def time(self) -> float:
+        ...
+
+    def sleep(self, seconds: float, /) -> None:
+        ...
+
+
+def seconds_to_wait(now: float) -> float:
+    """How long it is until receipts appear: until the next whole second, however many they are."""
+    return 1 - now % 1
+
+
+def wait(clock: Clock) -> None:
+    """Waits until receipts may appear."""
+    clock.sleep(seconds_to_wait(clock.time()))
+
+
+def run(
+    signer: Signer,
+    say: Callable[[str], None],
+    check: Callable[[], None] = lambda: None,
+    clock: Clock = time,
+) -> None:
+    """Looks once a second, for good. If that fails, says so once, and tries again.
+
+    `check` raises OtherAuction if this must end.
+    """
     said = ""
     while True:
         words = ""
         try:
-            if not signer.publish(pause):
-                pause()
-        except (JournalFault, OSError, ValueError) as fault:
+            check()
+            signer.look()
+            wait(clock)
+            signer.show()
+        except FAULTS as fault:
             words = f"no sheet gets a receipt: {fault}"
-            pause()
+            wait(clock)
         if words != said:
             say(words or "sheets get receipts again")
         said = words
+
+
+class Key:
+    """The secret key, which only one service at a time reads from this file.
+
+    While it does, `auction clear` does not put the folder away.
+    """
+
+    def __init__(self, path: Path) -> None:
+        self.path, self.file = path, open(path, "rb")
+        try:
+            fcntl.flock(self.file, fcntl.LOCK_EX | fcntl.LOCK_NB)
+        except OSError as error:
+            raise ValueError(f"another `auction receipts` runs: it has {path}") from error
+        self.secret = self.file.read()
+
+    def check(self) -> None:
+        """Raises OtherAuction if the file is another one by now, or none."""
+        try:
+            is_same = os.path.samestat(os.fstat(self.file.fileno()), os.stat(self.path))
+        except OSError:
+            is_same = False
+        if not is_same:
+            raise OtherAuction(f"{self.path} is not the file that was read: start again")

@@ -11,9 +11,9 @@ has it. CA names a file of certificates if the system's do not cover the server.
 It prints each round's sheet, then the round's results for this bidder ("slip"), and at the end what
 it won.
 
-After each accepted sheet it waits up to two seconds for the receipt, checks it, adds it to FILE, by
-default receipts.jsonl, and reports it or what is missing. The file's first line is the commitment,
-the second names the bidder.
+After each accepted sheet it waits up to five seconds for the receipt, checks it, adds it to FILE,
+by default receipts.jsonl, and reports it or what is missing. The file's first line is the
+commitment, the second names the bidder.
 
 Before it sends a sheet, it adds what it sends to FILE. If a receipt comes for a sheet that it did
 not send, it says so: if you did not send it either, someone put it in. `auction check-receipts`
@@ -55,7 +55,7 @@ BUSY = (408, 429, 500, 502, 503, 504)
 WAITS = {409: b'"window"', 503: b'"closing"'}
 PATIENCE = 3600
 LOOK = 30
-RECEIPT_SECONDS = 2
+RECEIPT_SECONDS = 5
 
 # The parts of each page that the bidder reads: keys of an object, and a list's entries, one for
 # each product.

@@ -56,7 +56,7 @@ export class Receipts {
 
   async #await(round, sent) {
     const hash = new Uint8Array(await crypto.subtle.digest("SHA-256", bytesOf(sent)));
-    const end = Date.now() + 2000;
+    const end = Date.now() + 5000;
     const body = Array.from(hash, (byte) => byte.toString(16).padStart(2, "0")).join("");
     const tell = (kind) => this.changed({ kind, round });
     tell("waiting");

@@ -344,7 +344,7 @@ function sumsOf(state) {
 const RECEIPTS = {
   waiting: "Waiting for the receipt.",
   here: "The receipt is here: download it.",
-  missing: "No receipt within two seconds: call the operator.",
+  missing: "No receipt within five seconds: call the operator.",
   wrong: "The receipt is wrong: call the operator.",
 };
 

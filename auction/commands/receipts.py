@@ -5,13 +5,16 @@ key receipts.pem, which `auction commit` made before round 1. RECEIPTS is the fo
 nginx. It must be there, and nginx's workers must be its group: install -d -m 2750 -g auction-nginx
 receipts. What is made in it is for its owner and this group only.
 
-A receipt is made within a second, and only of a sheet that is on the disk. It is
-RECEIPTS/BIDDER/ROUND-K.json for the K-th sheet of the bidder in the round (docs/formats.md). The
-same sheet and key always make the same receipt, so this may be killed at any moment and started
-again. With --once it signs what the journal has, and ends. Otherwise it runs on until it is
-stopped.
+Once a second it looks for sheets that are on the disk. All receipts of a look appear at the next
+whole second, at the same moment: so they show nothing of how many sheets others sent.
 
-If the journal cannot be read, it says so, and tries again.
+A receipt is RECEIPTS/BIDDER/ROUND-K.json for the K-th sheet of the bidder in the round
+(docs/formats.md). The same sheet and key always make the same receipt, so this may be killed at any
+moment and started again. With --once it signs what the journal has, and ends. Otherwise it runs on
+until it is stopped.
+
+If the journal cannot be read, it says so, and tries again. It ends if receipts.pem is no longer the
+file that it read. Only one process at a time signs by this file.
 """
 import argparse
 import os
@@ -19,9 +22,8 @@ import pathlib
 import sys
 
 from auction.command import Command
-from auction.formats.journal import JournalFault
 from auction.formats.setup import Setup
-from auction.receipts import Sheets, Signer
+from auction.receipts import FAULTS, Key, OtherAuction, Sheets, Signer
 from auction.receipts import run as publish_receipts
 
 
@@ -42,13 +44,15 @@ def run(given: argparse.Namespace) -> int:
     try:
         if not given.receipts.is_dir():
             sys.exit(f"auction receipts: there is no folder {given.receipts}")
+        key = Key(given.folder / "receipts.pem")
         sheets = Sheets(given.journal, Setup.read(given.setup))
-        signer = Signer(sheets, (given.folder / "receipts.pem").read_bytes(), given.receipts)
+        signer = Signer(sheets, key.secret, given.receipts)
         if given.once:
-            say(f"receipts {signer.publish()}")
+            signer.look()
+            say(f"receipts {signer.show()}")
         else:
-            publish_receipts(signer, say)
-    except (JournalFault, OSError, ValueError) as fault:
+            publish_receipts(signer, say, key.check)
+    except (*FAULTS, OtherAuction) as fault:
         sys.exit(f"auction receipts: {fault}")
     return 0
 

@@ -15,10 +15,13 @@ from .settings import Folders, Settings
 OWN = (
     "asked",
     "bidders.map",
+    "by.map",
     "gate",
     "kept",
     "letters",
     "operator",
+    "persons.csv",
+    "persons.map",
     "public",
     "receipts",
     "sheet.conf",
@@ -37,7 +40,10 @@ def clear(folder: Path, now: float) -> tuple[Path, list[str]]:
     Returns that folder, and what is left elsewhere. If this is killed, the next call continues.
     """
     settings = Settings.read(folder)
-    with unused(Folders(folder).state / "run.lock", "a conductor"):
+    with (
+        unused(Folders(folder).state / "run.lock", "a conductor"),
+        unused(folder / "kept/receipts.pem", "`auction receipts`"),
+    ):
         with unused(settings.journal, "a server"):
             if listens(settings.port):
                 raise ClearFault(f"a server runs at port {settings.port}")

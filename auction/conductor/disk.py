@@ -41,6 +41,13 @@ def show(path: Path, text: str, mode: int = PUBLIC) -> None:
     os.rename(file.name, path)
 
 
+def lead(link: Path, target: str) -> None:
+    """Makes a symbolic link lead to another place at one moment, without waiting for the disk."""
+    unlink(Path(f"{link}.new"))
+    os.symlink(target, f"{link}.new")
+    os.rename(f"{link}.new", link)
+
+
 def fresh_file(path: Path, mode: int) -> TextIO:
     """A new file next to this place, open for writing, with exactly this mode whatever the umask
     is.

@@ -11,7 +11,7 @@ from tests.browser.people import enter
 from tests.browser.window import Window
 
 HERE = "The receipt is here: download it."
-NONE = "No receipt within two seconds: call the operator."
+NONE = "No receipt within five seconds: call the operator."
 NOT_SENT = "round 1, sheet 1: the file does not say that X sent this sheet."
 
 
@@ -49,7 +49,7 @@ def test_receipts_are_saved_and_fit_the_journal(
     x.until("the first receipt", first.exists)
     enter(auction, x)
     x.bid(0, 1, 100)
-    # On a very busy machine, a receipt may need more than two seconds.
+    # On a very busy machine, a receipt may need more than five seconds.
     count = 2 + next(sent for sent in range(8) if submitted(x) == HERE)
     x.click("act")
     file = downloads / "receipts-X.jsonl"

@@ -181,8 +181,8 @@ class Day:
 
         The settings have less time between rounds, no curtain, and no notice.
         """
-        # 8 to 18 s from here, for a busy machine
-        self.shell.times = times_of_day(int(time.time() + 8) // 10 * 10 + 10)
+        # 30 to 40 s from here, for a busy machine
+        self.shell.times = times_of_day(int(time.time() + 30) // 10 * 10 + 10)
         blocks = [
             "".join(line[4:] for line in block.splitlines(True))
             for block in re.findall(r"(?m)(?:^    .*\n)+", self.section)

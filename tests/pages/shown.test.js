@@ -140,7 +140,7 @@ const TABLE = {
   "no receipt": [
     { ...SUBMITTED, receipt: { kind: "missing", round: 2 } },
     "done",
-    "bad 1 bid in force since 10:20:38. No receipt within two seconds: call the operator.",
+    "bad 1 bid in force since 10:20:38. No receipt within five seconds: call the operator.",
     "In force",
   ],
   "a wrong receipt": [

@@ -2,6 +2,7 @@
 import json
 import os
 import pathlib
+import shutil
 import subprocess
 import sys
 
@@ -15,6 +16,12 @@ from tests.lib.waiting import wait_for
 
 NAMES = "XYZ"
 SECONDS = 30
+
+
+def publish(signer: Signer) -> int:
+    """Looks, and shows what was found. Returns how many receipts that is."""
+    signer.look()
+    return signer.show()
 
 
 class ReceiptsAuction(Served):
@@ -72,12 +79,12 @@ class ReceiptsAuction(Served):
 
     def files(self) -> dict[str, bytes]:
         """Each receipt that is published, by bidder and number."""
-        found = self.receipts.rglob("*.json")
+        found = self.receipts.glob("[!.]*/*.json")
         return {str(file.relative_to(self.receipts)): file.read_bytes() for file in found}
 
     def remove_receipts(self) -> None:
-        for file in self.receipts.rglob("*.*"):
-            file.unlink()
+        shutil.rmtree(self.receipts)
+        self.receipts.mkdir()
 
     def await_receipts(self, *wanted: str) -> None:
         """Waits until exactly these receipts are published."""

@@ -11,7 +11,6 @@ import pytest
 from auction.conductor.chain import Chain
 from auction.formats.receipts import Receipt
 from auction.formats.setup import Setup
-from auction.formats.signatures import sign
 from examples import bidder
 from tests.lib.http import answer_to, text_of
 from tests.receipts.auction import ReceiptsAuction
@@ -145,7 +144,7 @@ def test_it_reports_a_sheet_that_was_put_in_again(
     printed(lambda: own.await_one(SHEETS[0]))
     signer = two.signer()
     again = Receipt.of(signer.sheets.setup.digest, "X", 1, 2, two.texts()[0])
-    page = again.page(sign(signer.key, again.message()))
+    page = again.page(signer.key.sign(again.message()))
     pages.pages["/receipts/1/2.json"] = json.loads(page)
     assert "WARNING: sheet 2 of round 1" in printed(lambda: own.take(1))
 

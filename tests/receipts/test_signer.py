@@ -1,4 +1,6 @@
-"""The signing of receipts in one process: killed at each step, without a disk, and in its pause."""
+"""The signing of receipts in one process: killed at each step, without a disk, and between its look
+and the moment at which receipts appear.
+"""
 import contextlib
 import pathlib
 from collections.abc import Callable, Iterator
@@ -9,9 +11,11 @@ from auction import receipts
 from auction.formats.journal import JournalFault
 from tests.lib.disk import killed_at
 from tests.lib.waiting import wait_for
-from tests.receipts.auction import ReceiptsAuction
+from tests.receipts.auction import ReceiptsAuction, publish
 
-STEPS = 6  # system calls for two receipts: each is opened, synced, and later renamed
+# System calls for two receipts: each is opened and renamed. Then come four links, for three bidders
+# and for the folder that is seen: the rest of a killed call is removed, and each is renamed.
+STEPS = 4 + 8
 BOTH = {"X/1-1.json", "X/1-2.json"}
 
 
@@ -49,7 +53,7 @@ def test_a_killed_service_has_published_whole_receipts_only(
     wanted: dict[str, bytes], two: ReceiptsAuction, step: int
 ) -> None:
     with killed_at(step) as disk:
-        two.signer().publish()
+        publish(two.signer())
     assert disk.has_killed
     assert two.files().items() <= wanted.items()
 
@@ -59,8 +63,8 @@ def test_the_service_after_a_kill_makes_the_same_receipts(
     wanted: dict[str, bytes], two: ReceiptsAuction, step: int
 ) -> None:
     with killed_at(step):
-        two.signer().publish()
-    two.signer().publish()
+        publish(two.signer())
+    publish(two.signer())
     assert two.files() == wanted
 
 
@@ -68,7 +72,7 @@ def test_the_service_has_no_step_after_the_last(
     wanted: dict[str, bytes], two: ReceiptsAuction
 ) -> None:
     with killed_at(STEPS + 1) as disk:
-        two.signer().publish()
+        publish(two.signer())
     assert not disk.has_killed
     assert two.files() == wanted
 
@@ -85,7 +89,7 @@ def test_nothing_is_signed_while_the_journal_is_not_on_the_disk(
 ) -> None:
     monkeypatch.setattr(receipts, "sync", fail)
     with pytest.raises(OSError, match="no sync"):
-        two.signer().publish()
+        publish(two.signer())
     assert not two.files()
 
 
@@ -95,8 +99,8 @@ def test_the_next_call_after_a_failed_sync_makes_all_receipts(
     signer = two.signer()
     with monkeypatch.context() as patch, contextlib.suppress(OSError):
         patch.setattr(receipts, "sync", fail)
-        signer.publish()
-    assert signer.publish() == 2
+        publish(signer)
+    assert publish(signer) == 2
     assert two.files() == wanted
 
 
@@ -107,20 +111,53 @@ def test_the_next_call_after_a_lost_folder_makes_all_receipts(
     elsewhere = two.receipts.rename(two.folder / "elsewhere")
     try:
         with pytest.raises(FileNotFoundError):
-            signer.publish()
+            publish(signer)
     finally:
         elsewhere.rename(two.receipts)
-    assert signer.publish() == 2
+    assert publish(signer) == 2
     assert two.files() == wanted
 
 
-def test_all_receipts_are_written_before_the_pause_and_published_after_it(
+def test_a_look_shows_nothing(two: ReceiptsAuction) -> None:
+    two.signer().look()
+    assert not two.files()
+
+
+def test_all_receipts_of_a_look_appear_by_one_step(
     wanted: dict[str, bytes], two: ReceiptsAuction
 ) -> None:
-    seen = []
-    two.signer().publish(lambda: seen.append((two.files(), len(list(two.receipts.rglob("*.new"))))))
-    assert seen == [({}, 2)]
+    """Before each step of showing them, there are none or all."""
+    seen = set[int]()
+    for step in range(1, STEPS + 2):
+        two.remove_receipts()
+        with killed_at(step):
+            publish(two.signer())
+        seen.add(len(two.files()))
+    assert seen == {0, len(wanted)}
+
+
+def test_a_receipt_that_a_loss_of_power_emptied_is_made_again(
+    wanted: dict[str, bytes], two: ReceiptsAuction
+) -> None:
+    publish(two.signer())
+    (two.receipts / "X/1-2.json").write_bytes(b"")
+    assert publish(two.signer()) == 1
     assert two.files() == wanted
+
+
+def test_both_folders_get_the_receipts_of_all_looks(
+    wanted: dict[str, bytes], whole: ReceiptsAuction, tmp_path: pathlib.Path
+) -> None:
+    """Sheets that come one by one, as in an auction. Each look shows the other folder."""
+    whole.remove_receipts()
+    journal, part = whole.journal_file.read_bytes(), tmp_path / "part.journal"
+    signer, seen = whole.signer(part), []
+    for length in (length_before_the_last_record(journal), len(journal)):
+        part.write_bytes(journal[:length])
+        publish(signer)
+        seen.append(set(whole.files()))
+    assert seen == [{"X/1-1.json"}, BOTH]
+    assert whole.files() == wanted
 
 
 # ---- Journals
@@ -139,11 +176,11 @@ def test_a_record_in_the_writing_waits(
     last = length_before_the_last_record(journal)
     part.write_bytes(journal[: last + more] if more >= 0 else journal[:more])
     signer = two.signer(part)
-    assert signer.publish() == 1
+    assert publish(signer) == 1
     assert set(two.files()) == {"X/1-1.json"}
-    assert signer.publish() == 0
+    assert publish(signer) == 0
     part.write_bytes(journal)
-    assert signer.publish() == 1
+    assert publish(signer) == 1
     assert set(two.files()) == BOTH
 
 
@@ -161,7 +198,7 @@ def test_a_journal_that_is_not_this_auction_s_gives_no_receipt(
     bad = tmp_path / "bad.journal"
     bad.write_bytes(change(two.journal_file.read_bytes()))
     with pytest.raises(JournalFault):
-        two.signer(bad).publish()
+        publish(two.signer(bad))
     assert not two.files()
 
 

@@ -48,7 +48,9 @@ def sign(auction: ConductedAuction) -> None:
     folder, context = auction.folder / "receipts", auction.context()
     folder.mkdir()
     key = (auction.folder / "kept/receipts.pem").read_bytes()
-    Signer(Sheets(context.settings.journal, context.setup), key, folder).publish()
+    signer = Signer(Sheets(context.settings.journal, context.setup), key, folder)
+    signer.look()
+    signer.show()
 
 
 @pytest.fixture(scope="module")
