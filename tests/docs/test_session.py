@@ -1,4 +1,4 @@
-"""The session and the rehearsal of README.md print what it shows."""
+"""The session and the rehearsal of docs/session.md print what it shows."""
 from collections.abc import Callable
 from pathlib import Path
 
@@ -11,10 +11,10 @@ JOURNAL = "/tmp/one.journal"
 
 
 @pytest.mark.needs("curl")
-def test_each_line_of_readme_prints_what_is_below_it(
+def test_each_line_of_the_session_prints_what_is_below_it(
     shell: Callable[[], Shell], tmp_path: Path
 ) -> None:
-    text, typed = (TOP / "README.md").read_text(), shell()
+    text, typed = (TOP / "docs/session.md").read_text(), shell()
     typed.type_text(text.replace(JOURNAL, str(tmp_path / "one.journal")))
     assert typed.counts == {"typed": 14}
     assert typed.say("wait $!") == ("", 0), "the second server ends by itself"
