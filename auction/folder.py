@@ -7,6 +7,7 @@ import json
 import os
 import pathlib
 import re
+import secrets
 import shutil
 
 from cryptography import x509
@@ -144,7 +145,7 @@ def usual_journal(folder: pathlib.Path) -> str:
 def write_files(folder: pathlib.Path, plan: Plan) -> None:
     """Writes what follows from the set-up."""
     value = json.loads(plan.document)
-    operator = value["operator"]
+    operator, second = value["operator"], secrets.token_hex(16)
     settings = {
         "url": "http://127.0.0.1:8106",
         "setup": "setup.json",
@@ -155,7 +156,9 @@ def write_files(folder: pathlib.Path, plan: Plan) -> None:
         "setup.json": plan.document.decode(),
         "operator.token": f"{operator}\n",
         "operator.head": f"authorization: Bearer {operator}\n",
-        "operator.map": f'"Bearer {operator}" yes;\n',
+        "operator.map": f'"Bearer {operator}" operator;\n',
+        "second.token": f"{second}\n",
+        "desk.map": f'"Bearer {second}" second;\n',
         "bidders.map": maps.bidders_map(value),
         "sheet.conf": maps.sheet_conf(value),
         "conductor.json": json.dumps(settings, indent=1) + "\n",

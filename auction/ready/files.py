@@ -11,6 +11,7 @@ from .findings import Check, ensure
 STALE = 15  # seconds after which a running conductor has written its report again
 SECRETS = (
     *("operator.token", "operator.head", "operator.map", "bidders.map", "persons.map", "key.pem"),
+    *("second.token", "desk.map"),
     *("kept/chain.json", "kept/receipts.pem"),
 )
 ANEW = "it is not of this set-up: make it again with `auction maps`, and reload nginx"
@@ -66,7 +67,7 @@ def operators_token(auction: Auction) -> str:
     for name, wanted in (
         ("operator.token", f"{operator}\n"),
         ("operator.head", f"authorization: Bearer {operator}\n"),
-        ("operator.map", f'"Bearer {operator}" yes;\n'),
+        ("operator.map", f'"Bearer {operator}" operator;\n'),
     ):
         path = auction.folder / name
         ensure(name != "operator.token" or path.exists(), "operator.token is missing")

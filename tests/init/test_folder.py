@@ -40,6 +40,8 @@ def folder(openapi: pathlib.Path) -> Iterator[pathlib.Path]:
         ("operator.token", 0o600),
         ("operator.head", 0o600),
         ("operator.map", 0o600),
+        ("second.token", 0o600),
+        ("desk.map", 0o600),
         ("bidders.map", 0o600),
         ("sheet.conf", 0o600),
         ("conductor.json", 0o600),

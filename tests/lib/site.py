@@ -21,6 +21,7 @@ from tests.lib.ports import free_port
 from tests.lib.server import Server
 from tests.lib.waiting import wait_for
 
+SECOND = "SECONDPERSON0000"  # the token of the desk's second person
 OPENSSL = "openssl req -x509 -newkey rsa:2048 -nodes -days 30 -subj /CN=localhost"
 NAMES = "subjectAltName=DNS:localhost,IP:127.0.0.1"
 
@@ -155,8 +156,9 @@ class Site:
             "bidders.map", auction("maps", self.folder / "setup.json", check=True).stdout
         )
         self.write_private(
-            "operator.map", f'"Bearer {json.loads(self.setup_text)["operator"]}" yes;\n'
+            "operator.map", f'"Bearer {json.loads(self.setup_text)["operator"]}" operator;\n'
         )
+        self.write_private("desk.map", f'"Bearer {SECOND}" second;\n')
         if self.program is not None:
             self.bound_sheets()
         shutil.copytree(TOP / "web", self.folder / "web")

@@ -8,7 +8,8 @@
 # shellcheck disable=SC2317  # `expect` and `within` call functions by their names
 folder=/srv/auction
 journal=/var/lib/private/clock_auction/auction.journal
-units=(clock-auction clock-auction-nginx clock-auction-conductor clock-auction-receipts)
+units=(clock-auction clock-auction-nginx clock-auction-conductor clock-auction-receipts
+    clock-auction-desk)
 export DEBIAN_FRONTEND=noninteractive
 
 seen() { echo "seen: $1"; }

@@ -16,7 +16,8 @@ pytestmark = [
     pytest.mark.xdist_group("package"),
 ]
 
-UNITS = ["clock-auction", *(f"clock-auction-{part}" for part in ("nginx", "conductor", "receipts"))]
+PARTS = ("nginx", "conductor", "receipts", "desk")
+UNITS = ["clock-auction", *(f"clock-auction-{part}" for part in PARTS)]
 COMMANDS = ("init", "ready", "run", "status", "plan", "pause", "close", "record", "verify")
 DEBIANS = ("/bin/sh", "/bin/rm", "/usr/bin/install", "/usr/sbin/nft", "/usr/sbin/nginx")
 

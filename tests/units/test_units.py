@@ -9,12 +9,13 @@ from tests.lib.paths import TOP
 
 SERVER, NGINX = "clock-auction", "clock-auction-nginx"
 CONDUCTOR, RECEIPTS = "clock-auction-conductor", "clock-auction-receipts"
-UNITS = (SERVER, NGINX, CONDUCTOR, RECEIPTS)
+DESK = "clock-auction-desk"
+UNITS = (SERVER, NGINX, CONDUCTOR, RECEIPTS, DESK)
 # What the units start, which need not be there: Debian's commands, the program, and the command.
 PROGRAMS = re.compile(r"/usr/(bin/auction|bin/clock_auction|sbin/nft|sbin/nginx|bin/install)(?=\s)")
 # The highest exposure that systemd may see, of 10. nginx's first process is root's, and serves the
 # network.
-MOST = {SERVER: 2.0, NGINX: 4.0, CONDUCTOR: 2.0, RECEIPTS: 2.0}
+MOST = {SERVER: 2.0, NGINX: 4.0, CONDUCTOR: 2.0, RECEIPTS: 2.0, DESK: 2.0}
 
 pytestmark = [pytest.mark.early, pytest.mark.needs("systemd-analyze")]
 
@@ -70,7 +71,7 @@ def test_a_unit_starts_with_the_machine_and_again_after_any_end(unit: str) -> No
     assert "WantedBy=multi-user.target" in lines and "Restart=always" in lines
 
 
-@pytest.mark.parametrize("service", ["run", "receipts"])
+@pytest.mark.parametrize("service", ["run", "receipts", "desk"])
 def test_one_unit_starts_each_command_that_runs(service: str) -> None:
     started = [
         line for unit in UNITS for line in text_of(unit).splitlines() if "/usr/bin/auction" in line
