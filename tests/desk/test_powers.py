@@ -31,7 +31,7 @@ def in_words(verdict: powers.Verdict) -> str:
 
 
 def differences(judge: Judge) -> list[tuple[Wanted, Situation]]:
-    """Where a judge differs from the guide, up to the first few."""
+    """Requests that a judge does not judge as the guide says, up to the first few."""
     found = (
         (wanted, seen)
         for wanted, seen in itertools.product(list(wanteds()), situations())
@@ -120,7 +120,7 @@ def test_a_planted_mistake_is_found(there: str, planted: str) -> None:
 
 
 def named(found: re.Match[str]) -> str:
-    """A class that the mistaken module shares, so that verdicts can be told apart."""
+    """A class that the mistaken module shares, so that verdicts can be compared."""
     if found[1] == "Power":
         return found[0]
     return f"from auction.desk.powers import {found[1]}\n\n\n"
