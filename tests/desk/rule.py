@@ -1,4 +1,4 @@
-"""What the guide says of the desk, as a second statement of the rule that shares no code with it."""
+"""What the guide says of the desk: a second statement of the rule, which shares no code with it."""
 import itertools
 from collections.abc import Iterator
 
