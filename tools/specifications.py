@@ -1,5 +1,6 @@
 """Definitions in specs/ and public contracts in src/, read as text."""
 import re
+import shutil
 from collections.abc import Iterable
 from dataclasses import dataclass, field
 from pathlib import Path
@@ -114,16 +115,49 @@ def definitions_of(text: str, module: str) -> dict[str, Definition]:
     return found
 
 
+def read_module(path: Path, name: str) -> Module:
+    """Reads a file of specs/, which `use` lines call by this name."""
+    text = path.read_text(encoding="utf-8")
+    return Module(path, text.count("\n"), *imports(text), definitions_of(text, name))
+
+
 def read_specs(crates: Path) -> dict[str, Module]:
     """Reads all files of specs/. Returns the modules by name."""
-    modules = {}
-    for path in sorted(crates.glob("*/specs/**/*.antt")):
-        if path.name == "Lib.antt":
-            continue
-        text = path.read_text(encoding="utf-8")
-        name = module_of(path, crates)
-        modules[name] = Module(path, text.count("\n"), *imports(text), definitions_of(text, name))
-    return modules
+    paths = [path for path in crates.glob("*/specs/**/*.antt") if path.name != "Lib.antt"]
+    return {
+        name: read_module(path, name)
+        for path in sorted(paths)
+        for name in [module_of(path, crates)]
+    }
+
+
+class WithKit(dict[str, Module]):
+    """The modules of the crates, and those of the kit, each read when it is asked for.
+
+    A name of std's Prelude has no definition there: docs/reading.md lists these as its notation.
+    """
+
+    def __init__(self, modules: dict[str, Module], kit: Path) -> None:
+        super().__init__(modules)
+        self.kit = kit
+
+    def __contains__(self, name: object) -> bool:
+        return super().__contains__(name) or self.read(str(name))
+
+    def read(self, name: str) -> bool:
+        """Reads a file of the kit. Returns whether it has one of this name."""
+        first, *parts = name.split(".")
+        path = self.kit.joinpath(*parts).parent / f"{parts[-1]}.antt" if parts else self.kit
+        if first != "Rattle" or "specs" not in parts or not path.is_file():
+            return False
+        self[name] = read_module(path, name)
+        return True
+
+
+def kit_folder() -> Path | None:
+    """The folder of the kit's crates, or None without the kit."""
+    command = shutil.which("rt")
+    return Path(command).resolve().parents[1] / "rattle" if command else None
 
 
 def found_in(module: str, name: str, modules: dict[str, Module]) -> Iterable[Definition]:

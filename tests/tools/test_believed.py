@@ -64,6 +64,11 @@ SUMS = (
     "bytes",
     "the journal and the loop",
     "documents and program",
+    "layer 1, a round",
+    "layer 2, an auction",
+    "layer 3, bytes and privacy",
+    "headline, in the kit",
+    "second headline, in the kit",
 )
 REACHED = (
     "documents and program: 3 definitions, 9 lines with their comments, in 2 files of 16 lines"
@@ -122,3 +127,13 @@ def test_refuses_an_unknown_form(crate: pathlib.Path, name: str, line: str) -> N
     status, said = ran(crate)
     assert status == 1
     assert "of no known form" in said
+
+
+@pytest.mark.needs("rt")
+def test_follows_names_into_the_kit() -> None:
+    """A request's head is what the kit's crate httparse says, and a body is JSON."""
+    ended = subprocess.run([TOOL, "--quiet"], capture_output=True, text=True, timeout=60)
+    line = next(
+        line for line in ended.stdout.splitlines() if line.startswith("headline, in the kit")
+    )
+    assert " httparse," in line and " json," in line
