@@ -1,10 +1,14 @@
 """Requests over TLS to nginx, each client from an address of its own."""
 import json
+import pathlib
 import re
 import socket
 import ssl
+import time
 from collections.abc import Iterator
 from typing import Any, NamedTuple
+
+from tests.lib.waiting import wait_for
 
 SECONDS = 20
 
@@ -35,6 +39,19 @@ def connected(
     context.check_hostname, context.verify_mode = False, ssl.CERT_NONE
     context.set_alpn_protocols(list(protocols))
     return context.wrap_socket(peer, server_hostname="localhost")
+
+
+def in_hex(address: tuple[str, int]) -> str:
+    """An address and its port as /proc/net/tcp has them."""
+    return f"{socket.inet_aton(address[0])[::-1].hex().upper()}:{address[1]:04X}"
+
+
+def unread_bytes(here: tuple[str, int], there: tuple[str, int]) -> int:
+    """How many bytes, sent from here, the process there has not read, or this machine not sent."""
+    ends = {(in_hex(there), in_hex(here)): 1, (in_hex(here), in_hex(there)): 0}
+    rows = [line.split() for line in pathlib.Path("/proc/self/net/tcp").read_text().splitlines()]
+    counts = [(ends.get((row[1], row[2])), row[4].split(":")) for row in rows[1:]]
+    return sum(int(queues[which], 16) for which, queues in counts if which is not None)
 
 
 class Reply(NamedTuple):
@@ -97,6 +114,12 @@ class Client:
         piece = self.peer.recv(65_536)
         assert piece, f"the connection ended after {self.rest[:200]!r}"
         self.rest += piece
+
+    def wait_until_read(self) -> None:
+        """Waits until nginx has read all that was sent, and could act on it."""
+        here, there = self.peer.getsockname(), self.peer.getpeername()
+        wait_for("nginx reads what was sent", lambda: not unread_bytes(here, there), SECONDS)
+        time.sleep(0.1)
 
     def close(self) -> None:
         self.peer.close()

@@ -116,7 +116,7 @@ def begun(site: Site, recorder: Recorder, bidder: Bidder) -> Client:
     """A client that sent a part of its sheet in the window. Only the inner door is still open."""
     set_gate(site, *tens(), *tens("late-"))
     client = half_sent(site, bidder.token)
-    time.sleep(0.3)  # nginx reads the head
+    client.wait_until_read()
     set_gate(site, *tens("late-"))
     return client
 
@@ -146,7 +146,7 @@ def test_a_sheet_that_began_while_the_gate_was_open_is_refused_after_it(
     site: Site, recorder: Recorder, bidder: Bidder
 ) -> None:
     client = half_sent(site, bidder.token)
-    time.sleep(0.3)
+    client.wait_until_read()
     set_gate(site)
     client.send(SHEET[5:])
     refused = client.reply()
@@ -158,6 +158,7 @@ def test_a_sheet_that_began_while_the_gate_was_open_is_refused_after_it(
 def by_length(site: Site, token: str) -> Callable[[], tuple[int, bytes]]:
     """Sends a part of a sheet of known length. Returns what sends the rest."""
     client = half_sent(site, token)
+    client.wait_until_read()
 
     def end() -> tuple[int, bytes]:
         client.send(SHEET[5:])
@@ -171,6 +172,7 @@ def by_chunks(site: Site, token: str) -> Callable[[], tuple[int, bytes]]:
     client = Client(site.outside)
     start = head("PUT", "/v1/me/bids", token, "transfer-encoding: chunked")
     client.send(start + b"5\r\n" + SHEET[:5] + b"\r\n")
+    client.wait_until_read()
 
     def end() -> tuple[int, bytes]:
         client.send(b"%x\r\n%s\r\n0\r\n\r\n" % (len(SHEET) - 5, SHEET[5:]))
@@ -189,6 +191,7 @@ def by_http2(site: Site, token: str) -> Callable[[], tuple[int, bytes]]:
     pipe = curl.stdin.fileno()
     os.write(pipe, SHEET[:5])
     wait_for("curl sends it", lambda: not any(fcntl.ioctl(pipe, termios.FIONREAD, bytes(4))), 20)
+    time.sleep(1)  # nginx reads it
 
     def end() -> tuple[int, bytes]:
         page, version, status = curl.communicate(SHEET[5:], 20)[0].rsplit(b" ", 2)
@@ -219,7 +222,6 @@ def test_a_sheet_that_is_whole_in_a_pause_is_refused(
 ) -> None:
     set_gate(site, *tens(), *tens("late-"))
     end = begin(site, bidder.token)
-    time.sleep(0.3)
     set_gate(site)  # a pause
     assert end() == (409, REFUSED)
     assert not recorder.seen
@@ -233,7 +235,6 @@ def test_a_sheet_that_is_whole_in_the_window_is_accepted(
     begin: Callable[..., Callable[[], tuple[int, bytes]]],
 ) -> None:
     end = begin(site, bidder.token)
-    time.sleep(0.3)
     assert end()[0] == 200
     assert [request.body for request in recorder.seen] == [SHEET]
 
@@ -243,10 +244,10 @@ def test_a_sheet_that_waits_for_the_next_window_is_accepted_in_it(
 ) -> None:
     set_gate(site, *tens(), *tens("late-"))
     client = half_sent(site, bidder.token, NEXT)
-    time.sleep(0.3)
+    client.wait_until_read()
     set_gate(site)
     client.send(NEXT[5:-1])
-    time.sleep(0.3)
+    client.wait_until_read()
     assert not recorder.seen
     set_gate(site, *tens(), *tens("late-"))  # the next window
     client.send(NEXT[-1:])
