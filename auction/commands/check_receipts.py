@@ -23,7 +23,7 @@ import pathlib
 import sys
 
 from auction.command import Command
-from auction.formats.receipts import File, ReceiptsFault, faults, read_kept
+from auction.formats.receipts import File, ReceiptsFault, digest_of, faults, read_kept
 from auction.formats.signatures import SignatureFault
 from auction.formats.strict import escaped
 from auction.formats.ties import Commitment, TiesFault
@@ -39,11 +39,16 @@ def arguments(parser: argparse.ArgumentParser) -> None:
     parser.add_argument("--setup", metavar="SETUP", type=pathlib.Path, help="the set-up document")
 
 
-def token_of(file: File, setup: pathlib.Path | None) -> str:
-    """The bidder's token, if it is known."""
+def token_of(file: File, setup: pathlib.Path | None, commitment: Commitment) -> str:
+    """The bidder's token, if it is known. A set-up must be the committed one."""
     if setup is None:
         return os.environ.get("TOKEN", "").strip()
-    for bidder in setup_in(setup.read_bytes()).bidders:
+    document = setup.read_bytes()
+    if digest_of(document) != commitment.auction:
+        raise ReceiptsFault(
+            f"{setup} is another set-up than the committed one, so its tokens prove nothing"
+        )
+    for bidder in setup_in(document).bidders:
         if bidder.name == file.name:
             return bidder.token
     raise ReceiptsFault(f"the set-up has no bidder {file.name}")
@@ -65,7 +70,7 @@ def run(given: argparse.Namespace) -> int:
     try:
         file = read_kept(given.receipts)
         copy = given.commitment and Commitment.read(given.commitment)
-        token = token_of(file, given.setup)
+        token = token_of(file, given.setup, copy or file.commitment)
         found = faults(file, given.journal.read_bytes(), token, copy)
     except (OSError, ReceiptsFault, Refused, SignatureFault, TiesFault) as fault:
         sys.exit(escaped(f"FAILED {fault}"))

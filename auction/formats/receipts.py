@@ -249,10 +249,16 @@ def faults(
 def differences(receipts: list[Kept], sheets: list[Sheet], token: str) -> list[str]:
     """What differs between the receipts that the operator signed and the sheets of a journal."""
     texts = {kept.receipt.text for kept in receipts}
-    tokens = {sheet.token for sheet in sheets if sheet.text in texts} | (
-        {token} if token else set()
-    )
-    found = ["the journal has the sheets under several tokens"] if len(tokens) > 1 else []
+    tokens = {sheet.token for sheet in sheets if sheet.text in texts}
+    found = []
+    if token and tokens and token not in tokens:
+        found.append(
+            "the journal has the sheets under several tokens, or the given token is another "
+            "bidder's"
+        )
+    elif len(tokens) > 1:
+        found.append("the journal has the sheets under several tokens")
+    tokens = tokens or {token}
     own = [sheet for sheet in sheets if sheet.token in tokens]
     return found + missing(receipts, sheets) + without_receipt(receipts, own)
 

@@ -5,7 +5,7 @@ import hashlib
 from collections.abc import Iterator
 from typing import Any, NamedTuple
 
-from auction.formats import notices
+from auction.formats import notices, receipts
 from auction.formats.notices import Entry
 from auction.recount.formats import Setup
 from auction.recount.rules import Line
@@ -191,6 +191,25 @@ def is_increment(said: Any, found: list[list[int]]) -> bool:
 Window = dict[str, Any]
 
 
+def taken_faults(case: Case, entries: list[Entry]) -> list[str]:
+    """The sheets that were taken out of their window, by the second that nginx wrote into each."""
+    found, times = list[str](), [receipts.taken_in(record.text) for record in case.records]
+    number = 1
+    for place, (record, taken) in enumerate(zip(case.records, times), 1):
+        if record.text.startswith(b"POST "):
+            number += 1
+            continue
+        if not taken:
+            if any(times):
+                found.append(f"request {place} has no time: it did not come through the window")
+            continue
+        opened, frozen = first(entries, "opened", number), first(entries, "frozen", number)
+        is_early = opened and taken < opened.says["opens"]
+        if is_early or (frozen and taken > frozen.time):
+            found.append(f"request {place}: the sheet was taken at {taken}, out of its window")
+    return found
+
+
 def window_of(entries: list[Entry], number: int, entry: Entry) -> Window | None:
     """The window of a round in the last timetable before a notice."""
     timetable = last_before(entries, "timetable", entry)
@@ -208,6 +227,7 @@ def check_windows(case: Case) -> str:
     for number in range(1, count + 1):
         faults += window_faults(entries, number)
     faults += published_faults(case, entries) + timetable_faults(case, entries)
+    faults += taken_faults(case, entries)
     if faults:
         raise Failed(*faults)
     late = [words for number in range(1, count + 1) for words in late_words(entries, number)]

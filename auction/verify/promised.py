@@ -127,6 +127,8 @@ def check_receipts(case: Case) -> str:
             "no bidder's receipts are given, and only they show a sheet cut or added before a "
             "closing"
         )
+    if commitment_of(case).auction != case.setup_digest:
+        raise Failed("the set-up is another one than the committed one: its tokens prove nothing")
     tokens = {bidder.name: bidder.token for bidder in case.setup.bidders}
     faults, empty, counts = list[str](), list[str](), dict[str, int]()
     for path in case.receipts:

@@ -23,6 +23,7 @@ from tests.forgeries.changes import (
     swapped,
     value,
     with_announcement,
+    with_text,
     without,
 )
 from tests.forgeries.written import (
@@ -36,6 +37,7 @@ from tests.forgeries.written import (
     chain_of,
     frozen_of,
     said_of,
+    sheet,
     texts_of,
     time_of,
     windows,
@@ -191,6 +193,13 @@ REOPENED = both_ways(
     *(resaid(kind, 2, f"14:45:{at}0") for at, kind in enumerate(("frozen", "closed"), 1)),
 )
 
+
+def friend(taken: str) -> Forge:
+    """The operator takes a friend's sheet at this time, before it freezes the journal."""
+    texts = with_text(0, sheet("Q", 1, 1, 100, taken))(TEXTS)
+    return lambda found: Evidence.__init__(found, TRUE, texts)
+
+
 NOTICES: dict[str, Row] = {
     "60h-a-window-that-was-extended": (says(EXTENDED), BIDDERS, NOTHING),
     "60.1h-a-window-that-was-opened-again": (says(REOPENED), BIDDERS, NOTHING),
@@ -284,6 +293,10 @@ NOTICES: dict[str, Row] = {
         NOTHING,
         "windows",
     ),
+    "63.11-a-friend-s-sheet-after-the-window": (friend("14:31:00"), BIDDERS, "windows"),
+    "63.12-a-friend-s-sheet-past-nginx": (friend(""), BIDDERS, "windows"),
+    "63.13-a-friend-s-sheet-before-the-window": (friend("13:59:00"), BIDDERS, "windows"),
+    "63.14-a-friend-s-late-sheet-with-a-false-time": (friend("14:20:00"), BIDDERS, NOTHING),
     "64-a-rule-changed-when-bids-are-known": (
         both(
             lambda found: Evidence.__init__(found, TRUE, TEXTS[:-1] + [TRUE.closing(3, 50)]),

@@ -50,11 +50,19 @@ def document_of(supply: int = 3, cap: int = 2) -> bytes:
     return json.dumps(setups.setup([setups.product("A", supply=supply, cap=cap)], bidders)).encode()
 
 
-def sheet(name: str, number: int, quantity: int, price: int) -> bytes:
-    """The request with a bidder's sheet."""
+def time_of(number: int, time: str) -> str:
+    """A time of the day of a round. Each is open from 14:00 to 14:30, and published at 15:00."""
+    return f"2026-12-{number:02}T{time}Z"
+
+
+def sheet(name: str, number: int, quantity: int, price: int, taken: str = "14:10:00") -> bytes:
+    """The request with a bidder's sheet, which nginx took at this time of the round's day, if one
+    is given.
+    """
     bids = [{"price": price, "product": 0, "quantity": quantity}]
     body = compact({"bids": bids, "round": number})
-    return text_of("PUT /v1/me/bids", name * 16, body)
+    lines = [f"taken: {notices.seconds_of(time_of(number, taken))}"] if taken else []
+    return text_of("PUT /v1/me/bids", name * 16, body, *lines)
 
 
 @dataclasses.dataclass(frozen=True)
@@ -108,11 +116,6 @@ def counted_of(document: bytes, journal: bytes) -> rules.Recount:
 
 def payment_of(slip: rules.Slip, last: rules.Round) -> int:
     return sum(blocks * line.posted for blocks, line in zip(slip.demands, last.lines))
-
-
-def time_of(number: int, time: str) -> str:
-    """A time of the day of a round. Each is open from 14:00 to 14:30, and published at 15:00."""
-    return f"2026-12-{number:02}T{time}Z"
 
 
 def windows() -> list[dict[str, Any]]:
