@@ -13,6 +13,7 @@ from auction.commands import (
     desk,
     explain,
     init,
+    lots,
     maps,
     ready,
     receipts,
@@ -24,6 +25,7 @@ from auction.faults import in_words
 
 VERSION = "auction 1"
 COMMANDS: tuple[Command, ...] = (
+    lots.COMMAND,
     init.COMMAND,
     commit.COMMAND,
     maps.COMMAND,

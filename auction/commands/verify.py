@@ -35,6 +35,9 @@ def arguments(parser: argparse.ArgumentParser) -> None:
         "--commitment", metavar="COPY", type=pathlib.Path, help="a saved copy of commitment.json"
     )
     parser.add_argument(
+        "--lots", metavar="COPY", type=pathlib.Path, help="a saved copy of lots.json"
+    )
+    parser.add_argument(
         "--notices",
         metavar="SAVED",
         type=pathlib.Path,
@@ -54,7 +57,7 @@ def lacking(case: Case) -> str:
 def run(given: argparse.Namespace) -> int:
     counts: Counter[str] = Counter()
     files = given.setup, given.journal, given.published, *given.receipts
-    case = Case(*files, commitment=given.commitment, copies=given.notices)
+    case = Case(*files, commitment=given.commitment, copies=given.notices, lots=given.lots)
     for found in findings(case):
         counts[found.result] += 1
         print(escaped(f"{found.result:6} {found.subject}: {found.words}"), flush=True)

@@ -8,7 +8,8 @@ from auction.recount import rules as recount
 
 INDEX = "SHA256SUMS"
 PUBLISHED = re.compile(
-    r"(commitment|draw|names|timetable|announcements|winners|rounds/[1-9][0-9]{0,15})\.json"
+    r"(lots|order|commitment|draw|names|timetable|announcements|winners|rounds/[1-9][0-9]{0,15})"
+    r"\.json"
     r"|notices\.jsonl"
 )
 ABOUT = """The record of an auction of clock_auction. docs/formats.md of its repository lists these

@@ -25,8 +25,8 @@ class Absent(Exception):
 class Case:
     """A set-up document, a journal, the folder of what was published, and files of receipts.
 
-    `commitment` is a copy of the commitment that someone saved, and `copies` are such copies of the
-    notices. A check reads each when it needs it.
+    `commitment` and `lots` are copies that someone saved of these files, and `copies` are such
+    copies of the notices. A check reads each when it needs it.
     """
 
     def __init__(
@@ -37,9 +37,10 @@ class Case:
         *receipts: Path,
         commitment: Path | None = None,
         copies: Sequence[Path] = (),
+        lots: Path | None = None,
     ) -> None:
         self.paths, self.published, self.receipts = (setup, journal), published, receipts
-        self.commitment, self.copies = commitment, copies
+        self.commitment, self.copies, self.lots = commitment, copies, lots
 
     @functools.cached_property
     def document(self) -> bytes:

@@ -2,7 +2,7 @@
 import hashlib
 from collections.abc import Iterable
 
-from auction.formats import notices, receipts, strict, ties
+from auction.formats import lots, notices, receipts, strict, ties
 from auction.recount.formats import closing_in, json_in, request_in
 
 from . import announced
@@ -69,6 +69,38 @@ def check_draw(case: Case) -> str:
         f"{draw.words!r} was added to {copy}, {draw.commitment}; if that was saved before the draw "
         "and these words are what was drawn, nobody chose the chain"
         + ("" if has_notices else ". Without notices, nothing shows that it was before round 1")
+    )
+
+
+def check_lots(case: Case) -> str:
+    """Checks that the order of bidders follows from lots and a public draw."""
+    names = [name for name in (lots.LOTS, lots.ORDER) if (case.published / name).is_file()]
+    if not names:
+        if commitment_of(case).chain:
+            raise Absent("no lots were drawn, and ties are broken by numbers")
+        raise Absent(
+            "no lots were drawn, and without tie-breaking numbers the first bidder in the set-up "
+            "wins a tie: the operator may have put a friend there"
+        )
+    if len(names) < 2:
+        raise Failed(f"{case.published} has {names[0]} only, of {lots.LOTS} and {lots.ORDER}")
+    text = case.lots.read_bytes() if case.lots else case.text(lots.LOTS)
+    if text != case.text(lots.LOTS):
+        raise Failed(f"{case.lots} has other lots than {case.published}")
+    drawn, order = lots.Lots.of(case.json(lots.LOTS)), lots.Order.of(case.json(lots.ORDER))
+    try:
+        lots.check_order(text, drawn, order, [bidder.name for bidder in case.setup.bidders])
+    except lots.LotsFault as fault:
+        raise Failed(str(fault)) from fault
+    if case.lots is None and case.is_record:
+        raise Absent(
+            f"the bidders are in the order of the lots and {order.draw!r}; that proves nothing "
+            "without lots of before the draw: give --lots, a copy that someone saved then"
+        )
+    return (
+        f"the bidders are in the order of {case.lots or case.published / lots.LOTS} and "
+        f"{order.draw!r}; if that was saved before the draw and these words are what was drawn, "
+        "nobody chose the order"
     )
 
 
@@ -159,4 +191,9 @@ def words_of(counts: dict[str, int], bidders: Iterable[str]) -> str:
 
 
 COMMITMENT_CHECK = ("commitment", check_commitment)
-CHECKS = [("ties", check_ties), ("draw", check_draw), ("receipts", check_receipts)]
+CHECKS = [
+    ("ties", check_ties),
+    ("draw", check_draw),
+    ("lots", check_lots),
+    ("receipts", check_receipts),
+]

@@ -12,7 +12,7 @@ from tests.lib.conducted import conducted
 from tests.lib.paths import auction
 
 OF_NOTICES = ("notices", "copies", "rounds", "windows", "increments")
-WITHOUT_RECORD = ["draw", "receipts", "tables", "index"]
+WITHOUT_RECORD = ["draw", "lots", "receipts", "tables", "index"]
 # Each false word: its file, the right word, the false one, and the checks that fail.
 FALSE_WORDS = [
     ("rounds/2.json", '"posted":', '"posted":1', "results"),
@@ -72,7 +72,7 @@ def test_a_record_of_it_verifies(folder: pathlib.Path, tmp_path: pathlib.Path) -
     done = auction("record", *files, record)
     assert done.returncode == 0, done
     assert results_of(folder, record, FAILED) == []
-    assert results_of(folder, record, ABSENT) == ["draw", "receipts"]
+    assert results_of(folder, record, ABSENT) == ["draw", "lots", "receipts"]
 
 
 @pytest.mark.parametrize(
