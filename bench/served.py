@@ -14,9 +14,9 @@ from tests.lib.server import Server
 class Served(Server):
     """A server that is timed. `start` is the seconds until it was ready."""
 
-    def __init__(self, program, setup, connections, journal=None):
+    def __init__(self, program, setup, connections, journal=None, mirror=None):
         begun = time.monotonic()
-        super().__init__(program, setup, journal, connections=connections)
+        super().__init__(program, setup, journal, mirror=mirror, connections=connections)
         self.ready()
         self.start = time.monotonic() - begun
 
