@@ -19,6 +19,7 @@ from auction.conductor import commitment, disk
 from auction.conductor.settings import group_of_workers
 from auction.formats.setup import Setup
 from auction.installed import installed
+from auction.pages import copy_pages
 from auction.ready import maps
 
 USUAL_PORT, USUAL_PLACE = 8443, "/srv/auction"
@@ -104,7 +105,7 @@ def make_alone(folder: pathlib.Path, fresh: pathlib.Path, plan: Plan) -> None:
 
 def write_services(folder: pathlib.Path, place: pathlib.Path, plan: Plan) -> None:
     """Copies the pages, and what configures nginx and the firewall in the folder's later place."""
-    shutil.copytree(installed("web"), folder / "web")
+    copy_pages(installed("web"), folder / "web")
     shutil.copy(installed("schemas/openapi.json"), folder / "openapi.json")
     for name in ("nginx.conf", "clock-auction.nft"):
         text = installed(f"services/{name}").read_text(encoding="utf-8")

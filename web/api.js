@@ -26,6 +26,13 @@ const noAnswer = () => new Fault({ code: "no_answer" }, 0);
 /** A signal that ends a request after these milliseconds. */
 export const within = (milliseconds) => /** @type {any} */ (AbortSignal).timeout(milliseconds);
 export const pause = (time) => new Promise((done) => setTimeout(done, time));
+const MOST_SPREAD = 1500;
+/**
+ * The milliseconds that a page waits before it asks for the results of a round that has just been
+ * closed, so that not all ask at once. The more products there are, the longer the results.
+ */
+export const spread = (products, random = Math.random()) =>
+  Math.floor(random * Math.min(MOST_SPREAD, products / 2));
 
 /** Sends requests for a bidder or for the operator. */
 export class Asker {

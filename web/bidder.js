@@ -1,7 +1,7 @@
 // The bidder's page: keeps one state, changes it by what the server, the clock and the person do,
 // and draws what shown.js makes of it.
 
-import {Asker, watch} from "./api.js";
+import {Asker, pause, spread, watch} from "./api.js";
 import {drawBars} from "./bars.js";
 import {readBids, save, writtenBids} from "./csv.js";
 import {auctionMark, draftOf, keepDraft} from "./draft.js";
@@ -111,14 +111,14 @@ function draw() {
 async function load() {
   const began = ++turn;
   const accepted = state.act?.kind === "accepted" ? state.act : null;
-  const page = state.terms ?? await asker.products();
-  const now = await asker.account();
+  const [page, now] = await Promise.all([state.terms ?? asker.products(), asker.account()]);
   const before = state.me;
   const last = lastClosed(now);
   if (before && now.round < before.round) past.clear(); // another server, or another auction
   const closed = [last, last - 1].filter((round) => round > 0);
-  await Promise.all(closed.map((round) => past.learn(asker, round)));
-  const reply = now.ended ? null : await asker.inForce();
+  const [reply] = await Promise.all(
+    [now.ended ? null : asker.inForce(), ...closed.map((round) => past.learn(asker, round))]
+  );
   const changed = before && (before.round !== now.round || before.ended !== now.ended);
   const terms = termsOf(page, now, last);
   // bids may have been accepted after this reply
@@ -445,7 +445,9 @@ async function heard(status) {
   const again = gone;
   const { me } = state;
   gone = false;
-  if (again || status.round !== me.round || status.ended !== me.ended) await load();
+  const isClosed = status.round !== me.round || status.ended !== me.ended;
+  if (isClosed) await pause(spread(state.terms.products.length));
+  if (again || isClosed) await load();
   set({ link: answers() });
 }
 

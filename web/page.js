@@ -57,6 +57,9 @@ export const lastClosed = (status) => (status.ended ? status.round : status.roun
 export const excessOf = (sold, product) =>
   (sold.demand === null ? 0 : sold.demand - product.supply);
 
+/** To be called when all modules of a page have loaded: the line that says otherwise goes. */
+export function loaded() { at("loading")?.remove(); }
+
 /** A message to the person, which a screen reader reads out at once. */
 export const say = (text) => {
   at("say").textContent = text;
@@ -172,8 +175,14 @@ export function door(enter, {wordsOf, closingWords}) {
       }
     }
   };
+  loaded();
+  at("door").querySelector("button").disabled = false;
+  at("peek")?.addEventListener("change", () => {
+    at("token").type = at("peek").checked ? "text" : "password";
+  });
   at("door").addEventListener("submit", async (event) => {
     event.preventDefault();
+    at("token").setAttribute("aria-invalid", "false");
     const token = at("token").value.trim();
     at("token").value = "";
     tellDoor("Loading …");
@@ -184,7 +193,8 @@ export function door(enter, {wordsOf, closingWords}) {
       if (at("say").textContent === said) say("");
       at("round").focus();
     } catch (fault) {
-      say("⚠ " + wordsOf(fault.code ?? String(fault)));
+      say(`⚠ ${sentence(wordsOf(fault.code ?? String(fault)))}.`);
+      at("token").setAttribute("aria-invalid", String(fault.status === 401));
     }
     at("door").inert = at("desk").inert = false;
     at("token").focus(); // if the form is still there

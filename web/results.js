@@ -12,6 +12,7 @@ import {
   facts,
   lastClosed,
   listed,
+  loaded,
   make,
   number,
   offerRounds,
@@ -175,6 +176,7 @@ function saveRounds() {
   );
 }
 
+loaded();
 const times = new Times({ heard: look });
 at("which").addEventListener("change", drawRound);
 at("charted").addEventListener("change", drawChart);

@@ -211,7 +211,7 @@ def test_two_windows_of_a_browser_see_each_others_bids(auction: Auction, x: Wind
 
 # ---- Unknown tokens
 
-UNKNOWN_TOKEN, ANOTHER_PAGE = "no token, or an unknown token", "this token may not open this page"
+UNKNOWN_TOKEN, ANOTHER_PAGE = "No token, or an unknown token", "This token may not open this page"
 
 
 @pytest.fixture(scope="module")

@@ -41,7 +41,8 @@ class Request:
 class Recorder:
     """Listens on a port. `closed` is the last closed round.
 
-    Each answer takes `delay` seconds, and waits while `may_go` is not set.
+    Each answer takes `delay` seconds, and waits while `may_go` is not set. Each page has `size` bytes
+    more.
     """
 
     def __init__(self, port: int) -> None:
@@ -57,7 +58,7 @@ class Recorder:
     def reset(self) -> None:
         """Begins again: no request came, two rounds are closed, and each answer comes at once."""
         self.seen: list[Request] = []
-        self.closed, self.delay = 2, 0.0
+        self.closed, self.delay, self.size = 2, 0.0, 0
         self.may_go.set()
 
     def serve(self, listener: socket.socket) -> None:
@@ -102,6 +103,8 @@ class Recorder:
             page["private"] = PRIVATE + (token[1] if token else "")
         if path == "/v1/me/rounds/9":
             page["big"] = "x" * BIG
+        if self.size:
+            page["more"] = "x" * self.size
         if not PAGES.fullmatch(path):
             return 404, b'{"code":"no_page","status":404}'
         asked = re.fullmatch(r"/v1/rounds/(\d+)", path)
