@@ -1,6 +1,7 @@
-"""Copies the pages into an auction's folder. Their scripts and styles go to a folder that is named by
-the contents of all of them, so that a browser may store them for good, and never has files of two
-versions.
+"""Copies the pages into an auction's folder.
+
+Their scripts and styles go to a folder that is named by the contents of all of them, so that a
+browser may store them for good, and never has files of two versions.
 """
 import hashlib
 import pathlib

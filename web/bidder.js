@@ -3,9 +3,10 @@
 
 import {Asker, pause, spread, watch} from "./api.js";
 import {drawBars} from "./bars.js";
-import {readBids, save, writtenBids} from "./csv.js";
+import {readBids, save, writtenBids, writtenRound} from "./csv.js";
 import {auctionMark, draftOf, keepDraft} from "./draft.js";
 import {Grid} from "./grid.js";
+import {bidsOfFile, loadedWords} from "./kept.js";
 import {
   at,
   counted,
@@ -114,6 +115,10 @@ async function load() {
   const [page, now] = await Promise.all([state.terms ?? asker.products(), asker.account()]);
   const before = state.me;
   const last = lastClosed(now);
+  if (!before) {
+    auction = auctionMark(page.products, receipts.commitment);
+    past.begin(auction, now.name);
+  }
   if (before && now.round < before.round) past.clear(); // another server, or another auction
   const closed = [last, last - 1].filter((round) => round > 0);
   const [reply] = await Promise.all(
@@ -177,7 +182,6 @@ function inForceOf(me, bids, asked) {
  * demand.
  */
 function begin(page, me, terms, inForce) {
-  auction = auctionMark(page.products, receipts.commitment);
   let words = "";
   if (inForce.bids) {
     sheet.take(inForce.bids);
@@ -361,6 +365,23 @@ function download() {
   save(`bids-${me.name}-${me.round}.csv`, writtenBids(terms.products, bids));
 }
 
+/** Gives the round to the person as a file that can be filled in and uploaded. */
+function downloadRound() {
+  const { me, terms } = state;
+  const sold = past.products(lastClosed(me)) ?? null;
+  const text = writtenRound(terms, sold, (p) => sheet.steps(p));
+  save(`round-${me.round}-${me.name}.csv`, text);
+}
+
+/** Takes the bids of past rounds from a receipts file. */
+async function uploadReceipts(event) {
+  const [file] = event.target.files, text = await file.text().catch(() => "");
+  event.target.value = "";
+  const found = await bidsOfFile(text, receipts.commitment, state.me.name);
+  if (!found.fault) past.take(found.rounds);
+  acted(found.fault ? "failed" : "filled", { words: loadedWords(found) });
+}
+
 // -- Submitting
 
 /**
@@ -542,10 +563,12 @@ at("keep").addEventListener("click", maintain);
 onMenu("clear", () => fill("clear", () => sheet.clear(), "The form is empty."));
 onMenu("again", reload);
 onMenu("down", download);
+onMenu("downround", downloadRound);
 onMenu("old", takeOld);
 onMenu("receipts", () => receipts.save(state.me.name));
 at("back").addEventListener("click", copyInForce);
 at("up").addEventListener("change", upload);
+at("upreceipts").addEventListener("change", uploadReceipts);
 document.addEventListener("click", ({ target }) => {
   if (!at("menu").contains(target)) at("menu").open = false;
 });
@@ -557,6 +580,10 @@ const look = () => {
 tabs.addEventListener("message", look);
 document.addEventListener("visibilitychange", look);
 addEventListener("pagehide", keep);
+// what is not shown is not drawn
+addEventListener("view", (event) => {
+  if (/** @type {CustomEvent} */ (event).detail === "past") past.show();
+});
 addEventListener("beforeunload", (event) => {
   if (state.me && shown(state).isUnsaved) event.preventDefault();
 });

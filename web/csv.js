@@ -1,4 +1,5 @@
-// Tables as CSV: bids to save and to read (`product,quantity,price`), and other tables to save.
+// Tables as CSV: bids to save and to read (`product,quantity,price`, or a table with these among its
+// heads), and other tables to save.
 
 import {priceOf, quantityOf, WRONG_PRICE, WRONG_QUANTITY} from "./sheet.js";
 
@@ -18,13 +19,47 @@ export function writtenBids(products, bids) {
 }
 
 /**
- * The fields of a line, parted by semicolons or tabs if it has any, else by commas that are not in
- * quotes or in a price.
+ * A round to fill in, and to upload again: what is known of each product, and the price points of the
+ * form. `terms` has prices and demands, `sold` the results of the last round, or null.
  */
+export function writtenRound({products, prices, held}, sold, steps) {
+  const head = ["product", "units", "supply", "cap", "start", "clock", "aggregate demand"];
+  const lines = products.flatMap(
+    (product, p) => steps(p).map(
+      (typed) =>
+        [product.name,
+         product.units,
+         product.supply,
+         product.cap,
+         prices[p].start,
+         prices[p].clock,
+         sold ? sold[p].demand ?? "" : "",
+         held[p],
+         typed.quantity.trim(),
+         typed.price.trim(),
+  ]
+    )
+  );
+  return written([[...head, "processed demand", "quantity", "price"], ...lines]);
+}
+
+/** Where the fields of a bid are in the lines, by the heads of the first one; or null. */
+function headsOf(fields) {
+  const heads = fields.map((head) => head.toLowerCase());
+  const places = HEAD.split(",").map((head) => heads.indexOf(head));
+  return places.includes(-1) ? null : { places, count: fields.length };
+}
+
+/** The fields of a line, parted by semicolons or tabs if it has any, else by commas not in quotes. */
 function fieldsOf(line) {
   const parted = /[;\t]/.test(line) ? /(?:^|[;\t])("[^"]*"|[^;\t]*)/g : /(?:^|,)("[^"]*"|[^,]*)/g;
-  const fields =
-    [...line.matchAll(parted)].map((match) => match[1].trim().replace(/^"(.*)"$/, "$1").trim());
+  return [...line.matchAll(parted)].map(
+    (match) => match[1].trim().replace(/^"(.*)"$/, "$1").trim()
+  );
+}
+
+/** The three fields of a bid, whose price may have commas. */
+function joined(fields) {
   const price = fields.slice(2).join(",");
   return fields.length > 3 && /^\$?[1-9]\d{0,2}(,\d{3})+$/.test(price)
     ? [...fields.slice(0, 2), price]
@@ -42,12 +77,17 @@ export function readBids(products, text) {
     products.some((product) => /^\d+$/.test(product.name)); // a spreadsheet makes 1 of 001
   if (!areNumbers) products.forEach((_, at) => numbers.set(String(at), at));
   const bids = [], wrong = [];
+  let heads = null;
   text.replace(/^\ufeff/, "").split(/\r\n|\n|\r/).forEach((line, at) => {
     const say = (words) => wrong.push(`line ${at + 1}: ${words}`);
-    const fields = fieldsOf(line);
-    const isHead = at === 0 && fields.join(",").toLowerCase() === HEAD;
-    if (fields.join("") === "" || isHead) return;
+    const all = fieldsOf(line);
+    if (at === 0) heads = headsOf(all);
+    if (all.join("") === "" || (at === 0 && heads)) return;
+    const isWide = heads !== null && (heads.count > 3 || heads.places.join() !== "0,1,2");
+    if (isWide && all.length !== heads.count) return say("it has not as many fields as the first");
+    const fields = isWide ? heads.places.map((n) => all[n]) : joined(all);
     if (fields.length !== 3) return say(`there are not three fields: ${HEAD}`);
+    if (isWide && fields[1] + fields[2] === "") return; // a product without a bid
     const product = numbers.get(fields[0]);
     const quantity = quantityOf(fields[1]);
     const price = fields[2] === "" ? null : priceOf(fields[2]);

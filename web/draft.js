@@ -39,3 +39,44 @@ export function draftOf(auction, bidder, count) {
     return null;
   }
 }
+
+const SHEETS = "sheets";
+
+/**
+ * Keeps the bids that this tab saw in force in each round: { bids, time }, or null if that is not
+ * known. If there is no space for all rounds, the oldest are left out.
+ */
+export function keepSheets(auction, bidder, sheets) {
+  const rounds = [...sheets]
+                   .filter(([, sheet]) => sheet)
+                   .sort(([a], [b]) => a - b)
+                   .map(
+                     ([round, { bids, time }]
+                     ) => [round, time ?? "", bids.map(({ product,
+                                                          quantity,
+                                                          price }) => [product, quantity, price])]
+                   );
+  while (auction && rounds.length) {
+    try {
+      return sessionStorage.setItem(SHEETS, JSON.stringify({ auction, bidder, rounds }));
+    } catch {
+      rounds.shift();
+    }
+  }
+}
+
+/** The bids that this tab saw of an auction and a bidder, by round. */
+export function sheetsOf(auction, bidder) {
+  try {
+    const kept = JSON.parse(sessionStorage.getItem(SHEETS));
+    if (kept?.auction !== auction || kept.bidder !== bidder) return new Map();
+    return new Map(kept.rounds.map(
+      ([round, time, bids]) => [round, {
+        bids: bids.map(([product, quantity, price]) => ({ product, quantity, price })),
+        ...(time ? { time } : {})
+      }]
+    ));
+  } catch {
+    return new Map();
+  }
+}

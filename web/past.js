@@ -1,78 +1,132 @@
-// A bidder's closed rounds: the results of each, the bidder's own results and bids, and a chart of
-// one product.
+// A bidder's closed rounds: it loads them, keeps what is known of them, and draws what history.js
+// makes of that.
 
-import {chart} from "./chart.js";
-import {
-  at,
-  cell,
-  counted,
-  demandCell,
-  dollars,
-  make,
-  number,
-  offerRounds,
-  options,
-  rowHead,
-  sum,
-  timeOfDay
-} from "./page.js";
-import {Rows} from "./table.js";
+import {pause} from "./api.js";
+import {chart, spark} from "./chart.js";
+import {save, written} from "./csv.js";
+import {keepSheets, sheetsOf} from "./draft.js";
+import {fileOf, pointsOf, pointWords, shownPast} from "./history.js";
+import {Listing} from "./listing.js";
+import {at, dollars, make, number, options, tell, timeOfDay} from "./page.js";
 
-const AT_ONCE = 20;
+const AT_ONCE = 20; // rounds: nginx lets a bidder ask for two pages a second, and some at once
 
-/**
- * The bids for a product, in few words: both of two price points, or the first and the last of
- * more.
- */
-function bidWords(bids) {
-  if (!bids) return "not known here";
-  if (bids.length === 0) return "no bid";
-  const each = bids.map((bid) => `${number(bid.quantity)} at ${dollars(bid.price)}`);
-  return each.length < 3 ? each.join(", ")
-                         : `${each[0]} … ${each[each.length - 1]} (${each.length} price points)`;
-}
+const demandOf = ({ demand, supply }) => [demand === null ? `≤ ${number(supply)}` : number(demand)];
+const excessText = ({ excess }) => [excess ? `+${number(excess)}` : "no"];
+const MARKET = [
+  { id: "start", head: "Start-of-round price", cell: ({ start }) => [dollars(start)] },
+  { id: "clock", head: "Clock price", cell: ({ clock }) => [dollars(clock)] },
+  { id: "posted", head: "Posted price", cell: ({ posted }) => [dollars(posted)] },
+  { id: "demand", head: "Aggregate demand", cell: demandOf },
+  { id: "excess", head: "Excess demand", cell: excessText },
+  { id: "bids", head: "Your bids", by: ({ bids }) => bids, cell: ({ bids }) => [bids] },
+  { id: "blocks", head: "Processed demand", cell: ({ blocks }) => [number(blocks)] },
+];
+const ROUND = {
+  id: "round",
+  head: "Round",
+  by: ({ round }) => round,
+  cell: ({ round }) => [number(round)]
+};
+const TOTALS = [
+  ROUND,
+  { id: "blocks", head: "Blocks", cell: ({ blocks }) => [number(blocks)] },
+  {
+    id: "commitment",
+    head: "Commitment",
+    by: ({ commitment }) => Number(commitment),
+    cell: ({ commitment }) => [dollars(commitment)]
+  },
+  { id: "activity", head: "Activity", cell: ({ activity }) => [number(activity)] },
+  { id: "eligibility", head: "Eligibility", cell: ({ eligibility }) => [number(eligibility)] },
+  { id: "bids", head: "Bids", cell: ({ bids }) => [bids === null ? "not known" : number(bids)] },
+];
 
 export class Past {
-  #rounds = new Map();
-  #results = new Map();
-  #bids = new Map();
-  #products = [];
+  #known = {
+    products: [],
+    rounds: new Map(),
+    results: new Map(),
+    bids: new Map(),
+    last: 0,
+    round: 0,
+    product: null,
+    isNarrow: false
+  };
   #turn = 0;
-  #table = new Rows(at("pastframe"), at("pastbody"), (key) => this.#row(key));
+  #mark = ""; // of the auction
+  #bidder = "";
+  #table = new Listing(
+    "past",
+    [
+      { id: "name", head: "Product", by: ({ name }) => name, cell: (row) => this.#nameCell(row) },
+      ...MARKET,
+      {
+        id: "byround",
+        head: "By round",
+        by: ({ posted }) => posted,
+        cell: (row) => this.#spark(row)
+      },
+    ],
+    { kind: ({ blocks }) => (blocks ? "held" : "") }
+  );
+  #totals = new Listing("totals", TOTALS, { noun: "round" });
+  #byRound = new Listing("byround", [ROUND, ...MARKET], { noun: "round" });
 
   constructor() {
-    at("which").addEventListener("change", () => this.#drawRound());
-    at("narrow").addEventListener("change", () => this.#drawRound());
-    at("charted").addEventListener("change", () => this.#drawChart());
+    at("which").addEventListener("change", () => this.#set({ round: Number(at("which").value) }));
+    at("narrow").addEventListener("change", () => this.#set({ isNarrow: at("narrow").checked }));
+    at("mytotals").addEventListener("click", () => this.#set({ product: null }));
+    at("myresults").addEventListener("click", () => {
+      save(`results-${this.#bidder}.csv`, written(fileOf(this.#known)));
+    });
     addEventListener("resize", () => this.#drawChart());
   }
 
   /** Forgets everything, for another bidder or another auction. */
   clear() {
     this.#turn++;
-    for (const known of [this.#rounds, this.#results, this.#bids]) known.clear();
-    for (const filled of ["which", "charted", "chart"]) at(filled).replaceChildren();
-    this.#table.set([]);
-    at("own").textContent = "No round is closed yet.";
-    at("pastdesk").hidden = true;
+    const { rounds, results, bids } = this.#known;
+    for (const known of [rounds, results, bids]) known.clear();
+    this.#set({ products: [], last: 0, round: 0, product: null });
+  }
+
+  /** Begins with the bids that this tab has seen of a bidder in an auction. */
+  begin(mark, bidder) {
+    this.#mark = mark;
+    this.#bidder = bidder;
+    for (const [round, sheet] of sheetsOf(mark, bidder)) this.#known.bids.set(round, sheet);
   }
 
   /** The products of a closed round, and the bidder's own results of it, if they are known. */
-  products(round) { return this.#rounds.get(round); }
-  own(round) { return this.#results.get(round); }
+  products(round) { return this.#known.rounds.get(round); }
+  own(round) { return this.#known.results.get(round); }
   /** The bids that this tab last saw in force in a round, if it saw any. */
-  bids(round) { return this.#bids.get(round)?.bids; }
+  bids(round) { return this.#known.bids.get(round)?.bids; }
 
   /** Notes the bids that this tab sees in force in a round, and when; null if that is not known. */
   saw(round, bids) {
-    this.#bids.set(round, bids && { bids, time: timeOfDay() });
-    if (Number(at("which").value) === round) this.#drawRound();
+    this.#known.bids.set(round, bids && { bids, time: timeOfDay() });
+    keepSheets(this.#mark, this.#bidder, this.#known.bids);
+    if (this.#known.last) this.#draw();
+  }
+
+  /** Takes the bids of a receipts file, by round, for the rounds whose bids are not known. */
+  take(rounds) {
+    for (const [round, bids] of rounds)
+      if (!this.#known.bids.get(round)) this.#known.bids.set(round, { bids });
+    keepSheets(this.#mark, this.#bidder, this.#known.bids);
+    this.#draw();
   }
 
   /** Asks for the results of a closed round, if they are not known yet. */
   async learn(asker, round) {
-    if (!this.#rounds.has(round)) this.#rounds.set(round, (await asker.round(round)).products);
-    if (!this.#results.has(round)) this.#results.set(round, await asker.slip(round));
+    const { rounds, results } = this.#known;
+    const [page, slip] = await Promise.all(
+      [rounds.has(round) ? null : asker.round(round), results.has(round) ? null : asker.slip(round)]
+    );
+    if (page) rounds.set(round, page.products);
+    if (slip) results.set(round, slip);
   }
 
   /**
@@ -81,90 +135,59 @@ export class Past {
    */
   async draw(asker, products, last) {
     const turn = ++this.#turn;
-    this.#products = products;
-    if (last === 0) return;
-    offerRounds(last);
-    this.#offerCharts(this.#results.get(last).demands);
-    at("pastdesk").hidden = false;
-    this.#drawRound();
-    this.#drawChart();
+    const { round, last: before } = this.#known;
+    this.#set({ products, last, round: round === before ? last : round });
     try {
-      for (let round = last - 1; round > 0; round--) {
-        if (this.#results.has(round)) continue;
-        await this.learn(asker, round);
-        if (turn !== this.#turn)
-          return; // another round was closed meanwhile, or another bidder has entered
-        this.#drawChart();
-        if (Number(at("which").value) === round) this.#drawRound();
-        if (round < last - AT_ONCE)
-          await new Promise(
-            (done) => setTimeout(done, 1000)
-          ); // nginx lets a bidder ask twice a second
+      for (let next = last - 1; next > 0; next--) {
+        if (this.#known.results.has(next)) continue;
+        await this.learn(asker, next);
+        if (turn !== this.#turn) return; // another round was closed, or another bidder has entered
+        this.#draw();
+        if (next < last - AT_ONCE) await pause(1000);
       }
     } catch { /* the next round asks for them again */
     }
   }
 
-  /**
-   * Offers the products for the chart. The first one with processed demand is shown, until another
-   * is chosen.
-   */
-  #offerCharts(held) {
-    if (at("charted").options.length) return;
-    options(at("charted"), this.#products.map((product, p) => [p, product.name]));
-    at("charted").value = Math.max(0, held.findIndex((blocks) => blocks > 0));
+  #set(change) {
+    Object.assign(this.#known, change);
+    this.#draw();
   }
 
-  #drawRound() {
-    const round = Number(at("which").value);
-    const own = this.#results.get(round);
-    const seen = this.#bids.get(round);
-    if (!own || !this.#rounds.has(round)) {
-      at("own").textContent = `Loading round ${round} …`;
-      return this.#table.set([]);
-    }
-    at("own").textContent =
-      `Your results of round ${round}: processed demand ${counted(sum(own.demands), "block")}, ` +
-      `activity ${number(own.activity)}, eligibility ${number(own.eligibility)}.`
-      + (seen ? ` Your bids are shown as this tab last saw them, at ${seen.time}.` : "");
-    const mine = new Set(seen?.bids.map((bid) => bid.product));
-    own.demands.forEach((blocks, p) => {
-      if (blocks) mine.add(p);
-    });
-    this.#table.set(this.#products.map((_, p) => p)
-                      .filter((p) => !at("narrow").checked || mine.has(p))
-                      .map(String));
+  #draw() {
+    const now = shownPast(this.#known);
+    tell("own", now.own);
+    tell("pastprogress", now.progress);
+    at("pastdesk").hidden = !now.isThere;
+    if (!now.isThere || at("pastview").hidden) return;
+    options(at("which"), now.choices);
+    at("which").value = String(this.#known.round);
+    this.#table.set(now.rows);
+    const isTotals = this.#known.product === null;
+    at("totals").hidden = !isTotals;
+    at("byround").hidden = isTotals;
+    at("mytotals").hidden = isTotals;
+    (isTotals ? this.#totals : this.#byRound).set(now.byRound);
+    this.#drawChart(now);
   }
 
-  #drawChart() {
-    const p = Number(at("charted").value), name = this.#products[p]?.name;
-    const points = [...this.#rounds.keys()]
-                     .filter((round) => this.#results.has(round))
-                     .sort((a, b) => a - b)
-                     .map((round) => ({
-                            round,
-                            posted: this.#rounds.get(round)[p].posted,
-                            blocks: this.#results.get(round).demands[p]
-                          }));
-    if (!points.length || at("pastdesk").hidden) return;
-    const words = `${name}: posted price (line) and your processed demand (bars)`;
-    const drawing =
-      chart(name, points, Math.max(280, at("chart").clientWidth), "your processed demand");
-    at("chart").replaceChildren(make("figcaption", {}, words), drawing);
+  #drawChart(now = shownPast(this.#known)) {
+    if (!now.points.length || at("pastview").hidden) return;
+    tell("charted", now.chart);
+    const wide = Math.max(280, at("chart").clientWidth);
+    at("chart").replaceChildren(...chart(now.chart, now.points, wide, pointWords(this.#known)));
   }
 
-  #row(key) {
-    const p = Number(key);
-    const round = Number(at("which").value);
-    const product = this.#products[p];
-    const sold = this.#rounds.get(round)[p];
-    const bids = this.#bids.get(round)?.bids.filter((bid) => bid.product === p);
-    const blocks = this.#results.get(round).demands[p];
-    return make(
-      "tr", { class: blocks ? "held" : "" }, rowHead(product.name),
-      cell("Start-of-round price", dollars(sold.start)), cell("Clock price", dollars(sold.clock)),
-      cell("Posted price", dollars(sold.posted)), demandCell(sold, product),
-      cell("Your bids", bidWords(bids)), cell("Processed demand", number(blocks))
-    );
+  /** To be called when the view of closed rounds is shown, since nothing is drawn before. */
+  show() { this.#draw(); }
+
+  #nameCell({ p, name }) {
+    const show = () => {
+      this.#set({ product: p });
+      at("charted").scrollIntoView({ block: "nearest" });
+    };
+    return [make("button", { type: "button", class: "plain", onclick: show }, name)];
   }
+
+  #spark({ p }) { return [spark(pointsOf(this.#known, p))]; }
 }

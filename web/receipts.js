@@ -5,11 +5,17 @@ import {save} from "./csv.js";
 
 const bytesOf = (text) => new TextEncoder().encode(text);
 
+/** The SHA-256 of a text, in letters. */
+export async function hashOf(text) {
+  const hash = new Uint8Array(await crypto.subtle.digest("SHA-256", bytesOf(text)));
+  return Array.from(hash, (byte) => byte.toString(16).padStart(2, "0")).join("");
+}
+
 /**
  * Whether the committed key has signed a receipt. A browser without Ed25519 does not know, and the
  * answer is yes.
  */
-async function isSigned(key, receipt) {
+export async function isSigned(key, receipt) {
   const names = ["auction", "bidder", "by", "round", "sheet", "taken", "body", "text"];
   const lines = names.map((name) => `${name} ${receipt[name]}\n`);
   const spki = Uint8Array.from([...atob(key)].map((letter) => letter.charCodeAt(0)));
@@ -55,9 +61,8 @@ export class Receipts {
   }
 
   async #await(round, sent) {
-    const hash = new Uint8Array(await crypto.subtle.digest("SHA-256", bytesOf(sent)));
+    const body = await hashOf(sent);
     const end = Date.now() + 5000;
-    const body = Array.from(hash, (byte) => byte.toString(16).padStart(2, "0")).join("");
     const tell = (kind) => this.changed({ kind, round });
     tell("waiting");
     for (;;) {

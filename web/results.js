@@ -1,43 +1,126 @@
-// The public page: the results of each closed round, and at the end who won what. It needs no
-// token, and asks only for published files.
+// The public page: products and their prices in each round, and at the end who won what. It needs no
+// token. It keeps one state, and draws what published.js makes of it.
 
-import {Fault, isClosing, within} from "./api.js";
-import {chart} from "./chart.js";
+import {Fault, isClosing, pause, within} from "./api.js";
+import {chart, spark} from "./chart.js";
 import {save, written} from "./csv.js";
-import {
-  at,
-  cell,
-  dollars,
-  excessOf,
-  facts,
-  lastClosed,
-  listed,
-  loaded,
-  make,
-  number,
-  offerRounds,
-  options,
-  rowHead,
-  sum,
-  tell
-} from "./page.js";
-import {Rows} from "./table.js";
+import {Listing} from "./listing.js";
+import {at, dollars, facts, listed, loaded, make, number, options, tell} from "./page.js";
+import {begun, fileOf, pointsOf, pointWords, shown, wanted} from "./published.js";
 import {Times} from "./times.js";
 
-const NAMED = 12; // products that a winner's row has space for
-const rounds = [];
-let products = [], won = null, timetable = null, loading = false;
-const past = new Rows(at("pastframe"), at("pastbody"), drawProduct);
-const winners = new Rows(at("wonframe"), at("wonbody"), drawWinner);
+const NAMED = 12;     // products that a winner's row has space for
+const A_MOMENT = 100; // milliseconds between two rounds that nobody has asked for
 
-/**
- * What all blocks cost at the posted prices of a round. How many blocks are sold is public only at
- * the end.
- */
-const gross = (round) => round.products.reduce(
-  (all, sold, p) => all + BigInt(sold.posted) * BigInt(products[p].supply), 0n
-);
-const excess = (round, p) => excessOf(round.products[p], products[p]);
+let state = begun();
+let turn = 0;       // a number for each auction that is seen
+let isBusy = false; // whether rounds are being loaded
+
+const COLUMNS = [
+  { id: "name", head: "Product", by: ({ name }) => name, cell: nameCell },
+  { id: "supply", head: "Supply", cell: ({ supply }) => [number(supply)] },
+  { id: "start", head: "Start-of-round price", cell: ({ start }) => [dollars(start)] },
+  { id: "clock", head: "Clock price", cell: ({ clock }) => [dollars(clock)] },
+  { id: "posted", head: "Posted price", cell: ({ posted }) => [dollars(posted)] },
+  { id: "demand", head: "Aggregate demand", cell: demandCell },
+  { id: "excess", head: "Excess demand", cell: ({ excess }) => [excessWords(excess)] },
+  { id: "byround", head: "By round", by: ({ posted }) => posted ?? 0, cell: sparkCell },
+];
+const WON = [
+  { id: "name", head: "Bidder", by: ({ name }) => name, cell: ({ name }) => [name] },
+  { id: "blocks", head: "Blocks", cell: ({ blocks }) => [number(blocks)] },
+  { id: "pays", head: "Payment", cell: ({ pays }) => [dollars(pays)] },
+  {
+    id: "products",
+    head: "Products",
+    by: (row) => row.products.length,
+    cell: (row) => [listed(row.products, NAMED) || "none"]
+  },
+];
+const past = new Listing("past", COLUMNS);
+const winners = new Listing("won", WON, { noun: "bidder" });
+
+const excessWords = (excess) => (excess === null ? "–" : excess ? number(excess) : "no");
+
+function demandCell({ demand, isExcess, supply }) {
+  if (demand === null) return ["–"];
+  return [isExcess ? number(demand) : `≤ ${number(supply)}`];
+}
+
+function nameCell({ p, name }) {
+  if (!state.rounds.size) return [name];
+  const show = () => {
+    set({ product: p });
+    at("charted").scrollIntoView({ block: "nearest" });
+  };
+  return [make("button", { type: "button", class: "plain", onclick: show }, name)];
+}
+
+function sparkCell({ p }) {
+  const points = state.rounds.size ? pointsOf(state, p) : [];
+  return points.length ? [spark(points)] : ["–"];
+}
+
+// -- Drawing
+
+/** Changes the state, and shows it. */
+function set(change) {
+  state = {...state, ...change };
+  draw();
+}
+
+let drawn = {}; // what was drawn last
+
+function draw() {
+  const now = shown(state);
+  tell("link", now.link);
+  if (!now.isKnown) return;
+  tell("round", now.round);
+  document.title = now.title;
+  tell("progress", now.progress);
+  at("save").disabled = !now.canSave;
+  at("pastdesk").hidden = false;
+  drawIf("facts", now.facts, (rows) => facts("facts", rows));
+  drawIf("choices", [now.choices, now.chosen], () => {
+    options(at("which"), now.choices);
+    at("which").value = String(now.chosen);
+  });
+  tell("caption", now.caption);
+  drawIf("rows", [now.chosen, state.rounds.size, state.products.length], () => past.set(now.rows));
+  drawIf("digest", now.digest, () => drawDigest(now));
+  drawIf(
+    "chart", [state.rounds.size, state.product, at("chart").clientWidth], () => drawChart(now)
+  );
+  at("wonpart").hidden = !state.won;
+  drawIf("won", [now.winners.length, turn], () => winners.set(now.winners));
+}
+
+/** Draws a part of the page if what it shows is not what it showed before. */
+function drawIf(part, value, draw) {
+  const text = JSON.stringify(value);
+  if (drawn[part] === text) return;
+  drawn[part] = text;
+  draw(value);
+}
+
+function drawDigest({ digest, published }) {
+  const styles = /** @type {const} */ ({ dateStyle: "medium", timeStyle: "medium" });
+  const time = published && new Date(published).toLocaleString("en-GB", styles);
+  const what = "It identifies the set-up and everything accepted up to the closing of this round.";
+  const when = time ? ` Published at ${time}.` : "";
+  tell("digest", digest && `Digest after this round: ${digest}. ${what}${when}`);
+}
+
+function drawChart({ name, points }) {
+  at("chartpart").hidden = points.length === 0;
+  if (!points.length) return;
+  const words = `${name}: posted price (line), and excess demand in blocks (bars)`;
+  tell("charted", words);
+  const wide = Math.max(280, at("chart").clientWidth);
+  at("chart").replaceChildren(...chart(words, points, wide, pointWords));
+}
+
+// -- Loading
 
 /** A published page, or null if it is not there yet. */
 async function page(path) {
@@ -49,136 +132,56 @@ async function page(path) {
   throw new Fault({ code: refusal.code ?? "proxy" }, reply.status);
 }
 
-/** Loads what was published since the last time, and shows it. */
-async function look(table) {
-  if (loading) return;
-  loading = true;
-  timetable = table;
+/** Takes the state of the auction, and loads what is missing. */
+async function look(now) {
+  const last = state.now;
+  if (last && (now.round < last.round || (last.ended && !now.ended))) { // another auction
+    turn++;
+    drawn = {};
+    state = begun();
+  }
+  set({ now: { round: now.round, ended: now.ended } });
+  if (isBusy) return;
+  isBusy = true;
   try {
-    await load(lastClosed(table));
-    tell("link", "");
+    await load(turn);
+    set({ fault: "" });
   } catch (fault) {
-    tell("link", isClosing(fault) ? times.closing() : "⚠ No answer from the server. Retrying.");
+    set({ fault: isClosing(fault) ? times.closing() : "⚠ No answer from the server. Retrying." });
   }
-  loading = false;
+  isBusy = false;
 }
 
-async function load(last) {
-  if (last < rounds.length) { // another auction
-    products = [];
-    rounds.length = 0;
-    won = null;
+async function load(began) {
+  if (!state.products.length) {
+    const { products } = await page("/v1/products");
+    set({ products });
   }
-  if (!products.length) products = (await page("/v1/products")).products;
-  const before = rounds.length;
-  while (rounds.length < last) {
-    const round = await page(`/public/rounds/${rounds.length + 1}.json`);
-    if (!round) break;
-    rounds.push(round);
+  if (state.now.ended && !state.won) set({ won: await page("/public/winners.json") });
+  state.absent.clear(); // what was not published may be by now
+  for (let [round] = wanted(state); round && began === turn;[round] = wanted(state)) {
+    const found = await page(`/public/rounds/${round}.json`);
+    if (began !== turn) return;
+    if (!found) set({ absent: new Set([...state.absent, round]) });
+    if (found) set({ rounds: new Map([...state.rounds, [round, found]]) });
+    if (!found && state.rounds.size === 0) return; // nothing is published, or not yet
+    if (state.rounds.size > 1) await pause(A_MOMENT);
   }
-  won ??= timetable.ended ? await page("/public/winners.json") : null;
-  draw(before !== rounds.length);
 }
 
-function draw(changed) {
-  const last = rounds.length, { ended } = timetable;
-  tell("round", ended ? `Ended after round ${last}` : `Round ${timetable.round}`);
-  document.title = `${ended ? "Ended" : "Round " + timetable.round} · results · clock auction`;
-  drawFacts();
-  at("pastdesk").hidden = last === 0;
-  if (changed && last) {
-    offerRounds(last);
-    options(at("charted"), products.map((product, p) => [p, product.name]));
-    drawRound();
+/** Without a timetable the server says which round it is. */
+async function lookAtStatus() {
+  try {
+    const status = await page("/v1/status");
+    if (status?.round) await look(status);
+  } catch (fault) {
+    set({ fault: isClosing(fault) ? times.closing() : "⚠ No answer from the server. Retrying." });
   }
-  if (at("wonpart").hidden === !won) return;
-  at("wonpart").hidden = !won;
-  winners.set((won?.bidders ?? []).map((_, b) => String(b)));
-}
-
-function drawFacts() {
-  const round = rounds[rounds.length - 1];
-  const above = round?.products.filter((sold) => sold.demand !== null).length;
-  const aboveWords = `${number(above)} of ${number(products.length)}`;
-  const paid = won && won.bidders.reduce((all, bidder) => all + BigInt(bidder.pays), 0n);
-  facts("facts", [
-    ["Closed rounds", number(rounds.length)],
-    ["Products with excess demand", round ? aboveWords : "–"],
-    [
-      "Excess demand, in blocks",
-      round ? number(sum(products.map((_, p) => excess(round, p)))) : "–"
-    ],
-    ["Total at posted prices", round ? dollars(gross(round)) : "–", "if all blocks are sold"],
-    ...(won ? [["Proceeds", dollars(paid), "what the winners pay"]] : []),
-  ]);
-}
-
-function drawRound() {
-  past.set(products.map((_, p) => String(p)));
-  const { digest, published } = rounds[Number(at("which").value) - 1];
-  const styles = /** @type {const} */ ({ dateStyle: "medium", timeStyle: "medium" });
-  const time = published && new Date(published).toLocaleString("en-GB", styles);
-  const what = "It identifies the set-up and everything accepted up to the closing of this round.";
-  const when = time ? ` Published at ${time}.` : "";
-  tell("digest", `Digest after this round: ${digest}. ${what}${when}`);
-  drawChart();
-}
-
-function drawChart() {
-  const p = Number(at("charted").value), name = products[p]?.name;
-  if (!rounds.length || !name) return;
-  const points = rounds.map(
-    (round, n) => ({ round: n + 1, posted: round.products[p].posted, blocks: excess(round, p) })
-  );
-  const words = `${name}: posted price (line) and excess demand (bars)`;
-  at("chart").replaceChildren(
-    make("figcaption", {}, words),
-    chart(name, points, Math.max(280, at("chart").clientWidth), "excess demand")
-  );
-}
-
-function drawProduct(key) {
-  const round = rounds[Number(at("which").value) - 1];
-  const sold = round.products[key];
-  const product = products[key];
-  const over = excess(round, key);
-  const demand = sold.demand === null ? `≤ ${number(product.supply)}` : number(sold.demand);
-  return make(
-    "tr", {}, rowHead(product.name), cell("Supply", number(product.supply)),
-    cell("Start-of-round price", dollars(sold.start)), cell("Clock price", dollars(sold.clock)),
-    cell("Posted price", dollars(sold.posted)), cell("Aggregate demand", demand),
-    cell("Excess demand", over ? number(over) : "none")
-  );
-}
-
-function drawWinner(key) {
-  const bidder = won.bidders[key];
-  const parts = bidder.demands.flatMap(
-    (blocks, p) => (blocks ? [`${products[p].name} ${number(blocks)}`] : [])
-  );
-  return make(
-    "tr", {}, rowHead(bidder.name), cell("Blocks", number(sum(bidder.demands))),
-    cell("Payment", dollars(bidder.pays)), cell("Products", listed(parts, NAMED) || "none")
-  );
-}
-
-function saveRounds() {
-  const rows = rounds.flatMap(
-    (round, n) => round.products.map(
-      (sold, p) =>
-        [n + 1, products[p].name, products[p].supply, sold.start, sold.clock, sold.posted,
-         sold.demand ?? "", sold.next ?? ""]
-    )
-  );
-  save(
-    "rounds.csv",
-    written([["round", "product", "supply", "start", "clock", "posted", "demand", "next"], ...rows])
-  );
 }
 
 loaded();
-const times = new Times({ heard: look });
-at("which").addEventListener("change", drawRound);
-at("charted").addEventListener("change", drawChart);
-addEventListener("resize", drawChart);
-at("save").addEventListener("click", saveRounds);
+// neither is waited for: rounds may take long to load, and the time left is looked at meanwhile
+const times = new Times({ heard: (table) => void look(table), absent: () => void lookAtStatus() });
+at("which").addEventListener("change", () => set({ round: Number(at("which").value) }));
+addEventListener("resize", () => draw());
+at("save").addEventListener("click", () => save("rounds.csv", written(fileOf(state))));

@@ -50,13 +50,15 @@ export class Times {
   /**
    * @param {object} given
    * @param {(table: any) => any} [given.heard] takes each timetable
+   * @param {() => any} [given.absent] is called each time that there is none
    * @param {(time: any) => void} [given.ticked] takes { phase, words, seconds, results } four times
    * a second, and draws the time left itself
    * @param {(count: number) => void} [given.news] takes the number of announcements
    * @param {Element} [given.host] where the card is put
    */
-  constructor({ heard, ticked, news, host = document.querySelector("main") }) {
+  constructor({ heard, absent, ticked, news, host = document.querySelector("main") }) {
     this.heard = heard;
+    this.absent = absent;
     this.ticked = ticked;
     this.news = news;
     host.append(card());
@@ -83,7 +85,11 @@ export class Times {
         const table = await this.#get(TIMETABLE);
         this.#table = table?.windows ? table : null;
         at("times").hidden = at("clock").hidden = !this.#table;
-        if (this.#table) await this.#show(this.#table);
+        if (this.#table) {
+          await this.#show(this.#table);
+        } else {
+          await this.absent?.();
+        }
       } catch {
         // no answer: the time that is known is still counted
       }

@@ -14,8 +14,7 @@ export function view(name) {
     tab.tabIndex = isOn ? 0 : -1;
     at(tab.dataset.view + "view").hidden = !isOn;
   }
-  // the chart is as wide as its view, which had no width before
-  if (name === "past") dispatchEvent(new Event("resize"));
+  dispatchEvent(new CustomEvent("view", { detail: name }));
 }
 
 function viewByKey(event) {

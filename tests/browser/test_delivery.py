@@ -4,7 +4,7 @@ import shutil
 import pytest
 
 from auction.pages import copy_pages
-from tests.browser.auction import Auction, X, example
+from tests.browser.auction import Auction, example
 from tests.browser.conftest import Begin
 from tests.browser.people import enter
 from tests.browser.window import Window

@@ -2,6 +2,7 @@
 import re
 
 import pytest
+from selenium.webdriver.common.keys import Keys
 
 from tests.browser.auction import Auction, X, Y, bid, example
 from tests.browser.conftest import Begin
@@ -11,6 +12,8 @@ from tests.lib.setups import OPERATOR
 
 ROUND_1, ROUND_2 = bid(0, 2, 100), bid(0, 1, 100)
 SEEN_LAST = re.compile(r"Your bids are shown as this tab last saw them, at \d\d:\d\d:\d\d\.$")
+NOT_KNOWN = "Which bids were in force is not known here"
+LAST_ROUND = ["A", "$100", "$110", "$103", "≤ 2", "no"]
 
 
 @pytest.fixture
@@ -195,6 +198,10 @@ def test_a_change_of_processed_demand_is_shown(ended: Auction, x: Window) -> Non
     assert x.column("name") == ["A"]
 
 
+CELLS_OF = """return [...document.querySelectorAll(`#${arguments[0]} tbody tr:not(.room)`)]
+    .map(row => [...row.cells].map(cell => cell.textContent));"""
+
+
 def past(window: Window) -> list[list[str]]:
     """The rows of a closed round."""
     return window.cells("pastbody")
@@ -210,14 +217,76 @@ def test_closed_rounds_have_the_bids_that_this_tab_saw(second_round: Auction, x:
     x.view("past")
     x.becomes(
         lambda: past(x),
-        [["A", "$100", "$110", "$103", "no excesssupply 2", "0 at $103", "1"]],
+        [[*LAST_ROUND, "0 at $103", "1", ""]],
     )
     assert SEEN_LAST.search(x.text("own"))
     x.choose("which", "1")
     x.becomes(
         lambda: past(x),
-        [["A", "$100", "$100", "$100", "3supply 2, excess 1", "not known here", "2"]],
+        [["A", "$100", "$100", "$100", "3", "+1", "not known", "2", ""]],
     )
+
+
+def test_bids_that_this_tab_saw_are_there_after_a_reload(second_round: Auction, x: Window) -> None:
+    enter(second_round, x)
+    x.bid(0, 0, 103)
+    x.send("1 bid in force since")
+    second_round.put(Y, 2, bid(0, 1, 110))
+    second_round.close(2)
+    x.says("round", "Ended after round 2")
+    enter(second_round, x)
+    x.view("past")
+    x.becomes(lambda: past(x), [[*LAST_ROUND, "0 at $103", "1", ""]])
+    enter(second_round, x, Y)
+    x.view("past")
+    x.becomes(lambda: past(x), [[*LAST_ROUND, "not known", "1", ""]])
+
+
+def test_a_product_and_the_totals_are_shown_by_round(ended: Auction, x: Window) -> None:
+    enter(ended, x)
+    x.view("past")
+    totals = [["2", "1", "$103", "1", "2", "not known"], ["1", "2", "$200", "2", "3", "not known"]]
+    x.becomes(lambda: x.run(CELLS_OF, "totals"), totals)
+    x.find("#pastbody button").click()
+    x.says("charted", "A: posted price (line), processed demand (bars)")
+    x.becomes(lambda: [row[0] for row in x.cells("byroundbody")], ["2", "1"])
+    x.click("mytotals")
+    x.says("charted", "All products: commitment")
+
+
+def test_the_chart_has_a_cursor_that_arrows_move(ended: Auction, x: Window) -> None:
+    enter(ended, x)
+    x.view("past")
+    x.until("the chart is there", lambda: x.find("#chart svg[aria-valuemax='2']"))
+    reading = "return document.querySelector('#chart .reading').textContent"
+    assert x.run(reading).startswith("Round 2: 103 dollars")
+    x.run("document.querySelector('#chart svg').focus()")
+    x.press(Keys.ARROW_LEFT)
+    assert x.run(reading).startswith("Round 1: 200 dollars, 2 blocks, eligibility 3")
+
+
+def test_my_results_are_saved(ended: Auction, x: Window, downloads) -> None:
+    enter(ended, x)
+    x.view("past")
+    x.until("both rounds are there", lambda: x.text("pastprogress") == "")
+    x.click("myresults")
+    file = downloads / "results-X.csv"
+    lines = ["1,A,2,100,100,100,3,not known,2,200", "2,A,2,100,110,103,,not known,1,103"]
+    x.until("the file", lambda: file.read_text().splitlines()[1:] == lines)
+
+
+def test_this_round_is_filled_in_and_uploaded(second_round: Auction, x: Window, downloads) -> None:
+    enter(second_round, x)
+    x.menu("clear")
+    x.menu("downround")
+    file = downloads / "round-2-X.csv"
+    head = "product,units,supply,cap,start,clock,aggregate demand,processed demand,quantity,price"
+    lines = [head, "A,1,2,2,100,110,3,2,,"]
+    x.until("the file", lambda: file.read_text().splitlines() == lines)
+    file.write_text("\n".join([head, "A,1,2,2,100,110,3,2,1,105"]))
+    x.at("up").send_keys(str(file))
+    x.says("message", "1 bid uploaded. Nothing is submitted yet.")
+    assert (x.value("quantity", 0), x.value("price", 0)) == ("1", "105")
 
 
 def test_a_tab_that_saw_no_bids_says_so(ended: Auction, x: Window) -> None:
@@ -225,17 +294,18 @@ def test_a_tab_that_saw_no_bids_says_so(ended: Auction, x: Window) -> None:
     x.view("past")
     x.becomes(
         lambda: past(x),
-        [["A", "$100", "$110", "$103", "no excesssupply 2", "not known here", "1"]],
+        [[*LAST_ROUND, "not known", "1", ""]],
     )
-    x.says("own", "processed demand 1 block")
-    assert "Your bids" not in x.text("own")
+    x.says("own", "processed demand 1 block", NOT_KNOWN)
 
 
 def test_the_chart_has_both_rounds_in_words(ended: Auction, x: Window) -> None:
     enter(ended, x)
     x.view("past")
+    x.until("a product can be chosen", lambda: x.find("#pastbody button"))
+    x.find("#pastbody button").click()
     title = "return document.querySelector('#chart title')?.textContent ?? ''"
-    both = "round 1: 100 dollars, 2; round 2: 103 dollars, 1"
+    both = "round 1: 100 dollars, 2 of 3 asked for; round 2: 103 dollars, 1"
     x.until("the chart has both rounds", lambda: both in x.run(title))
 
 

@@ -63,22 +63,71 @@ def look(day: Published, window: Window, words: str) -> None:
     window.says("round", words)
 
 
-def test_before_the_first_closing_no_round_is_shown(begin: Begin, x: Window) -> None:
+OPENING = [
+    ["A", "2", "$100", "$100", "–", "–", "–", "–"],
+    ["B", "2", "$100", "$100", "–", "–", "–", "–"],
+]
+
+
+def test_before_the_first_closing_the_page_is_full(begin: Begin, x: Window) -> None:
+    """Products, supply, and opening prices; and then the first closed round."""
     day = begun(begin)
     day.timetable(1, (-60, 600))
     look(day, x, "Round 1")
-    x.becomes(lambda: x.facts("facts")[:1], [["Closed rounds", "0"]])
-    assert not x.is_seen("pastdesk")
+    x.becomes(lambda: x.facts("facts")[:2], [["Closed rounds", "0"], ["Products", "2"]])
+    x.becomes(lambda: x.cells("pastbody"), OPENING)
     first_closed(day)
     x.says("round", "Round 2")
-    x.becomes(lambda: x.column("0", "pastbody"), ["A", "B"])
+    x.says("caption", "Results of round 1")
+    x.becomes(lambda: x.column("posted", "pastbody"), ["$100", "$100"])
+
+
+def test_without_a_timetable_the_page_is_full_too(begin: Begin, x: Window) -> None:
+    day = begun(begin)
+    look(day, x, "Round 1")
+    x.becomes(lambda: x.cells("pastbody"), OPENING)
+    day.auction.put(X, 1, bid(0, 2, 100), bid(1, 1, 100))
+    day.auction.put(Y, 1, bid(0, 1, 100))
+    day.auction.close(1)
+    day.close_round(1, "a" * 64)
+    look(day, x, "Round 2")
+    x.says("caption", "Results of round 1")
+
+
+def test_the_newest_round_comes_first_and_others_can_be_chosen(
+    at_the_end: Published, x: Window
+) -> None:
+    look(at_the_end, x, "Ended after round 2")
+    x.says("caption", "Results of round 2")
+    asked = x.run(
+        "return performance.getEntriesByType('resource').map(each => each.name)"
+        ".filter(name => name.includes('/rounds/')).map(name => name.split('/').pop())"
+    )
+    assert asked[0] == "2.json"
+    x.until("round 1 is loaded", lambda: x.text("progress") == "")
+    x.choose("which", "1")
+    x.says("caption", "Results of round 1")
+    x.becomes(lambda: x.column("clock", "pastbody"), ["$100", "$100"])
+
+
+def test_products_are_found_and_sorted(after_one: Published, x: Window) -> None:
+    look(after_one, x, "Round 2")
+    x.becomes(lambda: x.column("name", "pastbody"), ["A", "B"])
+    x.write("pastfind", "b")
+    x.becomes(lambda: x.column("name", "pastbody"), ["B"])
+    assert x.text("pastcount") == "1 of 2"
+    x.click("pastclear")
+    x.becomes(lambda: x.column("name", "pastbody"), ["A", "B"])
+    x.find("#past thead .c-excess button").click()
+    x.becomes(lambda: x.column("name", "pastbody"), ["B", "A"])
+    assert x.find("#past thead .c-excess").get_attribute("aria-sort") == "ascending"
 
 
 def test_a_closed_round_has_prices_demand_and_excess(after_one: Published, x: Window) -> None:
     look(after_one, x, "Round 2")
     rows = [
-        ["A", "2", "$100", "$100", "$100", "3", "1"],
-        ["B", "2", "$100", "$100", "$100", "≤ 2", "none"],
+        ["A", "2", "$100", "$100", "$100", "3", "1", ""],
+        ["B", "2", "$100", "$100", "$100", "≤ 2", "no", ""],
     ]
     x.becomes(lambda: x.cells("pastbody"), rows)
     x.says("digest", "a" * 64, "Published at")

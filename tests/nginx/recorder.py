@@ -41,8 +41,8 @@ class Request:
 class Recorder:
     """Listens on a port. `closed` is the last closed round.
 
-    Each answer takes `delay` seconds, and waits while `may_go` is not set. Each page has `size` bytes
-    more.
+    Each answer takes `delay` seconds, and waits while `may_go` is not set. Each page has `size`
+    bytes more.
     """
 
     def __init__(self, port: int) -> None:
