@@ -139,7 +139,7 @@ def test_an_answer_may_come_after_its_round_was_closed(auction: Auction, x: Wind
         x.says("message", "Round 1 is closed")
     x.says("message", "1 bid accepted for round 1, which is closed by now.")
     x.view("past")
-    x.becomes(lambda: x.cells("pastbody")[0][5:], ["1 at $100", "1"])
+    x.becomes(lambda: x.cells("pastbody")[0][6:8], ["1 at $100", "1"])
 
 
 # ---- Pages that are withheld
