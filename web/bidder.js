@@ -1,8 +1,10 @@
 // The bidder's page: keeps one state, changes it by what the server, the clock and the person do,
 // and draws what shown.js makes of it.
 
+import {Alarm, alarmWords, passed} from "./alarm.js";
 import {Asker, pause, spread, watch} from "./api.js";
 import {drawBars} from "./bars.js";
+import {offerColumns} from "./choice.js";
 import {readBids, save, writtenBids, writtenRound} from "./csv.js";
 import {auctionMark, draftOf, keepDraft} from "./draft.js";
 import {Grid} from "./grid.js";
@@ -15,7 +17,6 @@ import {
   lastClosed,
   make,
   number,
-  question,
   sum,
   tell,
   timeOfDay,
@@ -23,6 +24,8 @@ import {
 } from "./page.js";
 import {Past} from "./past.js";
 import {Receipts} from "./receipts.js";
+import {reviewOf} from "./review.js";
+import {ask} from "./reviewing.js";
 import {wordsOf} from "./rules.js";
 import {Sheet} from "./sheet.js";
 import {afterKey, judged, keyOf, missingWords, plain, shown} from "./shown.js";
@@ -392,10 +395,19 @@ async function submit() {
   const now = shown(state);
   if (now.send.fix) return toFault();
   if (state.sending || now.send.off) return;
-  const { form, me: { round } } = state;
+  const { round } = state.me;
   const sent = judged(state).bids;
   const doubt = doubtOf(sent, round);
-  if (doubt && !await question(doubt, "Submit anyway")) return;
+  if ((doubt || isFirst(round)) && !await ask(reviewOf(state, doubt))) return;
+  reviewed = round;
+  await send();
+}
+
+/** Sends the form, unless the round was closed meanwhile. */
+async function send() {
+  if (state.sending || shown(state).send.off) return;
+  const { form, me: { round } } = state;
+  const sent = judged(state).bids;
   set({ sending: sent, act: null });
   try {
     const done = await asker.put(round, sent);
@@ -405,6 +417,20 @@ async function submit() {
   } finally {
     tabs.postMessage("submitted");
     keep();
+  }
+}
+
+let reviewed = 0; // the round whose bids were reviewed before a submission
+
+/** Whether nothing was submitted in this round, so that the bids are reviewed first. */
+const isFirst = (round) => reviewed !== round && !state.inForce?.bids;
+
+/** Shows the review, from which the bids may be submitted too. */
+async function review() {
+  const { round } = state.me;
+  if (await ask(reviewOf(state, doubtOf(judged(state).bids, round)))) {
+    reviewed = round;
+    await send();
   }
 }
 
@@ -487,6 +513,17 @@ function closing() {
   set({ link: {...answers(), closing: true } });
 }
 
+const alarm = new Alarm();
+
+/** Turns the alarm on or off. */
+async function chooseAlarm() {
+  if (at("alarm").checked) {
+    acted("filled", { words: await alarm.on() });
+  } else {
+    alarm.off();
+  }
+}
+
 const times = new Times({
   host: at("timesview"),
   heard: (timetable) => {
@@ -494,7 +531,11 @@ const times = new Times({
     worth = timetable.worth;
     if (state.me) draw();
   },
-  ticked: (time) => set({ time }),
+  ticked: (time) => {
+    const mark = passed(state.time, time);
+    set({ time });
+    if (mark && state.me) alarm.ring(alarmWords(mark, state.me.round), shown(state).todo.words);
+  },
   news: (count) => tell("news", count ? number(count) : ""),
 });
 
@@ -530,9 +571,10 @@ function onMenu(id, work) {
 
 /** The keys that work everywhere: Escape closes the menu, Ctrl+Enter submits, and / finds. */
 function keyed(event) {
-  if (event.key === "Escape" && at("menu").open) {
-    at("menu").open = false;
-    at("menuhead").focus();
+  const open = event.key === "Escape" && document.querySelector(".menu[open]");
+  if (open) {
+    /** @type {any} */ (open).open = false;
+    open.querySelector("summary").focus();
   }
   const isSubmit = event.key === "Enter" && (event.ctrlKey || event.metaKey);
   const isTyping = event.target.matches("input:not([data-field]), select, dialog *");
@@ -559,6 +601,9 @@ door(enter, { wordsOf, closingWords: () => times.closing() });
 at("send").addEventListener("click", submit);
 at("act").addEventListener("click", () => BUTTONS[shown(state).message.button?.[0]]?.());
 at("undo").addEventListener("click", undo);
+at("review").addEventListener("click", review);
+at("alarm").addEventListener("change", chooseAlarm);
+offerColumns();
 at("keep").addEventListener("click", maintain);
 onMenu("clear", () => fill("clear", () => sheet.clear(), "The form is empty."));
 onMenu("again", reload);
@@ -570,7 +615,8 @@ at("back").addEventListener("click", copyInForce);
 at("up").addEventListener("change", upload);
 at("upreceipts").addEventListener("change", uploadReceipts);
 document.addEventListener("click", ({ target }) => {
-  if (!at("menu").contains(target)) at("menu").open = false;
+  for (const menu of ["menu", "columns"])
+    if (!at(menu).contains(target)) at(menu).open = false;
 });
 document.addEventListener("keydown", keyed);
 // bids may have been submitted elsewhere

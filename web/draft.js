@@ -40,6 +40,25 @@ export function draftOf(auction, bidder, count) {
   }
 }
 
+const COLUMNS = "columns";
+
+/** Keeps which columns a person has chosen in this tab: { ID: whether it is shown }. */
+export function keepColumns(chosen) {
+  try {
+    sessionStorage.setItem(COLUMNS, JSON.stringify(chosen));
+  } catch { /* the columns are as at first after a reload */
+  }
+}
+
+/** The columns that a person has chosen in this tab. */
+export function columnsOf() {
+  try {
+    return JSON.parse(sessionStorage.getItem(COLUMNS)) ?? {};
+  } catch {
+    return {};
+  }
+}
+
 const SHEETS = "sheets";
 
 /**

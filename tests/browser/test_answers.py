@@ -85,7 +85,7 @@ def test_bids_whose_answer_was_lost_are_found_in_force(auction: Auction, x: Wind
     x.bid(0, 1, 100)
     x.run(scripts.ANSWERED, "null")
     auction.put(X, 1, bid(0, 1, 100))  # as if it had arrived
-    x.click("send")
+    x.submit()
     x.says("message", "Your bids did arrive: 1 bid in force.")
     x.says("todo", IN_FORCE)
 
@@ -117,7 +117,7 @@ def test_one_submission_is_sent_at_a_time(auction: Auction, x: Window) -> None:
     enter(auction, x)
     x.bid(0, 1, 100)
     with x.held(True):
-        x.click("send")
+        x.submit()
         x.becomes(lambda: x.run("return window.holds"), 1)
         x.says("message", "Sending 1 bid …")
         x.bid(0, 0, 100)
@@ -133,7 +133,7 @@ def test_an_answer_may_come_after_its_round_was_closed(auction: Auction, x: Wind
     enter(auction, x)
     x.bid(0, 1, 100)
     with x.held(True):
-        x.click("send")
+        x.submit()
         x.becomes(lambda: x.run("return window.holds"), 1)
         auction.close(1)
         x.says("message", "Round 1 is closed")

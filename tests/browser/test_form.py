@@ -36,7 +36,7 @@ def is_refused(window: Window, words: str, step: int = 0) -> None:
     """A row has an error before it is sent, and the server refuses it in the same words."""
     window.until(f"said at the row: {words}", lambda: words in window.row(0, step))
     assert window.sign(0, step) == "⚠", "with a sign, not by color alone"
-    window.click("send")
+    window.submit()
     window.until(f"refused: {words}", lambda: "Refused" in window.row(0, step))
     window.says("message", "Refused", words)
 

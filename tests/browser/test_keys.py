@@ -44,6 +44,8 @@ def test_a_bidder_enters_and_submits_by_keys(auction: Auction, y: Window) -> Non
     form = [y.value(name, row) for row in (0, 1) for name in ("quantity", "price")]
     assert form == ["1", "100"] * 2
     y.chord(Keys.CONTROL, Keys.ENTER)
+    y.has_focus("yes")
+    y.press(Keys.ENTER)
     y.says("message", "2 bids in force since")
 
 
@@ -52,6 +54,8 @@ def test_meta_and_enter_submit_from_anywhere(auction: Auction, y: Window) -> Non
     y.bid(0, 1, 100)
     y.click("find")
     y.chord(Keys.META, Keys.ENTER)
+    y.has_focus("yes")
+    y.press(Keys.ENTER)
     y.says("message", "1 bid in force since")
 
 

@@ -22,7 +22,7 @@ def auction(begin: Begin) -> Auction:
 
 def submitted(window: Window) -> str:
     """Submits again, and returns what is said of the receipt."""
-    window.click("send")
+    window.submit()
     words = (HERE, NONE, "The receipt is wrong")
     window.until(
         "the receipt is spoken of", lambda: any(w in window.text("message") for w in words)
@@ -100,7 +100,7 @@ def test_a_wrong_receipt_is_named(auction: Auction, x: Window) -> None:
     service = auction.begin_receipts()
     enter(auction, x)
     x.bid(0, 1, 100)
-    x.click("send")
+    x.submit()
     file = auction.folder / "receipts/X/1-1.json"
     x.until("a receipt", file.exists)
     service.kill()

@@ -237,9 +237,19 @@ class Window:
             erase = (Keys.CONTROL + "a", Keys.NULL, Keys.DELETE)
             self.field(name, product, step).send_keys(*erase, str(value))
 
+    def submit(self) -> None:
+        """Submits the form, also if there is a review first."""
+        self.click("send")
+        self.confirm()
+
+    def confirm(self) -> None:
+        """Says yes to the review, if there is one."""
+        if self.is_seen("question"):
+            self.at("yes").click()
+
     def send(self, *words: str) -> None:
         """Submits the form, and waits for the message."""
-        self.click("send")
+        self.submit()
         self.says("message", *words)
 
     def has_focus(self, name: str) -> None:

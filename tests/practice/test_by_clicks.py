@@ -58,7 +58,7 @@ def bid(window: Window, values: list[list[int]], number: int) -> int:
 def submit(window: Window, count: int) -> None:
     """Submits, and waits until that was said, also if the next round begins at once."""
     window.run(scripts.SAID, "message")
-    window.click("send")
+    window.submit()
     words = "1 bid in force since" if count == 1 else f"{count} bids in force since"
     window.until(words, lambda: any(words in text for text in window.run("return window.said")))
 
@@ -192,7 +192,7 @@ def test_a_submission_to_a_server_that_stands_still(six: Practice, x: Window) ->
     server = server_of(six)
     os.kill(server, signal.SIGSTOP)
     try:
-        x.click("send")
+        x.submit()
         x.says("link", "No answer since")
         assert x.kind("todo") == "bad"
         x.says("message", "not known whether your bids")
@@ -207,11 +207,12 @@ def test_a_closing_while_one_types(six: Practice, x: Window) -> None:
     """The entry and the cursor stay, and one message says what changed."""
     enter(x, six)
     x.bid(0, 1, "")
-    x.click("send")
+    x.submit()
     x.says("round", "Round 2")
     x.field("quantity", 1).click()
     x.run(scripts.SAID, "message")
     x.chord("\ue009", "\ue007")  # Ctrl+Enter
+    x.confirm()
     x.press("2")
     x.says("round", "Round 3")
     assert x.value("quantity", 1) == "2"
