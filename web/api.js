@@ -109,10 +109,9 @@ export const isClosing = (fault) => fault.code === "closing" && fault.status ===
 
 /**
  * Asks for the status every second, for good, and every five seconds while there is no answer.
- * `heard` takes a status, and
- * may ask for more; `missed` takes the fault if that fails, or `closing` if pages are withheld.
- * `slow` is called while the
- * last answer is older than three seconds, also after a sleep of the machine.
+ * `heard` takes a status, and may ask for more; `missed` takes the fault if that fails, or
+ * `closing` if pages are withheld. `slow` is called while the last answer is older than three
+ * seconds, also after a sleep of the machine.
  */
 export async function watch(asker, {heard, slow, missed, closing}) {
   let answered = Date.now();

@@ -17,6 +17,7 @@ import {
   lastClosed,
   make,
   number,
+  printedWords,
   sum,
   tell,
   timeOfDay,
@@ -626,6 +627,11 @@ const look = () => {
 tabs.addEventListener("message", look);
 document.addEventListener("visibilitychange", look);
 addEventListener("pagehide", keep);
+addEventListener("beforeprint", () => {
+  if (!state.me) return;
+  const { round, inForce } = shown(state);
+  tell("printed", `${printedWords(`${round}, ${state.me.name}`, new Date())}. ${inForce}`);
+});
 // what is not shown is not drawn
 addEventListener("view", (event) => {
   if (/** @type {CustomEvent} */ (event).detail === "past") past.show();

@@ -1,6 +1,6 @@
 // A chart by round: a price as a line, and numbers of blocks as bars below it, and as a second line
-// if there is another number. `plotOf` works out what is drawn, and reads no page. The table next to
-// a chart has the same numbers.
+// if there is another number. `plotOf` works out what is drawn, and reads no page. The table next
+// to a chart has the same numbers.
 
 import {make} from "./page.js";
 
@@ -28,7 +28,9 @@ export function ticks(low, high, most) {
   return found.length ? found : [low];
 }
 
-/** Which of `count` rounds are written below the bars, so that their numbers have `space` pixels. */
+/**
+ * Which of `count` rounds are written below the bars, so that their numbers have `space` pixels.
+ */
 export function labelled(count, step, space) {
   const every = Math.max(1, Math.ceil(space / step));
   return Array.from({ length: count }, (_, n) => n).filter((n) => (count - 1 - n) % every === 0);
@@ -153,7 +155,8 @@ export function spark(points) {
 }
 
 /**
- * A chart with a cursor, which the mouse and the arrow keys move. `say` has what is said of a point.
+ * A chart with a cursor, which the mouse and the arrow keys move. `say` has what is said of a
+ * point.
  * @param {string} name
  * @param {Point[]} points
  * @param {number} wide

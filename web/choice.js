@@ -1,4 +1,5 @@
-// The columns of the grid that a person has chosen. Without a choice the width of the window decides.
+// The columns of the grid that a person has chosen. Without a choice the width of the window
+// decides.
 
 import {COLUMNS} from "./columns.js";
 import {columnsOf, keepColumns} from "./draft.js";

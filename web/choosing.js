@@ -15,8 +15,8 @@ export const isFound = (name, words) => {
 };
 
 /**
- * Places in the order of their values by `by`, rising or falling; without `by` as they are. Places of
- * equal values stay in their order.
+ * Places in the order of their values by `by`, rising or falling; without `by` as they are. Places
+ * of equal values stay in their order.
  */
 export function sorted(places, by, isDown) {
   if (!by) return places;

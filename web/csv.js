@@ -1,5 +1,5 @@
-// Tables as CSV: bids to save and to read (`product,quantity,price`, or a table with these among its
-// heads), and other tables to save.
+// Tables as CSV: bids to save and to read (`product,quantity,price`, or a table with these among
+// its heads), and other tables to save.
 
 import {priceOf, quantityOf, WRONG_PRICE, WRONG_QUANTITY} from "./sheet.js";
 
@@ -19,8 +19,8 @@ export function writtenBids(products, bids) {
 }
 
 /**
- * A round to fill in, and to upload again: what is known of each product, and the price points of the
- * form. `terms` has prices and demands, `sold` the results of the last round, or null.
+ * A round to fill in, and to upload again: what is known of each product, and the price points of
+ * the form. `terms` has prices and demands, `sold` the results of the last round, or null.
  */
 export function writtenRound({products, prices, held}, sold, steps) {
   const head = ["product", "units", "supply", "cap", "start", "clock", "aggregate demand"];
@@ -50,7 +50,9 @@ function headsOf(fields) {
   return places.includes(-1) ? null : { places, count: fields.length };
 }
 
-/** The fields of a line, parted by semicolons or tabs if it has any, else by commas not in quotes. */
+/**
+ * The fields of a line, parted by semicolons or tabs if it has any, else by commas not in quotes.
+ */
 function fieldsOf(line) {
   const parted = /[;\t]/.test(line) ? /(?:^|[;\t])("[^"]*"|[^;\t]*)/g : /(?:^|,)("[^"]*"|[^,]*)/g;
   return [...line.matchAll(parted)].map(
@@ -68,8 +70,7 @@ function joined(fields) {
 
 /**
  * The bids of a CSV text, and its wrong lines in words. A product is named, or numbered from 0 if
- * no product's name is a
- * number. A price may have `$` and commas; an empty one is null.
+ * no product's name is a number. A price may have `$` and commas; an empty one is null.
  */
 export function readBids(products, text) {
   const numbers = new Map(products.map((product, at) => [product.name, at]));

@@ -1,17 +1,16 @@
 // What a bidder's page shows of closed rounds, as a pure function of what is known of them: results,
-// the bidder's own results, and its bids, if this tab saw them or a receipts file has them. Nothing
-// here reads the page, so tests run all of it in Node.
+// the bidder's own results, and its bids. Nothing here reads the page, so tests run it in Node.
 
 import {counted, dollars, excessOf, number, sum} from "./page.js";
 
 /**
  * @typedef {{ product: number, quantity: number, price: number }} Bid
+ * @typedef {{ bids: Bid[], time?: string }} Seen bids, and when this tab saw them
  * @typedef {object} Known
  * @property {any[]} products
  * @property {Map<number, any[]>} rounds the products of each closed round that is loaded
  * @property {Map<number, any>} results the bidder's own results of it
- * @property {Map<number, { bids: Bid[], time?: string } | null>} bids its bids, and when this tab saw
- * them; without a time they are those of a receipts file; null if that is not known
+ * @property {Map<number, Seen | null>} bids its bids, if this tab saw them or a receipts file has them
  * @property {number} last the last closed round
  * @property {number} round the round that is shown
  * @property {number | null} product the product of the chart, or null for the totals

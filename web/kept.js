@@ -1,6 +1,6 @@
-// Bids of past rounds from a bidder's own receipts file, as `Download receipts` writes it: a line for
-// the commitment, and one for each receipt, which has the bids if that tab sent them. Nothing here
-// reads the page, so tests run it in Node.
+// Bids of past rounds from a bidder's own receipts file, as `Download receipts` writes it: a line
+// for the commitment, and one for each receipt, which has the bids if that tab sent them. Nothing
+// here reads the page, so tests run it in Node.
 
 import {hashOf, isSigned} from "./receipts.js";
 
@@ -25,9 +25,9 @@ async function bidsOf({ sent, body, round }) {
 }
 
 /**
- * The bids of each round by a receipts file of this bidder and auction: those of the last sheet of a
- * round. Returns them as `rounds`, the numbers of rounds whose last sheet has no bids in the file as
- * `unknown`, and what is wrong with the file as `fault`, or "".
+ * The bids of each round by a receipts file of this bidder and auction: those of the last sheet of
+ * a round. Returns them as `rounds`, the numbers of rounds whose last sheet has no bids in the file
+ * as `unknown`, and what is wrong with the file as `fault`, or "".
  */
 export async function bidsOfFile(text, commitment, bidder) {
   const receipts = linesOf(text).filter((line) => line === null || line.sheet !== undefined);

@@ -1,5 +1,5 @@
-// A table that is read: its rows are found by name and sorted by its heads. Only those that are seen
-// are laid out.
+// A table that is read: its rows are found by name and sorted by its heads. Only those that are
+// seen are laid out.
 
 import {countWords, isFound, searched, sorted, turned} from "./choosing.js";
 import {at, make, tell} from "./page.js";
@@ -18,8 +18,9 @@ export class Listing {
   #heads = [];
 
   /**
-   * The table in the frame `id`, with `columns` {id, head, by, cell}. If there are elements `idfind`,
-   * `idcount` and `idclear`, they search it. `noun` names a row, `kind` is the class of one.
+   * The table in the frame `id`, with `columns` {id, head, by, cell}. If there are elements
+   * `idfind`, `idcount` and `idclear`, they search it. `noun` names a row, `kind` is the class of
+   * one.
    * @param {string} id
    * @param {Column[]} columns
    * @param {{ noun?: string, kind?: (row: any) => string }} given

@@ -57,6 +57,10 @@ export const lastClosed = (status) => (status.ended ? status.round : status.roun
 export const excessOf = (sold, product) =>
   (sold.demand === null ? 0 : sold.demand - product.supply);
 
+/** The time at which a page is printed, and what it is of, as its first line on paper. */
+export const printedWords = (of, now) =>
+  `${of}, printed at ${now.toLocaleString("en-GB", {dateStyle: "medium", timeStyle: "medium"})}`;
+
 /** To be called when all modules of a page have loaded: the line that says otherwise goes. */
 export function loaded() { at("loading")?.remove(); }
 
@@ -151,8 +155,8 @@ export const unask = () => at("question").close("no");
 
 /**
  * Takes the token: `enter` is called with what is typed. If it fails, the form stays, and says why.
- * While pages are withheld
- * until the results of a round appear, the form says so, and `enter` is called again.
+ * While pages are withheld until the results of a round appear, the form says so, and `enter` is
+ * called again.
  * @param {(token: string) => Promise<void>} enter
  * @param {{ wordsOf: (code: string) => string, closingWords: () => string }} words
  */

@@ -1,5 +1,5 @@
-// What the public page shows, as a pure function of one state. Nothing here reads the page, a clock,
-// or the network, so tests run all of it in Node.
+// What the public page shows, as a pure function of one state. Nothing here reads the page, a
+// clock, or the network, so tests run all of it in Node.
 
 import {excessOf, lastClosed, number, sum} from "./page.js";
 
@@ -27,7 +27,9 @@ export const begun = () => ({
   fault: "",
 });
 
-/** The rounds to load, in this order: the chosen or newest one, then the others from the last on. */
+/**
+ * The rounds to load, in this order: the chosen or newest one, then the others from the last on.
+ */
 export function wanted({now, rounds, absent, round}) {
   const last = now ? lastClosed(now) : 0;
   const first = round !== null && round <= last ? [round] : [];

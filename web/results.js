@@ -1,11 +1,22 @@
-// The public page: products and their prices in each round, and at the end who won what. It needs no
-// token. It keeps one state, and draws what published.js makes of it.
+// The public page: products and their prices in each round, and at the end who won what. It needs
+// no token. It keeps one state, and draws what published.js makes of it.
 
 import {Fault, isClosing, pause, within} from "./api.js";
 import {chart, spark} from "./chart.js";
 import {save, written} from "./csv.js";
 import {Listing} from "./listing.js";
-import {at, dollars, facts, listed, loaded, make, number, options, tell} from "./page.js";
+import {
+  at,
+  dollars,
+  facts,
+  listed,
+  loaded,
+  make,
+  number,
+  options,
+  printedWords,
+  tell
+} from "./page.js";
 import {begun, fileOf, pointsOf, pointWords, shown, wanted} from "./published.js";
 import {Times} from "./times.js";
 
@@ -184,4 +195,7 @@ loaded();
 const times = new Times({ heard: (table) => void look(table), absent: () => void lookAtStatus() });
 at("which").addEventListener("change", () => set({ round: Number(at("which").value) }));
 addEventListener("resize", () => draw());
+addEventListener(
+  "beforeprint", () => tell("printed", printedWords(shown(state).caption, new Date()))
+);
 at("save").addEventListener("click", () => save("rounds.csv", written(fileOf(state))));

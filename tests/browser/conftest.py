@@ -57,13 +57,13 @@ def second_browser(tmp_path_factory: pytest.TempPathFactory) -> Iterator[Browser
 
 def window_of(browser: Browser) -> Iterator[Window]:
     """A window. At its end the browser's log has no fault of a page, and nothing that the pages'
-    security forbids.
+    security forbids. That a server is gone is no fault: other windows may still ask it.
     """
     window = browser.window()
     yield window
     window.close()
-    lines = [line for line in browser.log() if "favicon" not in line and "status of" not in line]
-    assert lines == []
+    others = ("favicon", "status of", "net::ERR_")
+    assert [line for line in browser.log() if not any(each in line for each in others)] == []
 
 
 @pytest.fixture

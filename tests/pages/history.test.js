@@ -58,7 +58,7 @@ test("a product has each of its rounds, the last one first", () => {
   assert.deepEqual(seen, [[2, 110, 0, "1 at $110", 1], [1, 100, 1, "not known", 2]]);
 });
 
-test("the totals are of each round: blocks, commitment at posted prices, activity, eligibility", () => {
+test("the totals of a round are blocks, commitment, activity and eligibility", () => {
   const seen = totalsByRound(known()).map((row) => (
     [row.round, row.blocks, row.commitment, row.activity, row.eligibility, row.bids]));
   assert.deepEqual(seen, [[2, 1, 110n, 1, 4, 2], [1, 3, 250n, 4, 5, null]]);

@@ -1,4 +1,5 @@
-// Bids of past rounds from a receipts file: only what was signed, and only of this bidder and auction.
+// Bids of past rounds from a receipts file: only what was signed, and only of this bidder and
+// auction.
 
 import assert from "node:assert/strict";
 import crypto from "node:crypto";

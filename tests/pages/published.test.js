@@ -47,7 +47,7 @@ test("before round 1 is closed, products, supply and opening prices are shown", 
   assert.equal(now.canSave, false);
 });
 
-test("the newest closed round is shown first, and the rounds to choose from are newest first", () => {
+test("the newest closed round is shown, and rounds to choose from are newest first", () => {
   const now = shown(state(3, false, { 1: ROUND_1, 2: ROUND_2 }));
   assert.equal(now.chosen, 2);
   assert.deepEqual(now.choices.map(([n]) => n), [3, 2, 1]);

@@ -1,4 +1,5 @@
-// The review before a submission, in a table of forms, and that it never says too little of the cost.
+// The review before a submission, in a table of forms, and that it never says too little of the
+// cost.
 
 import assert from "node:assert/strict";
 import test from "node:test";
@@ -27,7 +28,8 @@ for (const [name, bids, wanted] of [
 
 test("a line names three products, and says how many more there are", () => {
   const given = state();
-  const products = Array.from({ length: 9 }, (_, n) => ({ ...given.terms.products[0], name: `P${n}` }));
+  const [product] = given.terms.products;
+  const products = Array.from({ length: 9 }, (_, n) => ({ ...product, name: `P${n}` }));
   const prices = products.map(() => ({ start: 100, clock: 110 }));
   const me = { ...given.me, demands: products.map(() => 1) };
   const terms = { ...given.terms, products, prices, held: me.demands };
