@@ -10,7 +10,7 @@ import {counted, dollars, excessOf, number, sum} from "./page.js";
  * @property {any[]} products
  * @property {Map<number, any[]>} rounds the products of each closed round that is loaded
  * @property {Map<number, any>} results the bidder's own results of it
- * @property {Map<number, Seen | null>} bids its bids, if this tab saw them or a receipts file has them
+ * @property {Map<number, Seen | null>} bids its bids, as far as they are known
  * @property {number} last the last closed round
  * @property {number} round the round that is shown
  * @property {number | null} product the product of the chart, or null for the totals
