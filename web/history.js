@@ -1,5 +1,6 @@
-// What a bidder's page shows of closed rounds, as a pure function of what is known of them: results,
-// the bidder's own results, and its bids. Nothing here reads the page, so tests run it in Node.
+// What a bidder's page shows of closed rounds, as a pure function of what is known of them: the
+// results, the bidder's own results, and its bids. Nothing here reads the page, so tests run it in
+// Node.
 
 import {counted, dollars, excessOf, number, sum} from "./page.js";
 
