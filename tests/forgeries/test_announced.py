@@ -171,6 +171,14 @@ def other_key(found: Evidence) -> None:
     found.copies.append(chain_of(Promise(TRUE.document, key=OTHER_KEY), said_of(TRUE, TEXTS)))
 
 
+def signed_by_another(found: Evidence) -> None:
+    """Someone else writes the same chain, after the true commitment."""
+    text = b""
+    for kind, says, time in said_of(TRUE, TEXTS):
+        text = notices.appended(text, TRUE.commitment(), OTHER_KEY, kind, says, time)
+    found.published[notices.NAME] = text
+
+
 def without_lines(*places: int) -> Callable[[bytes], bytes]:
     def change(text: bytes) -> bytes:
         lines = text.splitlines(keepends=True)
@@ -352,6 +360,11 @@ NOTICES: dict[str, Row] = {
     ),
     "67.4-an-entry-left-out": (
         published(notices.NAME, without_lines(3)),
+        NOTHING,
+        "notices rounds windows increments announcements",
+    ),
+    "67.5-notices-that-another-key-signed": (
+        signed_by_another,
         NOTHING,
         "notices rounds windows increments announcements",
     ),

@@ -141,6 +141,7 @@ JOURNALS: dict[str, Row] = {
     ),
     "8-a-sheet-after-the-end": (after(lambda texts: [*texts, texts[-2]]), NOTHING, "rules"),
     "10-zeros-at-the-end": (journal(lambda text: text + bytes(5)), NOTHING, "journal"),
+    "11-a-sheet-left-out": (before(without(12)), "Y", "receipts"),
     "12h-a-sheet-that-its-next-one-replaces": (honest, BIDDERS, NOTHING),
     "12-a-replaced-sheet-put-in-again": (before(REPLAY), "XYZ", "receipts"),
     "13-a-sheet-put-in": (before(PUT), "XYZ", "receipts"),
