@@ -21,7 +21,7 @@ def arguments(parser: argparse.ArgumentParser) -> None:
 def run(given: argparse.Namespace) -> int:
     try:
         setup = json.loads(given.setup.read_text(encoding="utf-8"))
-        print((maps.sheet_conf if given.sheet else maps.bidders_map)(setup), end="")
+        print(maps.sheet_conf(setup) if given.sheet else maps.bidders_map(setup), end="")
     except maps.TokensFault as fault:
         sys.exit(str(fault))
     except (ValueError, LookupError, TypeError):

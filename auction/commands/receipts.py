@@ -44,8 +44,8 @@ def run(given: argparse.Namespace) -> int:
     try:
         if not given.receipts.is_dir():
             sys.exit(f"auction receipts: there is no folder {given.receipts}")
-        key = Key(given.folder / "receipts.pem")
         sheets = Sheets(given.journal, Setup.read(given.setup))
+        key = Key(given.folder / "receipts.pem")
         signer = Signer(sheets, key.secret, given.receipts)
         if given.once:
             signer.look()

@@ -21,6 +21,7 @@ OWN = (
     "letters",
     "operator",
     "persons.csv",
+    "persons.lock",
     "persons.map",
     "public",
     "receipts",

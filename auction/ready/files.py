@@ -4,16 +4,19 @@ import stat
 import subprocess
 import time
 
+from auction import persons
+
 from . import maps
 from .auction import Auction
 from .findings import Check, ensure
 
 STALE = 15  # seconds after which a running conductor has written its report again
 SECRETS = (
-    *("operator.token", "operator.head", "operator.map", "bidders.map", "persons.map", "key.pem"),
-    *("second.token", "desk.map"),
+    *("operator.token", "operator.head", "operator.map", "bidders.map", "persons.map", "by.map"),
+    *("persons.csv", "key.pem", "second.token", "desk.map"),
     *("kept/chain.json", "kept/receipts.pem"),
 )
+OF_PERSONS = "run `auction persons FOLDER`, and reload nginx"
 ANEW = "it is not of this set-up: make it again with `auction maps`, and reload nginx"
 
 
@@ -44,16 +47,19 @@ def secrets(auction: Auction) -> str:
 
 def bidders_map(auction: Auction) -> str:
     text = (auction.folder / "bidders.map").read_text(encoding="utf-8")
-    if (auction.folder / "persons.map").exists():
-        absent = [
-            bidder["name"]
-            for bidder in auction.setup["bidders"]
-            if f'" "{bidder["name"]}";' not in text
-        ]
-        ensure(not absent, f"bidders without a line: {', '.join(absent[:5])}")
-        return "each bidder has a line, with outer tokens in persons.map"
-    ensure(text == maps.bidders_map(auction.setup), ANEW)
-    return "the lines of this set-up"
+    found = persons.read(auction.folder)
+    ensure(text == maps.bidders_map(auction.setup, found), OF_PERSONS if found else ANEW)
+    for name, wanted in (
+        ("persons.map", maps.persons_map(auction.setup, found)),
+        ("by.map", maps.by_map(found)),
+    ):
+        path = auction.folder / name
+        there = path.read_text(encoding="utf-8") if path.exists() else ""
+        ensure(there == wanted, f"{name} is not of persons.csv: {OF_PERSONS}")
+    names = [bidder["name"] for bidder in auction.setup["bidders"]]
+    barred = [name for name in names if f'" "{name}";' not in text]
+    ensure(not barred, f"all persons were revoked: {', '.join(barred[:5])}")
+    return f"the lines of this set-up, with {len(found)} persons"
 
 
 def sheet_conf(auction: Auction) -> str:

@@ -1,5 +1,6 @@
 """What nginx reads of a set-up: who asks, and how long a sheet may be."""
-from typing import Any
+from collections.abc import Sequence
+from typing import Any, NamedTuple
 
 MOST_BIDS, OF_A_BID, OF_MISTAKES, MOST = 8192, 128, 10_000, 1_048_576
 
@@ -8,15 +9,42 @@ class TokensFault(Exception):
     """What is wrong with the tokens of a set-up."""
 
 
-def bidders_map(setup: dict[str, Any]) -> str:
-    """A line of nginx's `map` for each bidder, from token line to name.
+class Person(NamedTuple):
+    """A person who acts for a bidder. The token is empty if it was revoked."""
 
-    nginx ignores case when it compares them.
+    bidder: str
+    name: str
+    token: str
+
+
+def bidders_map(setup: dict[str, Any], persons: Sequence[Person] = ()) -> str:
+    """A line of nginx's `map` for each token that a client may send, from token line to bidder.
+
+    A bidder with persons has no line with its own token. nginx ignores case when it compares them.
     """
-    bidders = [(bidder["token"], bidder["name"]) for bidder in setup["bidders"]]
-    if len({token.lower() for token, _ in bidders}) < len(bidders):
+    own = [(bidder["token"], bidder["name"]) for bidder in setup["bidders"]]
+    known = [setup["operator"], *(token for token, _ in own)]
+    known += [one.token for one in persons if one.token]
+    if len({token.lower() for token in known}) < len(known):
         raise TokensFault("two tokens differ by case only: choose other tokens")
-    return "".join(f'"Bearer {token}" "{name}";\n' for token, name in bidders)
+    found = list[tuple[str, str]]()
+    for token, name in own:
+        tokens = [one.token for one in persons if one.bidder == name]
+        found += [(each, name) for each in tokens or [token] if each]
+    return "".join(f'"Bearer {token}" "{name}";\n' for token, name in found)
+
+
+def persons_map(setup: dict[str, Any], persons: Sequence[Person]) -> str:
+    """A line for each person with a token, from token line to that of its bidder."""
+    tokens = {bidder["name"]: bidder["token"] for bidder in setup["bidders"]}
+    return "".join(
+        f'"Bearer {one.token}" "Bearer {tokens[one.bidder]}";\n' for one in persons if one.token
+    )
+
+
+def by_map(persons: Sequence[Person]) -> str:
+    """A line for each person with a token, from token line to the person's name."""
+    return "".join(f'"Bearer {one.token}" "{one.name}";\n' for one in persons if one.token)
 
 
 def sheet_conf(setup: dict[str, Any]) -> str:

@@ -8,6 +8,7 @@ import socket
 from collections.abc import Callable
 from pathlib import Path
 
+from auction import persons
 from auction.formats.journal import HEAD, head_of
 
 from .auction import Auction
@@ -65,9 +66,16 @@ def journal(auction: Auction) -> str:
     raise Fault(f"no server has {auction.journal}: is it the server's own?")
 
 
+def first_token(auction: Auction) -> str:
+    """A token with which the first bidder can ask: a person's if it has persons."""
+    first, found = auction.setup["bidders"][0], persons.read(auction.folder)
+    tokens = [one.token for one in found if one.bidder == first["name"] and one.token]
+    return (tokens or [first["token"]])[0]
+
+
 def bidders_port(auction: Auction) -> str:
     """What bidders see: the pages, and no page of another auction in nginx's cache."""
-    port, token = auction.bidders_port, auction.setup["bidders"][0]["token"]
+    port, token = auction.bidders_port, first_token(auction)
     for path, file in (("/", "web/index.html"), ("/openapi.json", "openapi.json")):
         status, page = auction.ask(port, path)
         ensure(status == 200, f"{path} is {status}: may {auction.worker or 'nginx'} read {file}?")
@@ -77,11 +85,10 @@ def bidders_port(auction: Auction) -> str:
         "nginx shows the products of another auction: empty tmp/cache",
     )
     number = auction.page(auction.server_port, "/v1/status")["round"]
-    if not (auction.folder / "persons.map").exists():
-        status, page = auction.ask(port, "/v1/me", token)
-        ensure(status == 200, f"the first bidder's token is refused with {status}: reload nginx")
-        status, _ = auction.ask(port, f"/v1/rounds/{number}", token)
-        ensure(status == 404, f"nginx shows round {number}, which is not closed: empty tmp/cache")
+    status, page = auction.ask(port, "/v1/me", token)
+    ensure(status == 200, f"the first bidder's token is refused with {status}: reload nginx")
+    status, _ = auction.ask(port, f"/v1/rounds/{number}", token)
+    ensure(status == 404, f"nginx shows round {number}, which is not closed: empty tmp/cache")
     status, _ = auction.ask(port, "/v1/results", auction.setup["operator"])
     ensure(status == 404, f"/v1/results is {status} at the bidders' port")
     return f"pages, products, and the first bidder's account, at port {port}"

@@ -296,6 +296,10 @@ def without_x(lines: str) -> str:
     return lines.replace('"X"', '"Q"')
 
 
+def without_line_of_x(lines: str) -> str:
+    return "".join(line for line in lines.splitlines(True) if '"X"' not in line)
+
+
 def always(content: str) -> Callable[[str], str]:
     return lambda _: content
 
@@ -320,7 +324,7 @@ SETTINGS = json.dumps(
 )
 WITH_SETTINGS = {"conductor.json": SETTINGS}
 WITH_REPORT = {**WITH_SETTINGS, "operator/conductor.json": "{}"}
-WITH_PERSONS = present({"persons.map": ""})
+PERSONS = present({"persons.csv": "bidder,person,token\nX,alice,\n"})  # alice was revoked
 
 FAULTS = [
     Row("set-up", "a file is no JSON in UTF-8", text("setup.json", lambda setup: setup[:-3])),
@@ -335,7 +339,13 @@ FAULTS = [
     Row("secret files", "kept/chain.json has mode 644", mode("kept/chain.json", 0o644)),
     Row("bidders.map", "not of this set-up", text("bidders.map", without_x)),
     Row("bidders.map", "No such file", absent("bidders.map")),
-    Row("bidders.map", "without a line: X", both(WITH_PERSONS, text("bidders.map", without_x))),
+    Row(
+        "bidders.map",
+        "persons were revoked: X",
+        both(PERSONS, text("bidders.map", without_line_of_x)),
+    ),
+    Row("bidders.map", "by.map is not of persons.csv", present({"by.map": '"Bearer x" "eve";\n'})),
+    Row("bidders.map", "run `auction persons FOLDER`", PERSONS),
     Row("sheet.conf", "not of this set-up", text("sheet.conf", always("client_max_body_size 1m;"))),
     Row("sheet.conf", "No such file", absent("sheet.conf")),
     Row("operator's token", "operator.token is missing", absent("operator.token")),

@@ -291,3 +291,18 @@ def test_a_file_with_a_key_twice_is_refused(signed: ReceiptsAuction) -> None:
     status, words = signed.check(signed.written("twice.receipts", [twice, *lines]))
     assert status == 1
     assert "is there twice" in words
+
+
+def test_two_files_of_one_bidder_are_joined_by_what_they_sent(signed: ReceiptsAuction) -> None:
+    """Two persons of X: one sent the first sheet, and the other one the rest."""
+    first, *lines = signed.kept_lines("X")
+    pages = [json.loads(line) for line in lines]
+    own = [
+        {key: value for key, value in page.items() if number == 0 or key != "sent"}
+        for number, page in enumerate(pages)
+    ]
+    others = [{"sent": page["sent"]} for page in pages[1:]]
+    alone = signed.written("alice.receipts", [first, *map(json.dumps, own)])
+    assert len(faults(read_kept(alone), signed.forged())) == len(others)
+    joined = signed.written("joined.receipts", [first, *map(json.dumps, [*own, *others])])
+    assert faults(read_kept(joined), signed.forged()) == []
