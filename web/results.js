@@ -125,7 +125,7 @@ function drawDigest({ digest, published }) {
 function drawChart({ name, points }) {
   at("chartpart").hidden = points.length === 0;
   if (!points.length) return;
-  const words = `${name}: posted price (line), and excess demand in blocks (bars)`;
+  const words = `${name}: posted price (line), excess demand (bars), aggregate demand (dashed)`;
   tell("charted", words);
   const wide = Math.max(280, at("chart").clientWidth);
   at("chart").replaceChildren(...chart(words, points, wide, pointWords));

@@ -141,6 +141,95 @@ for (const e of document.querySelectorAll('body *')) {
 }
 return least;"""
 
+# What is wrong for people who do not see the page as it looks: the rules that do not need a person.
+AUDIT = """const found = [], all = [...document.querySelectorAll('*')];
+const say = (rule, e) => found.push(rule + ': ' + e.outerHTML.slice(0, 90));
+const seen = e => e.checkVisibility();
+const focusable = 'a[href], button, input, select, textarea, summary, [tabindex]';
+const ids = new Map();
+for (const e of all) if (e.id) ids.set(e.id, (ids.get(e.id) ?? 0) + 1);
+for (const e of all) {
+    if (e.id && ids.get(e.id) > 1) say('an id twice', e);
+    for (const name of ['aria-labelledby', 'aria-describedby', 'aria-controls', 'for'])
+        for (const id of (e.getAttribute(name) ?? '').split(' ').filter(Boolean))
+            if (!ids.has(id)) say(name + ' of nothing', e);
+    if (e.tabIndex > 0) say('an order of its own', e);
+    if (e.matches('[aria-hidden=true]') && [...e.querySelectorAll(focusable)].some(seen))
+        say('a hidden field', e);
+    if (e.matches('button, a[href], summary') && e.querySelector(focusable)) say('two in one', e);
+    if (e.matches('[role=slider]') && !e.getAttribute('aria-valuetext')) say('no value', e);
+    if (e.matches('ul, ol') && [...e.children].some(each => each.tagName !== 'LI')) say('a list', e);
+    if (e.matches('dl') && [...e.children].some(each => !/^(DIV|DT|DD)$/.test(each.tagName)))
+        say('a list of facts', e);
+    if (e.matches('img, svg:not([aria-hidden])') && !e.getAttribute('aria-label') && !e.alt)
+        say('a picture without a name', e);
+    if (e.matches('tr:not(.room) > td') && e.closest('.frame') && !e.dataset.label)
+        say('a cell without a label', e);
+    if (e.matches('.frame, #frame') && seen(e) && e.scrollHeight > e.clientHeight + 1
+        && e.tabIndex < 0 && !e.querySelector('input')) say('scrolled by no key', e);
+}
+const levels = all.filter(e => /^H[1-6]$/.test(e.tagName) && seen(e)).map(e => +e.tagName[1]);
+levels.forEach((n, place) => { if (n > (levels[place - 1] ?? 0) + 1) found.push('skips to h' + n); });
+if (document.documentElement.lang !== 'en') found.push('no language');
+if (!document.title.trim()) found.push('no title');
+if (document.querySelectorAll('main').length !== 1) found.push('not one main part');
+return found;"""
+
+# The edges of fields, and the bars and lines of charts, with less contrast to what is around them
+# than 3:1.
+EDGES = """const canvas = document.createElement('canvas').getContext('2d', {willReadFrequently: true});
+const bytes = color => {
+    canvas.clearRect(0, 0, 1, 1);
+    canvas.fillStyle = color;
+    canvas.fillRect(0, 0, 1, 1);
+    return [...canvas.getImageData(0, 0, 1, 1).data];
+};
+const light = color => {
+    const [r, g, b] = bytes(color).map(
+        v => (v /= 255) <= 0.04045 ? v / 12.92 : ((v + 0.055) / 1.055) ** 2.4);
+    return 0.2126 * r + 0.7152 * g + 0.0722 * b;
+};
+const around = e => {
+    for (e = e.parentElement; e; e = e.parentElement) {
+        const color = getComputedStyle(e).backgroundColor;
+        if (bytes(color)[3] === 255) return color;
+    }
+    return 'canvas';
+};
+const fields = 'input:not([type=file], [type=checkbox], :disabled), select, .gauge i';
+const shapes = '#chart .blocks, #chart polyline, #chart .axis, #chart .cursor';
+return [...document.querySelectorAll(fields + ', ' + shapes)].filter(e => {
+    if (!e.checkVisibility()) return false;
+    const style = getComputedStyle(e);
+    const color = e.matches('.blocks') ? style.fill
+        : e.matches(shapes) ? style.stroke
+        : e.matches('.gauge i') ? style.backgroundColor : style.borderTopColor;
+    const ground = e.matches('.gauge i') ? e.closest('footer') : e;
+    const below = e.matches('.gauge i') ? getComputedStyle(ground).backgroundColor : around(e);
+    const [a, b] = [light(color), light(below)].sort((x, y) => y - x);
+    return (a + 0.05) / (b + 0.05) < 3;
+}).map(e => e.tagName + ' ' + (e.id || e.className.baseVal || e.className));"""
+
+# rows and a clock that are marked, and whose mark forced colors would take away
+UNMARKED = """const marked = '.frame tr.held > th:first-child, #grid tr.held > th:first-child';
+const isMarked = e => parseFloat(getComputedStyle(e).borderLeftWidth) >= 3;
+const clock = document.querySelector('#clock.soon, #clock.last');
+const isOn = !clock || !clock.checkVisibility()
+    || parseFloat(getComputedStyle(clock).borderTopWidth) >= 2;
+return [...document.querySelectorAll(marked)].filter(e => e.checkVisibility() && !isMarked(e))
+    .map(e => e.textContent).concat(isOn ? [] : ['the clock']);"""
+
+# from here on the elements are noted that a screen reader reads out because they have changed
+LIVE = """window.live = new Set();
+const kinds = '[role=status], [role=alert], [role=log], [aria-live=polite], [aria-live=assertive]';
+for (const e of document.querySelectorAll(kinds)) {
+    let before = e.textContent;
+    new MutationObserver(() => {
+        if (e.textContent !== before && e.textContent && e.checkVisibility()) window.live.add(e.id);
+        before = e.textContent;
+    }).observe(e, {childList: true, characterData: true, subtree: true});
+}"""
+
 # letters of a machine that has none of the pages' own choice: the widest that are common
 WIDE_LETTERS = """const sheet = new CSSStyleSheet();
 const kinds = 'body, input, select, button, .button';

@@ -4,6 +4,7 @@ import re
 import pytest
 from selenium.webdriver.common.keys import Keys
 
+from tests.browser import scripts
 from tests.browser.auction import Auction, X, Y, bid, example
 from tests.browser.conftest import Begin
 from tests.browser.people import close_round, enter, totals
@@ -150,6 +151,21 @@ def test_a_row_has_demand_excess_prices_and_their_rise(second_round: Auction, x:
         "$110",
         "2",
     ]
+
+
+@pytest.mark.parametrize("view", ["bids", "past", "times"])
+def test_a_closing_is_read_out_in_one_sentence(auction: Auction, x: Window, view: str) -> None:
+    auction.put(Y, 1, ROUND_1)
+    enter(auction, x)
+    x.bid(0, 2, 100)
+    x.send("1 bid in force since")
+    x.view(view)
+    x.run(scripts.LIVE)
+    auction.close(1)
+    x.says("round", "Round 2")
+    x.says("message", "Round 1 is closed.")
+    x.settle()
+    assert x.run("return [...window.live]") == ["message"]
 
 
 # ---- Round 2, and the end

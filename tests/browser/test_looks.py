@@ -21,7 +21,7 @@ PRICES = {"North-1": 1200, "North-2": 900, "Middle-1": 1450}
 PRICES |= {"Middle-2": 640, "South-1": 2100, "South-2": 380}
 WIDTHS = (360, 768, 1024, 1270, 1600)
 SIZES = ((1440, 900), (1280, 720), (1024, 768), (640, 360), (390, 844), (320, 568))
-ROLES = {"textbox", "searchbox", "button", "combobox", "checkbox", "region", "image", "meter"}
+ROLES = {"textbox", "searchbox", "button", "combobox", "checkbox", "region", "image", "slider"}
 ROLES |= {"dialog", "grid", "table", "tab", "tabpanel", "columnheader", "rowheader"}
 LEAST_CONTRAST = 4.5
 DIGEST = "d" * 64
@@ -134,8 +134,49 @@ def public_page(request: pytest.FixtureRequest, window: Window) -> None:
     window.until("the winners are there", lambda: len(window.rows("wonbody")) == 2)
 
 
-STATES = [bidders_page, wrong_bid, closed_rounds, announcements, highest_prices, after_the_end]
-STATES += [operators_page, operators_highest_prices, public_page]
+def refused_token(request: pytest.FixtureRequest, window: Window) -> None:
+    window.open(request.getfixturevalue("auction").address(), "W" * 16)
+    window.says("say", "unknown token")
+
+
+def product_by_round(request: pytest.FixtureRequest, window: Window) -> None:
+    closed_rounds(request, window)
+    window.until("all rounds are there", lambda: window.text("pastprogress") == "")
+    window.find("#pastbody button").click()
+
+
+def review(request: pytest.FixtureRequest, window: Window) -> None:
+    bidders_page(request, window)
+    window.bid(0, 1, "")
+    window.click("review")
+    window.until("it is there", lambda: window.is_seen("question"))
+
+
+def menu(request: pytest.FixtureRequest, window: Window) -> None:
+    bidders_page(request, window)
+    window.click("menuhead")
+
+
+def columns(request: pytest.FixtureRequest, window: Window) -> None:
+    bidders_page(request, window)
+    window.find("#columns summary").click()
+
+
+def public_page_of_round_5(request: pytest.FixtureRequest, window: Window) -> None:
+    window.open(request.getfixturevalue("auction").address("results.html"))
+    window.says("caption", "Results of round 4")
+    window.until("all rounds are there", lambda: window.text("progress") == "")
+
+
+def public_page_before_round_1(request: pytest.FixtureRequest, window: Window) -> None:
+    window.open(request.getfixturevalue("steep").address("results.html"))
+    window.says("caption", "Prices of round 1")
+
+
+STATES = [bidders_page, wrong_bid, closed_rounds, product_by_round, announcements, review, menu]
+STATES += [columns, highest_prices, after_the_end, refused_token]
+STATES += [operators_page, operators_highest_prices]
+STATES += [public_page, public_page_of_round_5, public_page_before_round_1]
 
 
 @pytest.fixture(scope="module", params=STATES, ids=lambda state: state.__name__.replace("_", " "))
@@ -177,6 +218,32 @@ def test_each_text_differs_from_its_background(page: Window, dark: bool) -> None
         assert ratio >= LEAST_CONTRAST, what
     finally:
         page.dark(False)
+
+
+@pytest.mark.parametrize("dark", [False, True], ids=["light", "dark"])
+def test_edges_of_fields_and_shapes_of_charts_are_seen(page: Window, dark: bool) -> None:
+    page.dark(dark)
+    page.settle()
+    try:
+        assert page.run(scripts.EDGES) == []
+    finally:
+        page.dark(False)
+
+
+@pytest.mark.parametrize("wide", [1280, 360])
+def test_an_audit_finds_nothing(page: Window, wide: int) -> None:
+    page.size(wide, 900)
+    page.settle()
+    assert page.run(scripts.AUDIT) == []
+
+
+def test_forced_colors_keep_each_mark(page: Window) -> None:
+    page.cdp("Emulation.setEmulatedMedia", features=[{"name": "forced-colors", "value": "active"}])
+    try:
+        page.settle()
+        assert page.run(scripts.UNMARKED) == []
+    finally:
+        page.cdp("Emulation.setEmulatedMedia", features=[])
 
 
 def seen_nodes(window: Window) -> list[tuple[str, str]]:
