@@ -158,8 +158,9 @@ for (const e of all) {
         say('a hidden field', e);
     if (e.matches('button, a[href], summary') && e.querySelector(focusable)) say('two in one', e);
     if (e.matches('[role=slider]') && !e.getAttribute('aria-valuetext')) say('no value', e);
-    if (e.matches('ul, ol') && [...e.children].some(each => each.tagName !== 'LI')) say('a list', e);
-    if (e.matches('dl') && [...e.children].some(each => !/^(DIV|DT|DD)$/.test(each.tagName)))
+    if (e.matches('ul, ol') && [...e.children].some(each => !each.matches('li')))
+        say('a list', e);
+    if (e.matches('dl') && [...e.children].some(each => !each.matches('div, dt, dd')))
         say('a list of facts', e);
     if (e.matches('img, svg:not([aria-hidden])') && !e.getAttribute('aria-label') && !e.alt)
         say('a picture without a name', e);
@@ -169,7 +170,9 @@ for (const e of all) {
         && e.tabIndex < 0 && !e.querySelector('input')) say('scrolled by no key', e);
 }
 const levels = all.filter(e => /^H[1-6]$/.test(e.tagName) && seen(e)).map(e => +e.tagName[1]);
-levels.forEach((n, place) => { if (n > (levels[place - 1] ?? 0) + 1) found.push('skips to h' + n); });
+levels.forEach((n, place) => {
+    if (n > (levels[place - 1] ?? 0) + 1) found.push('skips to h' + n);
+});
 if (document.documentElement.lang !== 'en') found.push('no language');
 if (!document.title.trim()) found.push('no title');
 if (document.querySelectorAll('main').length !== 1) found.push('not one main part');
@@ -177,7 +180,8 @@ return found;"""
 
 # The edges of fields, and the bars and lines of charts, with less contrast to what is around them
 # than 3:1.
-EDGES = """const canvas = document.createElement('canvas').getContext('2d', {willReadFrequently: true});
+EDGES = """const options = {willReadFrequently: true};
+const canvas = document.createElement('canvas').getContext('2d', options);
 const bytes = color => {
     canvas.clearRect(0, 0, 1, 1);
     canvas.fillStyle = color;

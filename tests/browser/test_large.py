@@ -1,13 +1,16 @@
-"""3,233 products: how long the pages take, finding, sorting, an error far below, and a closing."""
+"""3,233 products: what the pages work, finding, sorting, an error far below, and a closing.
+
+The work is the processor's time of the page's thread, which other work of the machine does not
+change much. A bound is ten times the goal for a quiet machine.
+"""
 import json
 import pathlib
-import statistics
 from typing import Any
 
 import pytest
 
 from tests.browser import scripts
-from tests.browser.auction import OPERATORS, Auction, X, bid, busy, example
+from tests.browser.auction import OPERATORS, Auction, X, bid, example
 from tests.browser.conftest import Begin
 from tests.browser.people import close_round, enter
 from tests.browser.window import Window
@@ -46,12 +49,22 @@ def laid_out(window: Window, body: str) -> int:
     return window.run("return document.querySelectorAll('#' + arguments[0] + ' tr').length", body)
 
 
-def took(window: Window, script: str, *words: str, times: int = 9) -> float:
-    """The milliseconds of a script and of the layout that follows: the median of some times."""
-    begun = "const begun = performance.now();"
-    end = "document.body.offsetHeight; return performance.now() - begun;"
-    timed = f"{begun} (function() {{ {script} }}).apply(null, arguments); {end}"
-    return statistics.median(window.run(timed, *words) for _ in range(times))
+def work(window: Window) -> float:
+    """The milliseconds that the page's thread has worked on scripts, styles and layout."""
+    found = window.cdp("Performance.getMetrics")["metrics"]
+    names = ("ScriptDuration", "LayoutDuration", "RecalcStyleDuration")
+    return sum(1000 * each["value"] for each in found if each["name"] in names)
+
+
+def worked(window: Window, script: str, *words: str, times: int = 9) -> float:
+    """The milliseconds of work of a script and of the layout that follows."""
+    window.cdp("Performance.enable", timeDomain="threadTicks")
+    timed = f"(function() {{ {script} }}).apply(null, arguments); document.body.offsetHeight;"
+    window.run(timed, *words)  # the first time compiles it
+    before = work(window)
+    for _ in range(times):
+        window.run(timed, *words)
+    return (work(window) - before) / times
 
 
 def upload(window: Window, file: pathlib.Path, text: str) -> None:
@@ -65,20 +78,17 @@ FULL = "".join(f"{place},2,100\n" for place in range(COUNT - 1)) + f"P-{COUNT - 
 @pytest.mark.parametrize(
     "page, token, body", [("", X, "body"), (OPERATORS, OPERATOR, "resbody")], ids=["X", "operator"]
 )
-def test_the_table_is_there_within_a_second(
+def test_the_table_is_there_after_a_second_of_work(
     auction: Auction, x: Window, page: str, token: str, body: str
 ) -> None:
-    waited = 0.0
-    for _ in range(3):
-        x.open(auction.address(page))
-        x.at("token").send_keys(token)
-        x.run(scripts.ENTRY, body)
-        x.find("#door button").click()
-        x.until("the table is there", lambda: x.run("return window.waited") is not None)
-        waited = x.run("return window.waited")
-        if waited < 1000:
-            break
-    assert waited < 1000 * busy()
+    x.open(auction.address(page))
+    x.cdp("Performance.enable", timeDomain="threadTicks")
+    x.at("token").send_keys(token)
+    before = work(x)
+    x.run(scripts.ENTRY, body)
+    x.find("#door button").click()
+    x.until("the table is there", lambda: x.run("return window.waited") is not None)
+    assert work(x) - before < 10 * 1000
     assert laid_out(x, body) < MOST_ROWS, "no more is laid out than what is seen, and some rows"
 
 
@@ -88,18 +98,43 @@ def test_the_table_is_there_within_a_second(
     ids=["key", "sort", "find"],
 )
 def test_each_act_is_quick(auction: Auction, x: Window, script: str, most: float) -> None:
-    """The goal is for a quiet machine. Three times that are allowed, times what else it does."""
     enter(auction, x)
-    assert took(x, script) < 3 * most * busy()
+    assert worked(x, script) < 10 * most
 
 
 def test_a_column_and_a_block_of_3233_are_pasted_quickly(auction: Auction, x: Window) -> None:
     enter(auction, x)
     column, block = "\n".join(["1"] * COUNT), "\n".join(["1\t"] * COUNT)
     for text in (column, block):
-        assert took(x, scripts.PASTE, text, times=3) < 3 * 300 * busy()
+        assert worked(x, scripts.PASTE, text, times=2) < 10 * 300
     x.says("send", "Submit 3,233 bids")
-    assert took(x, scripts.KEY) < 3 * 16 * busy(), "a key with 3,233 bids"
+    assert worked(x, scripts.KEY) < 10 * 16, "a key with 3,233 bids"
+    assert worked(x, scripts.SORT) < 10 * 100, "sorting with 3,233 bids"
+    assert worked(x, scripts.FIND) < 10 * 50, "a search with 3,233 bids"
+
+
+def test_the_review_of_3233_bids_names_some(auction: Auction, x: Window) -> None:
+    enter(auction, x)
+    x.run(scripts.PASTE, "\n".join(["1"] * COUNT))
+    x.click("review")
+    x.says("details", "and 3,230 more")
+    x.at("no").click()
+
+
+def test_on_paper_there_are_all_rows_and_the_time(auction: Auction, x: Window) -> None:
+    enter(auction, x)
+    x.run("dispatchEvent(new Event('beforeprint'))")
+    assert laid_out(x, "body") == COUNT
+    x.says("printed", "Round 1, ", "printed at ", "No bids in force")
+    x.cdp("Emulation.setEmulatedMedia", media="print")
+    try:
+        assert x.is_seen("printed") and not x.is_seen("send")
+        script = "return getComputedStyle(document.getElementById('frame')).overflowY"
+        assert x.run(script) == "visible", "no frame cuts rows off"
+    finally:
+        x.cdp("Emulation.setEmulatedMedia", media="")
+    x.run("dispatchEvent(new Event('afterprint'))")
+    assert laid_out(x, "body") < MOST_ROWS
 
 
 def test_rows_far_below_are_drawn(auction: Auction, x: Window) -> None:
