@@ -18,6 +18,7 @@ import {
   make,
   number,
   printedWords,
+  showName,
   sum,
   tell,
   timeOfDay,
@@ -598,6 +599,7 @@ function copyInForce() {
   at("round").focus();
 }
 
+showName();
 door(enter, { wordsOf, closingWords: () => times.closing() });
 at("send").addEventListener("click", submit);
 at("act").addEventListener("click", () => BUTTONS[shown(state).message.button?.[0]]?.());

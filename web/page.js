@@ -61,6 +61,16 @@ export const excessOf = (sold, product) =>
 export const printedWords = (of, now) =>
   `${of}, printed at ${now.toLocaleString("en-GB", {dateStyle: "medium", timeStyle: "medium"})}`;
 
+/** Shows the name of the auction, if the operator has published one. */
+export async function showName() {
+  try {
+    const reply = await fetch("/public/names.json", { cache: "no-cache", credentials: "omit" });
+    const { title } = reply.ok ? await reply.json() : { title: "" };
+    if (title) tell("auction", title);
+  } catch { /* the page says so elsewhere if nothing answers */
+  }
+}
+
 /** To be called when all modules of a page have loaded: the line that says otherwise goes. */
 export function loaded() { at("loading")?.remove(); }
 

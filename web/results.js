@@ -15,6 +15,7 @@ import {
   number,
   options,
   printedWords,
+  showName,
   tell
 } from "./page.js";
 import {begun, fileOf, pointsOf, pointWords, shown, wanted} from "./published.js";
@@ -191,6 +192,7 @@ async function lookAtStatus() {
 }
 
 loaded();
+showName();
 // neither is waited for: rounds may take long to load, and the time left is looked at meanwhile
 const times = new Times({ heard: (table) => void look(table), absent: () => void lookAtStatus() });
 at("which").addEventListener("change", () => set({ round: Number(at("which").value) }));

@@ -94,6 +94,14 @@ def test_without_a_timetable_the_page_is_full_too(begin: Begin, x: Window) -> No
     x.says("caption", "Results of round 1")
 
 
+def test_the_auction_has_its_published_name(begin: Begin, x: Window) -> None:
+    day = begun(begin)
+    day.put("public/names.json", {"title": "Harbor berths 2026", "products": {}, "bidders": {}})
+    for page in (PAGE, ""):
+        x.open(day.auction.address(page))
+        x.says("auction", "Harbor berths 2026")
+
+
 def test_the_newest_round_comes_first_and_others_can_be_chosen(
     at_the_end: Published, x: Window
 ) -> None:
