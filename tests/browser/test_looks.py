@@ -375,3 +375,22 @@ def test_pictures(
     if pictures:
         x.picture(pictures / "bidder_narrow.png", 390, 844)
     x.dark(False)
+
+
+def test_pictures_of_the_review_and_of_closed_rounds(
+    auction: Auction, x: Window, pictures: pathlib.Path | None
+) -> None:
+    x.size(1440, 900)
+    enter(auction, x)
+    x.bid(0, 1, "")
+    x.click("review")
+    x.says("asked", "Your 3 bids for round 5")
+    if pictures:
+        x.picture(pictures / "review.png", 1440, 620)
+    x.at("no").click()
+    x.view("past")
+    x.until("all rounds are there", lambda: x.text("pastprogress") == "")
+    x.find("#pastbody button").click()
+    x.says("charted", "North-1: posted price")
+    if pictures:
+        x.picture(pictures / "rounds.png", 1440, 860)
