@@ -14,6 +14,7 @@ from .case import Absent, Case, Failed
 
 LATE = 60  # seconds between a window's end and its freezing, beyond which the line names the round
 ONCE = ("frozen", "closed", "published", "ended")
+AGAIN = ("timetable", "opened", "act")  # after these, a round may be frozen again
 LACKING = (
     "there are none, so nothing shows what was announced, nor whether a sheet came in after its "
     "window"
@@ -41,6 +42,18 @@ def of_kind(entries: list[Entry], kind: str, number: int | None = None) -> list[
 
 def first(entries: list[Entry], kind: str, number: int) -> Entry | None:
     return next(iter(of_kind(entries, kind, number)), None)
+
+
+def frozen_of(entries: list[Entry], number: int) -> Entry | None:
+    """The notice that froze a round's sheets; the last one, if its window opened again."""
+    return next(reversed(of_kind(entries, "frozen", number)), None)
+
+
+def by_hand(entries: list[Entry], number: int) -> Entry | None:
+    """The notice that a person closed a round, if one did."""
+    return next(
+        (one for one in of_kind(entries, "act", number) if one.says["what"] == "close"), None
+    )
 
 
 def last_before(entries: list[Entry], kind: str, entry: Entry) -> Entry | None:
@@ -141,6 +154,8 @@ def repeated(entries: list[Entry]) -> Iterator[str]:
     """What may be said once of a round, and was said twice with another meaning."""
     said: dict[tuple[str, int], Any] = {}
     for entry in entries:
+        if entry.kind in AGAIN:
+            said = {key: says for key, says in said.items() if key[0] != "frozen"}
         if entry.kind in ONCE:
             key = (entry.kind, entry.says["round"])
             if said.setdefault(key, entry.says) != entry.says:
@@ -159,7 +174,7 @@ def strange(entries: list[Entry], count: int) -> Iterator[str]:
 
 def round_faults(entries: list[Entry], journal: Journal, number: int) -> Iterator[str]:
     """What is wrong in the notices of a closed round."""
-    frozen, closed = first(entries, "frozen", number), first(entries, "closed", number)
+    frozen, closed = frozen_of(entries, number), first(entries, "closed", number)
     if frozen is None:
         yield f"round {number} is closed, and no notice froze its sheets before"
     elif frozen.says["digest"] != journal.frozen[number - 1]:
@@ -203,7 +218,7 @@ def taken_faults(case: Case, entries: list[Entry]) -> list[str]:
             if any(times):
                 found.append(f"request {place} has no time: it did not come through the window")
             continue
-        opened, frozen = first(entries, "opened", number), first(entries, "frozen", number)
+        opened, frozen = first(entries, "opened", number), frozen_of(entries, number)
         is_early = opened and taken < opened.says["opens"]
         if is_early or (frozen and taken > frozen.time):
             found.append(f"request {place}: the sheet was taken at {taken}, out of its window")
@@ -252,9 +267,11 @@ def opening_faults(entries: list[Entry], entry: Entry) -> Iterator[str]:
 def window_faults(entries: list[Entry], number: int) -> Iterator[str]:
     """Whether a round had a window, which nobody shortened, and that was over when it was frozen.
 
-    Without its freezing, another check fails.
+    Without its freezing, another check fails. A person may close a round, and notices say so.
     """
-    opened, frozen = first(entries, "opened", number), first(entries, "frozen", number)
+    opened, frozen = first(entries, "opened", number), frozen_of(entries, number)
+    if by_hand(entries, number):
+        return
     if opened is None:
         yield f"no notice says that the window of round {number} has opened"
     if frozen is None:
@@ -280,9 +297,13 @@ def shortened(entries: list[Entry], number: int, opened: Entry, frozen: Entry) -
 
 
 def late_words(entries: list[Entry], number: int) -> Iterator[str]:
-    """Words for a round that was frozen long after its window's end."""
-    frozen = first(entries, "frozen", number)
+    """Words for a round that a person closed, that was frozen twice, or long after its window."""
+    frozen, act = frozen_of(entries, number), by_hand(entries, number)
     window = window_of(entries, number, frozen) if frozen else None
+    if act:
+        yield f"BY HAND: {act.says['who']} closed round {number}, whatever its window was"
+    if (count := len(of_kind(entries, "frozen", number))) > 1:
+        yield f"AGAIN: the sheets of round {number} were frozen {count} times"
     if frozen and window and (late := seconds_between(window["closes"], frozen.time)) > LATE:
         yield (
             f"LATE: round {number} was frozen {late} s after its window's end, and until then the "
@@ -293,10 +314,11 @@ def late_words(entries: list[Entry], number: int) -> Iterator[str]:
 def is_between(time: str, entries: list[Entry], entry: Entry) -> bool:
     """Whether a time in a published file fits its notice: it lies between the ones around it.
 
-    The file and its notice are written one after the other, and a crash may come between them.
+    A crash may come between the file and its notice. Notices of one second are written together.
     """
-    before, after = (entries[: entry.number - 1] or [entry])[-1], entries[entry.number :] or [entry]
-    is_early = seconds_between(before.time, time) < -LATE
+    earlier = [one for one in entries if one.time < entry.time] or [entry]
+    after = entries[entry.number :] or [entry]
+    is_early = seconds_between(earlier[-1].time, time) < -LATE
     return not is_early and seconds_between(time, after[0].time) >= -LATE
 
 
@@ -318,9 +340,8 @@ def timetable_faults(case: Case, entries: list[Entry]) -> list[str]:
     if not (case.published / "timetable.json").is_file():
         return []
     shown, told = case.json("timetable.json"), of_kind(entries, "timetable")
-    if shown["windows"] not in [
-        entry.says["windows"] for entry in told[-1 if case.is_record else 0 :]
-    ]:
+    windows = [one for one in shown["windows"] if one["opens"] < one["closes"]]
+    if windows not in [entry.says["windows"] for entry in told[-1 if case.is_record else 0 :]]:
         return ["timetable.json has other windows than were announced"]
     if case.is_record and case.counted.auction.ended:
         true = {"ended": True, "paused": None, "round": len(case.closings)}
@@ -337,23 +358,29 @@ def check_increments(case: Case) -> str:
     entries, rounds = entries_of(case), case.counted.auction.rounds
     if not of_kind(entries, "increments"):
         raise Absent("no notice has a rule of increments, so nothing shows what was announced")
-    faults = []
+    faults, acts = list[str](), list[str]()
     for number, closed in enumerate(rounds, 1):
-        begun = first(entries, "opened", number) or first(entries, "frozen", number)
+        begun = first(entries, "opened", number) or frozen_of(entries, number)
         rule = last_before(entries, "increments", begun) if begun else None
         if rule is None:
             faults.append(f"round {number}: no rule of increments was announced before its window")
             continue
         lines = rounds[number - 2].lines if number > 1 else None
         wanted = increments_by(rule.says["rules"], case.setup, number + 1, lines)
-        if wanted != closed.increments:
+        if wanted != closed.increments and (act := by_hand(entries, number)):
+            acts.append(
+                f"BY HAND: {act.says['who']} closed round {number} with {closed.increments}, and "
+                f"by the rule it is {wanted}"
+            )
+        elif wanted != closed.increments:
             faults.append(
                 f"round {number} was closed with the increments {closed.increments}, and by the "
                 f"rule of notice {rule.number} they are {wanted}"
             )
     if faults:
         raise Failed(*faults)
-    return f"the increments of {len(rounds)} closings are those of the rules that were announced"
+    words = f"the increments of {len(rounds)} closings are those of the rules that were announced"
+    return "; ".join([words, *acts])
 
 
 def increments_by(

@@ -202,11 +202,34 @@ REOPENED = both_ways(
 )
 
 
+def by_hand(found: Evidence) -> None:
+    """A person ends round 3 early, with another increment, and a notice names her."""
+    texts = TEXTS[:-1] + [TRUE.closing(3, 50)]
+    Evidence.__init__(found, TRUE, texts)
+    said = timetable_again(3, closes="14:20:00")(said_of(TRUE, texts))
+    place = place_in(said, "frozen", 3)
+    act = ("act", {"what": "close", "who": "Ann", "round": 3}, time_of(3, "14:19:00"))
+    found.published[notices.NAME] = chain_of(TRUE, [*said[:place], act, *said[place:]])
+
+
 def friend(taken: str) -> Forge:
     """The operator takes a friend's sheet at this time, before it freezes the journal."""
     texts = with_text(0, sheet("Q", 1, 1, 100, taken))(TEXTS)
     return lambda found: Evidence.__init__(found, TRUE, texts)
 
+
+FROZEN_AGAIN = both_ways(
+    lambda said: [
+        *said[: (place := place_in(said, "frozen", 2))],
+        ("frozen", {"round": 2, "digest": "0" * 64}, time_of(2, "14:30:10")),
+        *said[place:],
+    ],
+    lambda said: [
+        *said[: (place := place_in(said, "frozen", 2) + 1)],
+        ("act", {"what": "extend", "who": "Ann", "round": 2}, time_of(2, "14:30:15")),
+        *said[place:],
+    ],
+)
 
 NOTICES: dict[str, Row] = {
     "60h-a-window-that-was-extended": (says(EXTENDED), BIDDERS, NOTHING),
@@ -218,6 +241,8 @@ NOTICES: dict[str, Row] = {
     ),
     "60.3h-timetable-json-of-the-end": (both(end_of_timetable(), made_record), BIDDERS, NOTHING),
     "60.4h-frozen-late": (says(resaid("frozen", 3, "14:50:00")), BIDDERS, NOTHING),
+    "60.5h-closed-early-by-a-person-who-is-named": (by_hand, BIDDERS, NOTHING),
+    "60.6h-frozen-again-after-an-extension": (says(FROZEN_AGAIN), BIDDERS, NOTHING),
     "61-a-sheet-put-in-after-the-freezing": (frozen_before(PUT), NOTHING, "rounds"),
     "61.1-a-sheet-put-in-again-after-it": (frozen_before(REPLAY), NOTHING, "rounds"),
     "61.2-a-sheet-left-out-after-it": (frozen_before(without(12)), NOTHING, "rounds"),
@@ -244,6 +269,17 @@ NOTICES: dict[str, Row] = {
     ),
     "62.8-frozen-twice": (
         says(lambda said: [*said, ("frozen", {"round": 2, "digest": "0" * 64}, said[-1][2])]),
+        NOTHING,
+        "rounds",
+    ),
+    "62.11-frozen-with-another-digest-before": (
+        says(
+            lambda said: [
+                *said[: (place := place_in(said, "frozen", 2))],
+                ("frozen", {"round": 2, "digest": "0" * 64}, time_of(2, "14:30:10")),
+                *said[place:],
+            ]
+        ),
         NOTHING,
         "rounds",
     ),

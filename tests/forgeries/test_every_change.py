@@ -37,7 +37,7 @@ SLACK = 60  # seconds by which a page's time may differ from the notices around 
 # What nothing shows. Each is also in the table of docs/auditors.md.
 UNSEEN = {
     "a file that need not be there": "notices.jsonl or winners.json are left out: it says so",
-    "a time": "when a round was published, or an announcement was made, by a minute or so",
+    "a time": "when a round was published, or an announcement was made, since the notice before",
     "a statement more": "a bidder says that it sent a sheet which it did not send",
     "no statement": "a file without a receipt no longer names its bidder, and proves nothing",
     "no difference": "the file has the same values in another form, or lines in another order",
@@ -131,15 +131,15 @@ def values_in(text: bytes) -> list[Any] | None:
         return None
 
 
-def is_near(old: str, new: str, *, from_closing: bool) -> bool:
+def is_near(old: str, new: str) -> bool:
     """Whether a time is as near to the one that the notices have as nothing can tell.
 
-    A round is published 1,780 s after its closing, and announced in the same second.
+    A round is published, and announced in that second, 1,780 s after its closing.
     """
     if not TIME.fullmatch(new):
         return False
     passed = (moment_of(new) - moment_of(old)).total_seconds()
-    return -(1780 if from_closing else 0) - SLACK <= passed <= SLACK
+    return -1780 - SLACK <= passed <= SLACK
 
 
 def moment_of(time: str) -> datetime.datetime:
@@ -148,9 +148,7 @@ def moment_of(time: str) -> datetime.datetime:
 
 def reason_of_round(old: Any, new: Any) -> str:
     same = {**old, "published": new["published"]} == new
-    return (
-        "a time" if same and is_near(old["published"], new["published"], from_closing=True) else ""
-    )
+    return "a time" if same and is_near(old["published"], new["published"]) else ""
 
 
 def reason_of_announcements(old: Any, new: Any) -> str:
@@ -158,7 +156,7 @@ def reason_of_announcements(old: Any, new: Any) -> str:
     for one, other in zip(old["announcements"], new["announcements"], strict=True):
         if {**one, "time": other["time"]} != other:
             return ""
-        if not is_near(one["time"], other["time"], from_closing=False):
+        if not is_near(one["time"], other["time"]):
             return ""
     return "a time"
 

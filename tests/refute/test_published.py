@@ -67,7 +67,7 @@ MISTAKES: list[tuple[Any, str, Any, str]] = [
     (notices, "is_signed", true, "67.5-notices-that-another-key-signed"),
     (notices, "is_signed", false, "12h-a-sheet-that-its-next-one-replaces"),
     (announced, "round_faults", nothing, "61-a-sheet-put-in-after-the-freezing"),
-    (announced, "repeated", nothing, "62.8-frozen-twice"),
+    (announced, "repeated", nothing, "62.11-frozen-with-another-digest-before"),
     (announced, "strange", nothing, "62.9-a-round-closed-that-is-none"),
     (announced, "is_increment", true, "62.7-another-increment-of-a-closing"),
     (announced, "opening_faults", nothing, "63.2-a-window-that-opens-early"),
