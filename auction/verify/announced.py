@@ -22,13 +22,25 @@ LACKING = (
 
 
 def entries_of(case: Case) -> list[Entry]:
-    """The notices. Raises Absent if there are none, and Failed if they are no chain."""
-    if not (case.published / notices.NAME).is_file():
+    """The notices. Raises Absent if there are none, or if they are no chain: that fails once."""
+    if not has_notices(case):
         raise Absent("there are no notices")
     try:
         return case.entries
     except notices.NoticesFault as fault:
-        raise Failed(f"{notices.NAME}, {fault}") from fault
+        raise Absent("the notices are no chain") from fault
+
+
+def has_notices(case: Case) -> bool:
+    return (case.published / notices.NAME).is_file()
+
+
+def known_entries(case: Case) -> list[Entry]:
+    """The notices, or nothing if there are none or they are no chain."""
+    try:
+        return entries_of(case)
+    except Absent:
+        return []
 
 
 def of_kind(entries: list[Entry], kind: str, number: int | None = None) -> list[Entry]:
@@ -72,9 +84,12 @@ def seconds_between(one: str, other: str) -> int:
 
 def check_chain(case: Case) -> str:
     """Checks that the notices are one chain, which the committed key signed."""
-    if not (case.published / notices.NAME).is_file():
+    if not has_notices(case):
         raise Absent(LACKING)
-    entries = entries_of(case)
+    try:
+        entries = case.entries
+    except notices.NoticesFault as fault:
+        raise Failed(f"{notices.NAME}, {fault}") from fault
     if not entries:
         raise Absent(LACKING)
     digest = hashlib.sha256(entries[-1].line()).hexdigest()
@@ -424,15 +439,14 @@ def percent_by(
 
 def announcements_in(case: Case) -> list[Entry]:
     """The announcements among the notices, if there are any."""
-    is_there = (case.published / notices.NAME).is_file()
-    return of_kind(entries_of(case), "announcement") if is_there else []
+    return of_kind(known_entries(case), "announcement")
 
 
 def announcement_faults(case: Case, made: list[dict[str, Any]]) -> list[str]:
     """Compares announcements.json with the notices, if there are any."""
-    if not (case.published / notices.NAME).is_file():
+    entries = known_entries(case)
+    if not entries:
         return []
-    entries = entries_of(case)
     told = of_kind(entries, "announcement")
     common = list(zip(made, told))
     faults = [
@@ -452,9 +466,9 @@ def announcement_faults(case: Case, made: list[dict[str, Any]]) -> list[str]:
 
 def draw_faults(case: Case, words: str) -> list[str]:
     """Whether a draw was announced with these words, before the first window opened."""
-    entries = entries_of(case)
+    entries = known_entries(case)
     told, opened = of_kind(entries, "draw"), of_kind(entries, "opened")
-    if not told:
+    if entries and not told:
         return ["no notice has the result of the draw"]
     faults = []
     if any(entry.says["words"] != words for entry in told):

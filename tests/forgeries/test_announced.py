@@ -392,17 +392,17 @@ NOTICES: dict[str, Row] = {
             {notices.NAME: chain_of(Promise(TRUE.document, key=OTHER_KEY), said_of(TRUE, TEXTS))}
         ),
         NOTHING,
-        "notices rounds windows increments announcements",
+        "notices",
     ),
     "67.4-an-entry-left-out": (
         published(notices.NAME, without_lines(3)),
         NOTHING,
-        "notices rounds windows increments announcements",
+        "notices",
     ),
     "67.5-notices-that-another-key-signed": (
         signed_by_another,
         NOTHING,
-        "notices rounds windows increments announcements",
+        "notices",
     ),
     "68-two-chains": (both(copied(), says(resaid("frozen", 3, "14:40:00"))), NOTHING, "copies"),
     "68.1-a-cut-file-and-a-longer-copy": (
