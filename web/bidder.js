@@ -39,6 +39,7 @@ const sheet = new Sheet();
 const past = new Past();
 const receipts = new Receipts((receipt) => {
   at("receipts").hidden = receipts.count === 0;
+  tell("strange", receipts.strange);
   set({ receipt });
 });
 // lets the other tabs of this browser know that bids were submitted, and nothing about them
@@ -82,7 +83,7 @@ const BUTTONS = {
     view("bids");
     grid.goTo(judged(state).missing.map((p) => keyOf(p, 0)));
   },
-  receipts: () => receipts.save(state.me.name),
+  receipts: () => receipts.save(),
   old: () => takeOld(),
 };
 let drawnFaults = null; // the faults that the rows show
@@ -241,6 +242,7 @@ function change(before, me, terms, inForce) {
   const words = parts.filter(Boolean).join(" ");
   const act = { kind: "closing", round: me.round, isBad: isFall, words };
   state = {...state, me, terms, inForce, undo: "", receipt: null, act };
+  receipts.closed(before.round);
 }
 
 const fallWords = (before, me) =>
@@ -412,6 +414,7 @@ async function send() {
   const sent = judged(state).bids;
   set({ sending: sent, act: null });
   try {
+    await receipts.note(round, sent);
     const done = await asker.put(round, sent);
     tellAccepted(round, sent, done.bids);
   } catch (fault) {
@@ -466,6 +469,7 @@ function tellRefused(fault, round, sent, form) {
     gone = true; // so that the submitted bids are loaded again
     return set({ sending: null, act: { kind: "lost", round, sent, asked: turn } });
   }
+  receipts.refused(round, sent);
   const { status } = fault;
   const product = state.terms.products[form.bids[fault.place]?.product]?.name;
   const isSame = JSON.stringify(state.form.bids) === JSON.stringify(form.bids);
@@ -551,7 +555,7 @@ async function enter(token) {
   try {
     receipts.commitment = await asker.commitment().catch(() => null);
     await load();
-    await receipts.begin(asker, state.me.round);
+    await receipts.begin(asker, state.me.name, state.me.round);
   } catch (fault) {
     document.body.classList.remove("in");
     throw fault;
@@ -613,7 +617,7 @@ onMenu("again", reload);
 onMenu("down", download);
 onMenu("downround", downloadRound);
 onMenu("old", takeOld);
-onMenu("receipts", () => receipts.save(state.me.name));
+onMenu("receipts", () => receipts.save());
 at("back").addEventListener("click", copyInForce);
 at("up").addEventListener("change", upload);
 at("upreceipts").addEventListener("change", uploadReceipts);

@@ -99,3 +99,24 @@ export function sheetsOf(auction, bidder) {
     return new Map();
   }
 }
+
+const EVIDENCE = "evidence";
+
+/** Keeps the receipts of a bidder in an auction, and what this tab sent, for after a reload. */
+export function keepEvidence(auction, bidder, receipts, sent) {
+  if (!auction) return;
+  try {
+    sessionStorage.setItem(EVIDENCE, JSON.stringify({ auction, bidder, receipts, sent }));
+  } catch { /* after a reload, the receipts are reported as not sent from this tab */
+  }
+}
+
+/** The receipts of a bidder that this tab has, and what it sent. */
+export function evidenceOf(auction, bidder) {
+  try {
+    const kept = JSON.parse(sessionStorage.getItem(EVIDENCE));
+    if (kept.auction === auction && kept.bidder === bidder) return kept;
+  } catch { /* nothing is kept */
+  }
+  return { receipts: [], sent: [] };
+}

@@ -2,6 +2,7 @@
 // form.
 
 import {save} from "./csv.js";
+import {evidenceOf, keepEvidence} from "./draft.js";
 
 const bytesOf = (text) => new TextEncoder().encode(text);
 
@@ -27,11 +28,49 @@ export async function isSigned(key, receipt) {
   return !read || subtle.verify("Ed25519", read, signature, text);
 }
 
+/** The body of a sheet, as `api.js` sends it. */
+const textOf = (round, bids) => JSON.stringify({ bids, round });
+
+/**
+ * What is said of receipts of sheets that this tab did not send. `receipts` has them, in order.
+ */
+export function strangeWords(receipts) {
+  const last = receipts.at(-1);
+  if (!last) return "";
+  const by = last.by ? `, by ${last.by}` : "";
+  const place = `sheet ${last.sheet} of round ${last.round}${by}`;
+  const which = receipts.length === 1
+    ? `One sheet in your name was not sent from this tab: ${place}.`
+    : `${receipts.length} sheets in your name were not sent from this tab, the last one ${place}.`;
+  return `${which} If none of your people sent it, call the auditor.`;
+}
+
+/** The lines of a bidder's file, in the form of docs/formats.md. */
+export const fileOf =
+  (commitment, bidder, sent,
+   receipts) => [commitment, {bidder}, ...sent.map((text) => ({sent: text})), ...receipts]
+                  .map((line) => JSON.stringify(line) + "\n")
+                  .join("");
+
+/**
+ * The receipts, those with `sent` that this tab sent: each text that was sent counts for one
+ * receipt. `bodies` has the digests of the texts.
+ */
+export function withSent(receipts, sent, bodies) {
+  const left = sent.map((text, n) => ({ text, body: bodies[n] }));
+  return receipts.map((receipt) => {
+    const place = left.findIndex(({ body }) => body === receipt.body);
+    return place < 0 ? receipt : {...receipt, sent: left.splice(place, 1)[0].text };
+  });
+}
+
 export class Receipts {
   commitment = null;
   #asker;
-  #commitment;
-  #kept = [];
+  #bidder = "";
+  #kept = [];                  // as the operator signed them
+  #sent = [];                  // each text that this tab sent and that was not refused
+  #shown = [];                 // the receipts, with what was sent
   #before = Promise.resolve(); // sheets get their receipts one after the other
 
   /** `changed` takes { kind, round }: what is known of the receipt of the last accepted sheet. */
@@ -40,14 +79,34 @@ export class Receipts {
   /** How many receipts this tab has. */
   get count() { return this.#kept.length; }
 
-  /** Begins with the receipts that a bidder has of this round, if receipts are made at all. */
-  async begin(asker, round) {
-    [this.#asker, this.#kept, this.#commitment] =
-      [asker, [], await asker.commitment().catch(() => null)];
-    this.commitment = this.#commitment;
-    while ((await this.#take(round))?.body)
-      ;
+  /** What is said of receipts of sheets that this tab did not send. */
+  get strange() { return strangeWords(this.#shown.filter(({ sent }) => sent === undefined)); }
+
+  /**
+   * Begins with what this tab has of a bidder, also before a reload, and with the receipts since
+   * then, if receipts are made at all.
+   */
+  async begin(asker, bidder, round) {
+    this.commitment = await asker.commitment().catch(() => null);
+    [this.#asker, this.#bidder] = [asker, bidder];
+    ({ receipts: this.#kept, sent: this.#sent } = evidenceOf(this.commitment?.auction, bidder));
+    const last = this.#kept.at(-1)?.round ?? round;
+    for (let one = last; one <= round; one++) await this.#takeAll(one);
+    await this.#keep();
     this.changed(null);
+  }
+
+  /** Notes a sheet before it is sent, so that its receipt is known as this tab's own. */
+  async note(round, bids) {
+    this.#sent.push(textOf(round, bids));
+    await this.#keep();
+  }
+
+  /** Forgets a sheet that was refused: no receipt can be of it. */
+  async refused(round, bids) {
+    const place = this.#sent.lastIndexOf(textOf(round, bids));
+    if (place >= 0) this.#sent.splice(place, 1);
+    await this.#keep();
   }
 
   /**
@@ -55,18 +114,29 @@ export class Receipts {
    * wrong.
    */
   expect(round, bids) {
-    this.#before = this.#before.then(
-      () => this.#commitment && this.#await(round, JSON.stringify({ bids, round }))
-    );
+    this.#before =
+      this.#before.then(() => this.commitment && this.#await(round, textOf(round, bids)));
+  }
+
+  /** Takes the receipts of a closed round that came late, or are of sheets of someone else. */
+  closed(round) {
+    this.#before = this.#before.then(async () => {
+      await this.#takeAll(round);
+      await this.#keep();
+      this.changed(null);
+    });
   }
 
   async #await(round, sent) {
     const body = await hashOf(sent);
     const end = Date.now() + 5000;
-    const tell = (kind) => this.changed({ kind, round });
-    tell("waiting");
+    const tell = async (kind) => {
+      await this.#keep();
+      this.changed({ kind, round });
+    };
+    await tell("waiting");
     for (;;) {
-      const receipt = await this.#take(round, body, sent);
+      const receipt = await this.#take(round);
       if (receipt?.body === body) return tell("here");
       if (receipt?.body === null) return tell("wrong");
       if (!receipt && Date.now() > end) return tell("missing");
@@ -74,26 +144,38 @@ export class Receipts {
     }
   }
 
+  /** Takes all receipts of a round that are there. */
+  async #takeAll(round) {
+    while ((await this.#take(round))?.body)
+      ;
+  }
+
   /** The next receipt of a round, if it is there; without a body if it is wrong. */
-  async #take(round, body, sent) {
+  async #take(round) {
     const sheet = 1 + this.#kept.filter((one) => one.round === round).length;
-    const receipt = this.#commitment && await this.#asker.receipt(round, sheet).catch(() => null);
+    const receipt = this.commitment && await this.#asker.receipt(round, sheet).catch(() => null);
     if (!receipt) return null;
-    const { auction, key } = this.#commitment;
-    const named = [receipt.auction, receipt.round, receipt.sheet];
-    if (named.join() !== [auction, round, sheet].join() || !await isSigned(key, receipt))
-      return { body: null };
-    this.#kept.push(receipt.body === body ? {...receipt, sent } : receipt);
+    const { auction, key } = this.commitment;
+    const named = [receipt.auction, receipt.bidder, receipt.round, receipt.sheet];
+    const wanted = [auction, this.#bidder, round, sheet];
+    if (named.join() !== wanted.join() || !await isSigned(key, receipt)) return { body: null };
+    this.#kept.push(receipt);
     return receipt;
   }
 
+  /** Keeps what this tab has, and finds which receipts are of its own sheets. */
+  async #keep() {
+    keepEvidence(this.commitment?.auction, this.#bidder, this.#kept, this.#sent);
+    const bodies = await Promise.all(this.#sent.map(hashOf));
+    this.#shown = withSent(this.#kept, this.#sent, bodies);
+  }
+
   /**
-   * Gives all receipts to the person, after the commitment, as a file for `auction check-receipts`.
+   * Gives all receipts to the person, with what this tab sent, as a file for
+   * `auction check-receipts`.
    */
-  save(name) {
-    save(
-      `receipts-${name}.jsonl`,
-      [this.#commitment, ...this.#kept].map((line) => JSON.stringify(line) + "\n").join("")
-    );
+  save() {
+    const text = fileOf(this.commitment, this.#bidder, this.#sent, this.#shown);
+    save(`receipts-${this.#bidder}.jsonl`, text);
   }
 }

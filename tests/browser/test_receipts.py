@@ -7,8 +7,9 @@ import pytest
 from auction.formats.receipts import faults, read_kept
 from tests.browser.auction import Auction, X, bid, example
 from tests.browser.conftest import Begin
-from tests.browser.people import enter
+from tests.browser.people import close_round, enter
 from tests.browser.window import Window
+from tests.lib.setups import OPERATOR
 
 HERE = "The receipt is here: download it."
 NONE = "No receipt within five seconds: call the operator."
@@ -61,6 +62,45 @@ def test_receipts_are_saved_and_fit_the_journal(
     assert len(found) == 1 and found[0].startswith(NOT_SENT), "the one that came another way"
 
 
+def test_after_a_reload_the_file_accounts_for_each_sheet(
+    auction: Auction, x: Window, downloads: pathlib.Path
+) -> None:
+    """It has the bidder's name, and what this tab sent before."""
+    auction.begin_receipts()
+    enter(auction, x)
+    x.bid(0, 1, 100)
+    count = 1 + next(sent for sent in range(8) if submitted(x) == HERE)
+    enter(auction, x)
+    assert x.text("strange") == ""
+    x.menu("receipts")
+    file = downloads / "receipts-X.jsonl"
+    x.until("the file", lambda: len(read_kept(file).receipts) == count)
+    kept = read_kept(file)
+    assert (kept.bidder, kept.sent.total()) == ("X", count)
+    assert faults(kept, (auction.folder / "auction.journal").read_bytes()) == []
+
+
+def test_a_sheet_that_this_tab_did_not_send_is_reported(auction: Auction, x: Window) -> None:
+    auction.put(X, 1, bid(0, 2, 100))
+    auction.begin_receipts()
+    x.until("the first receipt", (auction.folder / "receipts/X/1-1.json").exists)
+    enter(auction, x)
+    x.says("strange", "One sheet in your name was not sent from this tab: sheet 1 of round 1.")
+
+
+def test_a_sheet_that_is_put_in_later_is_reported_after_the_closing(
+    auction: Auction, x: Window, operator: Window
+) -> None:
+    auction.begin_receipts()
+    enter(auction, x)
+    assert x.text("strange") == ""
+    auction.put(X, 1, bid(0, 2, 100))
+    x.until("the receipt", (auction.folder / "receipts/X/1-1.json").exists)
+    enter(auction, operator, OPERATOR)
+    close_round(operator)
+    x.says("strange", "One sheet in your name was not sent from this tab: sheet 1 of round 1.")
+
+
 def test_receipts_before_this_tab_are_loaded(
     auction: Auction, x: Window, downloads: pathlib.Path
 ) -> None:
@@ -92,8 +132,8 @@ def test_a_sheet_without_a_receipt_is_a_fault_of_the_file(
     file = downloads / "receipts-X.jsonl"
     x.until("the file", lambda: len(read_kept(file).receipts) == 1)
     found = faults(read_kept(file), (auction.folder / "auction.journal").read_bytes())
-    assert len(found) == 2 and found[0].startswith(NOT_SENT)
-    assert found[1].startswith("round 1, sheet 2: the journal has it, and there is no receipt")
+    assert len(found) == 1
+    assert found[0].startswith("round 1, sheet 2: the journal has it, and there is no receipt")
 
 
 def test_a_wrong_receipt_is_named(auction: Auction, x: Window) -> None:
