@@ -12,6 +12,7 @@ from auction.commands import (
     conductor,
     desk,
     explain,
+    fence,
     init,
     lots,
     maps,
@@ -20,7 +21,9 @@ from auction.commands import (
     receipts,
     record,
     recount,
+    standby,
     submitted,
+    take_over,
     verify,
 )
 from auction.faults import in_words
@@ -38,6 +41,9 @@ COMMANDS: tuple[Command, ...] = (
     close.COMMAND,
     receipts.COMMAND,
     submitted.COMMAND,
+    standby.COMMAND,
+    take_over.COMMAND,
+    fence.COMMAND,
     record.COMMAND,
     verify.COMMAND,
     check_receipts.COMMAND,

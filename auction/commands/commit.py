@@ -5,6 +5,9 @@ the seeds, and receipts.pem, with the secret key, both for their owner only. PUB
 `public` of nginx. It gets commitment.json, for everyone (docs/formats.md). What is there already
 stays, so call it again after a crash.
 
+Beside a journal with a closing, nothing is made: the chain and the key of that auction are lost, or
+on another machine. JOURNAL is that of FOLDER/../conductor.json, or FOLDER/../auction.journal.
+
 With --no-ties, closings have no tie-breaking numbers. With --draw, called once more after
 commitment.json is published and before the first window opens, the numbers also depend on these
 words: the result of a public draw that was announced before. So nobody could have made many chains
@@ -21,6 +24,7 @@ import sys
 
 from auction.command import Command
 from auction.conductor import commitment
+from auction.conductor.settings import Settings, SettingsFault
 from auction.formats import strict
 from auction.formats.setup import Setup
 
@@ -31,6 +35,15 @@ def arguments(parser: argparse.ArgumentParser) -> None:
     parser.add_argument("public", metavar="PUBLIC", type=pathlib.Path)
     parser.add_argument("--no-ties", action="store_true", help="close without tie-breaking numbers")
     parser.add_argument("--draw", metavar="WORDS", help="the result of a public draw")
+    parser.add_argument("--journal", metavar="JOURNAL", type=pathlib.Path)
+
+
+def usual_journal(folder: pathlib.Path) -> pathlib.Path:
+    """The journal of an auction's folder, by the conductor's settings if there are any."""
+    try:
+        return Settings.read(folder).journal
+    except SettingsFault:
+        return folder / "auction.journal"
 
 
 def run(given: argparse.Namespace) -> int:
@@ -38,7 +51,8 @@ def run(given: argparse.Namespace) -> int:
     if given.draw == "":
         sys.exit("auction commit: a draw has words")
     try:
-        places = commitment.Places(given.folder, given.public)
+        journal = given.journal or usual_journal(given.folder.absolute().parent)
+        places = commitment.Places(given.folder, given.public, journal)
         made = commitment.make(places, Setup.read(given.setup), not given.no_ties, given.draw)
     except commitment.FAULTS as fault:
         sys.exit(f"auction commit: {fault}")

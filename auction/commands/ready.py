@@ -13,10 +13,13 @@ import os
 from pathlib import Path
 
 from auction.command import Command
-from auction.ready import certificate, files, machine, ports, published
+from auction.ready import certificate, files, machine, ports, published, standby
 from auction.ready.auction import Auction
 
-CHECKS = [*files.CHECKS, *published.CHECKS, *ports.CHECKS, *certificate.CHECKS, *machine.CHECKS]
+CHECKS = [
+    *(*files.CHECKS, *published.CHECKS, *ports.CHECKS),
+    *(*certificate.CHECKS, *machine.CHECKS, *standby.CHECKS),
+]
 GB = 1_000_000_000
 
 

@@ -6,6 +6,7 @@ import json
 import time
 from pathlib import Path
 
+from auction.formats.journal import HEAD, Journal, JournalFault, head_of
 from auction.formats.signatures import new_key, public_of
 from auction.formats.strict import published
 from auction.formats.ties import Commitment, Draw, TiesFault, checked_draw
@@ -22,10 +23,13 @@ class CommitmentFault(Exception):
 
 @dataclasses.dataclass(frozen=True)
 class Places:
-    """The files: two secret ones next to the closings, and two public ones."""
+    """The files: two secret ones next to the closings, and two public ones. And the journal, which
+    has a closing once the auction has begun.
+    """
 
     kept: Path
     public: Path
+    journal: Path | None = None
 
     @property
     def chain(self) -> Path:
@@ -43,9 +47,20 @@ class Places:
     def draw(self) -> Path:
         return self.public / "draw.json"
 
-    def is_begun(self) -> bool:
+    def is_begun(self, setup: Setup) -> bool:
         """Whether a round was closed, or may have been."""
-        return any(self.kept.glob("closing*"))
+        return any(self.kept.glob("closing*")) or self.has_closing(setup)
+
+    def has_closing(self, setup: Setup) -> bool:
+        """Whether the journal is of this set-up, and closes a round."""
+        if self.journal is None or not self.journal.exists():
+            return False
+        with open(self.journal, "rb") as file:
+            if file.read(HEAD) != head_of(setup.document):
+                return False
+        journal = Journal(self.journal, setup)
+        journal.read_on()
+        return bool(journal.closings)
 
     def has_opened(self) -> bool:
         """Whether the first window has opened, by the published timetable."""
@@ -66,9 +81,9 @@ def make(
     with disk.locked(places.kept / ".lock"):
         chain = chain_in(places, setup, has_ties, draw)
         if not places.key.exists():
-            if places.commitment.exists():
+            if places.commitment.exists() or places.is_begun(setup):
                 raise CommitmentFault(
-                    f"{places.commitment} is published, and its key {places.key} is lost"
+                    f"the auction has begun or is committed, and its key {places.key} is lost"
                 )
             disk.store(places.key, new_key().decode("ascii"))
         commitment = Commitment(setup.digest, chain.committed(), public_of(places.key.read_bytes()))
@@ -82,7 +97,7 @@ def make(
 def chain_in(places: Places, setup: Setup, has_ties: bool, draw: str | None) -> Chain:
     """The chain on disk, after it was made or has got the result of the draw."""
     if not places.chain.exists():
-        if places.commitment.exists() or places.is_begun():
+        if places.commitment.exists() or places.is_begun(setup):
             raise CommitmentFault(
                 f"the auction has begun or is committed, and {places.chain} is lost"
             )
@@ -95,7 +110,7 @@ def chain_in(places: Places, setup: Setup, has_ties: bool, draw: str | None) -> 
         )
     if draw in (None, chain.draw):
         return chain
-    begun = places.is_begun() or places.has_opened()
+    begun = places.is_begun(setup) or places.has_opened()
     if not has_ties or chain.draw or begun or not places.commitment.exists():
         raise CommitmentFault(
             "a draw is held once, after the end of the chain is published and before the first "
@@ -122,4 +137,4 @@ def publish_once(path: Path, text: bytes) -> None:
         )
 
 
-FAULTS = (CommitmentFault, TiesFault, OSError, ValueError)
+FAULTS = (CommitmentFault, TiesFault, JournalFault, OSError, ValueError)

@@ -18,6 +18,7 @@ from .server import BiddersPort, NoReply, Operator, Page
 from .settings import Folders, Settings
 from .timetable import Window
 from auction.formats.setup import Setup
+from auction.standby import mark
 
 STATUS_SECONDS = 10
 
@@ -63,6 +64,7 @@ class Context:
         An exception leaves the plan as it was stored last.
         """
         with disk.locked(self.folders.state / "plan.lock"):
+            mark.check(self.folders.top)
             plan = self.plan_file.read()
             self.announce_changes(plan)  # of a process that was killed between
             yield plan

@@ -2,6 +2,6 @@
 
 - `findings`: a check, and what it found;
 - `auction`: the auction's folder, with the ports of its nginx.conf;
-- `files`, `published`, `ports`, `certificate`, `machine`: the checks;
+- `files`, `published`, `ports`, `certificate`, `machine`, `standby`: the checks;
 - `maps`: what nginx reads of a set-up, which `auction maps` prints.
 """

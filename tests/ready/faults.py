@@ -91,6 +91,12 @@ def present(files: dict[str, str], seconds: int = 0) -> Fault:
     return fault
 
 
+def passed(seconds: int, ahead: float) -> str:
+    """The report of a copy to another machine, made this number of seconds from now."""
+    report = {"host": "b", "time": time.time() + seconds, "ahead": ahead}
+    return json.dumps({**report, "round": 1, "length": 56})
+
+
 def both(first: Fault, second: Fault) -> Fault:
     """Two faults."""
 
@@ -323,6 +329,7 @@ SETTINGS = json.dumps(
     {"url": "", "setup": "setup.json", "token": "operator.token", "journal": "auction.journal"}
 )
 WITH_SETTINGS = {"conductor.json": SETTINGS}
+STANDBY = json.dumps({"role": "standby", "taker": ""})
 WITH_REPORT = {**WITH_SETTINGS, "operator/conductor.json": "{}"}
 PERSONS = present({"persons.csv": "bidder,person,token\nX,alice,\n"})  # alice was revoked
 
@@ -404,6 +411,14 @@ FAULTS = [
     Row("space", "for the log", full_log),
     Row("file systems", "one file system", one_file_system),
     Row("clock", "not synchronized", own_time),
+    Row("standby", "this machine is a standby", present({"fence.json": STANDBY})),
+    Row("standby", "this machine is fenced", present({"fence.json": "{}"})),
+    Row("standby", "b has got nothing for", present({"state/standby.json": passed(-60, 0)})),
+    Row(
+        "standby",
+        "the clock of b differs by +7 s",
+        present({"state/standby.json": passed(10**6, 7)}),
+    ),
     # Last, since the service reads the set-up when it starts, and other faults change that.
     Row("receipts", "no one signs them", no_signing),
 ]
