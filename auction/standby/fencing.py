@@ -20,10 +20,8 @@ from . import mark
 from .judge import End
 
 UNITS = (
-    "clock-auction-conductor",
-    "clock-auction-nginx",
-    "clock-auction-receipts",
-    "clock-auction",
+    *("clock-auction-conductor", "clock-auction-desk", "clock-auction-nginx"),
+    *("clock-auction-receipts", "clock-auction"),
 )
 PATIENCE = 60  # seconds: a conductor or a command may have the plan, while it closes a round
 SYSTEMD = Path("/run/systemd/system")

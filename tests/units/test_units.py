@@ -5,6 +5,7 @@ import subprocess
 
 import pytest
 
+from auction.standby import mark
 from tests.lib.paths import TOP
 
 SERVER, NGINX = "clock-auction", "clock-auction-nginx"
@@ -77,3 +78,8 @@ def test_one_unit_starts_each_command_that_runs(service: str) -> None:
         line for unit in UNITS for line in text_of(unit).splitlines() if "/usr/bin/auction" in line
     ]
     assert sum(f"/usr/bin/auction {service} /srv/auction" in line for line in started) == 1
+
+
+@pytest.mark.parametrize("unit", UNITS)
+def test_no_unit_starts_on_a_standby_or_a_fenced_machine(unit: str) -> None:
+    assert f"ConditionPathExists=!/srv/auction/{mark.NAME}\n" in text_of(unit)
