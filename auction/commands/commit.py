@@ -5,8 +5,8 @@ the seeds, and receipts.pem, with the secret key, both for their owner only. PUB
 `public` of nginx. It gets commitment.json, for everyone (docs/formats.md). What is there already
 stays, so call it again after a crash.
 
-Beside a journal with a closing, nothing is made: the chain and the key of that auction are lost, or
-on another machine. JOURNAL is that of FOLDER/../conductor.json, or FOLDER/../auction.journal.
+If the journal has a closing, nothing is made: the chain and the key of that auction are lost, or on
+another machine. JOURNAL is that of FOLDER/../conductor.json, or FOLDER/../auction.journal.
 
 With --no-ties, closings have no tie-breaking numbers. With --draw, called once more after
 commitment.json is published and before the first window opens, the numbers also depend on these

@@ -10,8 +10,8 @@ else has saved, such as a bidder or another web server: these must agree too. No
 the bidders' address of conductor.json, nor at any --at HOST:PORT.
 
 If all is well, it removes FOLDER/fence.json, so server, nginx, receipts, and conductor can start
-here, and go on with the same chain, key, announcements, and timetable. Otherwise it says why not,
-and changes nothing.
+here, and continue with the same chain, key, announcements, and timetable. Otherwise it says why
+not, and changes nothing.
 """
 import argparse
 import pathlib

@@ -6,6 +6,6 @@
     listing   which files a copy has
     frames    what the two machines say to each other
     sending   the machine that serves: it sends what is new
-    keeping   the machine that stands by: it stores what comes, each pass whole or not at all
+    keeping   the standby: it stores what comes, each pass whole or not at all
     fencing   the machine that served: it serves nobody any more
 """

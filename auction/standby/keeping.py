@@ -1,4 +1,4 @@
-"""The machine that stands by: it stores what comes, each pass whole or not at all.
+"""The standby: it stores what comes, each pass whole or not at all.
 
 The journal only grows, so it may be longer than the last pass says. All other files wait in
 `incoming` until the pass is whole, and are then moved to their places. A crash in between is made

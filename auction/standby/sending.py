@@ -29,7 +29,7 @@ class Refused(Exception):
 
 @dataclasses.dataclass(frozen=True)
 class Passed:
-    """What a standby has after a pass, and by how much its clock is ahead."""
+    """What a standby has after a pass, and its clock less this one's."""
 
     time: float
     round: int

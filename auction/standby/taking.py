@@ -34,7 +34,7 @@ class NotTaken(Exception):
 
 @dataclasses.dataclass(frozen=True)
 class Means:
-    """How the first machine is kept from serving, and what else a person says."""
+    """How the first machine is fenced, and what else a person says."""
 
     host: str = ""  # where `auction fence` runs, by `shell`
     shell: str = ""

@@ -1,4 +1,4 @@
-"""`auction commit` makes nothing beside a journal that closes a round."""
+"""`auction commit` makes nothing if the journal closes a round."""
 import json
 import pathlib
 
@@ -13,7 +13,7 @@ ROUND = [sheet("X", 1, 2), closing(1)]
 
 
 def committed(folder: pathlib.Path, texts: list[bytes], name: str = "auction.journal") -> str:
-    """Calls the command beside a journal of these requests. Returns what it says if it refuses."""
+    """Calls the command with a journal of these requests. Returns what it says if it refuses."""
     (folder / "setup.json").write_text(DOCUMENT)
     (folder / name).write_bytes(journal_of(DOCUMENT.encode(), texts))
     words = [folder / each for each in ("setup.json", "kept", "public")]

@@ -230,7 +230,7 @@ def change(name: str, content: str) -> Callable[[pathlib.Path], None]:
 
 
 def without_the_last_round(second: pathlib.Path) -> None:
-    """The journal of before the closing: a copy that is behind the published files."""
+    """The journal of before the closing, with the published files of after it."""
     journal = (second / "auction.journal").read_bytes()
     place = journal.index(b"POST /v1/close") - 40
     (second / "auction.journal").write_bytes(journal[:place])

@@ -1,8 +1,8 @@
 """A small auction on three machines: what can happen to it, as far as a take-over matters.
 
-Machine A begins, and B and C stand by. Each state is plain data, and `steps` yields what can come
-next. Only `reasons_against` decides whether a machine may take over. A machine that is off comes
-back, unless another one has taken over: people then let it be gone.
+Machine A begins, and B and C are standbys. Each state is plain data, and `steps` yields what can
+come next. Only `reasons_against` decides whether a machine may take over. A machine that is off
+comes back, unless another one has taken over: people then let it be gone.
 """
 from collections.abc import Callable, Iterator
 from typing import NamedTuple
