@@ -15,6 +15,7 @@ from cryptography.hazmat.primitives import hashes, serialization
 from cryptography.hazmat.primitives.asymmetric import ec
 from cryptography.x509.oid import NameOID
 
+from auction import mock
 from auction.conductor import commitment, disk
 from auction.conductor.settings import group_of_workers
 from auction.formats.setup import Setup
@@ -106,6 +107,9 @@ def make_alone(folder: pathlib.Path, fresh: pathlib.Path, plan: Plan) -> None:
 def write_services(folder: pathlib.Path, place: pathlib.Path, plan: Plan) -> None:
     """Copies the pages, and what configures nginx and the firewall in the folder's later place."""
     copy_pages(installed("web"), folder / "web")
+    if mock.kind_of_value(json.loads(plan.document)) is mock.Kind.MOCK:
+        for page in (folder / "web").glob("*.html"):
+            page.write_text(mock.marked_page(page.read_text(encoding="utf-8")), encoding="utf-8")
     shutil.copy(installed("schemas/openapi.json"), folder / "openapi.json")
     for name in ("nginx.conf", "clock-auction.nft"):
         text = installed(f"services/{name}").read_text(encoding="utf-8")

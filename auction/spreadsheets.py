@@ -7,6 +7,7 @@ import secrets
 from collections.abc import Iterator
 from typing import Any
 
+from auction.mock import MARK
 from auction.recount.formats import Refused, setup_in
 
 TOKEN_BYTES = 16  # of entropy in a token, written as 32 letters
@@ -26,6 +27,10 @@ class Names:
     title: str
     products: dict[str, str]
     bidders: dict[str, str]
+
+    def of_mock(self) -> "Names":
+        """The names in a mock auction, whose title says so."""
+        return dataclasses.replace(self, title=MARK + self.title)
 
     def text(self) -> str:
         """The file names.json, which everyone can see."""

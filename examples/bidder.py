@@ -50,6 +50,7 @@ import time
 import urllib.request
 from collections import Counter
 
+MOCK = "MOCK"  # how each token of a mock auction begins, and no other
 BUSY = (408, 429, 500, 502, 503, 504)
 # nginx's answers that say to wait: no window is open, or the round is closing.
 WAITS = {409: b'"window"', 503: b'"closing"'}
@@ -159,7 +160,7 @@ class Auction:
                 if reply.status == 404 and may_lack:
                     return None
                 if reply.status >= 300 and reply.status not in BUSY:
-                    sys.exit(f"{path} is refused: {reply.status} {text.decode(errors='replace')}")
+                    self.end_refused(path, reply.status, text)
                 if reply.status < 300 and has_shape(page := json.loads(text), shape, self.products):
                     self.is_waiting = self.is_waiting and sheet is None
                     self.is_closing = self.is_closing and not path.startswith("/v1/")
@@ -172,6 +173,31 @@ class Auction:
             self.is_in_doubt, is_noted = True, sheet is None or not self.receipts
             time.sleep(self.every)
         sys.exit(f"{path}: no reply for {PATIENCE} seconds")
+
+    @property
+    def is_mock(self):
+        """Whether the token is of a mock auction."""
+        return self.token.upper().startswith(MOCK)
+
+    def end_refused(self, path, status, text):
+        """Ends the program with the words of a refusal."""
+        words = self.other_kind() if status == 401 else ""
+        sys.exit(f"{path} is refused: {status} {text.decode(errors='replace')}{words}")
+
+    def other_kind(self):
+        """The words for a token of a mock auction at the address of a real one, or the reverse.
+
+        Nothing if they are of one kind, or if no commitment is there.
+        """
+        try:
+            with self.opener.open(self.url + "/public/commitment.json", timeout=30) as reply:
+                is_mock = json.loads(reply.read()).get("mock", False)
+        except (OSError, http.client.HTTPException, AttributeError, ValueError):
+            return ""
+        if is_mock == self.is_mock:
+            return ""
+        kinds = ["the real auction", "the mock auction"]
+        return f"\nThe token is of {kinds[self.is_mock]}, and the address of {kinds[is_mock]}."
 
     def tell(self, status):
         """Says, once each time, that the round is closing, or that the sheet waits for a window.
@@ -428,6 +454,8 @@ def limits_of(path):
 
 def play(auction, wanted, path):
     """Bids in each round until the auction has ended, and prints each sheet and its results."""
+    if auction.is_mock:
+        print("This is a mock auction: nothing is sold.", flush=True)
     products = auction.ask("/v1/products", PRODUCTS)["products"]
     auction.products = len(products)
     account = auction.ask("/v1/me", ACCOUNT)

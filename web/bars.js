@@ -1,6 +1,7 @@
 // Draws the two bars of the bidder's page from what shown.js returns. A text is written only if it
 // has changed, so that a screen reader reads it out once.
 
+import {entitle} from "./mock.js";
 import {at, make, tell} from "./page.js";
 
 const CLASSES = ["again", "off", "idle", "doubt"]; // of the button that submits
@@ -8,7 +9,7 @@ const CLASSES = ["again", "off", "idle", "doubt"]; // of the button that submits
 /** Draws the bars and the title. `now` is what `shown` returns. */
 export function drawBars(now) {
   const { clock, todo, link, message, send } = now;
-  document.title = now.title;
+  entitle(now.title);
   tell("round", now.round);
   tell("left", clock.left);
   tell("standing", clock.words);

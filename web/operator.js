@@ -4,6 +4,7 @@
 import {Asker, watch} from "./api.js";
 import {Conductor} from "./conductor.js";
 import {save, written} from "./csv.js";
+import {entitle} from "./mock.js";
 import {
   at,
   cell,
@@ -74,7 +75,7 @@ function asOfWords(last) {
 function drawAll(last) {
   const { ended, round } = results;
   at("round").textContent = ended ? `Ended after round ${round}` : `Round ${round}`;
-  document.title = `${ended ? "Ended" : "Round " + round} · operator · clock auction`;
+  entitle(`${ended ? "Ended" : "Round " + round} · operator · clock auction`);
   at("closing").hidden = ended;
   at("eachlabel").hidden = page.version === 1;
   at("ask").textContent = `Close round ${round} …`;

@@ -2,6 +2,7 @@
 // question, and the form that takes the token.
 
 import {isClosing, pause} from "./api.js";
+import {isMockPage, strangeToken} from "./mock.js";
 
 /**
  * The element of an id, which the page has. Its kind is the page's.
@@ -199,6 +200,8 @@ export function door(enter, {wordsOf, closingWords}) {
     at("token").setAttribute("aria-invalid", "false");
     const token = at("token").value.trim();
     at("token").value = "";
+    const strange = token && strangeToken(isMockPage(), token);
+    if (strange) return tellDoor(`⚠ ${strange}`);
     tellDoor("Loading …");
     at("door").inert = at("desk").inert = true;
     try {

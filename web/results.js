@@ -5,6 +5,7 @@ import {Fault, isClosing, pause, within} from "./api.js";
 import {chart, spark} from "./chart.js";
 import {save, written} from "./csv.js";
 import {Listing} from "./listing.js";
+import {entitle} from "./mock.js";
 import {
   at,
   dollars,
@@ -88,7 +89,7 @@ function draw() {
   tell("link", now.link);
   if (!now.isKnown) return;
   tell("round", now.round);
-  document.title = now.title;
+  entitle(now.title);
   tell("progress", now.progress);
   at("save").disabled = !now.canSave;
   at("pastdesk").hidden = false;

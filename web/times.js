@@ -3,6 +3,7 @@
 
 import {within} from "./api.js";
 import {Clock, clockWords, resultsOf, stateOf, timeWords} from "./clock.js";
+import {markPage} from "./mock.js";
 import {at, counted, make, tell} from "./page.js";
 import {closingWords} from "./shown.js";
 
@@ -98,6 +99,7 @@ export class Times {
   }
 
   async #show(table) {
+    markPage(table.mock);
     tell("notice", table.notice ?? "");
     this.#draw();
     this.#drawTable();

@@ -9,6 +9,9 @@ files, whose first line names the columns. Products have name, units, supply, an
 have cap, granule, and title. Bidders have name and eligibility, and may have title. Then tokens are
 drawn, and FOLDER/letters gets a letter for each bidder.
 
+With --mock, this is a mock auction: the same products and bidders with tokens of its own, which
+begin with MOCK. Each page, announcement, and receipt says so.
+
 Without --journal, the journal is that of the package's systemd unit if FOLDER is /srv/auction, and
 else auction.journal in FOLDER. Only root and nginx's workers can enter FOLDER.
 
@@ -16,11 +19,12 @@ Without --certificate and --key, a certificate for a trial is made, which no bro
 --no-ties, closings have no tie-breaking numbers.
 """
 import argparse
+import json
 import pathlib
 import sys
 
 from auction import folder as auction_folder
-from auction import letters
+from auction import letters, mock
 from auction.command import Command
 from auction.conductor import commitment
 from auction.folder import Certificate, FolderFault, Plan
@@ -36,6 +40,7 @@ def arguments(parser: argparse.ArgumentParser) -> None:
     parser.add_argument("--setup", metavar="FILE", type=pathlib.Path, help="the set-up document")
     parser.add_argument("--products", metavar="FILE", type=pathlib.Path, help="a CSV file")
     parser.add_argument("--bidders", metavar="FILE", type=pathlib.Path, help="a CSV file")
+    parser.add_argument("--mock", action="store_true", help="make a mock auction of the set-up")
     parser.add_argument("--title", default="Clock auction", help="what people call the auction")
     parser.add_argument("--requirement", metavar="PERCENT", type=int, default=80)
     parser.add_argument("--limit", metavar="PERCENT", type=int, help="the activity limit")
@@ -51,6 +56,17 @@ def arguments(parser: argparse.ArgumentParser) -> None:
 
 def setup_in_words(given: argparse.Namespace) -> tuple[bytes, Names | None]:
     """The set-up document, and long names if it comes from spreadsheets."""
+    document, names = given_setup(given)
+    if given.mock:
+        return mock.mock_of(document), names and names.of_mock()
+    if mock.kind_of_value(json.loads(document)) is not mock.Kind.REAL:
+        words = f"the set-up has tokens of a mock auction, which begin with {mock.PREFIX}"
+        raise FolderFault(f"{words}: name the real set-up, or add --mock")
+    return document, names
+
+
+def given_setup(given: argparse.Namespace) -> tuple[bytes, Names | None]:
+    """The set-up that the arguments name, as it is."""
     if given.setup and not (given.products or given.bidders):
         document: bytes = given.setup.read_bytes()
         try:
@@ -82,15 +98,15 @@ def plan_of(given: argparse.Namespace, document: bytes, names: Names | None) -> 
     )
 
 
-def write_letters(given: argparse.Namespace, document: bytes, names: Names) -> None:
-    """Writes a letter for each bidder, for the operator only."""
+def write_letters(given: argparse.Namespace, document: bytes, names: Names | None) -> None:
+    """Writes a letter for each bidder whose token was drawn here, for the operator only."""
     port = "" if given.port == 443 else f":{given.port}"
     address = f"https://{given.host}{port}/"
     place = given.folder / "letters"
     place.mkdir(0o700)
-    for letter in letters.letters_of(
-        document, given.title, address, given.help_desk, names.bidders
-    ):
+    title = names.title if names else mock.MARK * given.mock + given.title
+    long = names.bidders if names else {}
+    for letter in letters.letters_of(document, title, address, given.help_desk, long):
         auction_folder.write_private(place / f"{letter.bidder}.txt", letter.text.encode())
 
 
@@ -98,7 +114,7 @@ def run(given: argparse.Namespace) -> int:
     try:
         document, names = setup_in_words(given)
         auction_folder.make(given.folder, plan_of(given, document, names))
-        if names:
+        if names or given.mock:
             write_letters(given, document, names)
     except FAULTS as fault:
         sys.exit(f"auction init: {fault}")

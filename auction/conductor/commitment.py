@@ -8,6 +8,7 @@ from pathlib import Path
 
 from auction.formats.journal import HEAD, Journal, JournalFault, head_of
 from auction.formats.signatures import new_key, public_of
+from auction.mock import Kind, disagreement
 from auction.formats.strict import published
 from auction.formats.ties import Commitment, Draw, TiesFault, checked_draw
 
@@ -17,7 +18,7 @@ from .clock import utc
 from auction.formats.setup import Setup
 
 
-class CommitmentFault(Exception):
+class CommitmentFault(ValueError):
     """Why nothing is published."""
 
 
@@ -79,6 +80,7 @@ def make(
     disk.make_folder(places.kept, 0o700)
     disk.make_folder(places.public, 0o755)
     with disk.locked(places.kept / ".lock"):
+        check_kind(places.commitment, setup)
         chain = chain_in(places, setup, has_ties, draw)
         if not places.key.exists():
             if places.commitment.exists() or places.is_begun(setup):
@@ -86,12 +88,21 @@ def make(
                     f"the auction has begun or is committed, and its key {places.key} is lost"
                 )
             disk.store(places.key, new_key().decode("ascii"))
-        commitment = Commitment(setup.digest, chain.committed(), public_of(places.key.read_bytes()))
+        key = public_of(places.key.read_bytes())
+        is_mock = setup.kind is Kind.MOCK
+        commitment = Commitment(setup.digest, chain.committed(), key, is_mock)
         publish(places, commitment)
         if chain.draw:
             added = Draw.added(places.commitment.read_bytes(), chain.draw)
             publish_once(places.draw, published(added.value()))
         return commitment
+
+
+def check_kind(path: Path, setup: Setup) -> None:
+    """A mock auction has no files of a real one, nor a real one those of a mock auction."""
+    is_mock = Commitment.read(path).mock if path.exists() else setup.kind is Kind.MOCK
+    if fault := disagreement(setup.kind, is_mock):
+        raise CommitmentFault(fault)
 
 
 def chain_in(places: Places, setup: Setup, has_ties: bool, draw: str | None) -> Chain:

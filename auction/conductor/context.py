@@ -11,6 +11,7 @@ from .asked import Asked
 from .public import PublicFiles
 from .clock import Clock, MachineClock
 from .closing import Auction
+from .commitment import check_kind
 from .gate import Gate
 from auction.formats.journal import Journal
 from .plan import Plan, PlanFile
@@ -18,6 +19,7 @@ from .server import BiddersPort, NoReply, Operator, Page
 from .settings import Folders, Settings
 from .timetable import Window
 from auction.formats.setup import Setup
+from auction.mock import Kind
 from auction.standby import mark
 
 STATUS_SECONDS = 10
@@ -33,6 +35,7 @@ class Context:
         self.clock, self.say = clock or MachineClock(), say
         self.folders.make(self.settings.readers)
         self.setup = Setup.read(self.settings.setup)
+        check_kind(self.folders.public / "commitment.json", self.setup)
         self.journal = Journal(self.settings.journal, self.setup)
         self.operator = Operator(
             self.settings.url, self.settings.token.read_text(encoding="utf-8").strip()
@@ -43,7 +46,7 @@ class Context:
         self.asked = Asked(self.folders.asked / "close.json", self.setup)
         self.plan_file, self.public, self.gate = (
             PlanFile(self.folders.state / "plan.json", self.identity()),
-            PublicFiles(self.folders),
+            PublicFiles(self.folders, self.setup.kind is Kind.MOCK),
             Gate(self.folders.gate),
         )
 

@@ -6,6 +6,8 @@ import os
 from pathlib import Path
 from typing import Any
 
+from auction.mock import MARK
+
 from . import disk
 from .clock import utc
 from .plan import Plan
@@ -24,10 +26,18 @@ def opening_key(number: int, opens: int) -> str:
 
 
 class PublicFiles:
-    """The public files. Each is written whole, and only if it has changed."""
+    """The public files. Each is written whole, and only if it has changed.
 
-    def __init__(self, folders: Folders) -> None:
-        self.folders = folders
+    Those of a mock auction say so.
+    """
+
+    def __init__(self, folders: Folders, is_mock: bool = False) -> None:
+        self.folders, self.is_mock = folders, is_mock
+
+    @property
+    def mark(self) -> Page:
+        """What the files of a mock auction have, and others do not."""
+        return {"mock": True} if self.is_mock else {}
 
     def published(self) -> int:
         """How many rounds are published, from round 1 on."""
@@ -67,6 +77,7 @@ class PublicFiles:
         made = self.announcements()
         if any(one["key"] == key for one in made):
             return None
+        text = MARK * self.is_mock + text
         made.append({"key": key, "number": len(made) + 1, "text": text, "time": utc(now)})
         self.put(self.folders.public / "announcements.json", {"announcements": made})
         return f"announcement {len(made)}: {text}"
@@ -91,6 +102,7 @@ class PublicFiles:
                 "paused": plan.paused and plan.paused.words,
                 "round": last if ended else last + 1,
                 "windows": windows,
+                **self.mark,
             },
         )
 
@@ -108,7 +120,9 @@ class PublicFiles:
             }
             for bidder in results["bidders"]
         ]
-        self.put(self.folders.public / "winners.json", {"bidders": bidders, "round": last})
+        self.put(
+            self.folders.public / "winners.json", {"bidders": bidders, "round": last, **self.mark}
+        )
 
     def put(self, path: Path, value: Page) -> None:
         """Writes a file if it has changed, with the time of another second than before: nginx knows

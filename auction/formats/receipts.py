@@ -9,6 +9,7 @@ from datetime import UTC, datetime
 from pathlib import Path
 from typing import Any, NamedTuple, Self
 
+from auction.mock import is_mock_token
 from auction.recount.formats import Refused, Request, request_in
 from .journal import body_in, line_in
 from .signatures import SIGNATURE, is_signed
@@ -230,13 +231,14 @@ def faults(
     counts, which proves nothing to others: who writes a file can also make a key.
     """
     true = commitment or file.commitment
+    kinds = kinds_in_words(file.commitment.mock, true.mock)
     if journal[24:56].hex() != true.auction:
-        return ["the journal is of another auction than the commitment"]
+        return [other_auction(journal, true)]
     found = []
     if file.commitment != true:
         found.append(
             "its bidder saw another commitment.json, of another set-up, chain, or key: it was "
-            "shown another one, or changed its file"
+            f"shown another one, or changed its file{kinds}"
         )
     judged = [(kept, list(false_words(true, kept))) for kept in file.receipts]
     found += [fault for _, words in judged for fault in words]
@@ -244,6 +246,20 @@ def faults(
     found += [fault for kept in receipts for fault in other_sheet(kept)]
     found += unsent(receipts, file.sent) + repeated(file)
     return found + differences(receipts, sheets_in(journal), token)
+
+
+def kinds_in_words(this: bool, that: bool) -> str:
+    """Which one of two is of a mock auction, if not both or none are."""
+    if this == that:
+        return ""
+    return ". It is of a mock auction" if this else ". This one is not of a mock auction"
+
+
+def other_auction(journal: bytes, commitment: Commitment) -> str:
+    """The words for a journal that is of another auction than the commitment."""
+    is_mock = any(is_mock_token(sheet.token) for sheet in sheets_in(journal))
+    kinds = kinds_in_words(is_mock, commitment.mock)
+    return f"the journal is of another auction than the commitment{kinds}"
 
 
 def differences(receipts: list[Kept], sheets: list[Sheet], token: str) -> list[str]:

@@ -5,6 +5,8 @@ import json
 from pathlib import Path
 from typing import Self
 
+from auction.mock import Kind, kind_of_value
+
 
 @dataclasses.dataclass(frozen=True)
 class Product:
@@ -27,6 +29,7 @@ class Setup:
     products: list[Product]
     bidders: list[str]
     tokens: dict[str, str]
+    kind: Kind = Kind.REAL
 
     @classmethod
     def read(cls, path: Path) -> Self:
@@ -38,7 +41,8 @@ class Setup:
                 Product(each["name"], each["units"], each["supply"]) for each in value["products"]
             ]
             tokens = {bidder["token"]: bidder["name"] for bidder in value["bidders"]}
-            return cls(document, value["version"], products, list(tokens.values()), tokens)
+            names, kind = list(tokens.values()), kind_of_value(value)
+            return cls(document, value["version"], products, names, tokens, kind)
         except (KeyError, TypeError, ValueError) as error:
             raise ValueError(f"{path} is not a set-up document: {error!r}") from error
 

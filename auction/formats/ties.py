@@ -55,18 +55,20 @@ class Committed:
 class Commitment:
     """What is published before round 1: the set-up's digest, the chain, and the key in base64.
 
-    Without a chain, closings have no tie-breaking numbers.
+    Without a chain, closings have no tie-breaking numbers. That of a mock auction says so.
     """
 
     auction: str
     chain: Committed | None
     key: str
+    mock: bool = False
 
     @classmethod
     def of(cls, value: Any) -> Self:
         """The commitment in a JSON value."""
         try:
-            has_keys(value, "auction", "chain", "key")
+            mock = value.get("mock", False)
+            has_keys(value, "auction", "chain", "key", *(["mock"] if mock is True else []))
             chain = value["chain"]
             if chain is not None:
                 has_keys(chain, "draw", "end", "length")
@@ -78,7 +80,7 @@ class Commitment:
             key = base64.b64decode(value["key"], validate=True)
             if len(key) != 44 or not key.startswith(KEY_HEAD):
                 raise ValueError("the key")
-            return cls(bytes_of(value["auction"], SEED).hex(), chain, value["key"])
+            return cls(bytes_of(value["auction"], SEED).hex(), chain, value["key"], mock)
         except (AttributeError, KeyError, TypeError, ValueError, binascii.Error) as error:
             raise TiesFault(f"this is not a commitment: {error}") from error
 
@@ -97,7 +99,8 @@ class Commitment:
             "end": self.chain.end.hex(),
             "length": self.chain.length,
         }
-        return {"auction": self.auction, "chain": chain, "key": self.key}
+        mark = {"mock": True} if self.mock else {}
+        return {"auction": self.auction, "chain": chain, "key": self.key, **mark}
 
 
 @dataclasses.dataclass(frozen=True)

@@ -4,7 +4,8 @@ import stat
 import subprocess
 import time
 
-from auction import persons
+from auction import mock, persons
+from auction.formats.ties import Commitment
 
 from . import maps
 from .auction import Auction
@@ -29,8 +30,14 @@ def set_up(auction: Auction) -> str:
     )
     weak = [bidder["name"] for bidder in setup["bidders"] if len(set(bidder["token"])) < 5]
     ensure(not weak, f"draw tokens at random: {', '.join(weak[:5])}")
+    committed = auction.folder / "public/commitment.json"
+    kind = mock.kind_of_value(setup)
+    is_mock = Commitment.read(committed).mock if committed.exists() else kind is mock.Kind.MOCK
+    fault = mock.disagreement(kind, is_mock)
+    ensure(not fault, str(fault))
     counts = f"{len(setup['products'])} products, {len(setup['bidders'])} bidders"
-    return f"{counts}, version {setup['version']}"
+    shown = f"{mock.WORDS} " if is_mock else ""
+    return f"{shown}{counts}, version {setup['version']}"
 
 
 def secrets(auction: Auction) -> str:

@@ -8,7 +8,7 @@ import socket
 from collections.abc import Callable
 from pathlib import Path
 
-from auction import persons
+from auction import mock, persons
 from auction.formats.journal import HEAD, head_of
 
 from .auction import Auction
@@ -76,10 +76,14 @@ def first_token(auction: Auction) -> str:
 def bidders_port(auction: Auction) -> str:
     """What bidders see: the pages, and no page of another auction in nginx's cache."""
     port, token = auction.bidders_port, first_token(auction)
+    kind = mock.kind_of_value(auction.setup)
+    is_mock = kind is mock.Kind.MOCK
     for path, file in (("/", "web/index.html"), ("/openapi.json", "openapi.json")):
         status, page = auction.ask(port, path)
         ensure(status == 200, f"{path} is {status}: may {auction.worker or 'nginx'} read {file}?")
         ensure(page == (auction.folder / file).read_bytes(), f"{path} is not {file}")
+        marks = path != "/" or (mock.BANNER.encode() in page) == is_mock
+        ensure(marks, f"{path} does not show {kind.value}: make the folder with `auction init`")
     ensure(
         auction.page(port, "/v1/products")["products"] == auction.setup["products"],
         "nginx shows the products of another auction: empty tmp/cache",

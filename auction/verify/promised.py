@@ -2,6 +2,7 @@
 import hashlib
 from collections.abc import Iterable
 
+from auction import mock
 from auction.formats import lots, notices, receipts, strict, ties
 from auction.recount.formats import closing_in, json_in, request_in
 
@@ -35,10 +36,14 @@ def check_commitment(case: Case) -> str:
             f"{COMMITMENT} is about the set-up {commitment.auction}, but this one is "
             f"{case.setup_digest}"
         )
+    tokens = [case.setup.operator, *(bidder.token for bidder in case.setup.bidders)]
+    if fault := mock.disagreement(mock.kind_of(tokens), commitment.mock):
+        raise Failed(fault)
     if commitment.chain and commitment.chain.draw:
         raise Failed(f"{COMMITMENT} has the result of a draw, so it fixed nothing before the draw")
     chain = "a chain of seeds" if commitment.chain else "closings without tie-breaking numbers"
-    return f"it is about this set-up, and fixed {chain} and the key of receipts"
+    shown = f"{mock.WORDS} " if commitment.mock else ""
+    return f"{shown}it is about this set-up, and fixed {chain} and the key of receipts"
 
 
 def check_draw(case: Case) -> str:

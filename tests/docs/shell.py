@@ -82,6 +82,7 @@ class Shell:
         text = text.replace(" -g auction-nginx", group)
         text = text.replace("/usr/share/clock-auction", str(self.folder / "repository"))
         text = text.replace("/var/lib/private/clock_auction", str(self.folder / "journal"))
+        text = text.replace("/srv/mock", str(self.folder / "mock"))
         return text.replace("/srv/auction", str(self.folder / "auction"))
 
     # ---- What is typed

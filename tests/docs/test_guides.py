@@ -133,6 +133,14 @@ def test_operators_guide_leads_from_nothing_to_a_verified_auction(shell: StartSh
     machine.shell.type_text(machine.text(), machine.moves())
 
 
+def test_mock_auction_is_made_and_put_away(shell: StartShell) -> None:
+    typed = shell()
+    typed.type_text(sections_of("operators.md")["Mock auction"])
+    folders = typed.folder / "mock/past", typed.folder / "auction"
+    found = [path for folder in folders for path in folder.rglob("commitment.json")]
+    assert [json.loads(path.read_text()).get("mock", False) for path in found] == [True, False]
+
+
 def times_of_day(first: int) -> dict[str, str]:
     """The times of the timetable in docs/operators.md, each with the time to type instead.
 
