@@ -17,6 +17,7 @@ from auction.commands import (
     lots,
     maps,
     persons,
+    practice,
     ready,
     receipts,
     record,
@@ -49,6 +50,7 @@ COMMANDS: tuple[Command, ...] = (
     check_receipts.COMMAND,
     recount.COMMAND,
     explain.COMMAND,
+    practice.COMMAND,
 )
 
 

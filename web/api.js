@@ -72,7 +72,7 @@ export class Asker {
   async #send(path, method, body) {
     const headers = this.#token ? { authorization: "Bearer " + this.#token } : {};
     try {
-      return await fetch(path, {
+      return await fetch("." + path, {
         method,
         headers,
         cache: "no-store",

@@ -65,7 +65,7 @@ export const printedWords = (of, now) =>
 /** Shows the name of the auction, if the operator has published one. */
 export async function showName() {
   try {
-    const reply = await fetch("/public/names.json", { cache: "no-cache", credentials: "omit" });
+    const reply = await fetch("./public/names.json", { cache: "no-cache", credentials: "omit" });
     const { title } = reply.ok ? await reply.json() : { title: "" };
     if (title) tell("auction", title);
   } catch { /* the page says so elsewhere if nothing answers */

@@ -138,7 +138,7 @@ function drawChart({ name, points }) {
 /** A published page, or null if it is not there yet. */
 async function page(path) {
   const signal = within(20_000);
-  const reply = await fetch(path, { cache: "no-cache", credentials: "omit", signal });
+  const reply = await fetch("." + path, { cache: "no-cache", credentials: "omit", signal });
   if (reply.ok) return reply.json();
   if (reply.status === 404) return null;
   const refusal = await reply.json().catch(() => ({}));

@@ -7,7 +7,7 @@ import {markPage} from "./mock.js";
 import {at, counted, make, tell} from "./page.js";
 import {closingWords} from "./shown.js";
 
-const TIMETABLE = "/public/timetable.json", ANNOUNCEMENTS = "/public/announcements.json";
+const TIMETABLE = "./public/timetable.json", ANNOUNCEMENTS = "./public/announcements.json";
 const EVERY = 2000;
 const SELDOM = 10_000; // milliseconds between two requests; the longer one if there is no timetable
 const CALLED =

@@ -7,6 +7,7 @@ import pytest
 
 from tests.browser.conftest import first_browser, x  # noqa: F401
 from tests.lib.paths import TOP
+from tests.practice.hosting import Small
 from tests.practice.practice import Practice
 
 Start = Callable[..., Practice]
@@ -32,3 +33,10 @@ def start(clone: pathlib.Path, program: pathlib.Path) -> Iterator[Start]:
     yield begin
     for practice in started:
         practice.stop()
+
+
+@pytest.fixture
+def small(program: pathlib.Path, tmp_path: pathlib.Path) -> Iterator[Small]:
+    small = Small(tmp_path, program, 2)
+    yield small
+    small.stop()

@@ -6,11 +6,13 @@ import pathlib
 import shutil
 import signal
 import subprocess
-import sys
+import threading
 import time
 from typing import Any
 
-TOP = pathlib.Path(__file__).resolve().parents[2]
+from auction.installed import TOP
+from auction.practice import PracticeFault
+
 BUILT = TOP / "crates" / "clock_auction" / "out" / "clock_auction"
 UNPROVED = TOP / "out" / "unproved" / "clock_auction"
 CONNECTIONS = 1_000_000
@@ -24,9 +26,9 @@ def program_of(given: pathlib.Path | None) -> pathlib.Path:
         if os.access(path, os.X_OK):
             return path.absolute()
     if given:
-        sys.exit(f"{given} is not a program.")
+        raise PracticeFault(f"{given} is not a program.")
     if not shutil.which("rt"):
-        sys.exit(
+        raise PracticeFault(
             "There is no server to practice with: no built program, no `clock_auction` on the "
             "PATH, and no `rt`."
         )
@@ -36,22 +38,28 @@ def program_of(given: pathlib.Path | None) -> pathlib.Path:
 def unproved() -> pathlib.Path:
     """The unproved program, compiled unless it is there already. A line shows the progress."""
     print("There is no built program, so this takes an unproved one.", flush=True)
-    compiled = subprocess.run([TOP / "tools" / "try-program"], stdout=subprocess.DEVNULL)
-    if compiled.returncode:
-        sys.exit("Without a program there is no practice.")
+    command = [TOP / "tools" / "try-program"]
+    if subprocess.run(command, stdout=subprocess.DEVNULL, check=False).returncode:
+        raise PracticeFault("Without a program there is no practice.")
     return UNPROVED
 
 
 class Server:
-    """One auction on a port of this machine, with its journal in a folder."""
+    """One auction on a port of this machine, with its journal in a folder.
 
-    def __init__(self, program: pathlib.Path, folder: pathlib.Path, port: int) -> None:
-        self.program, self.folder, self.port, self.log = (
-            program,
-            folder,
-            port,
-            folder / "server.log",
-        )
+    `news` is set when a sheet is accepted. `before` has words that begin the command, such as
+    those that bound what the server may use.
+    """
+
+    def __init__(
+        self,
+        program: pathlib.Path,
+        folder: pathlib.Path,
+        port: int,
+        before: tuple[str, ...] = (),
+    ) -> None:
+        self.program, self.folder, self.port = program, folder, port
+        self.log, self.news = folder / "server.log", threading.Event()
         words = [
             "serve",
             "--setup",
@@ -63,7 +71,7 @@ class Server:
         with open(self.log, "wb") as log:
             # Ctrl+C must reach only this script.
             self.process = subprocess.Popen(
-                [str(program), *words],
+                [*before, str(program), *words],
                 stdin=subprocess.DEVNULL,
                 stdout=log,
                 stderr=log,
@@ -71,7 +79,7 @@ class Server:
             )
 
     def wait(self) -> None:
-        """Returns once the server answers. Ends the script if the server ends first."""
+        """Returns once the server answers. A PracticeFault if the server ends first."""
         given_up = time.monotonic() + PATIENCE
         while time.monotonic() < given_up:
             try:
@@ -80,11 +88,10 @@ class Server:
             except OSError:
                 pass
             if self.process.poll() is not None:
-                sys.exit(
-                    f"The server ended: {self.log.read_text(errors='replace')[-2000:].strip()}"
-                )
+                said = self.log.read_text(errors="replace")[-2000:].strip()
+                raise PracticeFault(f"The server ended: {said}")
             time.sleep(0.05)
-        sys.exit(
+        raise PracticeFault(
             f"The server did not answer within {PATIENCE} seconds. Its output is in {self.log}."
         )
 
@@ -106,7 +113,10 @@ class Server:
                 method, path, body, {"authorization": authorization} if authorization else {}
             )
             reply = link.getresponse()
-            return reply.status, reply.read()
+            page = reply.read()
+            if method == "PUT" and reply.status == 200:
+                self.news.set()
+            return reply.status, page
         finally:
             link.close()
 
@@ -115,12 +125,13 @@ class Server:
     ) -> dict[str, Any]:
         """Returns the page for a path, after sending a value if there is one.
 
-        A refusal ends the script.
+        A PracticeFault if it is refused.
         """
         body = None if value is None else json.dumps(value, separators=(",", ":")).encode()
         status, page = self.send(
             "GET" if body is None else method, path, f"Bearer {token}" if token else None, body
         )
         if status != 200:
-            sys.exit(f"The server refused {path}: {page.decode(errors='replace')}")
-        return json.loads(page)
+            raise PracticeFault(f"The server refused {path}: {page.decode(errors='replace')}")
+        found: dict[str, Any] = json.loads(page)
+        return found

@@ -1,16 +1,16 @@
 """Publishes a practice for the pages, in the files and formats of a real auction."""
-import datetime
 import json
 import pathlib
 import time
+from collections.abc import Callable
 from typing import Any
 
+from auction.conductor.clock import utc
 
-def utc(seconds: float) -> str:
-    """A time in the format of published files."""
-    return datetime.datetime.fromtimestamp(seconds, datetime.timezone.utc).strftime(
-        "%Y-%m-%dT%H:%M:%SZ"
-    )
+
+def say(text: str) -> None:
+    """Shows words in the terminal."""
+    print(f"\n{time.strftime('%H:%M:%S')}  {text}", flush=True)
 
 
 def put(path: pathlib.Path, page: object) -> None:
@@ -23,21 +23,28 @@ def put(path: pathlib.Path, page: object) -> None:
 class Board:
     """The files of a folder's `public`."""
 
-    def __init__(self, folder: pathlib.Path, notice: str, worth: list[list[int]]) -> None:
+    def __init__(
+        self,
+        folder: pathlib.Path,
+        notice: str,
+        worth: list[list[int]],
+        say: Callable[[str], None] = say,
+    ) -> None:
         self.public = folder / "public"
-        self.always = {"notice": notice, "worth": worth}
+        self.always: dict[str, Any] = {"notice": notice, "worth": worth}
+        self.say = say
         self.announced: list[dict[str, Any]] = []
         self.windows: list[dict[str, Any]] = []
         (self.public / "rounds").mkdir(parents=True)
 
     def announce(self, text: str) -> None:
-        """Shows words to the player, on the page and in the terminal."""
+        """Shows words to the player, on the page and in the terminal if there is one."""
         number = len(self.announced) + 1
         self.announced.append(
             {"key": f"practice-{number}", "number": number, "text": text, "time": utc(time.time())}
         )
         put(self.public / "announcements.json", {"announcements": self.announced})
-        print(f"\n{time.strftime('%H:%M:%S')}  {text}", flush=True)
+        self.say(text)
 
     def open_round(self, number: int, closes: float | None, note: str | None = None) -> None:
         """Adds the window of a round to the timetable."""

@@ -1,18 +1,20 @@
-"""The end of a practice: the player's blocks and gain, the gain of a bidder with its values, and
-the recounts.
+"""The end of a practice: the player's blocks and gain, the gain of a bidder with its values, which
+round cost what, and the recounts.
 """
-import json
 import pathlib
 import subprocess
 import sys
 
-from practicing.game import Game
-from practicing.rounds import Ending
-from practicing.server import TOP, Server
+from auction.installed import TOP
+from auction.practice.costs import Played, costs, outcome
+from auction.practice.game import Game
+from auction.practice.rounds import Ending
+from auction.practice.server import Server
+from auction.recount.rules import recounted
 
 AUCTION = TOP / "auction" / "bin" / "auction"
-MORE = 100  # closings that a replay may need beyond those that were sent
 LINES = 40  # lines of a recount that the terminal shows
+SHOWN = 4  # rounds whose cost is said
 
 
 def blocks_words(game: Game, demands: list[int]) -> str:
@@ -44,30 +46,36 @@ def your_words(game: Game, ending: Ending) -> str:
     )
 
 
-def sincere_words(program: pathlib.Path, game: Game, ending: Ending) -> str:
+def played_in(game: Game, ending: Ending, folder: pathlib.Path) -> Played:
+    """The auction of a folder, with the sheets of its journal."""
+    document = (folder / "setup.json").read_bytes()
+    counted = recounted(document, (folder / "auction.journal").read_bytes())
+    return Played(game, [one.sheets for one in counted.auction.rounds], ending.closings)
+
+
+def sincere_words(played: Played) -> str:
     """The words for what a bidder that follows the player's values would have won.
 
-    A replay with the same tie-breaking numbers computes it. Empty if it has no result, such as for
-    values whose activity is above the eligibility.
+    Empty if that has no result, such as for values whose activity is above the eligibility.
     """
-    more = {**ending.closings[-1], "ties": []}
-    scripts = [{"kind": "sincere", "limits": rows} for rows in game.values]
-    document = json.dumps(
-        {"closings": [*ending.closings, *[more] * MORE], "scripts": scripts, "setup": game.setup}
-    )
-    played = subprocess.run([program, "replay"], input=document, capture_output=True, text=True)
-    lines = [line.split() for line in played.stdout.splitlines()]
-    won = [line for line in lines if line[:2] == ["won", game.names[game.you]]]
-    if played.returncode or not won:
+    if not (end := outcome(played, 1)):
         return ""
-    demands, last_round = [int(blocks) for blocks in won[0][2:-1]], lines[: -len(game.names)][
-        -len(game.products) :
-    ]
-    gain = game.gain(game.you, demands, [int(line[3]) for line in last_round])
     return (
         " A bidder that follows your values in every round would have won "
-        f"{blocks_words(game, demands)} for {dollars(int(won[0][-1]))}: a gain of {dollars(gain)}."
+        f"{blocks_words(played.game, end.demands)} for {dollars(end.pays)}: "
+        f"a gain of {dollars(end.gain)}."
     )
+
+
+def costs_words(found: dict[int, int]) -> str:
+    """The words for what the rounds cost, the dearest ones in their order."""
+    dearest = sorted(found, key=lambda number: (-abs(found[number]), number))[:SHOWN]
+    said = [
+        f"round {number} {'cost' if found[number] > 0 else 'gained'} you "
+        f"{dollars(abs(found[number]))}"
+        for number in sorted(dearest)
+    ]
+    return f" Compared with that, {', '.join(said)}." if said else ""
 
 
 def recounts(program: pathlib.Path, folder: pathlib.Path) -> dict[str, str]:
@@ -82,7 +90,7 @@ def recounts(program: pathlib.Path, folder: pathlib.Path) -> dict[str, str]:
         "clock_auction audit": audit,
     }
     done = {
-        name: subprocess.run(command, capture_output=True, text=True)
+        name: subprocess.run(command, capture_output=True, text=True, check=False)
         for name, command in commands.items()
     }
     return {name: each.stdout + each.stderr for name, each in done.items()}
@@ -114,7 +122,7 @@ def recount_words(program: pathlib.Path, ending: Ending, folder: pathlib.Path) -
     )
 
 
-def finish(game: Game, ending: Ending, server: Server) -> tuple[str, str]:
-    """The words for the page about the end, and the further words for the terminal."""
-    words = your_words(game, ending) + sincere_words(server.program, game, ending)
-    return words, recount_words(server.program, ending, server.folder)
+def ending_words(game: Game, ending: Ending, server: Server) -> str:
+    """The words for the page about the end."""
+    played = played_in(game, ending, server.folder)
+    return your_words(game, ending) + sincere_words(played) + costs_words(costs(played))

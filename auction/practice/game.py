@@ -4,8 +4,9 @@ import json
 import pathlib
 import random
 import secrets
-import sys
 from typing import Any
+
+from auction.practice import PracticeFault
 
 TOKEN = "PRACTICEPRACTICE"
 YOU = "You"
@@ -62,7 +63,8 @@ class Game:
 
     @property
     def products(self) -> list[dict[str, Any]]:
-        return self.setup["products"]
+        products: list[dict[str, Any]] = self.setup["products"]
+        return products
 
     @property
     def names(self) -> list[str]:
@@ -92,7 +94,7 @@ def drawn_products(chance: random.Random, count: int, version: int) -> list[dict
     for name in names:
         units, supply = 5 * chance.randint(1, 6), chance.randint(3, 6)
         opening = units * chance.randint(7, 13) * 10
-        product = {
+        product: dict[str, Any] = {
             "name": name,
             "units": units,
             "supply": supply,
@@ -194,7 +196,9 @@ def game_of(chance: random.Random, path: pathlib.Path, bidders: int, you: str | 
             return drawn(chance, document, bidders)
         names, products = [bidder["name"] for bidder in document["bidders"]], document["products"]
         if you is not None and you not in names:
-            sys.exit(f"{path}: no bidder is called {you}. The bidders are {', '.join(names)}.")
+            raise PracticeFault(
+                f"{path}: no bidder is called {you}. The bidders are {', '.join(names)}."
+            )
         place = 0 if you is None else names.index(you)
         premiums = [YOUR_PREMIUM if number == place else PREMIUM for number in range(len(names))]
         values = [
@@ -206,7 +210,7 @@ def game_of(chance: random.Random, path: pathlib.Path, bidders: int, you: str | 
         return with_tokens(document, values, place)
     except (OSError, ValueError, KeyError, TypeError, IndexError) as error:
         fault = f"{type(error).__name__} {error}"
-        sys.exit(
+        raise PracticeFault(
             f"{path} is neither a set-up document nor a page of products: {fault}. "
             "See docs/formats.md."
-        )
+        ) from error

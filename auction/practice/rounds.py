@@ -8,10 +8,10 @@ from typing import Any
 
 from auction.formats.journal import Journal
 from auction.formats.setup import Setup
-from bidder import bids_of
-from practicing.game import Game
-from practicing.publishing import Board
-from practicing.server import Server
+from auction.practice.game import Game
+from auction.practice.publishing import Board
+from auction.practice.server import Server
+from auction.practice.sincere import Prices, bids_of
 
 INCREMENT = 10  # percent
 MOST_TIES = 16_384
@@ -19,8 +19,9 @@ LAZY, QUICK = 8, 0.1  # seconds within which rivals bid
 GRACE = 5  # seconds until the closing once everyone has bid
 NAMED = 6  # The most products that an announcement names.
 
+LOOK = 0.5  # seconds after which it looks whether the player has bid, if no sheet has come
+
 Page = dict[str, Any]
-Prices = list[tuple[int, int]]  # for each product, its start-of-round price and its clock price
 
 
 @dataclasses.dataclass(frozen=True)
@@ -92,7 +93,7 @@ class Rounds:
         )
 
     def token(self, bidder: int) -> str:
-        return self.game.setup["bidders"][bidder]["token"]
+        return str(self.game.setup["bidders"][bidder]["token"])
 
     def play(self) -> Ending:
         """Plays all rounds. Returns the end of the auction."""
@@ -130,7 +131,8 @@ class Rounds:
                 everyone = True
                 closes = min(closes or float("inf"), time.time() + self.pace.grace)
                 self.board.close_at(number, closes)
-            time.sleep(0.02 if moments or everyone else 0.1)
+            self.server.news.wait(0.02 if moments or everyone else LOOK)
+            self.server.news.clear()
 
     def bid(self, bidder: int, number: int, prices: Prices) -> None:
         """Sends a scripted bidder's bids, which follow its values."""
@@ -147,7 +149,7 @@ class Rounds:
         token = self.token(self.game.you)
         if self.server.page("/v1/me/bids", token)["bids"] is not None:
             return True
-        return self.server.page("/v1/me", token)["eligibility"] == 0
+        return bool(self.server.page("/v1/me", token)["eligibility"] == 0)
 
     def ties(self) -> list[list[int]]:
         """Draws tie-breaking numbers for all pairs of bidder and product.
@@ -162,12 +164,12 @@ class Rounds:
     def close(self, number: int) -> Page:
         """Closes the round, publishes it, and returns its page."""
         count = len(self.game.products)
-        increment = (
+        increment: Page = (
             {"increments": [INCREMENT] * count}
             if self.game.setup["version"] == 2
             else {"increment": INCREMENT}
         )
-        closing = {**increment, "ties": self.ties()}
+        closing: Page = {**increment, "ties": self.ties()}
         self.server.page(
             "/v1/close", self.game.setup["operator"], {**closing, "round": number}, "POST"
         )
