@@ -50,7 +50,7 @@ class Seen:
 
 
 def why(game: Seen, now: float, limits: Limits) -> Why | None:
-    """Why a game ends now, or None if it goes on."""
+    """Why a game ends now, or None if it continues."""
     if game.failed:
         return Why.FAILED
     if now - game.begun >= limits.longest:
