@@ -51,6 +51,7 @@ from auction.conductor.closing import (
 from auction.conductor.server import NoReply, Operator, Refused
 from auction.formats.journal import Journal, JournalFault
 from auction.formats.setup import Setup
+from auction.standby import mark
 
 
 def arguments(parser: argparse.ArgumentParser) -> None:
@@ -71,6 +72,7 @@ def arguments(parser: argparse.ArgumentParser) -> None:
 
 def auction_of(given: argparse.Namespace) -> Auction:
     setup, folder = Setup.read(pathlib.Path(given.setup)), pathlib.Path(given.folder)
+    mark.check(folder.absolute().parent)
     disk.make_folder(folder, 0o700)
     operator = Operator(
         given.url, pathlib.Path(given.token_file).read_text(encoding="utf-8").strip()

@@ -16,7 +16,6 @@ from auction.standby.mark import FENCED, STANDBY, Mark, Marked
 from tests.lib.conducted import ConductedAuction, conducted
 from tests.lib.paths import AUCTION, auction
 from tests.lib.server import Server
-from tests.lib.waiting import wait_for
 from tests.standby.folders import First, configuration
 
 
@@ -211,3 +210,12 @@ def test_take_over_asks_a_person_once_more(tmp_path: pathlib.Path) -> None:
 def test_take_over_needs_one_fence(tmp_path: pathlib.Path, words: list[str]) -> None:
     done = auction("take-over", tmp_path, *words)
     assert done.returncode == 1 and "give one of --first" in done.stderr
+
+
+@pytest.mark.early
+def test_no_round_is_closed_by_hand(tmp_path: pathlib.Path) -> None:
+    first = First(tmp_path / "a")
+    Mark(FENCED, "taker").store(first.folder)
+    files = [first.folder / name for name in ("operator.token", "setup.json", "auction.journal")]
+    done = auction("close", "http://127.0.0.1:9", *files, first.folder / "kept", "10")
+    assert done.returncode == 1 and "this machine is fenced" in done.stderr
