@@ -2,6 +2,7 @@
 // Escape move in it as in a spreadsheet; columns are sorted by their heads; blocks of cells are
 // pasted, filled down and copied.
 
+import {countWords, isFound, searched, sorted, turned} from "./choosing.js";
 import {COLUMNS, GROUPS, RARE} from "./columns.js";
 import {effectOf, inForceOf, isAbove, rankOf} from "./effects.js";
 import {at, counted, focusedElement, make, number, sentence} from "./page.js";
@@ -117,31 +118,19 @@ export class Grid {
   /** Chooses the rows by search and group, sorts them, and draws those that are seen. */
   lay(isTop = false, isCounted = false) {
     const v = this.#view;
-    const words = at("find").value.trim().toLowerCase().split(/\s+/).filter(Boolean);
+    const words = searched(at("find").value);
     const { isIn } = GROUPS.find(({ id }) => id === this.#group);
     const { products } = v.terms;
-    const places = [];
-    products.forEach((product, p) => {
-      const name = product.name.toLowerCase();
-      if (isIn(v, p) && words.every((word) => name.includes(word))) places.push(p);
-    });
+    const found =
+      [...products.keys()].filter((p) => isIn(v, p) && isFound(products[p].name, words));
     const column = COLUMNS.find(({ id }) => id === this.#sort.id);
-    if (column) {
-      const values = new Map(places.map((p) => [p, column.by(v, p)]));
-      const turn = this.#sort.isDown ? -1 : 1;
-      const collate = new Intl.Collator("en", { numeric: true }).compare;
-      places.sort((a, b) => {
-        const [x, y] = [values.get(a), values.get(b)];
-        return turn * (typeof x === "string" ? collate(x, y) : x - y) || a - b;
-      });
-    }
+    const places = sorted(found, column && ((p) => column.by(v, p)), this.#sort.isDown);
     this.#range = null;
     if (isTop) at("frame").scrollTop = 0;
     this.#rows.set(places.flatMap((p) => this.sheet.steps(p).map((_, step) => keyOf(p, step))));
     at("none").hidden = places.length > 0;
     const isAll = places.length === products.length;
-    at("count").textContent = isAll ? counted(products.length, "product")
-                                    : `${number(places.length)} of ${number(products.length)}`;
+    at("count").textContent = countWords(places.length, products.length, "product");
     at("unfind").hidden = isAll && this.#group === "all" && !words.length;
     if (!isCounted)
       this.#drawGroups();
@@ -222,12 +211,8 @@ export class Grid {
   }
 
   #sortBy(id, isChosen = false) {
-    const isSame = this.#sort.id === id;
-    this.#sort = isChosen
-      ? { id: id || null, isDown: id !== "" && id !== "name" && id !== "effect" }
-      : !isSame           ? { id, isDown: false }
-      : this.#sort.isDown ? { id: null, isDown: false }
-                          : { id, isDown: true };
+    const isDown = id !== "" && id !== "name" && id !== "effect";
+    this.#sort = isChosen ? { id: id || null, isDown } : turned(this.#sort, id);
     for (const head of at("heads").children) {
       const isSorted = head.dataset.id === this.#sort.id;
       head.setAttribute(

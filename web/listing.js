@@ -53,7 +53,7 @@ export class Listing {
     const column = this.#columns.find(({ id }) => id === this.#sort.id);
     const by = column ? (p) => (column.by ?? ((row) => row[column.id] ?? -1))(this.#all[p]) : null;
     if (isTop) at(this.id).scrollTop = 0;
-    this.#rows.set(sorted(places, by, this.#sort.isDown));
+    this.#rows.set(sorted(places, by, this.#sort.isDown).map(String));
     const isNarrowed = words.length > 0;
     if (at(this.id + "count"))
       tell(this.id + "count", countWords(places.length, this.#all.length, this.noun));
@@ -89,12 +89,16 @@ export class Listing {
   #row(place) {
     const row = this.#all[place];
     const [name, ...others] = this.#columns;
-    return make(
+    const drawn = make(
       "tr", { class: this.kind(row) || null },
       make("th", { scope: "row", class: "c-" + name.id }, ...name.cell(row)),
       ...others.map(
         ({ id, head, cell }) => make("td", { class: "c-" + id, "data-label": head }, ...cell(row))
       )
     );
+    // so that a button with the cursor keeps it when the rows are drawn again
+    for (const button of drawn.querySelectorAll("th button"))
+      Object.assign(/** @type {any} */ (button).dataset, { field: "name", key: place });
+    return drawn;
   }
 }

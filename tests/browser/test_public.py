@@ -118,6 +118,17 @@ def test_the_newest_round_comes_first_and_others_can_be_chosen(
     x.becomes(lambda: x.column("clock", "pastbody"), ["$100", "$100"])
 
 
+def test_a_product_with_the_cursor_keeps_it_when_rounds_come(begin: Begin, x: Window) -> None:
+    day = begun(begin)
+    first_closed(day)
+    look(day, x, "Round 2")
+    x.becomes(lambda: x.column("name", "pastbody"), ["A", "B"])
+    x.run("document.querySelector('#pastbody tr:nth-of-type(2) button').focus()")
+    last_closed(day)
+    x.says("caption", "Results of round 2")
+    assert x.run("return document.activeElement.textContent") == "B"
+
+
 def test_products_are_found_and_sorted(after_one: Published, x: Window) -> None:
     look(after_one, x, "Round 2")
     x.becomes(lambda: x.column("name", "pastbody"), ["A", "B"])
