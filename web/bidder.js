@@ -5,9 +5,11 @@ import {Alarm, alarmWords, passed} from "./alarm.js";
 import {Asker, pause, spread, watch} from "./api.js";
 import {drawBars} from "./bars.js";
 import {offerColumns} from "./choice.js";
+import {carriedWords, changeWords, fallWords} from "./closing.js";
 import {readBids, save, writtenBids, writtenRound} from "./csv.js";
 import {auctionMark, draftOf, keepDraft} from "./draft.js";
 import {Grid} from "./grid.js";
+import {judged, keyOf, missingWords, plain} from "./judging.js";
 import {bidsOfFile, loadedWords} from "./kept.js";
 import {
   at,
@@ -30,7 +32,7 @@ import {reviewOf} from "./review.js";
 import {ask} from "./reviewing.js";
 import {wordsOf} from "./rules.js";
 import {Sheet} from "./sheet.js";
-import {afterKey, judged, keyOf, missingWords, plain, shown} from "./shown.js";
+import {afterKey, shown} from "./shown.js";
 import {Times} from "./times.js";
 import {view} from "./views.js";
 
@@ -243,41 +245,6 @@ function change(before, me, terms, inForce) {
   const act = { kind: "closing", round: me.round, isBad: isFall, words };
   state = {...state, me, terms, inForce, undo: "", receipt: null, act };
   receipts.closed(before.round);
-}
-
-const fallWords = (before, me) =>
-  [`The round fell from ${before.round} to ${me.round}: another server answers.`,
-   "Ask the operator before you bid.",
-];
-
-/** What a closing changed for this bidder. */
-function changeWords(before, me, { products }) {
-  const moved = products.filter((_, p) => before.demands[p] !== me.demands[p]).length;
-  const many = `${number(moved)} of ${counted(products.length, "product")}`;
-  const fell = `from ${number(before.eligibility)} to ${number(me.eligibility)}`;
-  return [
-    me.ended ? `The auction has ended after round ${me.round}.`
-             : `Round ${before.round} is closed.`,
-    moved ? `Your processed demand changed in ${many}.` : "Your processed demand did not change.",
-    before.eligibility === me.eligibility ? "" : `Your eligibility fell ${fell}.`,
-  ];
-}
-
-/**
- * How the form was prepared for the next round, in words. `isUnknown` is whether it was not known
- * what was submitted.
- */
-function carriedWords({ maintained, emptied, left }, isUnknown) {
-  const part = (count, one, many) =>
-    count && `${counted(count, "row")} ${count === 1 ? one : many}`;
-  const whose = isUnknown ? "" : "that you had not submitted ";
-  const demand = "demand at the new clock price";
-  const parts = [
-    part(maintained, `maintains ${demand}`, `maintain ${demand}`),
-    part(emptied, "is empty", "are empty"),
-    part(left, `${whose}keeps its quantity`, `${whose}keep their quantity`),
-  ].filter(Boolean);
-  return parts.length ? `In the form, ${parts.join("; ")}: not submitted yet.` : "";
 }
 
 // -- The form

@@ -5,11 +5,11 @@
 import {countWords, isFound, searched, sorted, turned} from "./choosing.js";
 import {COLUMNS, GROUPS, RARE} from "./columns.js";
 import {effectOf, inForceOf, isAbove, rankOf} from "./effects.js";
+import {keyOf} from "./judging.js";
 import {at, counted, focusedElement, make, number, sentence} from "./page.js";
 import {cellsOf, isBlock, isByProduct, placed} from "./paste.js";
 import {VirtualRows} from "./rows.js";
 import {quantityOf} from "./sheet.js";
-import {keyOf} from "./shown.js";
 
 const FIELDS = ["quantity", "price", "add"];
 const FEW = 12;       // products up to which rows are higher

@@ -2,8 +2,9 @@
 // maintained, is given up, what that may cost, and what eligibility is left. Nothing here reads the
 // page, so tests run it in Node.
 
+import {judged} from "./judging.js";
 import {counted, dollars, listed, number} from "./page.js";
-import {judged, shown} from "./shown.js";
+import {shown} from "./shown.js";
 
 const NAMED = 3; // products that a line names
 

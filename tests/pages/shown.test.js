@@ -3,7 +3,8 @@
 import assert from "node:assert/strict";
 import test from "node:test";
 
-import { afterKey, keyOf, shortDollars, shown } from "../../web/shown.js";
+import { keyOf } from "../../web/judging.js";
+import { afterKey, shortDollars, shown } from "../../web/shown.js";
 import { bid, force, form, KEEP, REDUCE, sent, state } from "./states.js";
 
 const OFF = { silent: true };

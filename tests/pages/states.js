@@ -1,7 +1,7 @@
 // States of the page of a bidder for tests: two products, round 2, a demand of two blocks of A.
 // `state` changes what differs.
 
-import { plain } from "../../web/shown.js";
+import { plain } from "../../web/judging.js";
 
 const products = [
   { name: "A", units: 1, supply: 2, cap: 4, opening: 100 },
