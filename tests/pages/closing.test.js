@@ -34,7 +34,8 @@ for (const [name, before, after, words] of [
 }
 
 test("a round that falls is another server's", () => {
-  assert.match(fallWords({ round: 5 }, { round: 2 })[0], /fell from 5 to 2: another server answers/);
+  const [words] = fallWords({ round: 5 }, { round: 2 });
+  assert.match(words, /fell from 5 to 2: another server answers/);
 });
 
 for (const [name, counts, isUnknown, words] of [
