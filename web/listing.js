@@ -34,6 +34,12 @@ export class Listing {
     this.#rows = new VirtualRows(frame, frame.querySelector("tbody"), (key) => this.#row(key));
     this.#drawHeads(frame.querySelector("thead"));
     at(id + "find")?.addEventListener("input", () => this.lay(true));
+    // the count is read out after a search, and not because a round was closed
+    for (const [event, live] of [["focus", "polite"], ["blur", "off"]]) {
+      at(id + "find")?.addEventListener(event, () => {
+        at(id + "count").setAttribute("aria-live", live);
+      });
+    }
     at(id + "clear")?.addEventListener("click", () => this.clear());
   }
 
