@@ -6,7 +6,7 @@ import {Asker, pause, spread, watch} from "./api.js";
 import {drawBars} from "./bars.js";
 import {offerColumns} from "./choice.js";
 import {carriedWords, changeWords, fallWords} from "./closing.js";
-import {readBids, save, writtenBids, writtenRound} from "./csv.js";
+import {readBids, readValues, save, writtenBids, writtenRound} from "./csv.js";
 import {auctionMark, draftOf, keepDraft} from "./draft.js";
 import {Grid} from "./grid.js";
 import {judged, keyOf, missingWords, plain} from "./judging.js";
@@ -320,6 +320,11 @@ function takeText(text, what, words) {
   const { bids, wrong } = readBids(state.terms.products, text);
   if (!wrong.length)
     return fill(what, () => sheet.take(bids), `${counted(bids.length, "bid")} ${words}.`);
+  tellLines(wrong, words);
+}
+
+/** Lists the wrong lines of a file or a paste. */
+function tellLines(wrong, words) {
   at("lines").replaceChildren(...wrong.slice(0, 1000).map((line) => make("li", {}, line)));
   acted("failed", { words: `Not ${words}: ${counted(wrong.length, "wrong line")}.` });
 }
@@ -345,6 +350,19 @@ function downloadRound() {
   const sold = past.products(lastClosed(me)) ?? null;
   const text = writtenRound(terms, sold, (p) => sheet.steps(p));
   save(`round-${me.round}-${me.name}.csv`, text);
+}
+
+/** Takes what blocks are worth from a file, which stays in this tab's memory only. */
+async function uploadValues(event) {
+  const [file] = event.target.files, text = await file.text().catch(() => "");
+  event.target.value = "";
+  const found = readValues(state.terms.products, text);
+  if (found.wrong.length) return tellLines(found.wrong, "loaded");
+  worth = found.worth;
+  const count = counted(worth.filter((values) => values.length > 0).length, "product");
+  clearLines();
+  draw();
+  acted("filled", { words: `The values of ${count} are loaded, in this tab only.` });
 }
 
 /** Takes the bids of past rounds from a receipts file. */
@@ -588,6 +606,7 @@ onMenu("receipts", () => receipts.save());
 at("back").addEventListener("click", copyInForce);
 at("up").addEventListener("change", upload);
 at("upreceipts").addEventListener("change", uploadReceipts);
+at("upvalues").addEventListener("change", uploadValues);
 document.addEventListener("click", ({ target }) => {
   for (const menu of ["menu", "columns"])
     if (!at(menu).contains(target)) at(menu).open = false;

@@ -100,6 +100,29 @@ export function readBids(products, text) {
   return { bids, wrong };
 }
 
+/**
+ * What blocks are worth to a bidder, by a text with lines `product,value,value,..`: the value of the
+ * first block, of the second one, and so on. Returns a list for each product, and the wrong lines in
+ * words.
+ */
+export function readValues(products, text) {
+  const places = new Map(products.map(({ name }, p) => [name, p]));
+  const worth = products.map(() => []), wrong = [];
+  text.replace(/^\ufeff/, "").split(/\r\n|\n|\r/).forEach((line, at) => {
+    const [name, ...fields] = fieldsOf(line);
+    const given = fields.filter((field) => field !== "");
+    if (!name || (at === 0 && name.toLowerCase() === "product")) return;
+    const values = given.map(priceOf);
+    if (!places.has(name))
+      wrong.push(`line ${at + 1}: no product is called ${name.slice(0, 40)}`);
+    else if (values.includes(null))
+      wrong.push(`line ${at + 1}: a value is not a whole number of dollars`);
+    else
+      worth[places.get(name)] = values;
+  });
+  return { worth, wrong };
+}
+
 /** Gives a text to the person as a file. */
 export function save(name, text) {
   const link = document.createElement("a");

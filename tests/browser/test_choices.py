@@ -142,6 +142,27 @@ def test_a_closing_takes_the_review_away(auction: Auction, x: Window) -> None:
     x.says("force", "No bids in force")
 
 
+# ---- Values
+
+
+def test_a_price_above_what_a_block_is_worth_is_marked(
+    auction: Auction, x: Window, downloads
+) -> None:
+    enter(auction, x)
+    x.bid(0, 1, 100)
+    file = downloads / "values.csv"
+    file.write_text("product,first,second\nA,90,80\nB,200\n")
+    x.at("upvalues").send_keys(str(file))
+    x.says("message", "The values of 2 products are loaded, in this tab only.")
+    assert x.row(0) == "Its last block is worth less than the clock price."
+    x.group("above")
+    x.becomes(lambda: x.column("name"), ["A"])
+    x.group("all")
+    file.write_text("C,1\n")
+    x.at("upvalues").send_keys(str(file))
+    x.says("message", "Not loaded: 1 wrong line.")
+
+
 # ---- Bids of past rounds
 
 

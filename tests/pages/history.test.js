@@ -3,7 +3,7 @@
 import assert from "node:assert/strict";
 import test from "node:test";
 
-import { readBids, writtenRound } from "../../web/csv.js";
+import { readBids, readValues, writtenRound } from "../../web/csv.js";
 import { keepSheets, sheetsOf } from "../../web/draft.js";
 import {
   bidWords, fileOf, ownWords, pointsOf, pointWords, productByRound, progressWords, shownPast,
@@ -216,3 +216,18 @@ test("the columns of a file may be in another order", () => {
   const { bids } = readBids(PRODUCTS, "price,quantity,product\n105,1,A\n");
   assert.deepEqual(bids, [{ product: 0, quantity: 1, price: 105 }]);
 });
+
+// ---- What blocks are worth
+
+for (const [name, text, worth, wrong] of [
+  ["nothing", "", [[], []], 0],
+  ["both, with a head", "product,first,second\nA,120,90\nB,60\n", [[120, 90], [60]], 0],
+  ["of a spreadsheet", "A;$1,200;900;\r\n;;\r\n", [[1200, 900], []], 0],
+  ["no product of the auction", "C,1\nA,5\n", [[5], []], 1],
+  ["no number", "A,1,x\n", [[], []], 1],
+]) {
+  test(`values of a file: ${name}`, () => {
+    const found = readValues(PRODUCTS, text);
+    assert.deepEqual([found.worth, found.wrong.length], [worth, wrong]);
+  });
+}
