@@ -94,7 +94,7 @@ def play(window: Window, played: Played, pictures: pathlib.Path | None) -> None:
     window.open(played.practice.address("results.html"))
     window.until("the winners", lambda: len(window.rows("wonbody")) == 4)
     rows = window.rows("wonbody")
-    played.payments = [row["Payment"] for row in rows if row["0"] == "You"]
+    played.payments = [row["pays"] for row in rows if row["name"] == "You"]
     if pictures:
         window.picture(pictures / "results.png", 1440)
 
