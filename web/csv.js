@@ -101,9 +101,9 @@ export function readBids(products, text) {
 }
 
 /**
- * What blocks are worth to a bidder, by a text with lines `product,value,value,..`: the value of the
- * first block, of the second one, and so on. Returns a list for each product, and the wrong lines in
- * words.
+ * What blocks are worth to a bidder, by a text with lines `product,value,value,..`: the value of
+ * the first block, of the second one, and so on. Returns a list for each product, and the wrong
+ * lines in words.
  */
 export function readValues(products, text) {
   const places = new Map(products.map(({ name }, p) => [name, p]));
