@@ -135,7 +135,8 @@ def make_folders(folder: pathlib.Path) -> None:
         if is_of_workers:
             os.chown(path, -1, group)
         path.chmod(mode)
-    (folder / "log" / "access.log").touch(PRIVATE)
+    for name in ("access.log", "refused.log"):
+        (folder / "log" / name).touch(PRIVATE)
     if group != -1:
         # The count of links of receipts/ and the length of log/access.log show who has bid.
         os.chown(folder, -1, group)

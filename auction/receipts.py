@@ -1,5 +1,6 @@
 """Receipts: each accepted sheet is signed. All that a look finds appear at the next second."""
 import fcntl
+import json
 import os
 import time
 from collections import Counter
@@ -9,7 +10,7 @@ from typing import Protocol
 
 from auction.conductor import disk
 from auction.formats.journal import Entry, Journal, JournalFault
-from auction.formats.receipts import Receipt
+from auction.formats.receipts import Receipt, Refusal, time_of
 from auction.formats.setup import Setup
 from auction.formats.signatures import secret_key
 
@@ -102,12 +103,53 @@ class Shelf:
         return {name: text for name, text in self.lacks[side].items() if text_of(name) != text}
 
 
+class Refusals:
+    """The sheets that nginx refused because no window was open, from nginx's log of them."""
+
+    def __init__(self, path: Path | None, setup: Setup) -> None:
+        self.path, self.setup, self.place = path, setup, 0
+        self.last: dict[str, Refusal] = {}
+
+    def read_on(self) -> list[Refusal]:
+        """The last refusal of each bidder that has one since the last call.
+
+        The log is brought to the disk first, so a refusal keeps its number after a loss of power.
+        """
+        if self.path is None or not self.path.exists():
+            return []
+        with open(self.path, "rb") as file:
+            file.seek(self.place)
+            text = file.read()
+            whole = text[: text.rfind(b"\n") + 1]
+            if whole:
+                os.fsync(file.fileno())
+        self.place += len(whole)
+        before = self.last.copy()
+        for line in whole.splitlines():
+            self.take(line)
+        return [one for name, one in self.last.items() if one != before.get(name)]
+
+    def take(self, line: bytes) -> None:
+        """Counts a line of the log. A full disk may have left a part of one, which counts not."""
+        try:
+            value = json.loads(line)
+            bidder, by, time_ = value["bidder"], value["by"], time_of(value["second"])
+        except (ValueError, LookupError, TypeError):
+            return
+        if bidder in self.setup.bidders and time_:
+            number = self.last[bidder].number + 1 if bidder in self.last else 1
+            self.last[bidder] = Refusal(self.setup.digest, bidder, by, number, time_)
+
+
 class Signer:
     """Signs by the secret key, for a folder that nginx reads."""
 
-    def __init__(self, sheets: Sheets, secret: bytes, folder: Path) -> None:
+    def __init__(
+        self, sheets: Sheets, secret: bytes, folder: Path, refused: Path | None = None
+    ) -> None:
         self.sheets, self.key = sheets, secret_key(secret)
         self.folder, self.shelf = folder, Shelf(folder, sheets.setup.bidders)
+        self.refusals = Refusals(refused, sheets.setup)
         self.unseen = 0
 
     def look(self) -> None:
@@ -123,6 +165,9 @@ class Signer:
             page = receipt.page(self.key.sign(receipt.message()))
             self.shelf.add(f"{receipt.bidder}/{receipt.round}-{receipt.sheet}.json", page)
         self.sheets.fresh.clear()
+        for refusal in self.refusals.read_on():
+            page = refusal.page(self.key.sign(refusal.message()))
+            self.shelf.add(f"{refusal.bidder}/refused.json", page)
         self.unseen = self.shelf.write()
 
     def show(self) -> int:

@@ -13,6 +13,9 @@ A receipt is RECEIPTS/BIDDER/ROUND-K.json for the K-th sheet of the bidder in th
 moment and started again. With --once it signs what the journal has, and ends. Otherwise it runs on
 until it is stopped.
 
+With --refused it also signs when a sheet was refused because no window was open. RECEIPTS has the
+last of each bidder as BIDDER/refused.json.
+
 If the journal cannot be read, it says so, and tries again. It ends if receipts.pem is no longer the
 file that it read. Only one process at a time signs by this file.
 """
@@ -32,6 +35,9 @@ def arguments(parser: argparse.ArgumentParser) -> None:
     parser.add_argument("journal", metavar="JOURNAL", type=pathlib.Path)
     parser.add_argument("folder", metavar="FOLDER", type=pathlib.Path)
     parser.add_argument("receipts", metavar="RECEIPTS", type=pathlib.Path)
+    parser.add_argument(
+        "--refused", metavar="LOG", type=pathlib.Path, help="nginx's log of refused sheets"
+    )
     parser.add_argument("--once", action="store_true", help="sign what the journal has, and end")
 
 
@@ -46,7 +52,7 @@ def run(given: argparse.Namespace) -> int:
             sys.exit(f"auction receipts: there is no folder {given.receipts}")
         sheets = Sheets(given.journal, Setup.read(given.setup))
         key = Key(given.folder / "receipts.pem")
-        signer = Signer(sheets, key.secret, given.receipts)
+        signer = Signer(sheets, key.secret, given.receipts, given.refused)
         if given.once:
             signer.look()
             say(f"receipts {signer.show()}")

@@ -19,6 +19,7 @@ OWN = (
     "gate",
     "kept",
     "letters",
+    "log/refused.log",
     "operator",
     "persons.csv",
     "persons.lock",

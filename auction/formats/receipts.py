@@ -63,6 +63,31 @@ class Receipt:
 
 
 @dataclasses.dataclass(frozen=True)
+class Refusal:
+    """A sheet that nginx refused because no window was open, as the operator signs it.
+
+    `number` counts this bidder's refused sheets, from 1. Of the sheet, only the time is known.
+    """
+
+    auction: str
+    bidder: str
+    by: str
+    number: int
+    time: str
+
+    def message(self) -> bytes:
+        """The signed bytes."""
+        fields = ("auction", "bidder", "by", "number", "time")
+        lines = ["clock_auction refusal 1", *(f"{name} {getattr(self, name)}" for name in fields)]
+        return "".join(line + "\n" for line in lines).encode("ascii")
+
+    def page(self, signature: bytes) -> str:
+        """The published text."""
+        value = {**dataclasses.asdict(self), "signature": signature.hex()}
+        return json.dumps(value, sort_keys=True, separators=(",", ":")) + "\n"
+
+
+@dataclasses.dataclass(frozen=True)
 class Kept:
     """A receipt as its bidder stores it, with its signature and, if it is known, the body sent."""
 
@@ -103,7 +128,11 @@ def taken_in(text: bytes) -> str:
 
     Empty if the request did not come through nginx.
     """
-    second = line_in(text, b"taken")
+    return time_of(line_in(text, b"taken"))
+
+
+def time_of(second: str) -> str:
+    """A second since 1970 as nginx writes it, in UTC. Empty if it is none."""
     if not SECOND.fullmatch(second) or int(second) > LAST:
         return ""
     return datetime.fromtimestamp(int(second), UTC).strftime("%Y-%m-%dT%H:%M:%SZ")
@@ -122,10 +151,43 @@ def digest_of(data: bytes) -> str:
 # ---- A bidder's file
 
 
+REFUSED = ("auction", "bidder", "by", "number", "signature", "time")
+
+
+class KeptRefusal(NamedTuple):
+    """A signed refusal as its bidder stores it."""
+
+    refusal: Refusal
+    signature: bytes
+
+    @classmethod
+    def of(cls, value: Any) -> Self:
+        """The refusal in a JSON value. Raises ValueError if it has none."""
+        has_keys(value, *REFUSED)
+        bytes_of(value["auction"], 32)
+        checked_name(value["bidder"])
+        if value["by"] != "":
+            checked_name(value["by"])
+        if type(value["number"]) is not int or value["number"] < 1:
+            raise ValueError("a refusal's number is not a whole number from 1 on")
+        if not isinstance(value["time"], str) or not TIME.fullmatch(value["time"]):
+            raise ValueError("the time is not of the form 2026-11-30T13:00:00Z")
+        signature = bytes_of(value.pop("signature"), SIGNATURE)
+        return cls(Refusal(**value), signature)
+
+    def faults(self, commitment: Commitment) -> list[str]:
+        """Why the operator did not sign this."""
+        of_this = self.refusal.auction == commitment.auction
+        if of_this and is_signed(commitment.key, self.refusal.message(), self.signature):
+            return []
+        return [f"refusal {self.refusal.number} is not signed by the committed key"]
+
+
 class File(NamedTuple):
     """A bidder's file: the commitment as the bidder saw it, its receipts, and its statements.
 
-    `bidder` is the name that the file states, if it does: then it accounts for all sheets of this
+    `refusals` are of sheets that came too late, which prove nothing of the journal. `bidder` is the
+    name that the file states, if it does: then it accounts for all sheets of this
     bidder, even if these are none. `sent` has the digest of each body that the bidder says it sent,
     besides those in receipts.
     """
@@ -134,6 +196,7 @@ class File(NamedTuple):
     receipts: list[Kept]
     bidder: str | None = None
     sent: Counter[str] = Counter()
+    refusals: list[KeptRefusal] = []
 
     @property
     def name(self) -> str | None:
@@ -157,16 +220,19 @@ def read_kept(path: Path) -> File:
 def file_of(commitment: Commitment, values: list[Any]) -> File:
     """The file with these values in its lines. Raises ValueError for another value."""
     receipts, names, sent = list[Kept](), set[str](), Counter[str]()
+    refusals = list[KeptRefusal]()
     for value in values:
         if isinstance(value, dict) and value.keys() == {"bidder"}:
             names.add(checked_name(value["bidder"]))
         elif isinstance(value, dict) and value.keys() == {"sent"}:
             sent[digest_of(str(value["sent"]).encode())] += 1
+        elif isinstance(value, dict) and value.keys() == set(REFUSED):
+            refusals.append(KeptRefusal.of(value))
         else:
             receipts.append(Kept.of(value))
     if len(names) > 1:
         raise ValueError("it names two bidders")
-    return File(commitment, receipts, min(names, default=None), sent)
+    return File(commitment, receipts, min(names, default=None), sent, refusals)
 
 
 # ---- The journal
@@ -243,6 +309,7 @@ def faults(
     judged = [(kept, list(false_words(true, kept))) for kept in file.receipts]
     found += [fault for _, words in judged for fault in words]
     receipts = [kept for kept, words in judged if not words]
+    found += [fault for kept in file.refusals for fault in kept.faults(true)]
     found += [fault for kept in receipts for fault in other_sheet(kept)]
     found += unsent(receipts, file.sent) + repeated(file)
     return found + differences(receipts, sheets_in(journal), token)

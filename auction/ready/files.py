@@ -15,7 +15,7 @@ STALE = 15  # seconds after which a running conductor has written its report aga
 SECRETS = (
     *("operator.token", "operator.head", "operator.map", "bidders.map", "persons.map", "by.map"),
     *("persons.csv", "key.pem", "second.token", "desk.map"),
-    *("kept/chain.json", "kept/receipts.pem"),
+    *("kept/chain.json", "kept/receipts.pem", "log/refused.log"),
 )
 OF_PERSONS = "run `auction persons FOLDER`, and reload nginx"
 ANEW = "it is not of this set-up: make it again with `auction maps`, and reload nginx"

@@ -111,7 +111,7 @@ class Site:
         files = [
             self.folder / name for name in ("setup.json", "auction.journal", "kept", "receipts")
         ]
-        return self.begin_auction("receipts", *files)
+        return self.begin_auction("receipts", *files, "--refused", self.folder / "log/refused.log")
 
     def begin_auction(self, *words: object) -> subprocess.Popen[bytes]:
         """Starts a command of `auction` that runs until stop()."""
@@ -146,7 +146,8 @@ class Site:
         self.folder.chmod(0o755)  # nginx's workers are another user
         for name in ("tmp", "log", "gate", "inner"):
             (self.folder / name).mkdir(0o755)
-        (self.folder / "log" / "access.log").touch(0o600)
+        for name in ("access.log", "refused.log"):
+            (self.folder / "log" / name).touch(0o600)
         (self.folder / "gate" / "open").touch()  # sheets are taken at any time
         self.for_workers(self.folder / "inner")
         (self.folder / "inner").chmod(0o710)
