@@ -48,6 +48,14 @@ export function timeWords(time, now) {
   });
 }
 
+/** The time zone of this tab, and how far it is from UTC at a time. */
+export function zoneWords(now) {
+  const minutes = -new Date(now).getTimezoneOffset(), whole = Math.abs(minutes);
+  const hours = `${minutes < 0 ? "-" : "+"}${Math.floor(whole / 60)}`;
+  const offset = minutes ? hours + (whole % 60 ? `:${two(whole % 60)}` : "") : "";
+  return `${Intl.DateTimeFormat().resolvedOptions().timeZone}, UTC${offset}`;
+}
+
 /** When the results of the current round appear, in words, while that is still to come; else "". */
 export function resultsOf(table, now) {
   const window = table?.windows.find((each) => each.round === table.round);

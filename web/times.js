@@ -2,7 +2,7 @@
 // clock, and announcements.
 
 import {within} from "./api.js";
-import {Clock, clockWords, resultsOf, stateOf, timeWords} from "./clock.js";
+import {Clock, clockWords, resultsOf, stateOf, timeWords, zoneWords} from "./clock.js";
 import {markPage} from "./mock.js";
 import {at, counted, make, tell} from "./page.js";
 import {closingWords} from "./shown.js";
@@ -37,7 +37,7 @@ function card() {
       "div", { id: "announcing", hidden: true },
       make("h3", { id: "announcements" }, "Announcements"), make("ol", list)
     ),
-    make("div", {}, make("h3", {}, "Timetable, in your local time"), make("ul", { id: "windows" }))
+    make("div", {}, make("h3", { id: "zone" }), make("ul", { id: "windows" }))
   );
 }
 
@@ -135,6 +135,7 @@ export class Times {
     at("windows").dataset.drawn = drawn;
     const coming = windows.filter((each) => each.round >= round - 1);
     const more = coming.length - SHOWN;
+    tell("zone", `Timetable, in your local time: ${zoneWords(now)}`);
     const rows = coming.slice(0, SHOWN).map((each) => {
       const end = each.closes ? timeWords(each.closes, each.opens) : "…";
       const state = each.round < round || ended ? ", closed" : "";

@@ -69,6 +69,13 @@ def test_bidders_card_lists_codes_of_its_guide() -> None:
     assert not set(card) - dict(codes_in("bidders.md")).keys()
 
 
+def test_what_the_page_says_on_the_clerks_card_is_what_it_says() -> None:
+    said = re.findall(r"^\| \*([^*]+)\* \|", text_of("card-clerk.md"), re.M)
+    pages = " ".join(path.read_text() for path in sorted((TOP / "web").glob("*.js")))
+    assert len(said) == 12
+    assert [words for words in said if words not in pages] == []
+
+
 def test_definitions_that_glossary_and_rules_name_exist() -> None:
     begins = r"(?m)^ *(?:abbrev |unfoldable )?(?:pub )?(?:record |data |mod )?(\w+)"
     files = TOP.glob("crates/*/specs/**/*.antt")

@@ -3,7 +3,7 @@
 import assert from "node:assert/strict";
 import test from "node:test";
 
-import { Clock, clockWords, stateOf, timeWords } from "../../web/clock.js";
+import { Clock, clockWords, stateOf, timeWords, zoneWords } from "../../web/clock.js";
 
 process.env.TZ = "UTC";
 const AT = (time) => Date.parse(`2026-12-01T${time}Z`);
@@ -104,3 +104,14 @@ for (const ahead of [-3_600_000, -900, 0, 1, 1500, 86_400_000]) {
 test("without a reply the clock is the tab's own", () => {
   assert.ok(Math.abs(new Clock().now() - Date.now()) < 1000);
 });
+
+for (const [zone, words] of [
+  ["UTC", "UTC, UTC"],
+  ["America/New_York", "America/New_York, UTC-5"],
+  ["Australia/Adelaide", "Australia/Adelaide, UTC+10:30"],
+])
+  test(`a tab in ${zone} names its zone`, () => {
+    process.env.TZ = zone;
+    assert.equal(zoneWords(AT("12:00:00")), words);
+    process.env.TZ = "UTC";
+  });
