@@ -151,7 +151,9 @@ def usual_journal(folder: pathlib.Path) -> str:
 def write_files(folder: pathlib.Path, plan: Plan) -> None:
     """Writes what follows from the set-up."""
     value = json.loads(plan.document)
-    operator, second = value["operator"], secrets.token_hex(16)
+    is_mock = mock.kind_of_value(value) is mock.Kind.MOCK
+    operator = value["operator"]
+    second = (mock.PREFIX if is_mock else "") + secrets.token_hex(16)
     settings = {
         "url": "http://127.0.0.1:8106",
         "setup": "setup.json",

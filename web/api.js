@@ -11,12 +11,13 @@ const SECONDS = 20, CLOSING_SECONDS = 300, SLOW_SECONDS = 3;
  */
 export class Fault extends Error {
   /**
-   * @param {{ code: string, place?: number }} page
+   * @param {{ code: string, place?: number, words?: string }} page
    * @param {number} status
    */
   constructor(page, status) {
     super(page.code);
     this.code = page.code;
+    this.words = page.words;
     this.place = page.place;
     this.status = status;
   }
@@ -56,8 +57,6 @@ export class Asker {
         continue;
       }
       const page = await reply.json().catch(() => null);
-      if (reply.status === 201 || reply.status === 204)
-        return null; // nginx stored what was asked of the conductor
       if (reply.ok && [
             "round", "products", "closed", "state", "auction"
           ].some((key) => page?.[key]))
@@ -94,7 +93,6 @@ export class Asker {
   slip(n) { return this.ask("/v1/me/rounds/" + n); }
   put(round, bids) { return this.ask("/v1/me/bids", "PUT", { bids, round }); }
   close(closing) { return this.ask("/v1/close", "POST", closing); }
-  askConductor(closing) { return this.ask("/asked/close.json", "PUT", closing); }
   results() { return this.ask("/v1/results"); }
   conductor() { return this.ask("/conductor.json"); }
   commitment() { return this.ask("/public/commitment.json"); }

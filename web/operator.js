@@ -1,252 +1,299 @@
-// The operator's page: who has submitted bids, increments, closing after a question, all results,
-// and each closed round.
+// The manager's desk: keeps one state, changes it by what the server, the conductor, the desk, and
+// the person do, and draws what desk_shown.js makes of it.
 
-import {Asker, watch} from "./api.js";
+import {Asker, pause, watch} from "./api.js";
+import {timeWords} from "./clock.js";
 import {Conductor} from "./conductor.js";
-import {save, written} from "./csv.js";
+import {Desk} from "./desk_acts.js";
+import {ask} from "./desk_ask.js";
+import {Increments} from "./desk_increments.js";
+import {Results} from "./desk_results.js";
+import {doneWords, refusalWords, sheetWords, shown} from "./desk_shown.js";
+import {Listing} from "./listing.js";
 import {entitle} from "./mock.js";
 import {
   at,
-  cell,
-  counted,
-  demandCell,
-  dollars,
   door,
   drawn,
   facts,
   lastClosed,
-  listed,
   make,
   number,
-  offerRounds,
-  question,
-  rowHead,
   say,
-  sum,
   tell,
   timeOfDay,
-  unask,
+  unask
 } from "./page.js";
-import {activityOf, wordsOf} from "./rules.js";
-import {Rows} from "./table.js";
+import {wordsOf} from "./rules.js";
 import {Times} from "./times.js";
 
-const LONG = 72; // letters that a row has space for
-const ALL_IN = "All bidders with eligibility have submitted bids.";
-const rounds = new Map(), conductor = new Conductor();
-// the results, which have the round too; `underWay` is the round that is being closed; when the
-// server last answered
-let asker, page, results, underWay = 0, increments = [], gone = false, answered = "";
-/** Who has submitted bids in a round, of the bidders that can bid; null if that is not known. */
-function sheetsOf(round) {
-  const active = results.bidders.filter((bidder) => bidder.eligibility > 0);
-  return conductor.sheetsOf(round, active.map((bidder) => bidder.name));
+const EVERY = 2000; // milliseconds between two looks at the desk
+const conductor = new Conductor(), results = new Results(), increments = new Increments();
+const bidders = new Listing(
+  "bidframe",
+  [
+    { id: "name", head: "Bidder", by: ({ name }) => name, cell: ({ name }) => [name] },
+    {
+      id: "submitted",
+      head: "Bids",
+      by: ({ submitted }) => (submitted === null ? -1 : Number(submitted)),
+      cell: ({ submitted }) =>
+        [submitted === null ? "–"
+           : submitted      ? "submitted"
+                            : "missing"]
+    },
+    {
+      id: "since",
+      head: "Since",
+      by: ({ since }) => since ?? "",
+      cell: ({ since }) => [timeOf(since)]
+    },
+    {
+      id: "seen",
+      head: "Last seen",
+      by: ({ seen }) => seen ?? "",
+      cell: ({ seen }) => [timeOf(seen)]
+    },
+    {
+      id: "eligibility",
+      head: "Eligibility",
+      by: ({ eligibility }) => eligibility,
+      cell: ({ eligibility }) => [number(eligibility)]
+    },
+  ],
+  { noun: "bidder", kind: ({ submitted }) => (submitted === false ? "without" : "") }
+);
+
+/** @type {import("./desk_shown.js").State} */
+let state = {
+  status: null,
+  desk: null,
+  report: { words: "", needsYou: false },
+  bidders: [],
+  link: { silent: false, answered: "", fault: "", closing: false },
+  time: { phase: null, words: "", seconds: null, results: "" },
+  message: "",
+  busy: false,
+};
+// `underWay` is the round that is being closed by this page itself
+let asker, desk, page, underWay = 0, gone = false;
+
+const timeOf = (time) => (time ? timeWords(time, Date.now()) : "–");
+
+/** Changes the state, and shows it. */
+function set(change) {
+  state = {...state, ...change };
+  if (state.status) show();
 }
 
-const incTable = new Rows(at("incframe"), at("incbody"), drawIncrement);
-const resTable = new Rows(at("resframe"), at("resbody"), drawBidder);
-const pastTable = new Rows(at("pastframe"), at("pastbody"), drawProduct);
+function message(words) {
+  say(words);
+  set({ message: words });
+}
+
+// -- Drawing
+
+let drawnBidders = "", drawnActs = "", drawnDone = "";
+
+function show() {
+  const now = shown(state);
+  entitle(now.title);
+  tell("round", now.round);
+  tell("who", now.who);
+  tell("left", now.clock.left);
+  tell("standing", now.clock.words);
+  at("clock").className = now.clock.kind;
+  tell("waits", now.waits.words);
+  at("waits").className = now.waits.kind;
+  tell("link", now.link.words);
+  at("link").className = now.link.kind;
+  showSheets(now);
+  showWaiting(now.waiting);
+  showActs(now);
+  showDone();
+}
+
+/** Shows who has submitted bids. */
+function showSheets({ sums, sheets, missing }) {
+  const { ended } = state.status;
+  const rows = sums.map(({ name, value, of }) => [name, value + (of ? ` ${of}` : "")]);
+  const drawing = JSON.stringify([rows, state.bidders, at("onlymissing").checked]);
+  at("submitted").hidden = at("missing").hidden = ended || !sheets;
+  tell("missing", missing);
+  if (drawing === drawnBidders) return;
+  drawnBidders = drawing;
+  facts("sums", rows);
+  facts("submitted", sheets ? [["Bidders with submitted bids", rows[0][1]]] : []);
+  const isShown = ({ submitted }) => !at("onlymissing").checked || submitted === false;
+  bidders.set(state.bidders.filter(isShown));
+}
+
+function showWaiting(waiting) {
+  at("waiting").hidden = !waiting;
+  tell("waitingwords", waiting?.line ?? "");
+  at("confirm").hidden = !waiting || waiting.isMine;
+}
+
+function showActs({ acts, main }) {
+  const send = at("send");
+  tell("send", main.words);
+  send.className = main.kind;
+  send.setAttribute("aria-disabled", String(Boolean(main.off)));
+  send.dataset.act = main.off ? "" : main.act;
+  tell("ask", `Close round ${state.status.round} …`);
+  const drawing = JSON.stringify(acts);
+  if (drawing === drawnActs) return;
+  drawnActs = drawing;
+  at("acts").replaceChildren(...acts.map(
+    ({ act, words, why }) => make(
+      "button", {
+        type: "button",
+        id: "act-" + act,
+        title: why || null,
+        "aria-disabled": String(why !== ""),
+        onclick: () => (why ? message(`⚠ Not possible: ${why}.`) : perform(act)),
+      },
+      words
+    )
+  ));
+}
+
+function showDone() {
+  const done = state.desk?.done ?? [];
+  const drawing = JSON.stringify(done);
+  if (drawing === drawnDone) return;
+  drawnDone = drawing;
+  at("done").replaceChildren(...done.toReversed().map(
+    (one) =>
+      make("li", {}, make("time", { datetime: one.time }, timeOf(one.time)), " " + doneWords(one))
+  ));
+}
+
+// -- Loading
 
 /** Asks for the results and the last closed round. */
 async function load() {
   page ??= await asker.products();
-  const now = await asker.results(); // one reply, since a closing may come between two
-  const last = lastClosed(now);
-  const fell = now.round < results?.round; // another server, or another auction
-  const isKnown = last === 0 || (rounds.has(last) && !fell);
-  const sold = isKnown ? rounds.get(last) : (await asker.round(last)).products;
-  if (fell) {
-    underWay = 0;
-    rounds.clear();
+  await lookAtDesk();
+  const now = await (state.desk ? desk.results() : asker.results());
+  const before = results.now;
+  await results.load(asker, page, now);
+  if (before && now.round < before.round) underWay = 0;
+  drawn(() => {
+    at("closing").hidden = at("standings").hidden = now.ended;
+    at("eachlabel").hidden = page.version === 1;
+    increments.draw(page.products, (p) => results.posted(p));
+    results.draw();
+    set({ status: { round: now.round, ended: now.ended } });
+  });
+  look();
+}
+
+/** Takes in what the conductor reports, and who has submitted bids. */
+function look() {
+  if (!results.now) return;
+  const active = results.now.bidders.filter(({ eligibility }) => eligibility > 0);
+  const { round } = state.status ?? results.now;
+  const report = { words: conductor.words(), needsYou: conductor.needsYou() };
+  const isOfNow = state.desk?.round === round && !state.desk.is_stale;
+  set({ report, bidders: isOfNow ? state.desk.bidders : standings(active, round) });
+}
+
+/** The bidders with eligibility, by the conductor's report. */
+function standings(active, round) {
+  const sheets = conductor.sheetsOf(round, active.map(({ name }) => name));
+  const submitted = new Set(sheets?.submitted);
+  return active.map(
+    ({ name, eligibility }) =>
+      ({ name, eligibility, submitted: sheets && submitted.has(name), since: null, seen: null })
+  );
+}
+
+async function lookAtDesk() { state = {...state, desk: await desk.state() }; }
+
+/** Looks at the desk for good. */
+async function watchDesk() {
+  for (;;) {
+    await pause(EVERY);
+    await lookAtDesk().catch(() => {});
+    look();
   }
-  if (last > 0) rounds.set(last, sold);
-  results = now;
-  drawn(() => drawAll(last));
 }
 
-/** What the table of bidders shows. */
-function asOfWords(last) {
-  if (last === 0) return "No round is closed yet.";
-  if (results.ended) return "What each bidder won and pays.";
-  const words = `Each bidder after round ${last}, at its posted prices.`;
-  return `${words} Bids of the open round are not shown.`;
-}
+// -- Acts
 
-function drawAll(last) {
-  const { ended, round } = results;
-  at("round").textContent = ended ? `Ended after round ${round}` : `Round ${round}`;
-  entitle(`${ended ? "Ended" : "Round " + round} · operator · clock auction`);
-  at("closing").hidden = ended;
-  at("eachlabel").hidden = page.version === 1;
-  at("ask").textContent = `Close round ${round} …`;
-  at("asof").textContent = asOfWords(last);
-  at("pastdesk").hidden = last === 0;
-  if (increments.length !== page.products.length) increments = page.products.map(() => "");
-  drawState();
-  drawFacts(last);
-  incTable.set(page.products.map((_, p) => String(p)));
-  resTable.set(results.bidders.map((_, b) => String(b)));
-  offerRounds(last);
-  showRound();
-}
-
-/** Shows who has submitted bids in this round, and what the conductor waits for. */
-function drawState() {
-  const sheets = sheetsOf(results.round);
-  tell("waits", conductor.words());
-  at("waits").className = conductor.needsYou() ? "fault" : "";
-  at("submitted").hidden = at("missing").hidden = results.ended || !sheets;
-  if (!sheets) return;
-  const { submitted, missing } = sheets;
-  const count = `${number(submitted.length)} of ${number(submitted.length + missing.length)}`;
-  facts("submitted", [["Bidders with submitted bids", count]]);
-  tell("missing", missing.length ? `No bids from: ${listed(missing, 40)}.` : ALL_IN);
-}
-
-/** A product's posted price in the last closed round, or its opening price. */
-const posted = (p) => rounds.get(lastClosed(results))?.[p].posted ?? page.products[p].opening;
-const paid = (bidder) =>
-  bidder.demands.reduce((cost, blocks, p) => cost + BigInt(blocks) * BigInt(posted(p)), 0n);
-
-function drawFacts(last) {
-  const held = sum(results.bidders.map((bidder) => sum(bidder.demands)));
-  const supply = sum(page.products.map((product) => product.supply));
-  const above = rounds.get(last)?.filter((sold) => sold.demand !== null).length ?? 0;
-  const active = results.bidders.filter((bidder) => bidder.eligibility > 0).length;
-  facts("facts", [
-    ["Bidders with eligibility", `${number(active)} of ${number(results.bidders.length)}`],
-    [
-      "Products with excess demand",
-      last ? `${number(above)} of ${number(page.products.length)}` : "–"
-    ],
-    [
-      results.ended ? "Blocks won" : "Processed demand, in blocks", `${number(held)}`,
-      `supply ${number(supply)}`
-    ],
-    [
-      results.ended ? "Proceeds" : "At posted prices",
-      dollars(results.bidders.reduce((cost, bidder) => cost + paid(bidder), 0n))
-    ],
-  ]);
-}
-
-/** Shows the chosen round, and loads it first if it is not known yet. */
-async function showRound() {
-  const round = Number(at("which").value);
-  if (!rounds.has(round)) pastTable.set([]);
+/** Asks about an act, and has it done. */
+async function perform(act, given = null) {
+  if (state.busy || at("question").open) return;
   try {
-    if (round && !rounds.has(round)) rounds.set(round, (await asker.round(round)).products);
+    const answered = desk.act(act, state, given);
+    const answer = await answered;
+    if (!answer) return;
+    if (answer.state === "waits") {
+      message("It waits for a second person, who confirms it at the desk.");
+    } else if (answer.state === "withdrawn") {
+      message("✓ Withdrawn.");
+    } else {
+      message(`✓ Done: ${answer.words}.`);
+    }
   } catch (fault) {
-    say("⚠ " + wordsOf(fault.code));
+    message(refusalWords(fault));
   }
-  if (Number(at("which").value) === round)
-    pastTable.set(rounds.has(round) ? page.products.map((_, p) => String(p)) : []);
-}
-
-function drawIncrement(key) {
-  const product = page.products[key];
-  const input = /** @type {HTMLInputElement} */ (make("input", {
-    inputmode: "numeric",
-    autocomplete: "off",
-    "aria-label": `Increment of ${product.name}, percent`,
-    placeholder: at("increment").value,
-    "data-key": key,
-    "data-field": "increment",
-    oninput: () => {
-      increments[key] = input.value;
-    },
-  }));
-  input.value = increments[key];
-  return make(
-    "tr", {}, rowHead(product.name), cell("Posted price", dollars(posted(key))),
-    cell("Increment, percent", input)
-  );
-}
-
-function drawBidder(key) {
-  const bidder = results.bidders[key];
-  const held =
-    bidder.demands.flatMap((blocks, p) => (blocks ? [`${page.products[p].name} ${blocks}`] : []));
-  const all = held.join(", ") || "none";
-  const count = `${counted(sum(bidder.demands), "block")} of ${counted(held.length, "product")}`;
-  const short = `${count} (download the results to see them)`;
-  return make(
-    "tr", {}, rowHead(bidder.name), cell("Eligibility", number(bidder.eligibility)),
-    cell("Activity", number(activityOf(page.products, bidder.demands))),
-    cell("At posted prices", dollars(paid(bidder))),
-    cell("Processed demand", all.length > LONG ? short : all)
-  );
-}
-
-function drawProduct(key) {
-  const sold = rounds.get(Number(at("which").value))[key], product = page.products[key];
-  return make(
-    "tr", {}, rowHead(product.name), cell("Start-of-round price", dollars(sold.start)),
-    cell("Clock price", dollars(sold.clock)), cell("Posted price", dollars(sold.posted)),
-    demandCell(sold, product), cell("Next clock price", dollars(sold.next))
-  );
+  await lookAtDesk().catch(() => {});
+  look();
 }
 
 /** The closing as the page has it, or null if an increment cannot be read. */
 function closing() {
-  const one = at("increment").value.trim();
-  const each = at("each").checked;
-  const all = page.products.map((_, p) => (each && increments[p].trim()) || one);
-  const isPercent = (text) => /^\d{1,3}$/.test(text) && Number(text) >= 1 && Number(text) <= 50;
-  if (!all.every(isPercent)) return null;
-  const base = { round: results.round, ties: [] };
-  if (page.version === 1) return {...base, increment: Number(one) };
-  return {...base, increments: all.map(Number) };
-}
-
-/** Who has submitted bids, for the question before a closing. */
-function sheetWords(sheets, round) {
-  if (!sheets) return "This page does not know who has submitted bids.";
-  const { submitted, missing } = sheets;
-  if (submitted.length === 0) {
-    const sale = "the auction ends without a sale";
-    const then = round === 1 ? sale : "every bidder asks to give up all its blocks";
-    return `NO bidder has submitted bids, so ${then}.`;
+  const percents = increments.percents(page.products.length);
+  const wrong = increments.wrong(page.products);
+  if (wrong) {
+    message(`⚠ Not closed: ${wordsOf("increment")}. ${wrong}.`);
+    return null;
   }
-  if (missing.length === 0) return ALL_IN;
-  const all = number(submitted.length + missing.length);
-  const count = `${number(submitted.length)} of ${all} bidders with eligibility`;
-  return `${count} have submitted bids. No bids from: ${missing.join(", ")}.`;
+  return percents;
 }
 
-/** The question before a closing, and the answer that closes. */
-function questionOf(asked) {
-  const percents = [asked.increments ?? asked.increment].flat();
+/** The question before a closing. Returns whether the round's number was typed. */
+async function isWanted(percents, isByDesk) {
+  const { round } = state.status;
   const low = Math.min(...percents);
   const high = Math.max(...percents);
   const rise = low === high ? low : `${low} to ${high}`;
-  const sheets = sheetsOf(asked.round);
+  const left = state.time.seconds === null ? "" : ` ${shown(state).clock.left} is left.`;
   const words = [
-    `Close round ${asked.round} for all bidders? Clock prices rise by ${rise} percent.`,
-    sheetWords(sheets, asked.round) + conductor.early(),
+    `Close round ${round} for all bidders? Clock prices rise by ${rise} percent.${left}`,
+    sheetWords(state.bidders, round) + conductor.early(),
     "Bids that have not arrived will not count. This cannot be undone.",
+    isByDesk ? "A second person must confirm it." : "",
   ];
-  const yes = sheets?.submitted.length === 0 ? "Close it without any bids" : "Close the round";
-  return [words.join(" "), yes];
+  const isEmpty = shown(state).sheets?.submitted.length === 0;
+  const yes = isEmpty ? "Close it without any bids" : "Close the round";
+  return Boolean(await ask({ words: words.join(" "), typed: String(round), yes }));
 }
 
-/**
- * Has the conductor close the round with the numbers of its seed, which no browser has. Its report
- * says if it does not.
- */
-async function closeBySeed(asked) {
-  const { round, increment, increments: each } = asked;
-  const sheets = sheetsOf(round);
-  if (!sheets) {
-    const why = `round ${round} needs tie-breaking numbers from its seed`;
-    return say(`⚠ Not closed: ${why}. Start the conductor, or use auction close.`);
-  }
-  const [words, yes] = questionOf(asked);
-  if (!await question(words, yes)) return;
-  say(`Asking the conductor to close round ${round} …`);
-  const without_sheets = sheets.submitted.length === 0;
-  const wanted = { increment, increments: each, round, without_sheets };
-  await asker.askConductor(wanted).catch(tellRefused);
+/** Asks first, and closes the round that the question names, or asks the desk for it. */
+async function close() {
+  const { round } = state.status;
+  const percents = closing();
+  if (!percents || at("question").open) return;
+  if (round === underWay) return message(`Round ${underWay} is already being closed.`);
+  if (!state.desk) return closeByPage(round, percents);
+  const before = state;
+  if (!await isWanted(percents, true)) return;
+  const all = page.version === 1 ? percents.slice(0, 1) : percents;
+  const without_sheets = shown(before).sheets?.submitted.length === 0;
+  const given = { increments: all, without_sheets };
+  set({ busy: true });
+  await actOn("close", before, { given, typed: String(round) });
+  set({ busy: false });
+}
+
+/** Has an act done that is bound to what the page showed before. */
+async function actOn(act, before, answer) {
+  const now = state;
+  state = {...now, busy: false, desk: before.desk };
+  await perform(act, answer);
 }
 
 /**
@@ -257,25 +304,23 @@ async function needsSeed() {
   return Boolean(commitment.chain);
 }
 
-/**
- * Asks first, and closes the round that the question names, even if another one is open by then.
- * `heard` says when it is closed.
- */
-async function close() {
-  const asked = closing();
-  if (!asked) return say("⚠ Not closed: " + wordsOf("increment") + ".");
-  if (asked.round === underWay) return say(`Round ${underWay} is already being closed.`);
-  if (asked.round > 1 && await needsSeed()) return closeBySeed(asked);
-  const [words, yes] = questionOf(asked);
-  if (!await question(words, yes)) return;
-  underWay = asked.round;
-  say(`Closing round ${underWay} …`);
+/** Closes a round without a desk, if it needs no numbers of a seed. `heard` says when it is. */
+async function closeByPage(round, percents) {
+  if (round > 1 && await needsSeed()) {
+    const why = `round ${round} needs tie-breaking numbers from its seed`;
+    return message(`⚠ Not closed: ${why}. Start the desk, or use auction close.`);
+  }
+  if (!await isWanted(percents, false)) return;
+  const base = { round, ties: [] };
+  const rise = page.version === 1 ? { increment: percents[0] } : { increments: percents };
+  underWay = round;
+  message(`Closing round ${round} …`);
   try {
-    await asker.close(asked);
+    await asker.close({...base, ...rise });
   } catch (fault) {
     underWay = 0;
     // else `heard` has said what happened
-    if (asked.round === results.round && !results.ended) tellRefused(fault);
+    if (round === state.status.round && !state.status.ended) tellRefused(fault);
   }
 }
 
@@ -283,76 +328,70 @@ function tellRefused(fault) {
   if (fault.status === 0) {
     const unknown =
       "It is not known whether the round was closed: see whether its number has risen.";
-    return say(`⚠ No answer from the server. ${unknown}`);
+    return message(`⚠ No answer from the server. ${unknown}`);
   }
   const product = fault.code === "price_limit" ? page.products[fault.place]?.name : "";
   const where = product ? ` (${product})` : "";
-  say(`⚠ Refused: ${wordsOf(fault.code)}${where}. Nothing was closed.`);
+  message(`⚠ Refused: ${wordsOf(fault.code)}${where}. Nothing was closed.`);
 }
 
-/** Saves a line for each bidder and product with processed demand. */
-function saveResults() {
-  const rows = results.bidders.flatMap(
-    (bidder) => bidder.demands.flatMap(
-      (blocks, p) => (blocks ? [[bidder.name, page.products[p].name, blocks, posted(p)]] : [])
-    )
-  );
-  save(
-    `results-${lastClosed(results)}.csv`,
-    written([["bidder", "product", "blocks", "posted"], ...rows])
-  );
-}
+// -- The server and the clock
+
+/** What is known of the link once the server has answered. */
+const answers = () => ({ silent: false, answered: timeOfDay(), fault: "", closing: false });
 
 async function heard(now) {
-  const then = results.round;
-  const fell = now.round < then;
-  const risen = now.round > then || (now.ended && !results.ended);
+  const then = state.status;
+  const fell = now.round < then.round;
+  const risen = now.round > then.round || (now.ended && !then.ended);
   if (risen) unask();
   if (gone || risen || fell) await load();
-  const next = results.ended ? "The auction has ended." : `The current round is ${results.round}.`;
-  if (risen) say(`✓ Round ${lastClosed(results)} is closed. ${next}`);
+  gone = false;
+  const next =
+    state.status.ended ? "The auction has ended." : `The current round is ${state.status.round}.`;
+  if (risen) message(`✓ Round ${lastClosed(state.status)} is closed. ${next}`);
   if (fell) {
     const why = "another server answers, or one without its journal";
-    say(`⚠ The round fell from ${then} to ${results.round}: ${why}. Tell bidders to stop.`);
+    message(
+      `⚠ The round fell from ${then.round} to ${state.status.round}: ${why}. ` +
+      "Tell bidders to stop."
+    );
   }
-  gone = false;
-  answered = timeOfDay();
-  tell("link", "");
+  set({ link: answers() });
 }
 
 function slow() {
-  const why = underWay ? "The closing is under way." : "The server may be closing a round.";
-  tell("link", `No answer since ${answered}. ${why}`);
+  if (!state.link.silent) set({ link: {...state.link, silent: true } });
 }
 
 function missed(fault) {
   gone = true;
-  const what = fault.status ? wordsOf(fault.code) : "No answer from the server";
-  tell("link", `⚠ ${what}. Retrying every five seconds.`);
+  const words = fault.status ? wordsOf(fault.code) : "no answer";
+  set({ link: {...state.link, silent: true, closing: false, fault: words } });
 }
 
 function withheld() {
   gone = true;
-  tell("link", times.closing());
+  set({ link: {...answers(), closing: true } });
 }
 
 async function enter(token) {
   asker = new Asker(token);
+  desk = new Desk(asker);
   await load();
-  answered = timeOfDay();
-  conductor.watch(asker, drawState);
+  document.body.classList.add("in");
+  set({ link: answers() });
+  conductor.watch(asker, look);
+  watchDesk();
   watch(asker, { heard, slow, missed, closing: withheld });
 }
 
-const times = new Times({});
+const times = new Times({ ticked: (time) => set({ time }) });
 door(enter, { wordsOf, closingWords: () => times.closing() });
 at("ask").addEventListener("click", close);
-at("each").addEventListener("change", () => {
-  at("incframe").hidden = !at("each").checked;
+at("send").addEventListener("click", ({ currentTarget }) => {
+  if (currentTarget.dataset.act) perform(currentTarget.dataset.act);
 });
-at("increment").addEventListener("input", () => {
-  for (const input of at("incbody").querySelectorAll("input"))
-    input.placeholder = at("increment").value;
-});
-at("save").addEventListener("click", saveResults);
-at("which").addEventListener("change", showRound);
+at("confirm").addEventListener("click", () => perform("confirm"));
+at("withdraw").addEventListener("click", () => perform("withdraw"));
+at("onlymissing").addEventListener("change", show);

@@ -92,7 +92,7 @@ export function shortDollars(amount) {
 
 // -- The bar above
 
-function clockOf({ me, time, link }) {
+export function clockOf({me, time, link}) {
   const { phase, words, seconds } = time;
   if (me.ended) return { left: "Ended", words: "", kind: "" };
   if (link.closing && phase !== "shut") return { left: "Closing", words: "", kind: "off" };

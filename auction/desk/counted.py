@@ -74,6 +74,6 @@ class Counted:
         whole = text[: text.rfind(b"\n") + 1]
         self.end += len(whole)
         yield from whole.splitlines()
-        if self.end > MOST:
+        if self.end > MOST and len(text) < MOST:
             os.truncate(self.path, 0)  # a line that comes just now is not counted
             self.end = 0

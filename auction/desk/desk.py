@@ -115,7 +115,8 @@ class Desk:
             value = object_in(body, {"timetable"})
             given = Given.of("plan", value)
             with self.acting:
-                return 200, {"windows": windows_in(self.context, given.timetable)}
+                windows = windows_in(self.context, given.timetable)
+            return 200, {"state": "checked", "windows": windows}
         except (BadRequest, TimetableFault) as fault:
             return refused("fault", str(fault))
 
@@ -153,13 +154,13 @@ class Desk:
             case Ask(asked):
                 self.note(asked, asked.who, words_of(asked.act, asked.round, given), WAITS)
                 self.log.wait(asked, given, now)
-                return 200, {"waits": True, "until": utc(now + PATIENCE)}
+                return 200, {"state": WAITS, "until": utc(now + PATIENCE)}
             case Withdraw():
                 assert found
                 words = words_of(found[0].wanted.act, found[0].wanted.round, found[1])
                 self.note(wanted, wanted.who, words, WITHDRAWN)
                 self.log.forget()
-                return 200, {"withdrawn": True}
+                return 200, {"state": WITHDRAWN}
             case Do(asked, people):
                 if wanted.act == "confirm":
                     assert found
@@ -184,7 +185,7 @@ class Desk:
             self.note(wanted, who, words, str(fault))
             return refused("fault", str(fault))
         self.note(wanted, who, words, DONE)
-        return 200, {"done": True, "words": words, "who": who}
+        return 200, {"state": DONE, "words": words, "who": who}
 
     def guard_of(self, asked: Wanted, acts: int) -> Callable[[Plan], None]:
         """Refuses a change of the plan unless all is as the page showed it."""

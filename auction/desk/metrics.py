@@ -37,6 +37,7 @@ class Figures:
     doubts: int
     state: str | None
     log_free: float = 1.0  # part of the log's disk
+    signs: bool = False  # whether a service has the key of receipts
 
 
 NO_FIGURES = Figures({}, {}, 0, HEAD, 1.0, None, 0, None)
@@ -81,6 +82,7 @@ def text_of(figures: Figures) -> str:
     add("doubts", "gauge", "Doubts that no word has released.", {"": figures.doubts})
     add("waits_for_a_person", "gauge", "1 if it does.", {"": flag(figures.state in waits)})
     add("server_gone", "gauge", "1 if no answer comes.", {"": flag(figures.state == "gone")})
+    add("receipts_signed", "gauge", "1 if a service signs them.", {"": flag(figures.signs)})
     mismatch = flag(figures.state == "mismatch")
     add("server_mismatch", "gauge", "1 if another server answers.", {"": mismatch})
     return "\n".join(lines) + "\n"
@@ -102,6 +104,16 @@ def listener(port: int, table: Path = Path("/proc/net/tcp")) -> str:
         if words[1].endswith(f":{port:04X}") and words[3] == LISTEN:
             return words[9]
     return ""
+
+
+def is_locked(path: Path, table: Path = Path("/proc/locks")) -> bool:
+    """Whether a process has locked a file. Nobody who wants the lock is disturbed."""
+    try:
+        inode = path.stat().st_ino
+    except OSError:
+        return False
+    lines = table.read_text(encoding="ascii").splitlines()
+    return any("FLOCK" in line and f":{inode} " in line for line in lines)
 
 
 class Meter:
@@ -142,6 +154,7 @@ class Meter:
             self.doubts(),
             shown_now["state"] if shown_now else None,
             free_part(self.folder / "log"),
+            is_locked(context.folders.kept / "receipts.pem"),
         )
 
     def journal_bytes(self) -> int:

@@ -2,8 +2,6 @@
 import json
 import os
 import ssl
-import subprocess
-import sys
 import tempfile
 import time
 import urllib.error
@@ -12,9 +10,10 @@ from email.message import Message
 from pathlib import Path
 from typing import Any
 
-from tests.lib.paths import AUCTION, EXAMPLES
+from tests.lib.paths import EXAMPLES
 from tests.lib.setups import OPERATOR
 from tests.lib.site import Site
+from tests.lib.waiting import wait_for
 
 X, Y, Z = "X" * 16, "Y" * 16, "Z" * 16
 OPERATORS = "operator.html"
@@ -56,18 +55,26 @@ class Auction(Site):
         assert self.server is not None
         self.server.kill()
 
-    def begin_conductor(self, publish: int) -> None:
+    def begin_conductor(self, publish: int, **more: int) -> None:
         """Starts the conductor, without a timetable. Pages are withheld for `publish` seconds after
-        a closing.
+        a closing. `more` has other settings.
         """
+        self.write_settings(publish, **more)
+        self.begin_auction("run", self.folder)
+
+    def write_settings(self, publish: int, **more: int) -> None:
+        """Writes the settings of the conductor and the desk."""
         files = {"setup": "setup.json", "token": "operator.token", "journal": "auction.journal"}
         url = f"http://127.0.0.1:{self.inside}"
-        (self.folder / "operator.token").write_text(OPERATOR)
-        settings = {"url": url, "port": self.server_port, "publish": publish, **files}
+        self.write_private("operator.token", OPERATOR)
+        settings = {"url": url, "port": self.server_port, "publish": publish, **files, **more}
         (self.folder / "conductor.json").write_text(json.dumps(settings))
-        quiet = subprocess.DEVNULL
-        command = [sys.executable, str(AUCTION), "run", str(self.folder)]
-        self.keep(subprocess.Popen(command, stdin=quiet, stdout=quiet))
+
+    def begin_desk(self) -> None:
+        """Starts the desk, which needs the conductor's settings, and waits until it answers."""
+        self.begin_auction("desk", self.folder)
+        socket = self.folder / "inner/desk.sock"
+        wait_for("the desk listens", socket.exists, 60)
 
     def ask(self, path: str, body: object = None) -> dict[str, Any]:
         """The page of a request of the operator's."""

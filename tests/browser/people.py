@@ -1,4 +1,6 @@
 """What bidders and the operator do on their pages."""
+import re
+
 from tests.browser.auction import OPERATORS, Auction, X
 from tests.browser.window import Window
 from tests.lib.setups import OPERATOR
@@ -15,6 +17,13 @@ def close_round(operator: Window) -> None:
     """Closes the round by the operator's page, and says yes to the question."""
     operator.click("ask")
     operator.until("a closing is asked about first", lambda: operator.is_seen("question"))
+    confirm(operator)
+
+
+def confirm(operator: Window) -> None:
+    """Types the round's number, and says yes."""
+    number = re.findall(r"\d+", operator.text("round"))[0]
+    operator.at("field-typed").send_keys(number)
     operator.at("yes").click()
 
 

@@ -7,7 +7,7 @@ from selenium.webdriver.common.keys import Keys
 from auction.formats.ties import Commitment, check_ties
 from tests.browser.auction import Auction, X, Y, bid, example
 from tests.browser.conftest import Begin
-from tests.browser.people import close_round, enter, totals
+from tests.browser.people import close_round, confirm, enter, totals
 from tests.browser.window import Window
 from tests.lib.setups import OPERATOR
 
@@ -108,7 +108,7 @@ def test_a_closing_and_bids_for_a_closed_round_are_refused(
     operator.click("ask")
     operator.until("it is asked about", lambda: operator.is_seen("question"))
     first_round.close(2)
-    operator.at("yes").click()
+    confirm(operator)
     operator.says("say", "Refused: another round is the current one")
     y.bid(0, 0, 110)
     y.send("Refused: another round is the current one")
@@ -158,14 +158,14 @@ def increments(operator: Window) -> None:
 def test_each_product_may_have_its_increment(limited: Auction, operator: Window) -> None:
     enter(limited, operator, OPERATOR)
     increments(operator)
-    second = operator.find("#incbody tr:nth-of-type(3) input")
+    second = operator.find("#incbody tr:nth-of-type(2) input")
     second.send_keys("77")
     operator.click("ask")
     operator.says("say", "Not closed: an increment is not 1 to 50")
     second.send_keys(Keys.BACKSPACE * 2)
     close_round(operator)
     operator.says("say", "Round 1 is closed")
-    operator.becomes(lambda: operator.column("Next clock price", "pastbody"), ["$120", "$110"])
+    operator.becomes(lambda: operator.column("next", "pastbody"), ["$120", "$110"])
 
 
 def test_the_question_has_the_range_of_increments(limited: Auction, operator: Window) -> None:

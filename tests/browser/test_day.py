@@ -206,7 +206,7 @@ def desk(day: Published, operator: Window) -> Window:
 def test_the_operator_sees_who_has_submitted_bids(desk: Window) -> None:
     desk.says("missing", "No bids from: Y.")
     assert desk.facts("submitted") == [["Bidders with submitted bids", "1 of 2"]]
-    shows(desk, "Open until .*", r"\d+:\d\d left")
+    shows(desk, "Open until .*", r"\d+:\d\d")
 
 
 def test_the_question_before_a_closing_names_who_is_missing(desk: Window) -> None:

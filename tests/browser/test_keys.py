@@ -159,23 +159,23 @@ def test_the_operator_closes_a_round_by_keys(auction: Auction, x: Window, operat
     operator.says("round", "Round 1")
     operator.has_focus("round")
     operator.tab_to("the button that closes", "#ask").send_keys(Keys.ENTER)
-    operator.has_focus("no")
+    operator.has_focus("field-typed")
     operator.press(Keys.ESCAPE)
     operator.has_focus("ask")
     operator.press(Keys.ENTER)
-    operator.has_focus("no")
+    operator.has_focus("field-typed")
     # The browser has not said yet that this question is gone when the next one is asked.
     again = (
         "document.getElementById('question').close('no'); document.getElementById('ask').click()"
     )
     operator.run(again)
-    operator.has_focus("no")
-    operator.press(Keys.TAB, Keys.ENTER)
+    operator.has_focus("field-typed")
+    operator.press("1", Keys.TAB, Keys.TAB, Keys.ENTER)
     operator.says("say", "Round 1 is closed. The auction has ended.")
     x.says("round", "Ended after round 1")
     operator.has_focus("round")  # its button is gone
     operator.press(Keys.TAB)
-    assert stop(operator) == "save", "the results come next"
+    assert stop(operator) == "act-pause", "the acts come next"
 
 
 def test_a_closing_takes_the_cursor_from_a_button_that_is_gone(auction: Auction, x: Window) -> None:

@@ -215,7 +215,7 @@ def test_names_of_every_letter_are_shown_as_text(
     enter(auction, operator, OPERATOR)
     x.says("who", "· " + HALVES[0])
     assert x.column("name")[:2] == HALVES
-    assert operator.column("0", "resbody")[:2] == HALVES
+    assert operator.column("name", "resbody")[:2] == HALVES
 
 
 def test_a_closing_of_3233_products(begin: Begin, operator: Window) -> None:

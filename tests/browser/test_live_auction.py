@@ -203,7 +203,7 @@ def test_after_the_end_nothing_can_be_submitted(ended: Auction, y: Window) -> No
 
 def test_the_operators_table_has_what_each_bidder_won(ended: Auction, operator: Window) -> None:
     enter(ended, operator, OPERATOR)
-    won = [(row["0"], row["Processed demand"]) for row in operator.rows("resbody")]
+    won = [(row["name"], row["demand"]) for row in operator.rows("resbody")]
     assert won == [("X", "A 1"), ("Y", "A 1")]
 
 

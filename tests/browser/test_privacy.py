@@ -12,7 +12,8 @@ from tests.lib.setups import OPERATOR
 TOKENS = (X, Y, OPERATOR)
 RULE = "default-src 'self'"
 FILES = sorted(file.name for file in (TOP / "web").iterdir())
-FOR_BIDDERS = [name for name in FILES if not name.startswith("operator")]
+OPERATORS_OWN = ("operator", "desk")
+FOR_BIDDERS = [name for name in FILES if not name.startswith(OPERATORS_OWN)]
 
 
 @pytest.fixture(scope="module")
@@ -45,7 +46,7 @@ def test_no_token_is_kept(begin: Begin, x: Window, y: Window, operator: Window) 
 @pytest.mark.parametrize("name", FILES)
 def test_a_file_of_the_pages_is_served_with_its_rule(shared: Auction, name: str) -> None:
     inside = shared.address(OPERATORS).replace(OPERATORS, name)
-    addresses = [inside] if name.startswith("operator") else [inside, shared.address() + name]
+    addresses = [inside] if name.startswith(OPERATORS_OWN) else [inside, shared.address() + name]
     for address in addresses:
         status, head = shared.head(address)
         assert status == 200 and RULE in head["Content-Security-Policy"], address

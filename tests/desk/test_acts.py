@@ -41,7 +41,7 @@ def test_a_bidder_that_is_out_is_not_on_the_page(begin: Begin) -> None:
 def test_a_pause_stops_the_auction_at_once(visited: Visited) -> None:
     assert visited.auction.is_open()
     status, page = visited.click("pause", words="A fire alarm.")
-    assert (status, page["done"]) == (200, True)
+    assert (status, page["state"]) == (200, "done")
     assert not visited.auction.is_open()
     assert visited.auction.announced("The auction is paused. A fire alarm.") == 1
     assert visited.page()["paused"] == "A fire alarm."
@@ -57,7 +57,7 @@ def test_a_paused_auction_is_resumed(visited: Visited) -> None:
 
 def test_a_resumption_at_once_needs_two(visited: Visited) -> None:
     visited.click("pause", words="A fire alarm.")
-    assert visited.click("resume", minutes=1) == (200, {"waits": True, "until": later(visited)})
+    assert visited.click("resume", minutes=1) == (200, {"state": "waits", "until": later(visited)})
     assert visited.page()["paused"] == "A fire alarm."
     assert visited.confirm()[1]["who"] == "operator and second"
     assert visited.page()["paused"] is None
@@ -118,7 +118,7 @@ def test_a_round_is_closed_early_by_two(visited: Visited) -> None:
     visited.auction.bid()
     visited.auction.look()
     given: dict[str, Any] = {"increments": [20], "without_sheets": False}
-    assert visited.click("close", typed="1", **given)[1]["waits"] is True
+    assert visited.click("close", typed="1", **given)[1]["state"] == "waits"
     assert visited.auction.window(1) == (60, 360), "nothing is done yet"
     assert visited.page("second")["waiting"]["words"] == "close round 1 early, with 20 percent"
     assert visited.confirm(typed="1")[0] == 200
@@ -188,7 +188,7 @@ def test_winners_are_published_by_two(begin: Begin) -> None:
     visited = begin()
     visited.play(State.ENDED)
     assert visited.page()["acts"]["winners"]["why"] is None
-    assert visited.click("winners")[1]["waits"] is True
+    assert visited.click("winners")[1]["state"] == "waits"
     winners = visited.auction.folder / "public/winners.json"
     assert not winners.exists()
     assert visited.confirm()[0] == 200

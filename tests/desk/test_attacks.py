@@ -108,7 +108,7 @@ def test_a_change_between_the_look_and_the_lock_is_noticed(
 def test_a_round_that_closes_while_a_second_person_is_asked_stays_as_it_is(
     visited: Visited, closing: dict[str, Any]
 ) -> None:
-    assert visited.send(closing)[1]["waits"]
+    assert visited.send(closing)[1]["state"] == "waits"
     visited.play(State.CLOSED)
     visited.play(State.OPEN)
     visited.auction.bid()

@@ -14,7 +14,9 @@ from tests.nginx.requests import head, replies_in, replies_of
 from tests.nginx.running import BIDDERS
 
 TABS, AT_ONCE, A_SECOND, OTHERS = 50, 6_000, 400, 200
-FILES = [f"/{file.name}" for file in (TOP / "web").iterdir() if file.name[:8] != "operator"]
+DESKS = ("operator", "desk")  # files that are not for bidders
+NAMES = [file.name for file in (TOP / "web").iterdir()]
+FILES = [f"/{name}" for name in NAMES if not name.startswith(DESKS)]
 TIMES = ["/public/timetable.json", "/public/announcements.json"]
 
 

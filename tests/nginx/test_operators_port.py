@@ -1,13 +1,10 @@
-"""The operator's port: who reaches it, the conductor's report, and what its page asks for."""
-import os
-import pathlib
+"""The operator's port: who reaches it, and the conductor's report."""
 import shutil
 import socket
 
 import pytest
 
 from tests.lib.site import Site
-from tests.lib.tls import Client
 from tests.nginx.recorder import Recorder
 from tests.nginx.requests import (
     OPERATOR,
@@ -18,7 +15,7 @@ from tests.nginx.requests import (
 )
 
 OTHER_HOSTS = ("evil.test", "evil.test:PORT", "127.0.0.2", "localhost.evil.test", "[::1]")
-REPORT, ASKED, BODY = "/conductor.json", "/asked/close.json", b'{"round":2}'
+REPORT = "/conductor.json"
 
 
 @pytest.mark.parametrize("line", ["GET /", "GET /v1/status", "POST /v1/close", f"GET {REPORT}"])
@@ -103,74 +100,8 @@ def test_the_timetable_is_at_the_operators_port(site: Site) -> None:
     assert asks_inside(site, "/public/timetable.json").json == {"file": "timetable"}
 
 
-# ---- What the operator's page asks the conductor for
-
-
-@pytest.fixture
-def asked(site: Site) -> pathlib.Path:
-    """The folder into which nginx's workers write what the page asks for."""
-    folder = site.folder / "asked"
-    shutil.rmtree(folder, ignore_errors=True)
-    folder.mkdir()
-    if os.geteuid() == 0:  # otherwise nginx's workers are this user
-        shutil.chown(folder, group="nogroup")
-    folder.chmod(0o2770)
-    return folder
-
-
-REFUSED = {
-    "another site": (403, "PUT", ASKED, BODY, {"sec_fetch_site": "cross-site"}),
-    "65,537 bytes": (413, "PUT", ASKED, b"x" * 65_537, {}),
-    "another method": (405, "DELETE", ASKED, None, {}),
-    "another file": (404, "PUT", "/asked/other.json", BODY, {}),
-    "no file": (404, "PUT", "/asked/", BODY, {}),
-}
-
-
-@pytest.mark.parametrize("status, method, path, body, lines", REFUSED.values(), ids=REFUSED)
-def test_nothing_else_is_written(
-    site: Site,
-    asked: pathlib.Path,
-    status: int,
-    method: str,
-    path: str,
-    body: bytes | None,
-    lines: dict[str, str],
-) -> None:
-    reply = asks_inside(site, path, OPERATOR, method=method, body=body, **lines)
-    assert reply.status == status
-    assert not list(asked.iterdir())
-
-
-def test_nothing_is_written_without_a_token(site: Site, asked: pathlib.Path) -> None:
-    assert asks_inside(site, ASKED, method="PUT", body=BODY).status == 401
-    assert not list(asked.iterdir())
-
-
-def test_nothing_is_written_with_a_bidders_token(
-    site: Site, asked: pathlib.Path, bidder: Bidder
-) -> None:
-    assert asks_inside(site, ASKED, bidder.token, method="PUT", body=BODY).status == 401
-    assert not list(asked.iterdir())
-
-
-def test_nothing_is_written_from_the_bidders_port(site: Site, asked: pathlib.Path) -> None:
-    reply = Client(site.outside).ask("PUT", ASKED, OPERATOR, body=BODY)
-    assert reply.refuses(404, "no_page")
-    assert not list(asked.iterdir())
-
-
-def test_what_the_operators_page_asks_for_is_written_and_replaced(
-    site: Site, recorder: Recorder, asked: pathlib.Path
-) -> None:
-    for body, status in ((BODY, 201), (b'{"round":3}', 204)):
-        assert asks_inside(site, ASKED, OPERATOR, method="PUT", body=body).status == status
-        assert (asked / "close.json").read_bytes() == body
-    assert not recorder.seen
-
-
-def test_what_the_operators_page_asks_for_is_for_nginx_and_root_only(
-    site: Site, asked: pathlib.Path
-) -> None:
-    assert asks_inside(site, ASKED, OPERATOR, method="PUT", body=BODY).status == 201
-    assert (asked / "close.json").stat().st_mode & 0o777 == 0o600
+def test_nothing_can_be_written_through_nginx(site: Site) -> None:
+    for path in ("/asked/close.json", "/conductor.json", "/public/timetable.json"):
+        reply = asks_inside(site, path, OPERATOR, method="PUT", body=b"{}")
+        assert reply.status in (404, 405)
+    assert not (site.folder / "asked/close.json").exists()

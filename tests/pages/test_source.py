@@ -18,7 +18,7 @@ TYPES = "--checkJs --allowJs --noEmit --target es2022 --module es2022 --moduleRe
 LIBRARIES = "--lib esnext,dom,dom.iterable"
 
 MOST_COLUMNS = 100
-MOST_BYTES = 80_000  # of all pages, compressed
+MOST_BYTES = 95_000  # of all pages, compressed
 # What would put text in as HTML, run it, or store it.
 FORBIDDEN = re.compile(
     r"innerHTML|outerHTML|insertAdjacentHTML|document\.write|\beval\(|new Function"
