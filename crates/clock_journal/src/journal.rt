@@ -9,7 +9,7 @@ ghost use Rattle.clock_journal.specs.Resuming.{IsLeftBy, IsNotRefused, IsNotResu
 
 use crate::durable::Durable;
 use crate::format::{Link, front_of, head_of, link_of};
-use crate::recovery::{JournalFault, Machine, Recovered, recover};
+use crate::recovery::{JournalFault, Machine, Recovered, recover_first};
 use clock_device::Failed;
 use std::marker::Model;
 
@@ -92,7 +92,7 @@ impl<D: Durable> Journal<D> {
         ensures unfailed { OnOk result (self.new.has_failed ≡ false) }
         ensures rules { M.rules machine.new ≡ M.rules machine.old }
     {
-        let recovered = recover(machine, &self.chain, bytes)?;
+        let recovered = recover_first(machine, &self.chain, bytes)?;
         tell(recovered);
         // only synced bytes survive a crash during the truncation
         self.disk.sync().or(Err(JournalFault::Failed))?;

@@ -94,23 +94,24 @@ pub enum JournalFault {
 /// [`law_of_journals`](crate::law_of_journals), a file has one list of texts only.
 ///
 /// So what a crash left of a journal is not damaged, and the machine takes every text that was on
-/// the disk. No text that it takes is one that it refuses.
+/// the disk. If the machine had no text before, it stands for these texts, and no text that it
+/// takes is one that it refuses.
 ///
-/// Requires a machine without texts.
-///
-/// Errors, in this order: `Unknown`, `Setup`; then, of the first record that is not taken,
-/// `Damaged`, `Refused`, or `NoMemory`. Hashes each text once, and allocates nothing.
+/// Errors, in this order: `Unknown`, `Setup`, with an unchanged machine; then, of the first record
+/// that is not taken, `Damaged`, `Refused`, or `NoMemory`. It then has taken all texts before that
+/// record: do not use it again. Hashes each text once, and allocates nothing.
 pub fn recover<M: Machine>(
     machine: &mut M,
     digest: &Link,
     bytes: &[u8],
 ) -> Result<Recovered, JournalFault>
-    requires { M.stands_for machine.old digest.now [] }
     ensures ok { IfOk result (λ recovered. (texts : List (List ℕ))
         × AreTextsOf digest.now bytes.now texts recovered
-        × M.stands_for machine.new digest.now (reverse texts)
-        × NoneRefused (M.refuses (M.rules machine.old)) [] texts) }
-    ensures err { IfErr result (IsFound (M.refuses (M.rules machine.old)) digest.now bytes.now) }
+        × (M.stands_for machine.old digest.now []
+        → M.stands_for machine.new digest.now (reverse texts)
+        × NoneRefused (M.refuses (M.rules machine.old)) [] texts)) }
+    ensures err { IfErr result (IsFound (λ past text. M.stands_for machine.old digest.now []
+        → M.refuses (M.rules machine.old) past text) digest.now bytes.now) }
     ensures rules { M.rules machine.new ≡ M.rules machine.old }
 {
     let mut chain = *digest;
@@ -154,4 +155,21 @@ pub fn recover<M: Machine>(
             }
         }
     }
+}
+
+/// The same, for a machine without texts.
+pub fn recover_first<M: Machine>(
+    machine: &mut M,
+    digest: &Link,
+    bytes: &[u8],
+) -> Result<Recovered, JournalFault>
+    requires { M.stands_for machine.old digest.now [] }
+    ensures ok { IfOk result (λ recovered. (texts : List (List ℕ))
+        × AreTextsOf digest.now bytes.now texts recovered
+        × M.stands_for machine.new digest.now (reverse texts)
+        × NoneRefused (M.refuses (M.rules machine.old)) [] texts) }
+    ensures err { IfErr result (IsFound (M.refuses (M.rules machine.old)) digest.now bytes.now) }
+    ensures rules { M.rules machine.new ≡ M.rules machine.old }
+{
+    recover(machine, digest, bytes)
 }

@@ -68,7 +68,8 @@ pub trait Acceptor {
     /// Whether accepting a connection has failed.
     ghost has_failed: { Self → Bool };
 
-    /// Accepts the next connection, and waits for it without a limit.
+    /// Accepts the next connection, and waits for it without a limit. At `Err`, no connection is
+    /// open, and none of those to come is lost.
     ///
     /// Requires that no connection is open.
     fn accept(&mut self) -> Result<Connection<Self::Reader, Self::Writer>, Failed>

@@ -30,6 +30,13 @@ was_true : (test : Bool) → not test ≡ false → test ≡ true
 was_true true is = refl
 was_true false is = sym is
 
+-- none is refused in addition to what holds
+none_given : (Holds : Type 0) (refuses : List (List ℕ) → List ℕ → Type 0) (past texts : List (List ℕ)) → Holds
+    → NoneRefused (λ past text. Holds × refuses past text) past texts → NoneRefused refuses past texts
+none_given Holds refuses past [] holds none = tt
+none_given Holds refuses past (text ∷ texts) holds none =
+    (λ is. none.0 (holds, is), none_given Holds refuses (text ∷ past) texts holds none.1)
+
 -- the record that the code makes is that of the next text
 next_entry : (first : List ℕ) (texts : List (List ℕ)) (text chain : List ℕ) (count place : ℕ) (digest : List ℕ)
     → count ≡ length texts → place ≡ length (file_of first texts) → chain ≡ last_link first texts
@@ -122,7 +129,7 @@ loop-chain-init g c =
             ∙ ap (λ (b : List ℕ). file ++ b) (sym (take_rest bytes file_head_length)));
         chain_is = refl;
         count_is = refl;
-        stands = c.requires;
+        stands = λ first. first;
       },
       tt,
       refl,
@@ -130,9 +137,12 @@ loop-chain-init g c =
 
 pub loop-chain-preserved : goal.loop-chain-preserved
 loop-chain-preserved g c =
-    let mid = g.M.Machine.stands_for c.loop-chain.machine in
-    let new = g.M.Machine.stands_for c.take.new.self in
-    let refuses = g.M.Machine.refuses (g.M.Machine.rules c.args.machine.now) in
+    let First = g.M.Machine.stands_for c.args.machine.now c.args.digest.now [] in
+    let mid = λ (digest : List ℕ) (texts : List (List ℕ)). First → g.M.Machine.stands_for c.loop-chain.machine digest
+    texts in
+    let new = λ (digest : List ℕ) (texts : List (List ℕ)). First → g.M.Machine.stands_for c.take.new.self digest texts in
+    let refuses = λ (past : List (List ℕ)) (text : List ℕ). First
+    × g.M.Machine.refuses (g.M.Machine.rules c.args.machine.now) past text in
     let digest = c.args.digest.now in
     let bytes = c.args.bytes.now in
     let text = c.in-Whole.text.now in
@@ -144,9 +154,10 @@ loop-chain-preserved g c =
     (on_way_more mid digest bytes at.chain at.texts at.rest.now way new refuses text c.in-Whole.digest _
     (λ place. search rules) (sym c.in-Whole.ensures.next) c.in-Whole.ensures.record.linked (next_entry digest way.texts
     text at.chain at.texts (length bytes - length at.rest.now) c.in-Whole.digest way.count_is place way.chain_is
-    c.in-Whole.ensures.record.linked) c.in-Ok.ensures.taken at.invariant.1
-    (subst (λ (by : List (List ℕ) → List ℕ → Type 0). by (reverse way.texts) text → ⊥)
-    (ap g.M.Machine.refuses at.invariant.2) (c.in-Ok.ensures.accepted digest (reverse way.texts) way.stands))) in (
+    c.in-Whole.ensures.record.linked) (λ first past stood same is. c.in-Ok.ensures.taken first past (stood is) same)
+    at.invariant.1 (λ both. subst (λ (by : List (List ℕ) → List ℕ → Type 0). by (reverse way.texts) text → ⊥)
+    (ap g.M.Machine.refuses at.invariant.2) (c.in-Ok.ensures.accepted digest (reverse way.texts) (way.stands both.0))
+    both.1)) in (
       more.0,
       more.1,
       c.in-Ok.ensures.rules ∙ at.invariant.2,
@@ -155,8 +166,8 @@ loop-chain-preserved g c =
 -- there are no more texts than bytes, so the count does not overflow
 pub overflow_add-number : goal.overflow_add-number
 overflow_add-number g c =
-    let few = few_texts (g.M.Machine.stands_for c.loop-chain.machine)
-    c.args.digest.now c.args.bytes.now c.loop-chain.chain c.loop-chain.texts c.loop-chain.rest.now
+    let few = few_texts (λ digest texts. g.M.Machine.stands_for c.args.machine.now c.args.digest.now []
+    → g.M.Machine.stands_for c.loop-chain.machine digest texts) c.args.digest.now c.args.bytes.now c.loop-chain.chain c.loop-chain.texts c.loop-chain.rest.now
     c.loop-chain.invariant.0 in
     let whole = c.in-Whole.ensures.record.within in
     omega (arith, few, whole)
@@ -165,8 +176,8 @@ pub overflow_sub-end : goal.overflow_sub-end
 overflow_sub-end g c =
     omega (
       arith,
-      all_bytes (g.M.Machine.stands_for c.loop-chain.machine)
-          c.args.digest.now c.args.bytes.now c.loop-chain.chain c.loop-chain.texts c.loop-chain.rest.now
+      all_bytes (λ digest texts. g.M.Machine.stands_for c.args.machine.now c.args.digest.now []
+          → g.M.Machine.stands_for c.loop-chain.machine digest texts) c.args.digest.now c.args.bytes.now c.loop-chain.chain c.loop-chain.texts c.loop-chain.rest.now
           c.loop-chain.invariant.0,
     )
 
@@ -188,8 +199,7 @@ returns-then-eq-clause-ok g c = (
       refl,
     );
   },
-  c.requires,
-  tt,
+  λ first. (first, tt),
 )
 
 pub returns-then-bytes-lt-HEAD_LENGTH-clause-err : goal.returns-then-bytes-lt-HEAD_LENGTH-clause-err
@@ -231,7 +241,8 @@ returns-then-ne-2-clause-err g c =
 
 pub returns-in-Ended-clause-ok : goal.returns-in-Ended-clause-ok
 returns-in-Ended-clause-ok g c =
-    let now = g.M.Machine.stands_for c.loop-chain.machine in
+    let now = λ (digest : List ℕ) (texts : List (List ℕ)). g.M.Machine.stands_for c.args.machine.now c.args.digest.now []
+    → g.M.Machine.stands_for c.loop-chain.machine digest texts in
     let digest = c.args.digest.now in
     let bytes = c.args.bytes.now in
     let at = c.loop-chain in
@@ -246,13 +257,13 @@ returns-in-Ended-clause-ok g c =
           next_place now digest bytes at.chain at.texts at.rest.now way,
         );
       },
-      way.stands,
-      at.invariant.1,
+      λ first. (way.stands first, none_given _ _ [] way.texts first at.invariant.1),
     )
 
 pub returns-in-Damaged-clause-err : goal.returns-in-Damaged-clause-err
 returns-in-Damaged-clause-err g c =
-    let now = g.M.Machine.stands_for c.loop-chain.machine in
+    let now = λ (digest : List ℕ) (texts : List (List ℕ)). g.M.Machine.stands_for c.args.machine.now c.args.digest.now []
+    → g.M.Machine.stands_for c.loop-chain.machine digest texts in
     let digest = c.args.digest.now in
     let bytes = c.args.bytes.now in
     let at = c.loop-chain in
@@ -265,7 +276,8 @@ returns-in-Damaged-clause-err g c =
 
 pub returns-in-Err-Refused-clause-err : goal.returns-in-Err-Refused-clause-err
 returns-in-Err-Refused-clause-err g c =
-    let now = g.M.Machine.stands_for c.loop-chain.machine in
+    let now = λ (digest : List ℕ) (texts : List (List ℕ)). g.M.Machine.stands_for c.args.machine.now c.args.digest.now []
+    → g.M.Machine.stands_for c.loop-chain.machine digest texts in
     let digest = c.args.digest.now in
     let bytes = c.args.bytes.now in
     let text = c.in-Whole.text.now in
@@ -276,9 +288,9 @@ returns-in-Err-Refused-clause-err g c =
       file_at now digest bytes at.chain at.texts at.rest.now way (λ (found : Next). found ≡ whole text)
           (sym c.in-Whole.ensures.next),
       next_place now digest bytes at.chain at.texts at.rest.now way,
-      subst (λ (by : List (List ℕ) → List ℕ → Type 0). by (reverse way.texts) text)
+      λ first. subst (λ (by : List (List ℕ) → List ℕ → Type 0). by (reverse way.texts) text)
           (ap g.M.Machine.refuses at.invariant.2)
-          (c.take.ensures.refused digest (reverse way.texts) (search rules) way.stands),
+          (c.take.ensures.refused digest (reverse way.texts) (search rules) (way.stands first)),
     )
 
 pub returns-in-Err-NoMemory-clause-err : goal.returns-in-Err-NoMemory-clause-err
