@@ -13,11 +13,12 @@ use crate::files::{digits_of, file_bytes, locked_bytes, tell_journal};
 use clock_answers::Fault;
 use clock_device::{Failed, FromReader, ToWriter};
 use clock_journal::{
-    Durable, FileDisk, Journal, Link, Machine, Mirror, Record, Recovered, TakeError, level, recover,
+    Durable, EndedJournal, FileDisk, Link, Machine, Mirror, NewJournal, Record, Recovered,
+    TakeError, level, recover,
 };
 use clock_server::{
-    Acceptor, Announced, Announcer, Connection, Listen, ServeFault, ServerFault, accept_on,
-    serve_from, serve_on,
+    Acceptor, Announcer, Connection, Listen, ServeFault, ServerFault, accept_on, serve_from,
+    serve_on,
 };
 use clock_words::Serving;
 use std::alloc::Global;
@@ -193,12 +194,15 @@ where
             let _unprinted = eprintln!(rt; "cut {cut} bytes at {end}");
         }
     };
-    let journal = Journal::new(disk, read.digest);
+    let journal = NewJournal::new(disk, read.digest);
     let announcer = Printed { rt };
-    let mut log = Announced { journal, announcer };
     let mut port = JournalPort::new(rt, serving);
     let count = serving.connections;
-    let served = serve_read(rt.alloc(), read, &mut log, bytes, tell, &mut port, count);
+    let alloc = rt.alloc();
+    let (served, ended) = serve_read(
+        alloc, read, journal, announcer, bytes, tell, &mut port, count,
+    );
+    drop(ended);
     match served {
         Ok(()) => Ok(()),
         Err(fault) => Err(server_fault(fault)),
@@ -210,33 +214,48 @@ where
 ///
 /// Requires a journal with the digest of the document, that has not failed, and connections of
 /// which none is open and none has failed. Errors: as [`serve_from`].
-pub fn serve_read<D: Durable, A: Announcer, C: Listen, F: FnOnce(Recovered)>(
+pub fn serve_read<D, A, C, F>(
     alloc: Global,
     read: ReadAuction,
-    log: &mut Announced<D, A>,
+    journal: NewJournal<D>,
+    announcer: A,
     bytes: Vec<u8>,
     tell: F,
     connections: &mut C,
     count: u64,
-) -> Result<(), ServerFault<C::Fault>>
-    requires digest { log.old.journal.chain ≡ read.digest }
-    requires unfailed { log.old.journal.has_failed ≡ false }
+) -> (Result<(), ServerFault<C::Fault>>, EndedJournal<D>)
+where
+    D: Durable + Drop,
+    A: Announcer + Drop,
+    C: Listen,
+    F: FnOnce(Recovered),
+    requires digest { journal.chain ≡ read.digest }
+    requires unfailed { journal.has_failed ≡ false }
     requires callable { F.IsAlwaysCallable tell }
     requires closed { C.offer connections.old ≡ None }
     requires taken { C.has_failed connections.old ≡ false }
     ensures read { ∥ ((document : List ℕ)
-        × IsReadFrom document read.auction.front.setup log.old.journal.chain) ∥₁ }
+        × IsReadFrom document read.auction.front.setup journal.chain) ∥₁ }
     ensures generation { (exchanges : List Exchange)
         × GrowsBy (C.closed connections.old) (C.closed connections.new) exchanges
         × Came (C.coming connections.old) (C.coming connections.new) (bytes_given exchanges)
-        × EndsGeneration read.auction.front.setup count exchanges bytes.items log.old.journal
-        log.new.journal result }
+        × EndsGeneration read.auction.front.setup count exchanges bytes.items journal result.1
+        result.0 }
     ensures closed { C.offer connections.new ≡ None }
-    ensures taken { result ≡ Err (ServerFault.Serve ServeFault.Accept)
+    ensures taken { result.0 ≡ Err (ServerFault.Serve ServeFault.Accept)
         → C.has_failed connections.new ≡ true }
 {
     let mut auction = read.auction;
-    let served = serve_from(alloc, &mut auction, log, bytes, tell, connections, count);
+    let served = serve_from(
+        alloc,
+        &mut auction,
+        journal,
+        announcer,
+        bytes,
+        tell,
+        connections,
+        count,
+    );
     drop(auction);
     served
 }

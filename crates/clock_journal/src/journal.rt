@@ -1,5 +1,5 @@
 ghost use Rattle.std.specs.Prelude.{◌≡◌, [], List, ℕ, IfErr, IfOk, OnOk, OnErr, Some, false};
-ghost use Rattle.std.specs.Prelude.{is_err, reverse};
+ghost use Rattle.std.specs.Prelude.{is_err, reverse, MatchResult};
 ghost use Rattle.clock_journal.specs.Format.{Fits, link};
 ghost use Rattle.clock_journal.specs.Logged.{HasTexts, IsAppended, JournalState};
 ghost use Rattle.clock_journal.specs.Crash.{BeginsWithTexts, LeavesJournal, LeavesOneMore, StaysSo};
@@ -13,7 +13,7 @@ use crate::recovery::{JournalFault, Machine, Recovered, recover_first};
 use clock_device::Failed;
 use std::marker::Model;
 
-/// A journal on a disk. Call [`Journal::resume`] before the first text.
+/// A journal on a disk. Only [`NewJournal::resume`] makes one.
 ///
 /// In contracts, a journal is what contracts see of its disk, and the digest of its last text.
 #[derive(Drop)]
@@ -34,9 +34,46 @@ impl<D: Durable> Model for Journal<D> {
     } };
 }
 
-impl<D: Durable> Journal<D> {
+/// The disk of a journal that is not resumed yet. No text can be appended to it.
+///
+/// In contracts, it is a journal whose last digest is that of the set-up document.
+#[derive(Drop)]
+pub struct NewJournal<D: Durable> {
+    journal: Journal<D>,
+}
+
+impl<D: Durable> Model for NewJournal<D> {
+    ghost Value = { JournalState };
+
+    ghost view = { λ new. new.journal };
+}
+
+/// A journal to which no text is appended any more, or one that was not resumed.
+#[derive(Drop)]
+pub struct EndedJournal<D: Durable> {
+    journal: Journal<D>,
+}
+
+impl<D: Durable> Model for EndedJournal<D> {
+    ghost Value = { JournalState };
+
+    ghost view = { λ ended. ended.journal };
+}
+
+impl<D: Durable> EndedJournal<D> {
+    /// Returns the disk of the journal.
+    pub fn disk(&self) -> &D
+        ensures written { D.written result.now ≡ self.now.written }
+        ensures synced { D.synced result.now ≡ self.now.synced }
+        ensures failed { D.has_failed result.now ≡ self.now.has_failed }
+    {
+        self.journal.disk()
+    }
+}
+
+impl<D: Durable> NewJournal<D> {
     /// Wraps a disk as the journal of the set-up document with this digest. Makes no call of it.
-    pub fn new(disk: D, digest: Link) -> Journal<D>
+    pub fn new(disk: D, digest: Link) -> NewJournal<D>
         ensures written { result.written ≡ D.written disk }
         ensures synced { result.synced ≡ D.synced disk }
         ensures moments { result.moments ≡ D.moments disk }
@@ -44,7 +81,8 @@ impl<D: Durable> Journal<D> {
         ensures chain { result.chain ≡ digest }
     {
         let chain = digest;
-        Journal { disk, chain }
+        let journal = Journal { disk, chain };
+        NewJournal { journal }
     }
 
     /// Replays `bytes`, which are all bytes of the disk, with `machine`, like [`recover`].
@@ -55,13 +93,60 @@ impl<D: Durable> Journal<D> {
     /// - `own`: on what a crash left of a journal with no text that the machine refuses, it fails
     ///   only if memory runs out or a call of the disk fails.
     /// - `left`: at `Failed`, a call of the disk failed; at any other fault, the disk is unchanged.
-    /// - `crash`, `any_tail`: if a crash before this call leaves these texts, so does a crash at
-    ///   any moment of the call, also at `Err`.
+    /// - `moments`, `crash`, `any_tail`: if a crash before this call leaves these texts, so does a
+    ///   crash at any moment of the call, also at `Err`.
     ///
-    /// Requires a machine without texts, and a journal as [`Journal::new`] made it, of whose disk
-    /// no call has failed. Errors, in this order: as [`recover`]; `Failed`. Do not use the machine
-    /// and the journal after an `Err`.
+    /// Requires a machine without texts, and a disk of which no call has failed. Errors, in this
+    /// order: as [`recover`]; `Failed`. Do not use the machine after an `Err`.
     pub fn resume<M: Machine, F: FnOnce(Recovered)>(
+        self,
+        machine: &mut M,
+        bytes: &[u8],
+        tell: F,
+    ) -> Result<(Journal<D>, Recovered), (JournalFault, EndedJournal<D>)>
+        requires fresh { M.stands_for machine.old self.chain [] }
+        requires unfailed { self.has_failed ≡ false }
+        requires callable { F.IsAlwaysCallable tell }
+        ensures ok { IfOk result (λ made. (texts : List (List ℕ))
+            × AreTextsOf self.chain bytes.now texts made.1
+            × M.stands_for machine.new self.chain (reverse texts)
+            × NoneRefused (M.refuses (M.rules machine.old)) [] texts
+            × (self.written ≡ Some bytes.now → HasTexts self.chain texts made.0)) }
+        ensures err { IfErr result (λ left. IsNotResumed (M.refuses (M.rules machine.old))
+            (M.stands_for machine.new self.chain) self.chain bytes.now left.0) }
+        ensures own { (texts : List (List ℕ)) (least : ℕ)
+            → NoneRefused (M.refuses (M.rules machine.old)) [] texts
+            → LeavesJournal self.chain bytes.now texts least
+            → IfErr result (λ left. IsNotRefused left.0) }
+        ensures left { IfErr result (λ left. IsLeftBy self left.1 left.0) }
+        ensures moments { (synced : List ℕ) (texts : List (List ℕ)) (least : ℕ)
+            → self.written ≡ Some bytes.now → self.synced ≡ Some synced
+            → IfOk result (λ made. StaysSo self made.0
+            (λ left. LeavesJournal self.chain left texts least)) }
+        ensures crash { (synced : List ℕ) (texts : List (List ℕ)) (least : ℕ)
+            → self.written ≡ Some bytes.now → self.synced ≡ Some synced
+            → IfErr result (λ ended. StaysSo self ended.1
+            (λ left. LeavesJournal self.chain left texts least)) }
+        ensures any_tail { (synced : List ℕ) (texts : List (List ℕ))
+            → self.written ≡ Some bytes.now → self.synced ≡ Some synced
+            → MatchResult result
+            (λ made. StaysSo self made.0 (λ left. BeginsWithTexts self.chain left texts))
+            (λ ended. StaysSo self ended.1 (λ left. BeginsWithTexts self.chain left texts)) }
+        ensures chain { IfOk result (λ made. made.0.chain ≡ made.1.chain) }
+        ensures unfailed { IfOk result (λ made. made.0.has_failed ≡ false) }
+        ensures rules { M.rules machine.new ≡ M.rules machine.old }
+    {
+        let mut journal = self.journal;
+        match journal.start(machine, bytes, tell) {
+            Ok(recovered) => Ok((journal, recovered)),
+            Err(fault) => Err((fault, EndedJournal { journal })),
+        }
+    }
+}
+
+impl<D: Durable> Journal<D> {
+    /// Resumes a journal that has only its disk, and the digest of its set-up document.
+    fn start<M: Machine, F: FnOnce(Recovered)>(
         &mut self,
         machine: &mut M,
         bytes: &[u8],
@@ -143,6 +228,13 @@ impl<D: Durable> Journal<D> {
         ensures failed { D.has_failed result.now ≡ self.now.has_failed }
     {
         &self.disk
+    }
+
+    /// Ends the journal: no text can be appended to it any more.
+    pub fn end(self) -> EndedJournal<D>
+        ensures { result ≡ self }
+    {
+        EndedJournal { journal: self }
     }
 }
 

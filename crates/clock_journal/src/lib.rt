@@ -9,6 +9,6 @@ mod recovery;
 
 pub use durable::{Durable, FileDisk};
 pub use format::{Link, MOST_TEXT, digest_of};
-pub use journal::{Journal, law_of_journals};
+pub use journal::{EndedJournal, Journal, NewJournal, law_of_journals};
 pub use mirror::{LevelFault, Mirror, law_of_mirrors, level};
 pub use recovery::{JournalFault, Machine, Record, Recovered, TakeError, recover};

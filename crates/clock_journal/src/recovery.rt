@@ -77,7 +77,7 @@ pub struct Recovered {
 /// - `Refused`: the machine refuses the text whose record begins at this place.
 /// - `NoMemory`: the machine is out of memory.
 /// - `Failed`: a call of the disk failed, after all texts were taken. Only
-///   [`Journal::resume`](crate::Journal::resume) returns it.
+///   [`NewJournal::resume`](crate::NewJournal::resume) returns it.
 #[derive(Clone, Copy, Debug, PartialEq, Eq)]
 pub enum JournalFault {
     Unknown,

@@ -1,10 +1,10 @@
 //! Journals in memory and in a file: each prefix, damaged bytes, and appending after a restart.
 
-ghost use Rattle.std.specs.Prelude.{◌≡◌, IsTrue, false};
+ghost use Rattle.std.specs.Prelude.{◌≡◌, IfSome, IsTrue, false};
 
 use crate::comparing::{assert_is, assert_is_at};
 use clock_fixtures::{Count, MemoryDisk};
-use clock_journal::{Durable, FileDisk, Journal, JournalFault, Link, recover};
+use clock_journal::{Durable, FileDisk, Journal, JournalFault, Link, NewJournal, recover};
 use std::alloc::Global;
 use std::fs::{self, File, OpenOptions};
 use std::io::Write;
@@ -23,12 +23,18 @@ fn taken(bytes: &[u8], setup: &Link) -> Result<(u64, usize), JournalFault> {
     }
 }
 
-/// Begins a journal on an empty disk. Returns whether it did.
-fn begins<D: Durable>(journal: &mut Journal<D>) -> bool
-    requires { journal.old.has_failed ≡ false }
-    ensures { IsTrue result → journal.new.has_failed ≡ false }
+/// Resumes the journal of these bytes, which are all bytes of a disk, or begins it.
+fn begun<D: Durable + Drop>(disk: D, bytes: &[u8]) -> Option<Journal<D>>
+    requires { D.has_failed disk ≡ false }
+    ensures { IfSome result (λ journal. journal.has_failed ≡ false) }
 {
-    journal.resume(&mut Count(0), b"", |_recovered| {}).is_ok()
+    match NewJournal::new(disk, SETUP).resume(&mut Count(0), bytes, |_recovered| {}) {
+        Ok((journal, _recovered)) => Some(journal),
+        Err((_fault, ended)) => {
+            drop(ended);
+            None
+        }
+    }
 }
 
 /// Appends two requests, of 5 and 3 bytes. Returns whether both were appended.
@@ -55,10 +61,10 @@ fn bytes_if(alloc: Global, journal: &Journal<MemoryDisk>, is_taken: bool) -> Vec
 /// The bytes of a journal of three requests of 5, 3, and 4 bytes on a disk of `room` bytes: 56 of
 /// the head, and 45, 43, and 44 of records. None if a request was not appended.
 fn file(alloc: Global, room: usize) -> Vec<u8> {
-    let mut journal = Journal::new(MemoryDisk::new(alloc, room, 100), SETUP);
-    let is_taken = begins(&mut journal)
-        && takes_two(&mut journal)
-        && journal.append(b"last").is_ok();
+    let Some(mut journal) = begun(MemoryDisk::new(alloc, room, 100), b"") else {
+        return Vec::new(alloc);
+    };
+    let is_taken = takes_two(&mut journal) && journal.append(b"last").is_ok();
     let bytes = bytes_if(alloc, &journal, is_taken);
     drop(journal);
     bytes
@@ -156,9 +162,10 @@ fn resumed(alloc: Global, bytes: &[u8]) -> Vec<u8> {
     if disk.append(bytes).is_err() {
         return Vec::new(alloc);
     }
-    let mut journal = Journal::new(disk, SETUP);
-    let resumed = journal.resume(&mut Count(0), bytes, |_recovered| {});
-    let is_taken = resumed.is_ok() && journal.append(b"more").is_ok();
+    let Some(mut journal) = begun(disk, bytes) else {
+        return Vec::new(alloc);
+    };
+    let is_taken = journal.append(b"more").is_ok();
     let bytes = bytes_if(alloc, &journal, is_taken);
     drop(journal);
     bytes
@@ -204,8 +211,10 @@ fn is_written(file: Option<File>) -> bool {
     let Some(file) = file else {
         return false;
     };
-    let mut journal = Journal::new(FileDisk::new(file), SETUP);
-    let is_taken = begins(&mut journal) && takes_two(&mut journal);
+    let Some(mut journal) = begun(FileDisk::new(file), b"") else {
+        return false;
+    };
+    let is_taken = takes_two(&mut journal);
     drop(journal);
     is_taken
 }

@@ -24,6 +24,7 @@ use Rattle.clock_server.specs.Exchanges.{Exchange, SendsNothing}
 use Rattle.clock_server.specs.Generations.{AreRestarts, ContinueFrom, EndsGeneration, EndsWith, Generation}
 use Rattle.clock_server.specs.Generations.{GenerationsContinue, LeftSince, MayLeave, Serves, ServesFile}
 use Rattle.clock_server.specs.Generations.{failed, served}
+use Rattle.clock_server.specs.declared.generation.ServerFault.{ServerFault}
 use Rattle.clock_server.specs.declared.generation.ServerFault.TheVariants.{Serve}
 use Rattle.clock_server.specs.declared.serving.ServeFault.{ServeFault}
 use Rattle.clock_server.specs.declared.serving.ServeFault.TheVariants as fault
@@ -219,6 +220,20 @@ module _ (setup : SetupFields) (found first : JournalState) (bytes : List ℕ) (
       → EndsGeneration {U = U} {E = E} setup count exchanges bytes found last (Err (Serve why))
   ends_fault U E count exchanges last fault.Accept ends = ends
   ends_fault U E count exchanges last fault.Journal ends = ends
+
+-- the journal at the end is the one that is returned
+pub ended_as : {U E : Type 0} (setup : SetupFields) (count : ℕ) (exchanges : List Exchange) (bytes : List ℕ)
+    (found last left : JournalState) (result : Result U (ServerFault E)) → left ≡ last
+    → EndsGeneration setup count exchanges bytes found last result
+    → EndsGeneration setup count exchanges bytes found left result
+ended_as setup count exchanges bytes found last left result is ends =
+    subst (λ (at : JournalState). EndsGeneration setup count exchanges bytes found at result) (sym is) ends
+
+pub left_as : (setup : SetupFields) (bytes : List ℕ) (exchanges : List Exchange)
+    (found last left : JournalState) → left ≡ last → ServesFile setup bytes exchanges None found last
+    → ServesFile setup bytes exchanges None found left
+left_as setup bytes exchanges found last left is serves =
+    subst (λ (at : JournalState). ServesFile setup bytes exchanges None found at) (sym is) serves
 
 -- ---- generations
 

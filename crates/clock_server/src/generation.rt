@@ -13,7 +13,10 @@ use crate::request_log::{Announced, Announcer};
 use crate::serving::{ServeFault, serve_all};
 use clock_front::{Effect, Front};
 use clock_http::{Code, frame};
-use clock_journal::{Durable, JournalFault, Machine, Record, Recovered, TakeError, law_of_mirrors};
+use clock_journal::{
+    Durable, EndedJournal, JournalFault, Machine, NewJournal, Record, Recovered, TakeError,
+    law_of_mirrors,
+};
 use clock_processor::Processor;
 use std::alloc::Global;
 
@@ -82,9 +85,10 @@ pub enum ServerFault<E> {
     Serve(ServeFault),
 }
 
-/// Runs one generation of a server: resumes the journal of a file with [`Journal::resume`], listens
-/// for connections, and serves `count` of them with [`serve_all`]. The program serves with this
-/// call. `bytes` are all bytes of the file. They are freed before it listens.
+/// Runs one generation of a server: resumes the journal of a file with [`NewJournal::resume`],
+/// listens for connections, and serves `count` of them with [`serve_all`]. The program serves with
+/// this call. `bytes` are all bytes of the file. They are freed before it listens. Returns the
+/// journal as it ended, too.
 ///
 /// If the file is what a crash left of this auction's journal, the start is not refused, and each
 /// reply is the right one after the logged texts. What a crash leaves after that is this auction's
@@ -94,42 +98,50 @@ pub enum ServerFault<E> {
 /// is open and none has failed.
 ///
 /// Errors: `Start`, `Listen`, or `Serve`, of the first of these calls that fails. Do not use the
-/// auction and the journal afterward.
-pub fn serve_from<P: Processor, D: Durable, A: Announcer, C: Listen, F: FnOnce(Recovered)>(
+/// auction afterward.
+pub fn serve_from<P, D, A, C, F>(
     alloc: Global,
     auction: &mut ReplayedAuction<P>,
-    log: &mut Announced<D, A>,
+    journal: NewJournal<D>,
+    announcer: A,
     bytes: Vec<u8>,
     tell: F,
     connections: &mut C,
     count: u64,
-) -> Result<(), ServerFault<C::Fault>>
+) -> (Result<(), ServerFault<C::Fault>>, EndedJournal<D>)
+where
+    P: Processor,
+    D: Durable + Drop,
+    A: Announcer + Drop,
+    C: Listen,
+    F: FnOnce(Recovered),
     requires fresh { StandsForTexts [] auction.old.front }
-    requires unfailed { log.old.journal.has_failed ≡ false }
+    requires unfailed { journal.has_failed ≡ false }
     requires callable { F.IsAlwaysCallable tell }
     requires closed { C.offer connections.old ≡ None }
     requires taken { C.has_failed connections.old ≡ false }
     ensures generation { (exchanges : List Exchange)
         × GrowsBy (C.closed connections.old) (C.closed connections.new) exchanges
         × Came (C.coming connections.old) (C.coming connections.new) (bytes_given exchanges)
-        × EndsGeneration auction.old.front.setup count exchanges bytes.items log.old.journal
-        log.new.journal result }
+        × EndsGeneration auction.old.front.setup count exchanges bytes.items journal result.1
+        result.0 }
     ensures closed { C.offer connections.new ≡ None }
-    ensures taken { result ≡ Err (ServerFault.Serve ServeFault.Accept)
+    ensures taken { result.0 ≡ Err (ServerFault.Serve ServeFault.Accept)
         → C.has_failed connections.new ≡ true }
 {
-    let resumed = log.journal.resume(auction, bytes.as_slice(), tell);
+    let resumed = journal.resume(auction, bytes.as_slice(), tell);
     drop(bytes);
-    let recovered = match resumed {
-        Ok(recovered) => recovered,
-        Err(fault) => return Err(ServerFault::Start(fault)),
+    let (journal, recovered) = match resumed {
+        Ok(made) => made,
+        Err((fault, ended)) => return (Err(ServerFault::Start(fault)), ended),
     };
     if let Err(fault) = connections.listen(recovered) {
-        return Err(ServerFault::Listen(fault));
+        return (Err(ServerFault::Listen(fault)), journal.end());
     }
-    match serve_all(alloc, &mut auction.front, log, connections, count) {
-        Ok(()) => Ok(()),
-        Err(fault) => Err(ServerFault::Serve(fault)),
+    let mut log = Announced { journal, announcer };
+    match serve_all(alloc, &mut auction.front, &mut log, connections, count) {
+        Ok(()) => (Ok(()), log.end()),
+        Err(fault) => (Err(ServerFault::Serve(fault)), log.end()),
     }
 }
 

@@ -6,7 +6,7 @@ ghost use Rattle.clock_journal.specs.Logged.{IsAppended, JournalState};
 ghost use Rattle.clock_server.specs.Keeping.{GrowsBy, no_journal};
 
 use clock_device::Failed;
-use clock_journal::{Durable, Journal, Link, MOST_TEXT};
+use clock_journal::{Durable, EndedJournal, Journal, Link, MOST_TEXT};
 
 /// What logs the accepted texts of an auction before they get their reply.
 ///
@@ -67,6 +67,15 @@ pub trait Announcer {
 pub struct Announced<D: Durable, A> {
     pub journal: Journal<D>,
     pub announcer: A,
+}
+
+impl<D: Durable + Drop, A: Drop> Announced<D, A> {
+    /// Ends the journal, and frees what announces.
+    pub fn end(self) -> EndedJournal<D>
+        ensures { result ≡ self.journal }
+    {
+        self.journal.end()
+    }
 }
 
 impl<D: Durable, A: Announcer> RequestLog for Announced<D, A> {

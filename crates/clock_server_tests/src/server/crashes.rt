@@ -9,9 +9,9 @@ use crate::comparing::{assert_is, assert_is_at, made_at};
 use crate::memory_acceptor::{MemoryAcceptor, NoFault};
 use clock_fixtures::{ACCEPTED, BIDS_OF_X, FIRST_ROUND, NO_BIDS, ONE_PRODUCT, PUT, STATUS};
 use clock_front::Front;
-use clock_journal::{Journal, Link, Recovered};
+use clock_journal::{EndedJournal, Link, NewJournal, Recovered};
 use clock_processor::Plain;
-use clock_server::{Announced, Announcer, ReplayedAuction, ServeFault, ServerFault, serve_from};
+use clock_server::{Announcer, ReplayedAuction, ServeFault, ServerFault, serve_from};
 use clock_setup::{SetupFault, read_setup};
 use std::alloc::Global;
 use std::process::Abort;
@@ -73,32 +73,45 @@ impl Announcer for Silent {
     fn round_closed(&mut self, _round: u64, _digest: &Link) {}
 }
 
-/// A journal on such a disk.
-type Log<'a, R> = Announced<CrashDisk<'a, R>, Silent>;
+/// A journal on such a disk, before it is resumed, and after.
+type New<'a, R> = NewJournal<CrashDisk<'a, R>>;
+
+type Ended<'a, R> = EndedJournal<CrashDisk<'a, R>>;
 
 /// Runs one generation of a server on a file. Returns how it ended, or `None` if memory runs out.
-fn generation<R: Abort>(
+fn generation<'a, R: Abort>(
     alloc: Global,
-    log: &mut Log<'_, R>,
+    journal: New<'a, R>,
     file: &[u8],
     listed: &mut MemoryAcceptor<'_>,
     count: u64,
-) -> Option<&'static str>
-    requires unfailed { log.old.journal.has_failed ≡ false }
+) -> Option<(&'static str, Ended<'a, R>)>
+    requires unfailed { journal.has_failed ≡ false }
     requires closed { listed.old.offer ≡ None }
     requires taken { listed.old.has_failed ≡ false }
 {
     let Ok(mut auction) = auction(alloc) else {
+        drop(journal);
         return None;
     };
     let Ok(file) = file.to_vec(alloc) else {
+        drop(journal);
         drop(auction);
         return None;
     };
     let tell = |_recovered: Recovered| {};
-    let end = serve_from(alloc, &mut auction, log, file, tell, listed, count);
+    let (end, ended) = serve_from(
+        alloc,
+        &mut auction,
+        journal,
+        Silent,
+        file,
+        tell,
+        listed,
+        count,
+    );
     drop(auction);
-    Some(ended_by(end))
+    Some((ended_by(end), ended))
 }
 
 /// What a run must show: its row, how it ends, what it writes to each client that it accepts, and
@@ -123,22 +136,24 @@ fn assert_left(rt: &impl Abort, moments: &[Passed], run: &Run<'_>) {
 }
 
 /// Runs a server for these clients on a file. Compares how it ends, and what it writes.
-fn serve<R: Abort>(
+fn serve<'a, R: Abort>(
     rt: &R,
     alloc: Global,
-    log: &mut Log<'_, R>,
+    journal: New<'a, R>,
     file: &[u8],
     sent: &[Sent<'_>],
     run: &Run<'_>,
-)
-    requires { log.old.journal.has_failed ≡ false }
+) -> Ended<'a, R>
+    requires { journal.has_failed ≡ false }
 {
     let clients = made_at(rt, run.0, clients(alloc, sent));
     let mut listed = MemoryAcceptor::new(alloc, clients.as_slice()).expect(rt, "connections");
-    let ended = generation(alloc, log, file, &mut listed, sent.len() as u64);
-    assert_is_at(rt, run.0, ended, Some(run.1));
+    let made = generation(alloc, journal, file, &mut listed, sent.len() as u64);
+    let (end, ended) = made_at(rt, run.0, made);
+    assert_is_at(rt, run.0, end, run.1);
     assert_written(rt, listed.closed(), run.2);
     drop(listed);
+    ended
 }
 
 /// Runs a server for these clients on a file, and a disk of which only the first `calls` calls
@@ -151,13 +166,11 @@ fn run_server<R: Abort>(
     sent: &[Sent<'_>],
     run: &Run<'_>,
 ) -> Vec<u8> {
-    let journal = Journal::new(CrashDisk::new(rt, alloc, file, calls), DIGEST);
-    let announcer = Silent;
-    let mut log = Announced { journal, announcer };
-    serve(rt, alloc, &mut log, file, sent, run);
-    assert_left(rt, log.journal.disk().moments(), run);
-    let bytes = log.journal.disk().bytes().to_vec(alloc).ok();
-    drop(log);
+    let journal = NewJournal::new(CrashDisk::new(rt, alloc, file, calls), DIGEST);
+    let ended = serve(rt, alloc, journal, file, sent, run);
+    assert_left(rt, ended.disk().moments(), run);
+    let bytes = ended.disk().bytes().to_vec(alloc).ok();
+    drop(ended);
     made_at(rt, run.0, bytes)
 }
 

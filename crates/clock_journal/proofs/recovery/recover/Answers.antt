@@ -140,7 +140,8 @@ loop-chain-preserved g c =
     let First = g.M.Machine.stands_for c.args.machine.now c.args.digest.now [] in
     let mid = λ (digest : List ℕ) (texts : List (List ℕ)). First → g.M.Machine.stands_for c.loop-chain.machine digest
     texts in
-    let new = λ (digest : List ℕ) (texts : List (List ℕ)). First → g.M.Machine.stands_for c.take.new.self digest texts in
+    let new = λ (digest : List ℕ) (texts : List (List ℕ)). First
+    → g.M.Machine.stands_for c.take.new.self digest texts in
     let refuses = λ (past : List (List ℕ)) (text : List ℕ). First
     × g.M.Machine.refuses (g.M.Machine.rules c.args.machine.now) past text in
     let digest = c.args.digest.now in
@@ -167,8 +168,8 @@ loop-chain-preserved g c =
 pub overflow_add-number : goal.overflow_add-number
 overflow_add-number g c =
     let few = few_texts (λ digest texts. g.M.Machine.stands_for c.args.machine.now c.args.digest.now []
-    → g.M.Machine.stands_for c.loop-chain.machine digest texts) c.args.digest.now c.args.bytes.now c.loop-chain.chain c.loop-chain.texts c.loop-chain.rest.now
-    c.loop-chain.invariant.0 in
+    → g.M.Machine.stands_for c.loop-chain.machine digest texts) c.args.digest.now c.args.bytes.now c.loop-chain.chain
+    c.loop-chain.texts c.loop-chain.rest.now c.loop-chain.invariant.0 in
     let whole = c.in-Whole.ensures.record.within in
     omega (arith, few, whole)
 
@@ -177,8 +178,8 @@ overflow_sub-end g c =
     omega (
       arith,
       all_bytes (λ digest texts. g.M.Machine.stands_for c.args.machine.now c.args.digest.now []
-          → g.M.Machine.stands_for c.loop-chain.machine digest texts) c.args.digest.now c.args.bytes.now c.loop-chain.chain c.loop-chain.texts c.loop-chain.rest.now
-          c.loop-chain.invariant.0,
+          → g.M.Machine.stands_for c.loop-chain.machine digest texts) c.args.digest.now c.args.bytes.now
+          c.loop-chain.chain c.loop-chain.texts c.loop-chain.rest.now c.loop-chain.invariant.0,
     )
 
 -- ---- a file with less than a head
@@ -241,7 +242,8 @@ returns-then-ne-2-clause-err g c =
 
 pub returns-in-Ended-clause-ok : goal.returns-in-Ended-clause-ok
 returns-in-Ended-clause-ok g c =
-    let now = λ (digest : List ℕ) (texts : List (List ℕ)). g.M.Machine.stands_for c.args.machine.now c.args.digest.now []
+    let now = λ (digest : List ℕ) (texts : List (List ℕ)).
+    g.M.Machine.stands_for c.args.machine.now c.args.digest.now []
     → g.M.Machine.stands_for c.loop-chain.machine digest texts in
     let digest = c.args.digest.now in
     let bytes = c.args.bytes.now in
@@ -262,7 +264,8 @@ returns-in-Ended-clause-ok g c =
 
 pub returns-in-Damaged-clause-err : goal.returns-in-Damaged-clause-err
 returns-in-Damaged-clause-err g c =
-    let now = λ (digest : List ℕ) (texts : List (List ℕ)). g.M.Machine.stands_for c.args.machine.now c.args.digest.now []
+    let now = λ (digest : List ℕ) (texts : List (List ℕ)).
+    g.M.Machine.stands_for c.args.machine.now c.args.digest.now []
     → g.M.Machine.stands_for c.loop-chain.machine digest texts in
     let digest = c.args.digest.now in
     let bytes = c.args.bytes.now in
@@ -276,7 +279,8 @@ returns-in-Damaged-clause-err g c =
 
 pub returns-in-Err-Refused-clause-err : goal.returns-in-Err-Refused-clause-err
 returns-in-Err-Refused-clause-err g c =
-    let now = λ (digest : List ℕ) (texts : List (List ℕ)). g.M.Machine.stands_for c.args.machine.now c.args.digest.now []
+    let now = λ (digest : List ℕ) (texts : List (List ℕ)).
+    g.M.Machine.stands_for c.args.machine.now c.args.digest.now []
     → g.M.Machine.stands_for c.loop-chain.machine digest texts in
     let digest = c.args.digest.now in
     let bytes = c.args.bytes.now in

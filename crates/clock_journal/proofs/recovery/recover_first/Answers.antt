@@ -20,5 +20,5 @@ returns-clause-ok g c = if_ok c.recover.result _ _
 pub returns-clause-err : goal.returns-clause-err
 returns-clause-err g c = if_err c.recover.result _ _
     (λ why found. found_given (g.M.Machine.stands_for c.args.machine.now c.args.digest.now [])
-    (g.M.Machine.refuses (g.M.Machine.rules c.args.machine.now)) c.args.digest.now c.args.bytes.now why found c.requires)
-    c.recover.ensures.err
+    (g.M.Machine.refuses (g.M.Machine.rules c.args.machine.now)) c.args.digest.now c.args.bytes.now why found
+    c.requires) c.recover.ensures.err

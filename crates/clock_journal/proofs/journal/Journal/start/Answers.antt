@@ -6,10 +6,10 @@ use Rattle.clock_journal.specs.Recovering.{IsFound}
 use Rattle.clock_journal.proofs.OwnStarts.{own_starts}
 use Rattle.clock_journal.proofs.Starting.{Lasts, Stays, crash_lasts, emptied, stays_begun, stays_cut, stays_last}
 use Rattle.clock_journal.proofs.Starting.{stays_synced, tail_lasts}
-use Rattle.clock_journal.proofs.journal.Journal.resume.Given.{Over}
-use Rattle.clock_journal.proofs.journal.Journal.resume.Goals.{then-recovered-eq0+in_ok-or-3+in_ok-or-4}
-use Rattle.clock_journal.proofs.journal.Journal.resume.Goals.{else-recovered-eq0}
-use Rattle.clock_journal.proofs.journal.Journal.resume.Goals as goal
+use Rattle.clock_journal.proofs.journal.Journal.start.Given.{Over}
+use Rattle.clock_journal.proofs.journal.Journal.start.Goals.{then-recovered-eq0+in_ok-or-3+in_ok-or-4}
+use Rattle.clock_journal.proofs.journal.Journal.start.Goals.{else-recovered-eq0}
+use Rattle.clock_journal.proofs.journal.Journal.start.Goals as goal
 
 pub returns-in_err-recovered-clause-own : goal.returns-in_err-recovered-clause-own
 returns-in_err-recovered-clause-own g c texts least fine leaves =
