@@ -256,7 +256,7 @@ class Receipts:
     """The receipts of this bidder's sheets, in a file that `auction check-receipts` reads."""
 
     def __init__(self, auction, path, name):
-        self.auction, self.path, self.have = auction, path, set()
+        self.auction, self.path, self.name, self.have = auction, path, name, set()
         self.texts, self.sent, self.taken = {}, Counter(), Counter()  # by digests of bodies
         self.commitment = auction.ask("/public/commitment.json", COMMITMENT, may_lack=True)
         if self.commitment is None:
@@ -343,8 +343,8 @@ class Receipts:
         if not receipt:
             return None
         self.have.add((number, place))
-        named = receipt["auction"], receipt["round"], receipt["sheet"]
-        is_right = named == (self.commitment["auction"], number, place)
+        named = [receipt[part] for part in ("auction", "bidder", "round", "sheet")]
+        is_right = named == [self.commitment["auction"], self.name, number, place]
         if not is_right or not is_signed(self.commitment["key"], receipt):
             print(
                 f"this is not a receipt of sheet {place} of round {number}: {receipt}",
@@ -357,9 +357,10 @@ class Receipts:
             self.add({**receipt, "sent": self.texts[body]})
             return receipt
         self.add(receipt)
+        by = f", by {receipt['by']}" if receipt["by"] else ""
         print(
-            f"WARNING: sheet {place} of round {number} was accepted in your name, and this program "
-            "did not send it. If you did not either, call the auditor",
+            f"WARNING: sheet {place} of round {number} was accepted in your name{by}, and this "
+            "program did not send it. If you did not either, call the auditor",
             file=sys.stderr,
         )
         return receipt

@@ -3,6 +3,7 @@ import contextlib
 import io
 import json
 import pathlib
+import urllib.request
 from collections.abc import Callable, Iterator
 from typing import Any
 
@@ -149,6 +150,31 @@ def test_it_reports_a_sheet_that_was_put_in_again(
     assert "WARNING: sheet 2 of round 1" in printed(lambda: own.take(1))
 
 
+def signed_page(two: ReceiptsAuction, bidder: str, lines: bytes = b"") -> dict[str, Any]:
+    """The signed receipt of a first sheet, whose request has further lines."""
+    signer, text = two.signer(), two.texts()[0].replace(b"\r\n", b"\r\n" + lines, 1)
+    one = Receipt.of(signer.sheets.setup.digest, bidder, 1, 1, text)
+    page: dict[str, Any] = json.loads(one.page(signer.key.sign(one.message())))
+    return page
+
+
+def test_it_names_the_person_who_sent_a_sheet_that_it_did_not_send(
+    two: ReceiptsAuction, pages: Pages, file: pathlib.Path
+) -> None:
+    pages.pages["/receipts/1/1.json"] = signed_page(two, "X", b"By: bob\r\n")
+    words = printed(lambda: receipts_of(pages, file).take(1))
+    assert "WARNING: sheet 1 of round 1 was accepted in your name, by bob, and this" in words
+
+
+def test_a_receipt_of_another_bidder_is_reported_and_not_stored(
+    two: ReceiptsAuction, pages: Pages, file: pathlib.Path
+) -> None:
+    pages.pages["/receipts/1/1.json"] = signed_page(two, "Y")
+    own = receipts_of(pages, file)
+    assert "this is not a receipt of sheet 1 of round 1" in printed(lambda: own.take(1))
+    assert "signature" not in file.read_text()
+
+
 def test_started_again_it_knows_what_it_sent(pages: Pages, file: pathlib.Path) -> None:
     """It was killed between its sheet and the receipt."""
     receipts_of(pages, file).note(bidder.text_of(SHEETS[0]))
@@ -164,8 +190,13 @@ def test_started_again_it_knows_what_it_sent(pages: Pages, file: pathlib.Path) -
         {"round": 2},
         {"sheet": 2},
         {"auction": "0" * 64},
+        {"by": "eve"},
+        {"taken": "2026-11-30T13:00:00Z"},
     ],
-    ids=["another-signature", "no-signature", "another-round", "another-sheet", "another-auction"],
+    ids=[
+        *("another-signature", "no-signature", "another-round", "another-sheet"),
+        *("another-auction", "another-person", "another-time"),
+    ],
 )
 def test_it_reports_a_wrong_receipt(
     pages: Pages, file: pathlib.Path, change: dict[str, object]
@@ -186,12 +217,17 @@ class Reply(io.BytesIO):
 
 
 class Opener:
-    """Answers each request with the next reply, or raises it if it is an exception."""
+    """Answers each sheet with the next reply, or raises it if it is an exception.
+
+    Whatever else is asked for is not there.
+    """
 
     def __init__(self, *replies: Reply | Exception) -> None:
         self.replies = list(replies)
 
     def open(self, request: object, timeout: float) -> Reply:
+        if not isinstance(request, urllib.request.Request):
+            raise OSError("no page")
         reply = self.replies.pop(0)
         if isinstance(reply, Exception):
             raise reply

@@ -72,6 +72,10 @@ def test_a_unit_starts_with_the_machine_and_again_after_any_end(unit: str) -> No
     assert "WantedBy=multi-user.target" in lines and "Restart=always" in lines
 
 
+def test_server_and_nginx_come_before_receipts() -> None:
+    assert "Nice=10" in text_of("clock-auction-receipts").splitlines()
+
+
 @pytest.mark.parametrize("service", ["run", "receipts", "desk"])
 def test_one_unit_starts_each_command_that_runs(service: str) -> None:
     started = [
