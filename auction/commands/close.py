@@ -9,6 +9,12 @@ closing cannot be undone. With --yes ROUND it asks nothing, and closes that roun
 in which nobody has a sheet in force is closed only if the answer says so, or with --without-sheets.
 The status is 0 if this call closed the round, and else 1.
 
+If nginx's gate is next to FOLDER, this shuts both doors, waits until no request is on its way to
+the server, and closes. The doors stay shut: `touch gate/open` opens them for the next round. With
+conductor.json next to FOLDER, the inner door is open for `drain` more, and bidders see the new
+state when the curtain lifts; this waits for that. A round that the published timetable announces to
+be open is closed only with --early.
+
 FOLDER has the chain of seeds that `auction commit` made before round 1. By the seed of the round
 each pair of bidder and product gets a tie-breaking number. Up to 16,384 pairs all get one. Above
 that, those with a bid in force or with processed demand do. If these are too many, nothing is
@@ -27,6 +33,7 @@ server has only the results of the last round. Two calls at once wait for each o
 other than the server answers, it says so and ends, and it follows no redirection.
 """
 import argparse
+import dataclasses
 import json
 import pathlib
 import sys
@@ -34,20 +41,20 @@ import sys
 from auction.command import Command
 from auction.conductor import disk
 from auction.conductor.chain import ChainFault
+from auction.conductor.clock import MachineClock
 from auction.conductor.closing import (
     Auction,
-    Increments,
     NotClosed,
     Outcome,
     Ties,
     check_fixed,
     check_folder,
-    fix,
     increments_of,
     keep,
     last_closed,
-    send,
 )
+from auction.conductor.decision import Reason
+from auction.conductor.hand import Hand, Word, sheets_in_force
 from auction.conductor.server import NoReply, Operator, Refused
 from auction.formats.journal import Journal, JournalFault
 from auction.formats.setup import Setup
@@ -68,6 +75,12 @@ def arguments(parser: argparse.ArgumentParser) -> None:
         "--without-sheets", action="store_true", help="close though nobody has a sheet in force"
     )
     parser.add_argument("--no-ties", action="store_true", help="close without tie-breaking numbers")
+    parser.add_argument(
+        "--early", action="store_true", help="close before the end that the timetable announces"
+    )
+    parser.add_argument(
+        "--changed", action="store_true", help="close though the journal has changed meanwhile"
+    )
 
 
 def auction_of(given: argparse.Namespace) -> Auction:
@@ -102,19 +115,6 @@ def current_round(auction: Auction) -> int:
     return status["round"]
 
 
-def sheets_in_force(auction: Auction, number: int) -> list[str]:
-    """The bidders with a sheet in force, by the journal, which must have come to this round."""
-    auction.journal.read_on()
-    if auction.journal.round > number:
-        raise NotClosed(f"somebody else has closed round {number}. Call it again.")
-    if auction.journal.round < number:
-        raise NotClosed(
-            f"the server is in round {number}, and {auction.journal.path} ends in round "
-            f"{auction.journal.round}. Is it the server's own, and no copy?"
-        )
-    return auction.journal.in_force()
-
-
 def answer_to(question: str) -> str:
     """What is typed, or nothing if nobody is there."""
     try:
@@ -123,8 +123,8 @@ def answer_to(question: str) -> str:
         return ""
 
 
-def agree(given: argparse.Namespace, auction: Auction, number: int) -> None:
-    """Prints who has a sheet in force.
+def agree(given: argparse.Namespace, auction: Auction, number: int) -> bool:
+    """Prints who has a sheet in force. Returns whether the round may be closed without one.
 
     NotClosed if the operator does not want this round closed, by an option or by what is typed.
     """
@@ -142,21 +142,27 @@ def agree(given: argparse.Namespace, auction: Auction, number: int) -> None:
         wanted = str(number) if sent or given.without_sheets else f"{number} without sheets"
         if answer_to(f"type {wanted} to close it: ") != wanted:
             raise NotClosed
-    elif not sent and not given.without_sheets:
+        return given.without_sheets or not sent
+    if not sent and not given.without_sheets:
         raise NotClosed(
             "nobody has a sheet in force. To close the round all the same, add --without-sheets."
         )
+    return bool(given.without_sheets)
 
 
-def close(auction: Auction, number: int, increments: Increments, ties: Ties) -> None:
+def close(hand: Hand, number: int, word: Word) -> None:
     """Closes this round by the body on disk, or by one that is made now, and stores its pages."""
-    check_fixed(auction, number, increments)
+    auction = hand.auction
+    check_fixed(auction, number, word.increments)
+    hand.note(number)
+    if hand.has_doors:
+        print(f"round {number} takes no sheets any more", flush=True)
     if auction.body_file(number).exists():
         print(
             f"the closing that was made before is sent again: {auction.body_file(number)}",
             flush=True,
         )
-    answer = send(auction, number, fix(auction, number, increments, ties))
+    answer = hand.close(number, word)
     if answer.outcome is Outcome.REFUSED:
         raise NotClosed(str(answer.page))
     if answer.outcome is Outcome.CLOSED:
@@ -172,15 +178,26 @@ def close(auction: Auction, number: int, increments: Increments, ties: Ties) -> 
 def close_current(given: argparse.Namespace) -> None:
     """Asks about the current round, and closes it unless another call was first."""
     auction = auction_of(given)
-    increments = increments_of(given.increment, auction.setup)
+    hand = Hand(auction, MachineClock(), lambda line: print(line, flush=True))
     with disk.locked(auction.lock()):
         number = current_round(auction)
-    agree(given, auction, number)
-    with disk.locked(auction.lock()):
+    word = word_of(given, auction)
+    hand.check_time(number, word)
+    if agree(given, auction, number):
+        word = dataclasses.replace(word, released=word.released | {Reason.NO_SHEETS})
+    with hand.alone():
         if current_round(auction) != number:
             raise NotClosed(f"somebody else has closed round {number}. No other round is closed.")
         sheets_in_force(auction, number)
-        close(auction, number, increments, Ties.NONE if given.no_ties else Ties.OF_CHAIN)
+        close(hand, number, word)
+    hand.wait_for_curtain()
+
+
+def word_of(given: argparse.Namespace, auction: Auction) -> Word:
+    """What the arguments say about the closing."""
+    released = frozenset({Reason.CHANGED} if given.changed else set())
+    ties = Ties.NONE if given.no_ties else Ties.OF_CHAIN
+    return Word(increments_of(given.increment, auction.setup), ties, released, given.early)
 
 
 def run(given: argparse.Namespace) -> int:

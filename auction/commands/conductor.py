@@ -38,8 +38,9 @@ A round waits for your word, `auction next` or `auction extend`, if:
 
 CLEAR = f"""{FOLDER} All files of the auction that are in it go to a new
 folder in FOLDER/past: state, published and closed rounds, receipts, bidders.map, sheet.conf, the
-set-up, and the journal. nginx's cache is emptied. conductor.json stays. It refuses while a server
-or a conductor runs."""
+set-up, and the journal. nginx's cache is emptied. conductor.json stays. It refuses while a server,
+a conductor, or the service of receipts runs. If it is killed, nothing begins in FOLDER until you
+call it again."""
 
 Action = Callable[[Context, argparse.Namespace], None]
 
@@ -60,7 +61,7 @@ def clear_folder(folder: pathlib.Path) -> None:
     past, left = clear(folder, time.time())
     print(f"The auction's files are in {past}.")
     for path in left:
-        print(f"{path} is not in {folder}: put it away too.")
+        print(f"{path} is left: put it away too, unless the next auction has it.")
 
 
 def status(context: Context, given: argparse.Namespace) -> None:

@@ -9,7 +9,7 @@ from pathlib import Path
 
 from . import disk
 from .clock import utc
-from .settings import Folders, Settings
+from .settings import Folders, Settings, half_of
 
 # What nginx's folder has of an auction, besides the set-up and the journal. conductor.json stays.
 OWN = (
@@ -39,45 +39,58 @@ class ClearFault(Exception):
 def clear(folder: Path, now: float) -> tuple[Path, list[str]]:
     """Moves an auction's files to a new folder in `past`.
 
-    Returns that folder, and what is left elsewhere. If this is killed, the next call continues.
+    Returns that folder, and what is left elsewhere. If this is killed, the next call continues, and
+    until then nothing else begins in this folder.
     """
     settings = Settings.read(folder)
-    with (
-        unused(Folders(folder).state / "run.lock", "a conductor"),
-        unused(folder / "kept/receipts.pem", "`auction receipts`"),
-    ):
-        with unused(settings.journal, "a server"):
-            if listens(settings.port):
-                raise ClearFault(f"a server runs at port {settings.port}")
-            new = folder / "past" / "new"
-            files = [folder / name for name in OWN] + [settings.journal, settings.setup]
-            there = [file for file in files if file.exists() and folder in file.parents]
-            if not there and not new.exists():
-                raise ClearFault(f"{folder} has no files of an auction")
-            disk.make_folder(new.parent, 0o700)
-            disk.make_folder(new, 0o700)
-            for file in there:
-                disk.move(file, new / file.name)
-            for name in CACHES:
-                empty(folder / name)
-            past = new.parent / utc(now)
-            disk.move(new, past)
+    with contextlib.ExitStack() as stack:
+        for path, who in (
+            (Folders(folder).state / "run.lock", "a conductor"),
+            (folder / "kept/receipts.pem", "`auction receipts`"),
+            (settings.journal, "a server"),
+        ):
+            stack.enter_context(unused(path, who))
+        if listens(settings.port):
+            raise ClearFault(f"a server runs at port {settings.port}")
+        past = put_away(folder, settings, now)
     left = [str(file) for file in (settings.journal, settings.setup) if file.exists()]
-    return past, left
+    return past, left + ([settings.authority] if settings.authority else [])
+
+
+def put_away(folder: Path, settings: Settings, now: float) -> Path:
+    """Moves the files, and empties nginx's caches. Returns where they are."""
+    new = half_of(folder)
+    files = [folder / name for name in OWN] + [settings.journal, settings.setup]
+    there = [file for file in files if file.exists() and folder in file.parents]
+    if not there and not new.exists():
+        raise ClearFault(f"{folder} has no files of an auction")
+    disk.make_folder(new.parent, 0o700)
+    disk.make_folder(new, 0o700)
+    for file in there:
+        disk.move(file, new / file.name)
+    for name in CACHES:
+        empty(folder / name)
+    past = new.parent / utc(now)
+    disk.move(new, past)
+    return past
 
 
 @contextlib.contextmanager
 def unused(path: Path, who: str) -> Iterator[None]:
-    """While this lasts, nobody else locks this file. A ClearFault if somebody has it."""
+    """While this lasts, nobody else locks this file or folder. A ClearFault if somebody has it."""
     if not path.exists():
         yield
         return
-    with open(path, "rb") as file:
-        try:
-            fcntl.flock(file, fcntl.LOCK_EX | fcntl.LOCK_NB)
-        except OSError as error:
-            raise ClearFault(f"{who} runs: it has {path}") from error
+    opened = os.open(path, os.O_RDONLY)
+    try:
+        fcntl.flock(opened, fcntl.LOCK_EX | fcntl.LOCK_NB)
+    except OSError as error:
+        os.close(opened)
+        raise ClearFault(f"{who} runs: it has {path}") from error
+    try:
         yield
+    finally:
+        os.close(opened)
 
 
 def listens(port: int) -> bool:

@@ -44,6 +44,11 @@ def utc(seconds: float) -> str:
     )
 
 
+def seconds_of(text: str) -> int:
+    """A time as files have it, in UTC seconds."""
+    return int(datetime.datetime.fromisoformat(text).timestamp())
+
+
 def in_words(seconds: float) -> str:
     """A time as people read it: 15:00 UTC on December 1."""
     moment = datetime.datetime.fromtimestamp(int(seconds), datetime.timezone.utc)

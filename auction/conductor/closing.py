@@ -8,7 +8,7 @@ from pathlib import Path
 
 from auction.formats.ties import MOST_TIES, needed_pairs, ties_of
 
-from . import disk
+from . import disk, stored
 from .chain import Chain
 from auction.formats.journal import Journal
 from .server import Operator, Page
@@ -74,6 +74,10 @@ class Auction:
     def chain(self) -> Chain:
         """The auction's chain of seeds."""
         return Chain.read(self.folder / "chain.json", self.setup)
+
+    def fixed_file(self) -> Path:
+        """Of which journal the last closing is that was made."""
+        return self.folder / ".fixed.json"
 
     def body_file(self, number: int) -> Path:
         return self.folder / f"closing-{number}.json"
@@ -196,16 +200,29 @@ def check_fixed(auction: Auction, number: int, increments: Increments) -> None:
         )
 
 
-def fix(auction: Auction, number: int, increments: Increments, ties: Ties) -> Origin:
-    """Brings the body of this round's closing to the disk.
+def fix(auction: Auction, number: int, increments: Increments, ties: Ties, digest: str) -> None:
+    """Brings the body of this round's closing to the disk, after the digest of the journal that it
+    is made for.
 
     One that is there may have been sent, and may still arrive: it stays.
     """
-    if auction.body_file(number).exists():
-        return Origin.BEFORE
-    body = body_of(auction.setup, number, increments, listed_ties(auction, number, ties))
-    disk.store(auction.body_file(number), body)
-    return Origin.NOW
+    if not auction.body_file(number).exists():
+        body = body_of(auction.setup, number, increments, listed_ties(auction, number, ties))
+        made = json.dumps({"digest": digest, "round": number}) + "\n"
+        disk.store(auction.fixed_file(), made)
+        disk.store(auction.body_file(number), body)
+
+
+def fixed_for(auction: Auction, number: int) -> str | None:
+    """The journal's digest for which the closing on the disk was made, or None without one.
+
+    A closing that somebody else has made is for no journal that is known.
+    """
+    if not auction.body_file(number).exists():
+        return None
+    file = auction.fixed_file()
+    made = stored.read(file, digest=str, round=int) if file.exists() else {}
+    return str(made["digest"]) if made.get("round") == number else ""
 
 
 def send(auction: Auction, number: int, origin: Origin) -> Answer:

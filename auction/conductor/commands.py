@@ -2,20 +2,21 @@
 
 Each is one change of the plan, together with its announcement.
 """
-import json
 from pathlib import Path
 
-from . import report, timetable
+from . import closing, report, timetable
 from .asked import Closing
 from .clock import in_words, utc
 from .increments import in_words as increments_in_words
+from .increments import increments_for
 from .context import Context
 from .decision import TEN, Reason, whole_ten
-from .plan import Ended, Pause, Plan
+from .plan import Act, Ended, Pause, Plan
 from .server import NoReply, Refused
 from .timetable import Window, move_later, replaced
 
 LEAST_MINUTES, MOST_MINUTES = 1 / 6, 1440
+PAGE = "the operator's page"
 LEAST_LEFT = 60  # seconds that a window has at least if it opens again
 
 
@@ -66,15 +67,30 @@ def plan(context: Context, path: Path) -> None:
         later = [changed.windows[number] for number in sorted(changed.windows) if number > begun]
         for one in later:
             one.note_clock(context.clock)
+        if begun == number:
+            keep_increments(changed, number)
         first = f" Round {begun + 1} opens at {in_words(later[0].opens)}."
         increments = ""
         if fresh.increments not in (None, changed.increments):
             changed.increments = fresh.increments or []
             increments = " " + increments_in_words(changed.increments)
+        context.note(changed, "plan")
         changed.announce(
             f"The timetable has {len(later)} {'window' if len(later) == 1 else 'windows'} from now "
             f"on.{first}{increments}"
         )
+
+
+def keep_increments(changed: Plan, number: int) -> None:
+    """A round that has begun keeps its rules of increments, since its bids may be known.
+
+    If the server has refused its closing, the new ones hold for it too.
+    """
+    standing = {doubt.reason for doubt in changed.doubts_of(number) if not doubt.is_released}
+    if Reason.REFUSED.name in standing:
+        changed.begun = None
+    else:
+        changed.begin(number)
 
 
 def check(context: Context, path: Path) -> None:
@@ -93,7 +109,7 @@ def pause(context: Context, words: str) -> None:
     with context.changing() as changed:
         if changed.paused:
             raise CommandFault(f"the auction is paused already: {changed.paused.words}")
-        current(context)  # refuses after the end
+        context.note(changed, "pause", current(context))  # refuses after the end
         changed.paused = Pause(context.clock.wall(), words)
         changed.announce(f"The auction is paused. {words}")
         context.plan_file.store(changed)
@@ -111,6 +127,7 @@ def resume(context: Context, minutes: float) -> None:
             raise CommandFault("the auction is not paused")
         since, now, number = changed.paused.since, context.clock.wall(), current(context)
         changed.paused = None
+        context.note(changed, "resume", number)
         window, begin = changed.windows.get(number), whole_ten(now + 60 * minutes)
         words = ""
         if window and since < window.closes and not context.auction.body_file(number).exists():
@@ -138,6 +155,7 @@ def extend(context: Context, minutes: float) -> None:
         window.closes += whole_ten(60 * minutes)
         window.note_clock(context.clock)
         changed.forget(number)
+        context.note(changed, "extend", number)
         move_later(changed.windows, number, context.settings.gap)
         end = in_words(window.closes)
         begin = f"from {in_words(window.opens)} to" if now < window.opens else "until"
@@ -152,6 +170,7 @@ def extend(context: Context, minutes: float) -> None:
 def announce(context: Context, words: str) -> None:
     """Announces something to everyone."""
     with context.changing() as changed:
+        context.note(changed, "announce")
         changed.announce(words)
 
 
@@ -179,6 +198,7 @@ def close_next(context: Context, number: int, without_sheets: bool, no_ties: boo
         ):
             if reason.name in standing and not is_given:
                 raise CommandFault(f"{reason.value}: add {report.OPTIONS[reason]}")
+        context.note(changed, "next", number)
         release(context, changed, number)
 
 
@@ -209,11 +229,25 @@ def end_early(context: Context, changed: Plan, asked: Closing) -> None:
             context.gate.write(context.settings.limits().doors(window.opens, window.closes), now)
     release(context, changed, number)
     changed.ended = Ended(number, asked.increments)
+    announce_increments(context, changed, asked)
     if asked.without_sheets:
         changed.latch(number, Reason.NO_SHEETS, is_released=True)
     if before != window.closes:
         end = in_words(window.closes)
         changed.announce(f"Round {number} ends at {end}, earlier than announced before.")
+
+
+def announce_increments(context: Context, changed: Plan, asked: Closing) -> None:
+    """Announces the increments that a person gives a round, if its rules give others."""
+    results = context.public.results(asked.round - 1)
+    ruled = increments_for(changed.rules_of(asked.round), context.setup, asked.round + 1, results)
+    given = closing.spread(context.setup, asked.increments)
+    if given != ruled:
+        percents = ", ".join(map(str, given if len(set(given)) > 1 else given[:1]))
+        changed.announce(
+            f"The operator closes round {asked.round} with other increments than announced: "
+            f"{percents} percent."
+        )
 
 
 def obey_page(context: Context, changed: Plan) -> report.Report | None:
@@ -235,6 +269,7 @@ def obey_page(context: Context, changed: Plan) -> report.Report | None:
     has_sheets = bool(context.journal.sheets) or asked.without_sheets
     if has_sheets and not is_late:
         end_early(context, changed, asked)
+        changed.acts.append(Act("close", PAGE, number, len(context.notices.entries())))
         context.plan_file.store(changed)  # a kill must not lose the request
     context.asked.remove()
     if has_sheets or is_late:
@@ -245,11 +280,11 @@ def obey_page(context: Context, changed: Plan) -> report.Report | None:
 
 def winners(context: Context) -> None:
     """Publishes what each bidder won and pays."""
-    with context.changing():
+    with context.changing() as changed:
         last = context.public.published()
         results = context.public.results(last)
         if not results or not results["ended"]:
             raise CommandFault("the auction has not ended")
-        stored = json.loads(context.auction.results_file(last).read_text(encoding="utf-8"))
-        context.public.publish_winners(stored)
-        context.announce("winners", "What each bidder has won is published with the results.")
+        context.public.winners_of(context.auction.results_file(last))  # it must be there
+        context.note(changed, "winners")
+        changed.winners = True

@@ -2,20 +2,22 @@
 everyone sees of both.
 """
 import dataclasses
-import json
 import time
 from pathlib import Path
 
 from auction.formats.journal import HEAD, Journal, JournalFault, head_of
+from auction.formats.setup import Setup
 from auction.formats.signatures import new_key, public_of
 from auction.mock import Kind, disagreement
 from auction.formats.strict import published
 from auction.formats.ties import Commitment, Draw, TiesFault, checked_draw
 
-from . import disk
+from . import disk, stored
 from .chain import Chain
 from .clock import utc
-from auction.formats.setup import Setup
+from .gate import Gate
+from .public import PublicFiles, is_opening
+from .settings import HALF_PUT_AWAY, Folders, Settings, SettingsFault, is_half_put_away
 
 
 class CommitmentFault(ValueError):
@@ -54,20 +56,43 @@ class Places:
 
     def has_closing(self, setup: Setup) -> bool:
         """Whether the journal is of this set-up, and closes a round."""
-        if self.journal is None or not self.journal.exists():
-            return False
-        with open(self.journal, "rb") as file:
-            if file.read(HEAD) != head_of(setup.document):
-                return False
-        journal = Journal(self.journal, setup)
-        journal.read_on()
-        return bool(journal.closings)
+        journal = journal_of(self.journal, setup)
+        return journal is not None and bool(journal.closings)
+
+    @property
+    def top(self) -> Path:
+        """The auction's folder."""
+        return self.public.absolute().parent
 
     def has_opened(self) -> bool:
-        """Whether the first window has opened, by the published timetable."""
-        timetable = self.public / "timetable.json"
-        windows = json.loads(timetable.read_bytes())["windows"] if timetable.exists() else []
-        return any(one["round"] == 1 and one["opens"] <= utc(time.time()) for one in windows)
+        """Whether round 1 takes sheets, or did: by the published timetable and announcements, the
+        gate, and the journal, as far as they are there.
+        """
+        now, timetable = time.time(), self.public / "timetable.json"
+        windows = stored.read(timetable, windows=list)["windows"] if timetable.exists() else []
+        is_due = any(one["round"] == 1 and one["opens"] <= utc(now) for one in windows)
+        keys = [one["key"] for one in PublicFiles(Folders(self.top)).announcements()]
+        is_announced = any(is_opening(key, 1) for key in keys)
+        return is_due or is_announced or Gate(self.top / "gate").takes_sheets(now)
+
+    def has_sheets(self, setup: Setup) -> bool:
+        """Whether somebody has bid, by the journal that is given or that conductor.json names."""
+        has_settings = (self.top / "conductor.json").exists()
+        named = Settings.read(self.top).journal if has_settings else None
+        journal = journal_of(self.journal or named, setup)
+        return journal is not None and bool(journal.sheets or journal.closings)
+
+
+def journal_of(path: Path | None, setup: Setup) -> Journal | None:
+    """The journal that is there, if it is of this set-up."""
+    if path is None or not path.exists():
+        return None
+    with open(path, "rb") as file:
+        if file.read(HEAD) != head_of(setup.document):
+            return None
+    journal = Journal(path, setup)
+    journal.read_on()
+    return journal
 
 
 def make(
@@ -77,6 +102,8 @@ def make(
 
     What is there stays: it may be published. If this is killed, the next call continues.
     """
+    if is_half_put_away(places.top):
+        raise CommitmentFault(HALF_PUT_AWAY)
     disk.make_folder(places.kept, 0o700)
     disk.make_folder(places.public, 0o755)
     with disk.locked(places.kept / ".lock"):
@@ -121,7 +148,7 @@ def chain_in(places: Places, setup: Setup, has_ties: bool, draw: str | None) -> 
         )
     if draw in (None, chain.draw):
         return chain
-    begun = places.is_begun(setup) or places.has_opened()
+    begun = places.is_begun(setup) or places.has_opened() or places.has_sheets(setup)
     if not has_ties or chain.draw or begun or not places.commitment.exists():
         raise CommitmentFault(
             "a draw is held once, after the end of the chain is published and before the first "
@@ -148,4 +175,4 @@ def publish_once(path: Path, text: bytes) -> None:
         )
 
 
-FAULTS = (CommitmentFault, TiesFault, JournalFault, OSError, ValueError)
+FAULTS = (CommitmentFault, JournalFault, SettingsFault, TiesFault, OSError, ValueError)

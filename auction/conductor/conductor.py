@@ -4,7 +4,6 @@ Only `decide` says what it does. It remembers no step: what is next follows from
 observes. So it may be killed between any two actions, and started again.
 """
 import dataclasses
-import json
 from pathlib import Path
 from typing import Any
 
@@ -21,6 +20,7 @@ from .decision import (
     AnnounceOpen,
     Close,
     Fix,
+    Freeze,
     Latch,
     NoteClock,
     NoteOpened,
@@ -123,6 +123,7 @@ class Conductor:
                 self.context.gate.write(gate, self.watch.now)
             case NoteOpened(number):
                 plan.windows[number].opened = self.watch.now
+                plan.begin(number)
             case NoteClock():
                 for window in plan.windows.values():
                     window.note_clock(self.context.clock)
@@ -130,6 +131,11 @@ class Conductor:
                 self.announce_open(plan, seen)
             case Latch(number, reason):
                 self.latch(plan, number, reason)
+            case Freeze(number, digest):
+                says = {"digest": digest, "round": number}
+                self.context.notices.add([("frozen", says)], self.watch.now)
+                if seen.fixed is None:  # a word is for the journal of its time
+                    plan.drop(number, Reason.CHANGED)
             case Fix(digest):
                 self.fix(plan, seen, digest)
             case Close():
@@ -165,20 +171,18 @@ class Conductor:
     # ---- Closing
 
     def fix(self, plan: Plan, seen: Observed, digest: str) -> None:
-        """Brings the closing to the disk, after the digest of the journal that it is made for."""
+        """Brings the closing to the disk."""
         assert seen.server
         number, context = seen.server.closed + 1, self.context
-        made = json.dumps({"digest": digest, "round": number}) + "\n"
-        disk.store(context.folders.state / "fixed.json", made)
         if plan.ended and plan.ended.round == number:
             increments = plan.ended.increments
         else:
             results = context.public.results(number - 1)
-            increments = increments_for(plan.increments, context.setup, number + 1, results)
+            increments = increments_for(plan.rules_of(number), context.setup, number + 1, results)
         has_no_ties = Reason.TOO_MANY_PAIRS in seen.plan.released
         ties = Ties.NONE if has_no_ties else Ties.OF_CHAIN
         with disk.locked(context.auction.lock()):
-            closing.fix(context.auction, number, increments, ties)
+            closing.fix(context.auction, number, increments, ties, digest)
 
     def close(self, plan: Plan, seen: Observed, action: Close) -> Report | None:
         """Sends the closing, unless it is too early or too late by a fresh look at the clock."""

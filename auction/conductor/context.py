@@ -2,7 +2,9 @@
 public files.
 """
 import contextlib
+import getpass
 import hashlib
+import os
 from collections.abc import Callable, Iterator
 from pathlib import Path
 
@@ -14,9 +16,10 @@ from .closing import Auction
 from .commitment import check_kind
 from .gate import Gate
 from auction.formats.journal import Journal
-from .plan import Plan, PlanFile
+from .notices import Notices, due, facts_of
+from .plan import Act, Plan, PlanFile
 from .server import BiddersPort, NoReply, Operator, Page
-from .settings import Folders, Settings
+from .settings import HALF_PUT_AWAY, Folders, Settings, SettingsFault, is_half_put_away
 from .timetable import Window
 from auction.formats.setup import Setup
 from auction.mock import Kind
@@ -25,14 +28,26 @@ from auction.standby import mark
 STATUS_SECONDS = 10
 
 
+def user() -> str:
+    """Who runs this, as far as the system says."""
+    return os.environ.get("SUDO_USER") or getpass.getuser()
+
+
 class Context:
     """An auction's folder with its settings."""
 
     def __init__(
-        self, folder: Path, clock: Clock | None = None, say: Callable[[str], None] = print
+        self,
+        folder: Path,
+        clock: Clock | None = None,
+        say: Callable[[str], None] = print,
+        who: str = "",
     ) -> None:
+        if is_half_put_away(folder):
+            raise SettingsFault(HALF_PUT_AWAY)
         self.folders, self.settings = Folders(folder), Settings.read(folder)
-        self.clock, self.say = clock or MachineClock(), say
+        self.clock, self.say, self.who = clock or MachineClock(), say, who or user()
+        self.notices = Notices(self.folders)
         self.folders.make(self.settings.readers)
         self.setup = Setup.read(self.settings.setup)
         check_kind(self.folders.public / "commitment.json", self.setup)
@@ -76,13 +91,30 @@ class Context:
 
     def announce_changes(self, plan: Plan) -> None:
         """Announces what the stored plan says is to be announced, each once, and shows its
-        timetable.
+        timetable. Also publishes the winners, if it says so, and adds what is due to the notices.
         """
         for notice in plan.notices:
             self.announce(notice.key, notice.text)
+        if plan.winners:
+            self.public.publish_winners(self.auction.results_file(self.public.published()))
+            self.announce("winners", "What each bidder has won is published with the results.")
         plan.notices = []
         self.plan_file.store(plan)
         self.public.show_timetable(plan)
+        self.add_notices(plan)
+
+    def add_notices(self, plan: Plan) -> None:
+        """Adds what is due to the notices, in one write."""
+        made = self.notices.entries()
+        if missing := due(facts_of(plan, self.public, self.folders, made), made):
+            self.notices.add(missing, self.clock.wall())
+        if plan.acts:
+            plan.acts = []
+            self.plan_file.store(plan)
+
+    def note(self, plan: Plan, what: str, number: int | None = None) -> None:
+        """Notes in the plan what a person does."""
+        plan.acts.append(Act(what, self.who, number, len(self.notices.entries())))
 
     def announce(self, key: str, text: str) -> None:
         if made := self.public.announce(key, text, self.clock.wall()):

@@ -6,6 +6,7 @@ reads a clock, a file, or a socket. tests/decisions enumerates what can happen t
 """
 import dataclasses
 import enum
+import itertools
 from collections.abc import Callable, Iterator
 from typing import NamedTuple
 
@@ -29,7 +30,7 @@ class Reason(enum.Enum):
     CLOCK = "the clock was set since its window was announced"
     NO_SHEETS = "nobody has a sheet in force"
     TOO_MANY_PAIRS = "more pairs of bidder and product matter than a closing can list"
-    CHANGED = "the journal has changed since its closing was made"
+    CHANGED = "the journal has changed since its sheets were frozen, or its closing was made"
     REFUSED = "the server refuses its closing"
 
 
@@ -47,6 +48,7 @@ class State(enum.Enum):
     OPEN = "the window to end"
     DRAINING = "requests that began in time"
     PENDING = "requests on their way to the server"
+    FREEZING = "the second at which the sheets are frozen"
     HELD = "a person's word"
 
 
@@ -57,6 +59,7 @@ class Limits:
     drain: int  # from a window's end until the inner door shuts
     publish: int  # from a window's end until the curtain lifts; 0 for no curtain
     longest: int  # no closing takes longer
+    freeze: int = 2  # from then until the sheets are frozen
     drift: float = 1.0  # by which the clock of day and the time that passed may differ
     missed: float = 0.02  # the share of a window in which bidders may miss the auction
     pairs: int = 16_384
@@ -64,6 +67,10 @@ class Limits:
     def shuts(self, closes: int) -> int:
         """When the inner door shuts after a window's end."""
         return whole_ten(closes + self.drain)
+
+    def freezes(self, closes: int) -> int:
+        """When the sheets are frozen, whoever has one: then nothing is on its way any more."""
+        return self.shuts(closes) + self.freeze
 
     def curtain(self, draws: int, closes: int) -> tuple[int, int]:
         """From when until when the curtain is drawn for a window."""
@@ -138,6 +145,7 @@ class Observed:
     gate: Gate
     server: Server | None  # None if it does not answer, or its journal cannot be read
     pending: bool  # whether a connection from before the last change of the gate is still open
+    frozen: str | None  # the journal's digest that is published for this window
     fixed: str | None  # the journal's digest for which the closing on the disk was made
     published: int  # rounds
     announced: int  # closed rounds whose closing is announced
@@ -179,6 +187,14 @@ class Latch:
 
     number: int
     reason: Reason
+
+
+@dataclasses.dataclass(frozen=True)
+class Freeze:
+    """Publishes and signs the journal's digest, before its closing."""
+
+    number: int
+    digest: str
 
 
 @dataclasses.dataclass(frozen=True)
@@ -233,6 +249,7 @@ Action = (
     | NoteClock
     | AnnounceOpen
     | Latch
+    | Freeze
     | Fix
     | Close
     | Publish
@@ -317,6 +334,9 @@ class Look:
         if not self.limits.publish:
             return False
         return not self.is_drawn or self.seen.gate.lifts < self.seen.now + self.limits.longest
+
+    def freeze(self) -> Freeze:
+        return Freeze(self.number, self.server.digest)
 
     def closing(self) -> Close:
         """Sends the closing while the curtain is drawn, or without a curtain at any time."""
@@ -512,6 +532,18 @@ RULES: tuple[Rule, ...] = (
         lambda look: look.seen.pending,
         lambda look: Wait(State.PENDING, None, look.doubts),
     ),
+    Rule(
+        "the inner door shut less than `freeze` ago",
+        f"wait for {State.FREEZING.value}",
+        lambda look: is_before(look, look.limits.freezes(look.window.closes)),
+        lambda look: Wait(State.FREEZING, look.limits.freezes(look.window.closes), look.doubts),
+    ),
+    Rule(
+        "the window's sheets are not frozen",
+        "freeze them: publish and sign the journal's digest",
+        lambda look: look.seen.frozen is None,
+        Look.freeze,
+    ),
     latch(
         Reason.NOT_OPENED,
         "this conductor did not open the window",
@@ -525,14 +557,21 @@ RULES: tuple[Rule, ...] = (
     ),
     latch(
         Reason.CHANGED,
-        "the closing on the disk was made for another journal",
-        lambda look: look.seen.fixed not in (None, look.server.digest),
+        "the journal is not the frozen one, or not the one that the closing was made for",
+        lambda look: look.server.digest != look.seen.frozen
+        or look.seen.fixed not in (None, look.server.digest),
     ),
     Rule(
         "a doubt is not released",
         "wait for the word to close, or for more time",
         lambda look: bool(look.doubts),
         lambda look: Wait(State.HELD, None, look.doubts),
+    ),
+    Rule(
+        "a person's word is that the journal may have changed",
+        "freeze it as it is",
+        lambda look: look.server.digest != look.seen.frozen,
+        Look.freeze,
     ),
     Rule(
         "the curtain lifts before the longest closing would end",
@@ -562,8 +601,10 @@ def decide(seen: Observed, limits: Limits, rules: tuple[Rule, ...] = RULES) -> A
 
 
 def table() -> Iterator[str]:
-    """The rules as a table of docs/deployment.md."""
+    """The rules as a table of docs/deployment.md. A row has the rules of one condition."""
     yield "| | if, and no row before | then |"
     yield "|---|---|---|"
-    for number, rule in enumerate(RULES, 1):
-        yield f"| {number} | {rule.condition} | {rule.action} |"
+    groups = itertools.groupby(RULES, key=lambda rule: rule.condition)
+    for number, (condition, rules) in enumerate(groups, 1):
+        actions = ". Then ".join(rule.action for rule in rules)
+        yield f"| {number} | {condition} | {actions} |"

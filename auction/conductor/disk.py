@@ -9,21 +9,26 @@ from typing import TextIO
 PRIVATE, PUBLIC = 0o600, 0o644
 
 
-def store(path: Path, text: str, mode: int = PRIVATE) -> None:
-    """Writes a file and brings it to the disk.
+def store(path: Path, text: str, mode: int = PRIVATE, after: float = 0.0) -> None:
+    """Writes a file and brings it to the disk, with a time in a later second than `after`.
 
     After a crash or a power loss it has its old text or this one, whole.
     """
-    prepare(path, text, mode)
+    prepare(path, text, mode, after)
     put(path)
     sync_folder(path.parent)
 
 
-def prepare(path: Path, text: str, mode: int) -> None:
-    """Writes a file next to its place, and brings it to the disk."""
+def prepare(path: Path, text: str, mode: int, after: float = 0.0) -> None:
+    """Writes a file next to its place, and brings it to the disk.
+
+    Its time is in a later second than `after`.
+    """
     with fresh_file(path, mode) as file:
         file.write(text)
         file.flush()
+        if int(os.fstat(file.fileno()).st_mtime) <= int(after):
+            os.utime(file.fileno(), (after, int(after) + 1))
         os.fsync(file.fileno())
 
 

@@ -13,10 +13,18 @@ from .decision import Gate as Times
 
 LATE, CURTAIN = "late-", "curtain-"
 
+LOST = -1  # when a gate opens of which a file is missing
 
-def end_of(tens: set[str]) -> int:
+
+def tens_of(names: set[str], front: str) -> set[int]:
+    """The ten seconds of the files whose names begin so."""
+    rests = (name.removeprefix(front) for name in names if name.startswith(front))
+    return {int(rest) for rest in rests if rest.isdigit()}
+
+
+def end_of(tens: set[int]) -> int:
     """The end of the last ten seconds of these, or 0."""
-    return max((int(ten) + 1 for ten in tens), default=0) * TEN
+    return max((ten + 1 for ten in tens), default=0) * TEN
 
 
 def tens(begin: float, end: int) -> Iterable[int]:
@@ -30,15 +38,26 @@ class Gate:
     def __init__(self, folder: Path) -> None:
         self.folder = folder
 
-    def times(self, opens: int) -> Times:
-        """What the files say, with the opening that they do not say if a door is open."""
-        doors = {name for name in self.names() if name.isdigit()}
-        late, drawn = self.with_front(LATE), self.with_front(CURTAIN)
+    def times(self, opens: int, now: float = FOREVER) -> Times:
+        """What the files say, with the opening that they do not say if a door is open.
+
+        If one is missing from now on, the opening is LOST, which no gate is to have.
+        """
+        names, begin = self.names(), max(now, opens)
+        doors, late, drawn = (tens_of(names, front) for front in ("", LATE, CURTAIN))
         takes, shuts = end_of(doors), end_of(late)
-        if "open" in self.names():
+        draws, lifts = min(drawn, default=0) * TEN, end_of(drawn)
+        lost = set(tens(draws, lifts)) - drawn
+        if "open" in names:
             takes = shuts = FOREVER
-        draws = min(map(int, drawn), default=0) * TEN
-        return Times(opens if takes or shuts else 0, takes, shuts, draws, end_of(drawn))
+        else:
+            lost |= set(tens(begin, takes)) - doors | set(tens(begin, shuts)) - late
+        first = opens if takes or shuts else 0
+        return Times(LOST if lost else first, takes, shuts, draws, lifts)
+
+    def takes_sheets(self, now: float) -> bool:
+        """Whether the outer door takes sheets now."""
+        return not self.names().isdisjoint({"open", str(int(now) // TEN)})
 
     def write(self, times: Times, now: float) -> None:
         """Lets the files say these times. Those of the doors are made from now on only."""
@@ -64,10 +83,6 @@ class Gate:
         times = self.times(0)
         drawn = Times(draws=times.draws, lifts=times.lifts)
         self.write(drawn if times.draws <= now else Times(), now)
-
-    def with_front(self, front: str) -> set[str]:
-        """The tens of the files whose names begin so."""
-        return {name.removeprefix(front) for name in self.names() if name.startswith(front)}
 
     def names(self) -> set[str]:
         return {file.name for file in self.folder.iterdir()} if self.folder.is_dir() else set()

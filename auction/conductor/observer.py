@@ -1,6 +1,4 @@
 """What the conductor sees before each decision. Nothing here changes the auction."""
-import json
-
 from auction.formats.journal import JournalFault
 from auction.formats.ties import MOST_TIES
 
@@ -37,8 +35,8 @@ class Observer:
         number = (published if server is None else server.closed) + 1
         ended = self.context.public.has_ended() if server is None else server.ended
         window = None if ended else plan.windows.get(number)
-        gate = self.context.gate.times(window.opens if window else 0)
-        fixed = None if ended else self.fixed(number)
+        gate = self.context.gate.times(window.opens if window else 0, look.wall)
+        fixed = None if ended else closing.fixed_for(self.context.auction, number)
         is_over = window is not None and look.wall >= window.closes
         is_pending = self.is_pending(is_over and not gate.takes and not gate.late)
         if server and is_over and not gate.late and not is_pending and fixed is None:
@@ -54,6 +52,7 @@ class Observer:
             gate,
             server,
             is_pending,
+            self.context.notices.frozen(number),
             fixed,
             published,
             self.announced(),
@@ -95,6 +94,8 @@ class Observer:
         if window is None or number != self.context.public.published() + 1:
             return 0.0
         is_reached = server is not None and self.context.is_reached(self.watch.now, window)
+        if window.opened is not None and self.watch.now < window.closes:
+            is_reached = is_reached and self.context.gate.takes_sheets(self.watch.now)
         return self.watch.missed(number, window, plan.paused is not None, is_reached)
 
     def is_pending(self, is_shut: bool) -> bool:
@@ -112,17 +113,6 @@ class Observer:
         elif self.marked:
             self.marked &= self.pending(self.context.settings.port)
         return bool(self.marked)
-
-    def fixed(self, number: int) -> str | None:
-        """The journal's digest for which the closing on the disk was made, or None without one.
-
-        A closing that somebody else has made is for no journal that is known.
-        """
-        if not self.context.auction.body_file(number).exists():
-            return None
-        file = self.context.folders.state / "fixed.json"
-        made = json.loads(file.read_text(encoding="utf-8")) if file.exists() else {}
-        return made["digest"] if made.get("round") == number else ""
 
     def is_announced(self, number: int, window: Window | None) -> bool:
         keys = {one["key"] for one in self.context.public.announcements()}

@@ -8,7 +8,7 @@ import secrets
 from pathlib import Path
 from typing import Any, Self
 
-from . import disk
+from . import disk, stored
 from .decision import Reason
 from .increments import DEFAULT, Rule
 from .timetable import Window
@@ -47,6 +47,27 @@ class Ended:
 
 
 @dataclasses.dataclass
+class Act:
+    """What a person did, for the notices: which command, who, and about which round.
+
+    `after` is how many notices there were.
+    """
+
+    what: str
+    who: str
+    round: int | None
+    after: int
+
+
+@dataclasses.dataclass
+class Begun:
+    """The rules of increments of a round whose window has begun: they hold until it is closed."""
+
+    round: int
+    increments: list[Rule]
+
+
+@dataclasses.dataclass
 class Notice:
     """An announcement that goes with a change of the plan.
 
@@ -70,12 +91,16 @@ class Plan:
     doubts: list[Doubt] = dataclasses.field(default_factory=list)
     ended: Ended | None = None
     notices: list[Notice] = dataclasses.field(default_factory=list)
+    begun: Begun | None = None
+    winners: bool = False  # whether to publish what each bidder has won
+    acts: list[Act] = dataclasses.field(default_factory=list)
 
     @classmethod
     def of(cls, value: dict[str, Any]) -> Self:
         def one(kind: Any, part: Any) -> Any:
             return part and kind(**part)
 
+        begun = value.get("begun")
         return cls(
             value.get("auction", ""),
             {int(number): Window(**part) for number, part in value["windows"].items()},
@@ -84,7 +109,19 @@ class Plan:
             [Doubt(**part) for part in value["doubts"]],
             one(Ended, value["ended"]),
             [Notice(**part) for part in value["notices"]],
+            begun and Begun(begun["round"], [Rule(**part) for part in begun["increments"]]),
+            value.get("winners", False),
+            [Act(**part) for part in value.get("acts", [])],
         )
+
+    def rules_of(self, number: int) -> list[Rule]:
+        """The rules of increments by which a round is closed."""
+        is_begun = self.begun is not None and self.begun.round == number
+        return self.begun.increments if self.begun and is_begun else self.increments
+
+    def begin(self, number: int) -> None:
+        """From now on a round's rules of increments stay, whatever timetable comes."""
+        self.begun = Begun(number, self.rules_of(number))
 
     def doubts_of(self, number: int) -> list[Doubt]:
         """The doubts about a round, also those that a word has released."""
@@ -94,8 +131,14 @@ class Plan:
         self, number: int, reason: Reason, words: str = "", is_released: bool = False
     ) -> None:
         """Stores a doubt, in place of an older one of this reason."""
-        others = [one for one in self.doubts if (one.round, one.reason) != (number, reason.name)]
-        self.doubts = [*others, Doubt(number, reason.name, words, is_released)]
+        self.drop(number, reason)
+        self.doubts.append(Doubt(number, reason.name, words, is_released))
+
+    def drop(self, number: int, reason: Reason) -> None:
+        """Forgets a doubt about a round, so that it can come again."""
+        self.doubts = [
+            one for one in self.doubts if (one.round, one.reason) != (number, reason.name)
+        ]
 
     def release(self, number: int) -> None:
         """The doubts about a round so far hold it no more. That of the clock is gone."""
@@ -130,7 +173,10 @@ class PlanFile:
         """
         if not self.path.exists():
             return Plan(self.auction)
-        plan = Plan.of(json.loads(self.path.read_text(encoding="utf-8")))
+        try:
+            plan = Plan.of(stored.read(self.path))
+        except (AttributeError, KeyError, TypeError) as fault:
+            raise stored.Damaged(self.path, f"it is no plan: {fault!r}") from fault
         if plan.auction != self.auction:
             raise StrangePlan(
                 f"{self.path} is of another auction, or of an earlier commitment. "

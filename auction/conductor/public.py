@@ -2,13 +2,13 @@
 winners.
 """
 import json
-import os
 from pathlib import Path
+from types import NoneType
 from typing import Any
 
 from auction.mock import MARK
 
-from . import disk
+from . import disk, stored
 from .clock import utc
 from .plan import Plan
 from .settings import Folders
@@ -23,6 +23,11 @@ def closing_key(number: int) -> str:
 def opening_key(number: int, opens: int) -> str:
     """The key of the announcement that a window is open."""
     return f"open-{number}-{opens}"
+
+
+def is_opening(key: str, number: int) -> bool:
+    """Whether this is the key of an announcement that a window of a round is open."""
+    return key.startswith(f"open-{number}-")
 
 
 class PublicFiles:
@@ -51,7 +56,13 @@ class PublicFiles:
 
     def results(self, number: int) -> Page | None:
         """The round results of a published round."""
-        return json.loads(self.round_file(number).read_text(encoding="utf-8")) if number else None
+        if not number:
+            return None
+        path = self.round_file(number)
+        page = stored.read(path, ended=bool, products=list)
+        whole: stored.Kind = (int, NoneType)
+        stored.check_all(path, "product", page["products"], demand=whole, next=whole, posted=int)
+        return page
 
     def has_ended(self) -> bool:
         """Whether the last published round is the end of the auction."""
@@ -65,9 +76,11 @@ class PublicFiles:
 
     def announcements(self) -> list[dict[str, Any]]:
         file = self.folders.public / "announcements.json"
-        return (
-            json.loads(file.read_text(encoding="utf-8"))["announcements"] if file.exists() else []
-        )
+        if not file.exists():
+            return []
+        made: list[dict[str, Any]] = stored.read(file, announcements=list)["announcements"]
+        stored.check_all(file, "announcement", made, key=str, number=int, text=str, time=str)
+        return made
 
     def announce(self, key: str, text: str, now: float) -> str | None:
         """Adds an announcement, unless there is one of this key.
@@ -106,11 +119,20 @@ class PublicFiles:
             },
         )
 
-    def publish_winners(self, results: Page) -> None:
-        """Publishes what each bidder has won at the end, and pays at the posted prices of the last
-        round.
+    def publish_winners(self, file: Path) -> None:
+        """Publishes what each bidder has won, and pays at the posted prices of the last round.
+
+        Winners that are published stay.
         """
+        if (self.folders.public / "winners.json").exists():
+            return
+        self.put(self.folders.public / "winners.json", self.winners_of(file))
+
+    def winners_of(self, file: Path) -> Page:
+        """What each bidder has won, by the file of the server's last results."""
         last = self.published()
+        results = stored.read(file, bidders=list)
+        stored.check_all(file, "bidder", results["bidders"], name=str, demands=list)
         posted = [product["posted"] for product in (self.results(last) or {})["products"]]
         bidders = [
             {
@@ -120,9 +142,7 @@ class PublicFiles:
             }
             for bidder in results["bidders"]
         ]
-        self.put(
-            self.folders.public / "winners.json", {"bidders": bidders, "round": last, **self.mark}
-        )
+        return {"bidders": bidders, "round": last, **self.mark}
 
     def put(self, path: Path, value: Page) -> None:
         """Writes a file if it has changed, with the time of another second than before: nginx knows
@@ -130,8 +150,5 @@ class PublicFiles:
         """
         text = json.dumps(value, separators=(",", ":")) + "\n"
         before = path.stat().st_mtime if path.exists() else 0.0
-        if before and path.read_text(encoding="utf-8") == text:
-            return
-        disk.store(path, text, disk.PUBLIC)
-        if int(path.stat().st_mtime) <= int(before):
-            os.utime(path, (before, int(before) + 1))
+        if not before or path.read_bytes() != text.encode():
+            disk.store(path, text, disk.PUBLIC, before)

@@ -5,7 +5,7 @@ import enum
 import json
 from typing import Any
 
-from . import decision, disk
+from . import decision, disk, stored
 from .clock import in_words, utc
 from .decision import Reason
 from .settings import Folders
@@ -47,7 +47,12 @@ OPTIONS = {Reason.NO_SHEETS: "--without-sheets", Reason.TOO_MANY_PAIRS: "--no-ti
 SAME = {
     state.name: State[state.name] for state in decision.State if state.name in State.__members__
 }
-STATES = {**SAME, "STRANGER": State.MISMATCH, "PENDING": State.DRAINING}
+STATES = {
+    **SAME,
+    "STRANGER": State.MISMATCH,
+    "PENDING": State.DRAINING,
+    "FREEZING": State.DRAINING,
+}
 
 
 def report_of(
@@ -83,6 +88,8 @@ def window_words(wait: decision.Wait, number: int) -> str:
     """Where the current round's window is."""
     if wait.state is decision.State.PENDING:
         return f"Round {number} is shut. Requests are on their way to the server."
+    if wait.state is decision.State.FREEZING:
+        return f"Round {number} is shut. Its sheets are frozen next."
     if wait.state is decision.State.DRAINING:
         return f"Round {number} is shut. Requests that began in time may still end."
     assert wait.until is not None
@@ -139,7 +146,8 @@ def show(
 def shown(folders: Folders) -> dict[str, Any] | None:
     """The last report, or None if there is none."""
     try:
-        return json.loads((folders.operator / "conductor.json").read_text(encoding="utf-8"))
+        kinds = {"state": str, "time": str, "waits_for": str}
+        return stored.read(folders.operator / "conductor.json", **kinds)
     except (FileNotFoundError, ValueError):
         return None
 

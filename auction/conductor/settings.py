@@ -23,6 +23,19 @@ class SettingsFault(Exception):
     """What is wrong in conductor.json."""
 
 
+HALF_PUT_AWAY = "`auction clear` was stopped, and the auction is half put away: call it again"
+
+
+def half_of(folder: Path) -> Path:
+    """The folder of files that `auction clear` has put away so far."""
+    return folder / "past" / "new"
+
+
+def is_half_put_away(folder: Path) -> bool:
+    """Whether `auction clear` was stopped, so some files of the last auction are here, some not."""
+    return half_of(folder).exists()
+
+
 def group_of_workers(configuration: Path) -> str:
     """The group of nginx's workers by its line `user USER [GROUP];`, or Debian's default."""
     try:
@@ -83,9 +96,11 @@ class Settings:
         for name, seconds in times.items():
             if type(seconds) is not int or seconds < 0:
                 raise SettingsFault(f"{path}: {name} must be a whole number, 0 or more")
-        if 0 < settings.publish < settings.drain + LONGEST:
+        least = settings.drain + Limits.freeze + LONGEST
+        if 0 < settings.publish < least:
             raise SettingsFault(
-                f"{path}: publish must be 0, or hold drain and a closing of {LONGEST} s"
+                f"{path}: publish must be 0, or hold drain, the {Limits.freeze} s until sheets are "
+                f"frozen, and a closing of {LONGEST} s: {least}"
             )
         return dataclasses.replace(
             settings,

@@ -14,6 +14,9 @@ from .decision import TEN, whole_ten
 from .increments import Rule, rules_of
 
 MOST_WINDOWS = 1_000  # each bidder's page reads all of them
+MOST_MINUTES = 1_440
+YEARS = range(2000, 3000)  # so that a window can be put off, and still has a year of four digits
+MOST_DAYS = 3_660
 DAYS = ("Mon", "Tue", "Wed", "Thu", "Fri", "Sat", "Sun")
 
 
@@ -52,7 +55,7 @@ def read(path: Path) -> Timetable:
     """The timetable in a file."""
     try:
         document = json.loads(path.read_text(encoding="utf-8"))
-    except (OSError, ValueError) as error:
+    except (OSError, ValueError, RecursionError) as error:
         raise TimetableFault(f"{path}: {error}") from error
     known(document, "the timetable", {"days"}, {"zone", "increments"})
     zone = zone_of(document.get("zone", "UTC"))
@@ -127,9 +130,12 @@ def windows_of(day: Any, where: str, zone: datetime.tzinfo) -> Iterator[Window]:
 
 def date_of(text: Any, where: str) -> datetime.date:
     try:
-        return datetime.date.fromisoformat(text)
+        date = datetime.date.fromisoformat(text)
     except (TypeError, ValueError) as error:
         raise TimetableFault(f"{where}: {text!r} is not a date such as 2026-12-01") from error
+    if date.year not in YEARS:
+        raise TimetableFault(f"{where}: the year of {text} is not {YEARS[0]} to {YEARS[-1]}")
+    return date
 
 
 def dates_of(day: dict[str, Any], where: str) -> Iterator[datetime.date]:
@@ -142,6 +148,8 @@ def dates_of(day: dict[str, Any], where: str) -> Iterator[datetime.date]:
         date_of(text, f"{where}.except")
         for text in listed(day.get("except", []), f"{where}.except")
     }
+    if (last - first).days > MOST_DAYS:
+        raise TimetableFault(f"{where}: {first} to {last} is more than {MOST_DAYS} days")
     for number in range((last - first).days + 1):
         date = first + datetime.timedelta(number)
         if DAYS[date.weekday()] in weekdays and date not in left_out:
@@ -157,6 +165,8 @@ def times_of(entry: Any, where: str) -> list[tuple[datetime.time, datetime.time]
     length, every, count = (entry[key] for key in ("minutes", "every", "count"))
     if not all(type(number) is int and number > 0 for number in (length, every, count)):
         raise TimetableFault(f"{where}: minutes, every and count must be whole numbers above 0")
+    if max(length, every, count) > MOST_MINUTES:
+        raise TimetableFault(f"{where}: minutes, every and count are at most {MOST_MINUTES}")
     begin = datetime.datetime.combine(datetime.date(2000, 1, 1), time_of(entry["first"], where))
     starts = [begin + datetime.timedelta(minutes=every * number) for number in range(count)]
     ends = [start + datetime.timedelta(minutes=length) for start in starts]

@@ -2,7 +2,7 @@
 import dataclasses
 import json
 
-from . import disk
+from . import disk, stored
 from .clock import Clock
 from .settings import Folders
 from .timetable import Window
@@ -54,7 +54,7 @@ class Watch:
 
     def stored(self) -> Look | None:
         try:
-            value = json.loads(self.path.read_text(encoding="utf-8"))
+            value = stored.read(self.path)
             missed = value.pop("missed")
             return Look(**value, missed=missed and Missed(**missed))
         except (FileNotFoundError, ValueError, TypeError, KeyError):

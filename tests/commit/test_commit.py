@@ -2,6 +2,7 @@
 import hashlib
 import json
 import pathlib
+import time
 
 import pytest
 
@@ -171,3 +172,46 @@ def test_a_draw_is_taken_only_before_the_first_window_opens(
     (small.public / "timetable.json").write_text(json.dumps({"windows": windows}))
     assert committed(small, *DRAW).status == status
     assert (small.public / "draw.json").exists() == (status == 0)
+
+
+# ---- A draw after sheets
+
+
+def drawn(small: CloseAuction) -> str:
+    """Why a draw is refused, or nothing."""
+    return committed(small, "--draw", "5 17 33").errors
+
+
+def test_a_draw_is_refused_once_a_window_of_round_1_was_announced_open(
+    small: CloseAuction,
+) -> None:
+    """Also if the timetable says now that round 1 is open later."""
+    made = [{"key": "open-1-1795867200", "number": 1, "text": "It is open.", "time": "2026-11-28"}]
+    (small.public / "announcements.json").write_text(json.dumps({"announcements": made}))
+    windows = [{"round": 1, "opens": "2999-01-01T00:00:00Z", "closes": "2999-01-01T00:01:00Z"}]
+    (small.public / "timetable.json").write_text(json.dumps({"windows": windows}))
+    assert "before the first window opens" in drawn(small)
+
+
+@pytest.mark.parametrize("name", ["open", "NOW"])
+def test_a_draw_is_refused_while_the_gate_is_open(small: CloseAuction, name: str) -> None:
+    (small.folder / "gate").mkdir()
+    tens = [int(time.time()) // 10 + more for more in range(60)]
+    for file in [name] if name == "open" else map(str, tens):
+        (small.folder / "gate" / file).touch()
+    assert "before the first window opens" in drawn(small)
+
+
+def test_a_draw_is_refused_once_a_sheet_is_in_the_journal(small: CloseAuction) -> None:
+    settings = {"url": "", "setup": "setup.json", "token": "operator.token"}
+    settings["journal"] = "auction.journal"
+    (small.folder / "conductor.json").write_text(json.dumps(settings))
+    small.all_bid()
+    assert "before the first window opens" in drawn(small)
+
+
+def test_a_draw_is_taken_before_the_first_sheet(small: CloseAuction) -> None:
+    settings = {"url": "", "setup": "setup.json", "token": "operator.token"}
+    settings["journal"] = "auction.journal"
+    (small.folder / "conductor.json").write_text(json.dumps(settings))
+    assert drawn(small) == ""

@@ -3,6 +3,7 @@ import json
 import pathlib
 from typing import Any
 
+from auction.formats.notices import read_notices
 from auction.formats.ties import Commitment, check_ties
 from tests.lib.conducted import SECRET, ConductedAuction
 
@@ -28,6 +29,7 @@ def check(auction: ConductedAuction) -> list[str]:
     assert all(name.startswith("curtain-") for name in doors)
     check_announcements(auction, digests)
     check_files(auction, rounds)
+    check_notices(auction, digests)
     check_numbers(auction, pages)
     return [line for line in audit if not line.startswith(("closed", "journal"))]
 
@@ -44,6 +46,21 @@ def check_announcements(auction: ConductedAuction, digests: list[str]) -> None:
     table = auction.page("public/timetable.json")
     found = [table[key] for key in ("ended", "announcements", "round", "paused")]
     assert found == [True, len(made), auction.rounds, None]
+
+
+def check_notices(auction: ConductedAuction, digests: list[str]) -> None:
+    """The notices are one chain, which has what happened once, and what was announced."""
+    public = auction.folder / "public"
+    commitment = (public / "commitment.json").read_bytes()
+    entries = read_notices(public / "notices.jsonl", commitment)
+    said = [(entry.kind, entry.says) for entry in entries]
+    once = [one for one in said if one[0] not in ("timetable", "increments", "act")]
+    assert all(once.count(one) == 1 for one in once), once
+    assert [says["digest"] for kind, says in said if kind == "closed"] == digests
+    rounds = [says["round"] for kind, says in said if kind == "published"]
+    assert rounds == list(range(1, len(digests) + 1))
+    made = [says for kind, says in said if kind == "announcement"]
+    assert made == [{"key": one["key"], "text": one["text"]} for one in auction.announcements()]
 
 
 def check_files(auction: ConductedAuction, rounds: range) -> None:

@@ -8,9 +8,9 @@ from tests.lib.clock import BEGIN
 from tests.lib.conducted import ConductedAuction, Times, conducted
 
 WINDOWS: Times = [(30, 60), (120, 150), (210, 240)]
-CLOSED = [70, 160, 250]  # the drain of ten seconds after each window
+CLOSED = [72, 162, 252]  # the drain, and until sheets are frozen, after each window
 # The steps of an auction that nobody disturbs: writes, syncs, and requests and replies of closings.
-STEPS = range(1, 209)
+STEPS = range(1, 245)
 
 
 def undisturbed(program: pathlib.Path, publish: int = 0) -> tuple[list[str], int]:

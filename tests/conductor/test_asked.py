@@ -4,6 +4,7 @@ from typing import Any
 
 import pytest
 
+from auction.conductor.decision import Limits
 from auction.conductor.report import State
 from tests.conductor.asking import ask, ask_in_words, is_left
 from tests.conductor.conftest import Conduct
@@ -74,7 +75,7 @@ def test_the_drain_follows_an_early_end(with_sheets: ConductedAuction) -> None:
     with_sheets.wait(95, 5)
     ask(with_sheets)
     with_sheets.play(State.CLOSED, step=1)
-    assert with_sheets.closed_at() == [170]
+    assert with_sheets.closed_at() == [160 + 10 + Limits.freeze]
 
 
 def test_a_request_closes_one_round(with_sheets: ConductedAuction) -> None:

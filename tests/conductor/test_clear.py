@@ -1,18 +1,26 @@
 """`auction clear` puts an auction's files away whole, and the folder begins another auction."""
 import contextlib
 import fcntl
+import json
 import pathlib
 import shutil
+import subprocess
+import sys
 
 import pytest
 
+from auction.conductor import commitment
 from auction.conductor.clear import ClearFault, clear
 from auction.conductor.report import State
+from auction.conductor.settings import SettingsFault
+from auction.formats.setup import Setup
 from tests.conductor.conftest import Conduct
 from tests.conductor.finished import finish
 from tests.lib.conducted import ConductedAuction
 from tests.lib.disk import Disk, Killed
+from tests.lib.paths import AUCTION
 from tests.lib.paths import auction as auction_command
+from tests.lib.waiting import wait_for
 
 OWN = {"asked", "gate", "kept", "operator", "public", "state", "auction.journal", "setup.json"}
 
@@ -121,3 +129,55 @@ def test_the_command_refuses_while_a_server_runs(ended: ConductedAuction) -> Non
     ran = auction_command("clear", ended.folder)
     assert ran.returncode == 1
     assert "auction clear: a server runs" in ran.stderr
+
+
+# ---- Half put away
+
+
+@pytest.fixture
+def half(ended: ConductedAuction) -> ConductedAuction:
+    """An auction whose `clear` was killed when it had moved a few files."""
+    disk = Disk(7)
+    with contextlib.suppress(Killed), disk.in_use():
+        clear(ended.folder, ended.clock.wall())
+    assert disk.has_killed
+    assert names(ended.folder / "past/new")
+    return ended
+
+
+def test_no_conductor_begins_in_a_folder_that_is_half_put_away(half: ConductedAuction) -> None:
+    before = names(half.folder)
+    with pytest.raises(SettingsFault, match="call it again"):
+        half.fresh()
+    assert names(half.folder) == before
+
+
+def test_nobody_commits_in_a_folder_that_is_half_put_away(half: ConductedAuction) -> None:
+    places = commitment.Places(half.folder / "kept", half.folder / "public")
+    (half.folder / "setup.json").write_text(half.document)
+    with pytest.raises(commitment.CommitmentFault, match="call it again"):
+        commitment.make(places, Setup.read(half.folder / "setup.json"))
+
+
+def test_nothing_is_put_away_while_receipts_are_signed(ended: ConductedAuction) -> None:
+    folder = ended.folder / "receipts"
+    folder.mkdir()
+    words = [ended.folder / "setup.json", ended.folder / "auction.journal", ended.folder / "kept"]
+    command = [sys.executable, AUCTION, "receipts", *words, folder]
+    with subprocess.Popen(command, stdout=subprocess.DEVNULL) as service:
+        try:
+            wait_for("a receipt", lambda: list(folder.glob("X/*.json")), 60)
+            with pytest.raises(ClearFault, match="`auction receipts` runs"):
+                clear(ended.folder, ended.clock.wall())
+        finally:
+            service.kill()
+    past, _ = clear(ended.folder, ended.clock.wall())
+    assert list((past / "receipts").glob("X/*.json"))
+
+
+def test_certificates_that_only_the_conductor_trusts_are_named(ended: ConductedAuction) -> None:
+    """A trial's would be trusted in the next auction, whose bidders do not trust it."""
+    settings = ended.folder / "conductor.json"
+    settings.write_text(json.dumps({**json.loads(settings.read_text()), "authority": "cert.pem"}))
+    _, left = clear(ended.folder, ended.clock.wall())
+    assert left == [str(ended.folder / "cert.pem")]

@@ -1,6 +1,7 @@
 """A round is not closed while a request is on its way to the server."""
 import pytest
 
+from auction.conductor.decision import Limits
 from auction.conductor.report import State
 from tests.conductor.conftest import Conduct
 from tests.conductor.finished import finish
@@ -14,6 +15,8 @@ def waiting(conduct: Conduct) -> ConductedAuction:
     auction.play(State.DRAINING)
     auction.connections = frozenset({"a"})
     auction.clock.sleep(10)
+    auction.look()
+    auction.clock.sleep(Limits.freeze)
     auction.look()
     return auction
 

@@ -154,6 +154,6 @@ def test_a_closing_that_the_server_refuses_waits_and_leaves_no_body(conduct: Con
     auction.wait(60)
     assert not (auction.folder / "kept/closing-1.json").exists()
     with auction.context().changing() as plan:
-        plan.increments = [Rule(10)]
+        plan.increments, plan.begun = [Rule(10)], None  # as a new timetable after a refusal does
     commands.close_next(auction.context(), 1, False)
     finish(auction)

@@ -3,12 +3,17 @@ from typing import Any
 
 import pytest
 
-from auction.conductor.increments import increments_for, rules_of
+from auction.conductor import commands
+from auction.conductor.increments import Rule, increments_for, rules_of
+from auction.conductor.report import State
+from auction.conductor.timetable import Window
 from auction.formats.setup import Product, Setup
+from tests.conductor.asking import ask
 from tests.conductor.conftest import Conduct
 from tests.conductor.finished import finish
 from tests.conductor.plans import take
-from tests.lib.conducted import small_setup
+from tests.lib.clock import BEGIN
+from tests.lib.conducted import ConductedAuction, small_setup
 
 RULES = rules_of([{"until": 3, "percent": 20}, {"excess": 50, "percent": 10}, {"percent": 5}])
 # Of all products together 32 bidding units are supplied.
@@ -19,6 +24,12 @@ ANNOUNCED = (
     "Clock prices rise by 20 percent up to round 2, 25 percent up to round 3 while excess demand "
     "is at least 50 percent of supply, 5 percent otherwise."
 )
+
+
+def plan_of(auction: ConductedAuction) -> list[Window]:
+    """The windows of the plan, in order."""
+    windows = auction.context().plan_file.read().windows
+    return [windows[number] for number in sorted(windows)]
 
 
 def results_of(*demands: int | None) -> dict[str, Any]:
@@ -58,3 +69,59 @@ def test_an_auction_has_the_increments_of_its_timetable(conduct: Conduct, versio
     found = [body["increment"] if version == 1 else body["increments"][0] for body in bodies]
     assert found == [20, 25, 5, 5]
     assert auction.announced(ANNOUNCED) == 1
+
+
+# ---- When bids are known
+
+
+@pytest.mark.parametrize("state", [State.OPEN, State.DRAINING])
+def test_a_timetable_changes_no_increment_of_a_round_that_has_begun(
+    conduct: Conduct, state: State
+) -> None:
+    auction = conduct([], rounds=2)
+    assert take(auction, (60, 120), (170, 230), increments=[{"percent": 20}]) == ""
+    auction.play(state)
+    assert take(auction, (270, 330), increments=[{"percent": 7}]) == ""
+    finish(auction)
+    bodies = [auction.page(f"kept/closing-{number}.json") for number in (1, 2)]
+    assert [body["increment"] for body in bodies] == [20, 7]
+
+
+def test_a_timetable_changes_no_increment_of_a_round_that_opens_again(conduct: Conduct) -> None:
+    auction = conduct([], rounds=2)
+    assert take(auction, (60, 120), (170, 230), increments=[{"percent": 20}]) == ""
+    auction.play(State.OPEN)
+    commands.pause(auction.context(), "A fire alarm.")
+    commands.resume(auction.context(), 5)
+    windows = [(window.opens - BEGIN, window.closes - BEGIN) for window in plan_of(auction)]
+    assert take(auction, *windows, increments=[{"percent": 7}]) == ""
+    finish(auction)
+    assert auction.page("kept/closing-1.json")["increment"] == 20
+
+
+def test_after_a_refused_closing_a_timetable_gives_the_round_other_increments(
+    conduct: Conduct,
+) -> None:
+    auction = conduct([], rounds=2)
+    assert take(auction, (60, 120), (170, 230)) == ""
+    with auction.context().changing() as plan:
+        plan.increments = [Rule(51)]
+    auction.play(State.HELD)
+    assert take(auction, (570, 630), increments=[{"percent": 7}]) == ""
+    commands.close_next(auction.context(), 1, False)
+    finish(auction)
+    assert auction.page("kept/closing-1.json")["increment"] == 7
+
+
+@pytest.mark.parametrize(("increment", "announced"), [(10, 0), (12, 1)])
+def test_other_increments_of_the_operators_page_are_announced(
+    conduct: Conduct, increment: int, announced: int
+) -> None:
+    auction = conduct()
+    auction.play(State.OPEN)
+    auction.bid()
+    ask(auction, increment=increment)
+    auction.play(State.CLOSED, step=1)
+    assert auction.page("kept/closing-1.json")["increment"] == increment
+    words = "closes round 1 with other increments than announced: 12 percent."
+    assert auction.announced(words) == announced

@@ -9,7 +9,7 @@ import pytest
 from tests.conductor.killed import audit_if_killed, undisturbed
 
 PUBLISH = 30
-STEPS = range(1, 239)
+STEPS = range(1, 275)
 
 
 @pytest.fixture(scope="module")

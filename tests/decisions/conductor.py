@@ -1,4 +1,5 @@
 """The model of the conductor: it observes, decides, and carries out. It may be killed in each."""
+import dataclasses
 from collections.abc import Callable
 
 from auction.conductor.decision import (
@@ -8,7 +9,10 @@ from auction.conductor.decision import (
     AnnounceOpen,
     Close,
     Fix,
+    Freeze,
+    Gate,
     Latch,
+    NoteClock,
     NoteOpened,
     Observed,
     Plan,
@@ -16,15 +20,18 @@ from auction.conductor.decision import (
     Reason,
     Server,
     SetGate,
+    State,
     Wait,
 )
-from tests.decisions.world import LIMITS, Closing, World, check, with_window
+from auction.conductor.hand import by_hand
+from tests.decisions.world import LIMITS, Closing, Hand, World, check, with_marks, with_window
 
 Decide = Callable[[Observed], Action]
 
 
-def observed(world: World) -> Observed:
-    """What the conductor sees."""
+def observed(world: World, marked: frozenset[tuple[str, int]] | None = None) -> Observed:
+    """What a conductor sees that waits for these connections."""
+    marked = world.marked if marked is None else marked
     server = Server(
         len(world.closed), world.ended, world.digest, len(world.sheets), len(world.sheets)
     )
@@ -40,27 +47,57 @@ def observed(world: World) -> Observed:
         "own",
         world.now,
         world.passed,
-        world.step - world.set_at,
-        False,
+        0 if world.rebooted else world.step - world.set_at,
+        world.rebooted and window is not None,
         0.5 if world.missed else 0.0,
         plan,
         world.gate,
         server if world.running else None,
-        bool(world.marked & world.pending()),
+        bool(marked & world.pending()),
+        world.frozen,
         world.fixed,
         world.published,
         world.announced,
     )
 
 
-def looks(world: World, decided: Decide) -> World | None:
-    """The conductor observes and decides. None if there is nothing to do."""
-    action = decided(observed(world))
+def looks(world: World, decided: Decide, is_second: bool = False) -> World | None:
+    """A conductor observes and decides. None if there is nothing to do."""
+    if world.hand:
+        return looks_by_hand(world, world.hand, decided)
+    action = decided(observed(world, world.other if is_second else None))
     if isinstance(action, Wait):
         return None
     if isinstance(action, Close):
         check_reasons(noted(world))
+        check_frozen(world)
     return noted(world)._replace(acting=action)
+
+
+def looks_by_hand(world: World, hand: Hand, decided: Decide) -> World | None:
+    """A closing by hand observes and decides. It ends if a person must say more."""
+    if not world.running or world.ended:
+        return ended_by_hand(world)
+    seen = observed(world)
+    seen = dataclasses.replace(seen, plan=dataclasses.replace(seen.plan, doubts=hand.doubts))
+    action = decided(by_hand(seen, hand.ends, hand.released))
+    if isinstance(action, Wait):
+        return ended_by_hand(world) if action.state is State.HELD else None
+    if isinstance(action, Close):
+        check(bool(world.sheets) or Reason.NO_SHEETS in hand.released, "closed without sheets")
+        check_frozen(world)
+    return world._replace(acting=action)
+
+
+def ended_by_hand(world: World) -> World:
+    """The conductor continues. A connection that it finds may be from before its gate changed."""
+    return with_marks(world._replace(hand=None))
+
+
+def check_frozen(world: World) -> None:
+    """A closing is for the journal that was frozen first, or first after a word."""
+    check(world.frozen == world.digest, "a round is closed whose sheets are not frozen")
+    check(world.true_frozen == world.digest, "a round is closed whose journal has changed")
 
 
 def noted(world: World) -> World:
@@ -88,21 +125,19 @@ def carried_out(world: World, action: Action) -> World:
     world = world._replace(acting=None)
     match action:
         case SetGate(gate):
-            window = world.window
-            is_open = bool(
-                gate.takes > world.now and window and window.opens <= world.now < window.closes
-            )
-            return world._replace(
-                gate=gate, marked=world.pending(), true_open=world.true_open or is_open
-            )
+            return with_gate(world, gate)
         case NoteOpened(number):
-            return with_window(world, opened=True) if number == world.number else world
+            if number != world.number:
+                return world
+            return with_window(world, opened=True)._replace(frozen=None, true_frozen=None)
+        case NoteClock():
+            return world._replace(rebooted=False, set_at=world.step)
         case AnnounceOpen():
             return with_window(world, announced=True)
         case Latch(number, reason):
-            return (
-                world._replace(doubts=world.doubts | {reason}) if number == world.number else world
-            )
+            return latched(world, reason) if number == world.number else world
+        case Freeze(number, digest):
+            return frozen(world, digest) if number == world.number else world
         case Fix(digest):
             return world._replace(fixed=digest)
         case Close(earliest, latest, seen_at):
@@ -122,6 +157,29 @@ def carried_out(world: World, action: Action) -> World:
         case AnnounceClosing(number):
             return world._replace(announced=number)
     raise AssertionError(action)
+
+
+def with_gate(world: World, gate: Gate) -> World:
+    """The gate is set. Whoever waits for connections waits for those of now."""
+    window = world.window
+    is_open = bool(gate.takes > world.now and window and window.opens <= world.now < window.closes)
+    return with_marks(world._replace(gate=gate, true_open=world.true_open or is_open))
+
+
+def latched(world: World, reason: Reason) -> World:
+    """The doubt is stored in the plan, or a closing by hand keeps it."""
+    if world.hand:
+        return world._replace(hand=world.hand._replace(doubts=world.hand.doubts | {reason}))
+    return world._replace(doubts=world.doubts | {reason})
+
+
+def frozen(world: World, digest: str) -> World:
+    """The digest is published. A word about a changed journal was for the one of its time."""
+    world = world._replace(frozen=digest, true_frozen=world.true_frozen or digest)
+    if world.fixed is not None or world.hand:
+        return world
+    again = {Reason.CHANGED}
+    return world._replace(doubts=world.doubts - again, released=world.released - again)
 
 
 def sent(world: World) -> World:
@@ -156,5 +214,5 @@ def check_reasons(world: World) -> None:
 
 
 def killed(world: World) -> World:
-    """The conductor was killed. Started again, it waits for all connections that it finds."""
-    return world._replace(acting=None, waits=False, marked=world.pending())
+    """Whoever acts was killed. A conductor that starts waits for all connections that it finds."""
+    return with_marks(world._replace(acting=None, waits=False, hand=None))

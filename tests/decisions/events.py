@@ -2,8 +2,15 @@
 from collections.abc import Iterator
 
 from auction.conductor.decision import TEN, State, Wait
-from tests.decisions.conductor import Decide, carried_out, killed, looks, observed
-from tests.decisions.operator import commanded
+from tests.decisions.conductor import (
+    Decide,
+    carried_out,
+    ended_by_hand,
+    killed,
+    looks,
+    observed,
+)
+from tests.decisions.operator import called_by_hand, commanded
 from tests.decisions.world import (
     END,
     HEAD,
@@ -46,15 +53,20 @@ def closed(world: World) -> World:
     """The server takes a closing, unless the round was closed before."""
     closing, *others = world.closings
     rest = world._replace(closings=tuple(others), waits=False)
+    if world.waits and world.hand:
+        rest = ended_by_hand(rest)
     if closing.number != world.number or world.ended:
         return rest
     check(
-        closing.digest == world.digest,
+        closing.digest == world.digest or world.is_strange,
         "a pair that matters has no number: the journal changed after the closing was made",
     )
     return rest._replace(
         closed=(*world.closed, world.sheets),
         sheets=frozenset(),
+        frozen=None,
+        true_frozen=None,
+        is_strange=False,
         fixed=None,
         doubts=frozenset(),
         released=frozenset(),
@@ -108,7 +120,7 @@ def is_in_time(world: World) -> bool:
     window = world.window
     return bool(
         world.is_own
-        and not world.paused
+        and (not world.paused or world.is_cut)
         and window
         and window.opens <= world.now < window.closes + LIMITS.drain
     )
@@ -119,8 +131,12 @@ def is_in_time(world: World) -> bool:
 
 def ticked(world: World) -> World:
     """Ten seconds pass."""
-    missed = world.missed or is_due(world) and not (world.nginx and world.running and takes(world))
-    return settled(world._replace(passed=world.passed + TEN, missed=missed))
+    is_open = takes(world) and takes_whole(world)
+    missed = world.missed or is_due(world) and not (world.nginx and world.running and is_open)
+    true_open = world.true_open or is_due(world) and is_open
+    return settled(
+        world._replace(passed=world.passed + TEN, missed=missed, true_open=true_open, is_cut=False)
+    )
 
 
 def is_due(world: World) -> bool:
@@ -145,6 +161,14 @@ def troubles(world: World) -> Iterator[World]:
     is_at_work = world.acting or world.waits
     if is_at_work and len(world.closings) < 2:  # else there would be always one more
         yield killed(world)
+    if world.budget.reboots:
+        yield rebooted(world)
+    if world.budget.seconds and world.other is None:
+        budget = world.budget._replace(seconds=0)
+        yield world._replace(other=world.pending(), budget=budget)
+    if world.budget.strangers and world.running and not world.ended:
+        budget = world.budget._replace(strangers=world.budget.strangers - 1)
+        yield world._replace(sheets=world.sheets ^ {"Z"}, budget=budget, is_strange=True)
     if world.budget.clock:
         budget = world.budget._replace(clock=0)
         for step in (-TEN, TEN):
@@ -170,6 +194,26 @@ def troubles(world: World) -> Iterator[World]:
         )
 
 
+def rebooted(world: World) -> World:
+    """The machine starts again within ten seconds. Nobody knows whether its clock was set then."""
+    world = killed(
+        world._replace(
+            nginx=False,
+            running=False,
+            requests=(),
+            spy=0,
+            closings=(),
+            rebooted=True,
+            set_at=world.step,
+            other=None,
+            missed=world.missed or is_due(world),
+            passed=world.passed + TEN,
+            budget=world.budget._replace(reboots=world.budget.reboots - 1),
+        )
+    )
+    return settled(world)
+
+
 # ---- What comes next
 
 
@@ -181,6 +225,11 @@ def nexts(world: World, decided: Decide) -> Iterator[World]:
         due = None if world.waits else looks(world, decided)
     if due is not None:
         yield due
+    if world.other is not None and not world.acting and not world.waits and not world.hand:
+        second = looks(world, decided, is_second=True)
+        if second is not None:
+            yield second
+            due = second
     if world.passed < END and (due is None and not world.waits or world.budget.slow):
         slow = world.budget.slow - (due is not None or world.waits)
         yield ticked(world)._replace(budget=world.budget._replace(slow=slow))
@@ -188,6 +237,7 @@ def nexts(world: World, decided: Decide) -> Iterator[World]:
         yield from served(world)
     yield from asks(world)
     yield from commanded(world)
+    yield from called_by_hand(world)
     yield from troubles(world)
 
 

@@ -6,6 +6,7 @@ Any event may come between what the conductor observed and what it does. In each
 - a closing is made for a journal that does not change any more, sent while the curtain is drawn,
   and with no doubt that a person has not released;
 - no page shows a closing before its curtain lifts;
+- a closing is for the journal whose digest was published first, or first after a word;
 - if nothing else happens, the auction comes to its end or to a person; after a kill it comes to
   the same one, or to one doubt more.
 """
@@ -23,6 +24,7 @@ from tests.decisions.world import Broken, Budget, World
 STALE = World(is_own=False, gate=Gate(1, 5, 8, 5, 9), sheets=frozenset("X"))
 LATE = World(passed=50, missed=True, sheets=frozenset("X"))
 PAIR = World(names="XY")
+NOTHING = Budget(0, 0, 0, 0, 0)
 # What happens at most so often in each exploration. Kills at any step happen in all of them.
 BEGINNINGS = {
     "another auction's folder": STALE._replace(budget=Budget(1, 1, 1, 1, 1)),
@@ -33,6 +35,11 @@ BEGINNINGS = {
     "an outage, late once": World(budget=Budget(0, 1, 0, 0, 1)),
     "a step of the clock, late once": World(budget=Budget(1, 0, 0, 0, 1)),
     "a step of the clock, a page": World(budget=Budget(1, 0, 0, 1, 0)),
+    "a closing by hand": World(budget=NOTHING._replace(hands=1)),
+    "a reboot, late once": World(budget=NOTHING._replace(reboots=1, slow=1)),
+    "a second conductor, a page": World(budget=NOTHING._replace(seconds=1, spies=1)),
+    "a killed command": World(budget=NOTHING._replace(words=1, cuts=1)),
+    "a sheet past the doors, a word": World(budget=NOTHING._replace(strangers=1, words=1)),
 }
 # Two troubles at once, which take some minutes.
 MORE = {
@@ -44,6 +51,12 @@ MORE = {
     "two commands": World(budget=Budget(0, 0, 2, 0, 0)),
     "a command and a step of the clock": World(budget=Budget(1, 0, 1, 0, 0)),
     "a command and an outage": World(budget=Budget(0, 1, 1, 0, 0)),
+    "a closing by hand and a reboot": World(budget=NOTHING._replace(hands=1, reboots=1)),
+    "a closing by hand and a command": World(budget=NOTHING._replace(hands=1, words=1)),
+    "a second conductor and a command": World(budget=NOTHING._replace(seconds=1, words=1)),
+    "a reboot and a step of the clock": World(budget=NOTHING._replace(reboots=1, clock=1)),
+    "a closing by hand, late once": World(budget=NOTHING._replace(hands=1, slow=1)),
+    "two closings by hand": World(budget=NOTHING._replace(hands=2)),
 }
 
 Outcomes = dict[World, tuple[object, ...]]
@@ -89,8 +102,8 @@ def explore(begin: World, decided: Decide) -> Explored:
 def check_end(world: World, decided: Decide, outcomes: Outcomes) -> None:
     """If nothing else happens, the auction ends. After a kill too, or it has a doubt more."""
     alone = end_of(world, decided, outcomes)
-    if not (world.acting or world.waits):
-        return
+    if world.hand or world.is_strange or not (world.acting or world.waits):
+        return  # a closing by hand that is killed is no closing
     after = end_of(killed(world), decided, outcomes)
     has_more_doubts = not after[-1] <= alone[-1]  # type: ignore[operator]
     if alone != after and not has_more_doubts:

@@ -66,6 +66,17 @@ def changed(words: str, then: Callable[[Look], Action]) -> Decide:
 # ---- Decisions with a mistake
 
 
+def with_sheets_that_are_never_frozen() -> Decide:
+    """A closing needs no published digest."""
+    plain = decides_by()
+
+    def decided(seen: Observed) -> Action:
+        digest = seen.server.digest if seen.server else None
+        return plain(dataclasses.replace(seen, frozen=digest))
+
+    return decided
+
+
 def with_an_open_inner_door() -> Decide:
     """Both doors are open until the curtain lifts."""
     plain = decides_by()

@@ -7,13 +7,15 @@ import pytest
 from auction.conductor.decision import Close
 from tests.decisions import mistakes
 from tests.decisions.conductor import Decide
-from tests.decisions.explorer import BEGINNINGS, explore
+from tests.decisions.explorer import BEGINNINGS, MORE, explore
 from tests.decisions.mistakes import before, changed, without
 
 pytestmark = pytest.mark.early
 FOLDER, STARTED = "another auction's folder", "a conductor that starts after the window"
 COMMAND, PAGE = "a command", "a page, the conductor late once"
 STEP = "a step of the clock, late once"
+HAND, KILLED, PAST = "a closing by hand", "a killed command", "a sheet past the doors, a word"
+SECOND, REBOOT = "a second conductor, a page", "a reboot and a step of the clock"
 
 
 class Mistake(NamedTuple):
@@ -49,9 +51,30 @@ MISTAKES = [
     Mistake("the curtain lifts once it is closed", mistakes.with_a_curtain_that_lifts_early, PAGE),
     Mistake("a word releases later doubts", mistakes.with_a_word_for_everything, STARTED),
     Mistake("there is no curtain", mistakes.without_a_curtain, PAGE),
+    Mistake("sheets are not frozen", mistakes.with_sheets_that_are_never_frozen, COMMAND),
+    Mistake("a journal may change once it is frozen", lambda: without("not the frozen one"), PAST),
+    Mistake("a killed pause leaves doors open", lambda: without("is paused: shut both"), KILLED),
+    Mistake("the clock is not noted after a start", lambda: without("was started since"), REBOOT),
+    Mistake(
+        "a closing by hand does not wait for connections",
+        lambda: without("before the last change"),
+        HAND,
+    ),
+    Mistake(
+        "a closing by hand leaves the inner door open",
+        lambda: without("the inner door is open"),
+        HAND,
+    ),
+    Mistake("a closing by hand needs no sheet", lambda: without("nobody has a sheet"), HAND),
+    Mistake(
+        "a second conductor does not wait for connections",
+        lambda: without("before the last change"),
+        SECOND,
+    ),
 ]
 
 
 @pytest.mark.parametrize("mistake", MISTAKES, ids=lambda mistake: mistake.words)
 def test_a_planted_mistake_is_found(mistake: Mistake) -> None:
-    assert explore(BEGINNINGS[mistake.exploration], mistake.make()).broken
+    begin = {**BEGINNINGS, **MORE}[mistake.exploration]
+    assert explore(begin, mistake.make()).broken

@@ -9,7 +9,7 @@ from typing import NamedTuple
 
 from auction.conductor.decision import Action, Gate, Limits, Reason, Window
 
-LIMITS = Limits(drain=10, publish=30, longest=10, drift=1, missed=0.02, pairs=2)
+LIMITS = Limits(drain=10, publish=30, longest=10, freeze=0, drift=1, missed=0.02, pairs=2)
 WINDOWS = (Window(20, 40), Window(80, 90))
 GAP = 40  # from a window's end to the next opening: `publish`, and ten seconds to read the results
 END = 140
@@ -32,6 +32,11 @@ class Budget(NamedTuple):
     words: int = 1  # commands of the operator
     spies: int = 1  # pages that someone asks for
     slow: int = 2  # times that ten seconds pass before the conductor does what is due
+    cuts: int = 0  # commands that are killed between two steps
+    hands: int = 0  # calls of `auction close`
+    reboots: int = 0
+    seconds: int = 0  # second conductors that begin
+    strangers: int = 0  # sheets at the server's own port, past both doors
 
 
 class Request(NamedTuple):
@@ -41,6 +46,14 @@ class Request(NamedTuple):
     number: int
     where: int
     passed: int = 0  # the current round when it passed the inner door
+
+
+class Hand(NamedTuple):
+    """A closing by hand, which has the plan's lock: when its window ended, and what it releases."""
+
+    ends: int
+    doubts: frozenset[Reason]
+    released: frozenset[Reason]
 
 
 class World(NamedTuple):
@@ -53,10 +66,12 @@ class World(NamedTuple):
     running: bool = True
     gate: Gate = Gate()
     windows: tuple[Window | None, ...] = WINDOWS
+    is_strange: bool = False  # a sheet of this round came past the doors
     is_own: bool = True  # whether the plan is of this auction
     set_at: int = 0  # `step` when the window was announced
     paused: bool = False
     since: int = 0  # when the auction was paused
+    is_cut: bool = False  # the command was killed before it shut the doors, and no time has passed
     doubts: frozenset[Reason] = frozenset()
     released: frozenset[Reason] = frozenset()
     missed: bool = False
@@ -66,6 +81,10 @@ class World(NamedTuple):
     closings: tuple[Closing, ...] = ()  # in the server's queue
     spy: int = 0  # 1: a page is on its way to the server
     marked: frozenset[tuple[str, int]] = frozenset()
+    other: frozenset[tuple[str, int]] | None = None  # those that a second conductor waits for
+    hand: Hand | None = None
+    rebooted: bool = False  # since the window was announced
+    frozen: str | None = None
     fixed: str | None = None
     published: int = 0
     announced: int = 0
@@ -75,6 +94,7 @@ class World(NamedTuple):
     true_open: bool = False  # whether both doors were open in the window
     true_empty: bool = False  # nobody had a sheet when the inner door had shut
     true_word: frozenset[Reason] = frozenset()  # what a person has seen and released
+    true_frozen: str | None = None  # the digest at which this window was frozen first
     promise: int = 0  # until when the last closing may not be seen
 
     @property
@@ -121,6 +141,12 @@ def with_window(world: World, **changes: object) -> World:
     windows = list(world.windows)
     windows[world.number - 1] = window._replace(**changes)  # type: ignore[arg-type]
     return world._replace(windows=tuple(windows))
+
+
+def with_marks(world: World) -> World:
+    """Who waits for connections finds those of now."""
+    found = world.pending()
+    return world._replace(marked=found, other=None if world.other is None else found)
 
 
 def takes(world: World) -> bool:

@@ -88,6 +88,9 @@ class Machine:
         return self.shell.say(self.shell.put_elsewhere(f"curl -s --cacert cert.pem {words}"))
 
     def write_head(self) -> None:
+        """Writes the head of X's requests, and lets closings wait for no drain and no curtain."""
+        path = self.auction / "conductor.json"
+        path.write_text(json.dumps({**json.loads(path.read_text()), "drain": 0, "publish": 0}))
         (self.auction / "x.head").write_text("authorization: Bearer XXXXXXXXXXXXXXXX\n")
 
     def first_round(self) -> None:

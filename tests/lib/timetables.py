@@ -11,6 +11,7 @@ class Refused(NamedTuple):
 
 
 DAY = {"date": "2026-12-01", "windows": ["10:00-11:00"]}
+SERIES = {"first": "10:00", "minutes": 30, "every": 60, "count": 1}
 REFUSED = [
     Refused("must be an object", []),
     Refused("lacks days", {}),
@@ -60,6 +61,23 @@ REFUSED = [
                 {**DAY, "windows": [{"first": "22:00", "minutes": 30, "every": 60, "count": 3}]}
             ]
         },
+        True,
+    ),
+    Refused(
+        "minutes, every and count are at most 1440",
+        {"days": [{**DAY, "windows": [{**SERIES, "count": 10_000_000}]}]},
+        True,
+    ),
+    Refused(
+        "minutes, every and count are at most 1440",
+        {"days": [{**DAY, "windows": [{**SERIES, "every": 10**15}]}]},
+        True,
+    ),
+    Refused("the year of 9999-12-31", {"days": [{**DAY, "date": "9999-12-31"}]}, True),
+    Refused("the year of 0001-01-01", {"days": [{**DAY, "date": "0001-01-01"}]}, True),
+    Refused(
+        "is more than 3660 days",
+        {"days": [{"from": "2000-01-01", "to": "2999-12-31", "windows": ["10:00-11:00"]}]},
         True,
     ),
     Refused("zone: 'Mars/Olympus' is unknown", {"zone": "Mars/Olympus", "days": [DAY]}, True),

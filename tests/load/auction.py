@@ -170,6 +170,7 @@ class Auction:
         words = (url, *(folder / name for name in names), INCREMENT, "--yes", number)
         ran = auction("close", *words)
         assert ran.returncode == 0, ran.stdout + ran.stderr
+        (folder / "gate/open").touch()  # the closing has shut the doors
         body = (folder / f"kept/closing-{number}.json").read_bytes()
         self.most_ties = max(self.most_ties, len(json.loads(body)["ties"]))
         self.at_second("POST /v1/close", OPERATOR, body)
