@@ -64,7 +64,7 @@ class WitnessedAuction(Served):
 
     def branch(self, folder: pathlib.Path) -> "WitnessedAuction":
         """A copy of the auction up to now, with all its files, in another folder."""
-        shutil.copytree(self.folder, folder, dirs_exist_ok=True)
+        shutil.copytree(self.folder, folder, symlinks=True, dirs_exist_ok=True)
         return WitnessedAuction(self.program, folder, self.number)
 
     def witness(self, name: str) -> None:
