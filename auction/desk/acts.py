@@ -185,6 +185,7 @@ def close_early(context: Context, number: int, given: Given) -> None:
         if not context.journal.sheets and not given.without_sheets:
             raise CommandFault(f"{Reason.NO_SHEETS.value}: confirm that you know")
         asked = Closing(number, list(given.increments), given.without_sheets)
+        context.note(changed, "close", number)
         commands.end_early(context, changed, asked)
 
 

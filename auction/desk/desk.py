@@ -175,7 +175,7 @@ class Desk:
         """Does an act. `wanted` is the last word for it, and `asked` the act itself."""
         who, words = " and ".join(people), words_of(asked.act, asked.round, given)
         self.note(wanted, who, words, BEGUN)
-        self.context.guard = self.guard_of(asked, acts)
+        self.context.guard, self.context.who = self.guard_of(asked, acts), who
         try:
             carry_out(self.context, asked.act, asked.round, given)
         except Stale:

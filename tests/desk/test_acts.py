@@ -6,6 +6,7 @@ import pytest
 
 from auction.conductor.clock import utc
 from auction.conductor.report import State
+from auction.formats.notices import read_notices
 from tests.desk.conftest import Begin, Visited
 from tests.lib.setups import bidder, product
 from tests.lib.setups import setup as set_up
@@ -126,6 +127,25 @@ def test_a_round_is_closed_early_by_two(visited: Visited) -> None:
     assert visited.auction.page("kept/closing-1.json")["increment"] == 20
     assert visited.auction.announced("earlier than announced before") == 1
     assert visited.outcomes() == [("operator", "waits"), ("operator and second", "done")]
+
+
+def test_the_notices_name_who_did_what(visited: Visited) -> None:
+    visited.click("announce", words="The help desk is at extension 105.")
+    visited.click("close", typed="1", increments=[20], without_sheets=True)
+    visited.confirm(typed="1")
+    acts = [says for kind, says in noticed(visited) if kind == "act"]
+    assert acts == [
+        {"what": "announce", "who": "operator"},
+        {"round": 1, "what": "close", "who": "operator and second"},
+    ]
+
+
+def noticed(visited: Visited) -> list[tuple[str, dict[str, Any]]]:
+    """The kinds of the notices, and what they say."""
+    public = visited.auction.folder / "public"
+    commitment = (public / "commitment.json").read_bytes()
+    entries = read_notices(public / "notices.jsonl", commitment)
+    return [(entry.kind, entry.says) for entry in entries]
 
 
 def test_a_round_without_sheets_is_closed_only_if_both_know(visited: Visited) -> None:
