@@ -118,7 +118,7 @@ def test_numbers_that_were_drawn_until_a_friend_won_are_shown(last: WitnessedAuc
 def test_a_chain_that_was_exchanged_is_shown(last: WitnessedAuction) -> None:
     """The operator looks at the sheets, makes another chain, and closes by it."""
     other = last.folder / "other"
-    last.succeed("commit", last.setup_file, other, other)
+    last.succeed("commit", last.setup_file, other, other, "--journal", other / "none")
     shutil.copy(other / "chain.json", last.kept / "chain.json")
     shutil.copy(other / "commitment.json", last.public / "commitment.json")
     assert last.close() == ""
