@@ -17,9 +17,12 @@ export function passed(before, now) {
   return marks.length ? Math.min(...marks) : 0;
 }
 
-/** What the alarm says. */
-export const alarmWords = (mark, round) =>
-  `${mark < 60 ? counted(mark, "second") : counted(mark / 60, "minute")} left in round ${round}`;
+/** What the alarm says when so many seconds are left. */
+export function alarmWords(seconds, round) {
+  const left =
+    seconds < 60 ? counted(seconds, "second") : counted(Math.round(seconds / 60), "minute");
+  return `${left} left in round ${round}`;
+}
 
 export class Alarm {
   #sound = null; // the browser's sound, once the person has chosen it

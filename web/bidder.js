@@ -525,7 +525,8 @@ const times = new Times({
   ticked: (time) => {
     const mark = passed(state.time, time);
     set({ time });
-    if (mark && state.me) alarm.ring(alarmWords(mark, state.me.round), shown(state).todo.words);
+    if (!mark || !state.me) return;
+    alarm.ring(alarmWords(time.seconds, state.me.round), shown(state).todo.words);
   },
   news: (count) => tell("news", count ? number(count) : ""),
 });

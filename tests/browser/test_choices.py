@@ -32,22 +32,28 @@ def auction(begin: Begin) -> Auction:
 
 
 def test_the_alarm_comes_before_the_end_if_it_is_chosen(auction: Auction, x: Window) -> None:
-    Published(auction).timetable(1, (-60, 90))
+    day = Published(auction)
+    day.timetable(1, (-60, 600))
     enter(auction, x)
+    x.until("the time is known", lambda: x.text("left"))
     x.run(ALLOWS)
     x.menu("alarm")
     x.says("message", "The alarm is on: a sound and a notification.")
     sounds = x.run("return window.sounds")
+    day.timetable(1, (-60, 75))
     x.until("it comes", lambda: x.run("return window.rung"))
-    words = r"(1 minute|20 seconds) left in round 1\. Submit bids: without any you are out .*"
+    words = r"(1 minute|\d+ seconds) left in round 1\. Submit bids: without any you are out .*"
     assert re.fullmatch(words, x.run("return window.rung[0]"))
     assert x.run("return window.sounds") > sounds
 
 
 def test_without_the_choice_nothing_is_heard(auction: Auction, x: Window) -> None:
-    Published(auction).timetable(1, (-60, 75))
+    day = Published(auction)
+    day.timetable(1, (-60, 600))
     enter(auction, x)
+    x.until("the time is known", lambda: x.text("left"))
     x.run(ALLOWS)
+    day.timetable(1, (-60, 50))
     x.until("less than a minute is left", lambda: re.match("0:|Cl", x.text("left")))
     assert x.run("return [window.rung.length, window.sounds]") == [0, 0]
 

@@ -37,8 +37,9 @@ test("each mark comes once in a window that is counted down", () => {
 });
 
 test("the alarm says how much time is left", () => {
-  assert.deepEqual(MARKS.map((mark) => alarmWords(mark, 3)), [
-    "5 minutes left in round 3", "1 minute left in round 3", "20 seconds left in round 3",
+  assert.deepEqual([300, 73, 60, 59, 20, 1].map((seconds) => alarmWords(seconds, 3)), [
+    "5 minutes left in round 3", "1 minute left in round 3", "1 minute left in round 3",
+    "59 seconds left in round 3", "20 seconds left in round 3", "1 second left in round 3",
   ]);
 });
 
