@@ -269,7 +269,7 @@ SMALL = """return [...document.querySelectorAll(
 # whether three points of the element with the focus, at its top, middle and foot, show that element
 HIDDEN = """const a = document.activeElement, b = a.getBoundingClientRect();
 const x = (b.left + b.right) / 2;
-if (a === document.body) return '';
+if (a === document.body || a.matches('.frame')) return ''; // a frame may be higher than the window
 const seen = [b.top + 2, (b.top + b.bottom) / 2, b.bottom - 2].filter(y => {
     const e = document.elementFromPoint(x, y);
     return e && (a === e || a.contains(e) || (e.contains(a) && !e.matches('body, main')));

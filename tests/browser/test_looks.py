@@ -3,7 +3,7 @@ screen reader and for the keyboard. With `--pictures DIR`, it saves pictures for
 """
 import pathlib
 import re
-from collections.abc import Iterator
+from collections.abc import Callable, Iterator
 
 
 import pytest
@@ -173,7 +173,16 @@ def public_page_before_round_1(request: pytest.FixtureRequest, window: Window) -
     window.says("caption", "Prices of round 1")
 
 
-STATES = [bidders_page, wrong_bid, closed_rounds, product_by_round, announcements, review, menu]
+State = Callable[[pytest.FixtureRequest, Window], None]
+STATES: list[State] = [
+    bidders_page,
+    wrong_bid,
+    closed_rounds,
+    product_by_round,
+    announcements,
+    review,
+    menu,
+]
 STATES += [columns, highest_prices, after_the_end, refused_token]
 STATES += [operators_page, operators_highest_prices]
 STATES += [public_page, public_page_of_round_5, public_page_before_round_1]
@@ -313,6 +322,23 @@ def test_no_element_with_the_cursor_is_hidden(
     for _ in range(16):
         x.press(Keys.TAB)
         hidden.append(x.run(scripts.HIDDEN))
+    assert [name for name in hidden if name] == []
+
+
+@pytest.mark.parametrize("wide, high", [(1440, 900), (390, 844)], ids=["laptop", "phone"])
+@pytest.mark.parametrize(
+    "state", [product_by_round, review, public_page_of_round_5], ids=["rounds", "review", "public"]
+)
+def test_tab_goes_to_elements_that_are_seen(
+    request: pytest.FixtureRequest, x: Window, state: State, wide: int, high: int
+) -> None:
+    x.size(wide, high)
+    state(request, x)
+    x.settle()
+    hidden = []
+    for _ in range(16):
+        x.press(Keys.TAB)
+        hidden += [x.run(scripts.HIDDEN), x.run(scripts.UNSEEN) and x.run(scripts.STOP)]
     assert [name for name in hidden if name] == []
 
 
