@@ -129,7 +129,8 @@ def test_a_round_closed_by_hand_in_its_window_is_published(conduct: Conduct) -> 
     auction.bid()
     context = auction.context()
     context.journal.read_on()
-    closing.fix(context.auction, 1, [10], Ties.OF_CHAIN)
+    digest = context.journal.digest.hex()
+    closing.fix(context.auction, 1, [10], Ties.OF_CHAIN, digest)
     closing.send(context.auction, 1, Origin.NOW)  # as `auction close` does
     auction.look()
     assert auction.conductor.context.public.published() == 1
