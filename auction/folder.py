@@ -42,6 +42,7 @@ FOLDERS = (
     ("asked", 0o2770, True),
     ("receipts", 0o2750, True),
 )
+LOGS = ("access.log", "refused.log")  # in the folder log, for root only
 
 
 class FolderFault(Exception):
@@ -135,7 +136,7 @@ def make_folders(folder: pathlib.Path) -> None:
         if is_of_workers:
             os.chown(path, -1, group)
         path.chmod(mode)
-    for name in ("access.log", "refused.log"):
+    for name in LOGS:
         (folder / "log" / name).touch(PRIVATE)
     if group != -1:
         # The count of links of receipts/ and the length of log/access.log show who has bid.

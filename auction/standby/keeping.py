@@ -16,6 +16,7 @@ from pathlib import Path, PurePosixPath
 from typing import Any
 
 from auction.conductor import disk
+from auction.folder import FOLDERS, LOGS
 from auction.formats.journal import HEAD, Journal, JournalFault
 
 from . import mark
@@ -25,16 +26,6 @@ from .listing import is_own
 
 INCOMING, LIST = "incoming", "list.json"
 LOCK = "standby.lock"
-# What a machine has for itself, and must have before it serves: names, modes, and which belong to
-# the group of nginx's workers.
-OWN_FOLDERS = (
-    ("tmp", 0o755, False),
-    ("log", 0o755, False),
-    ("gate", 0o755, False),
-    ("inner", 0o710, True),
-    ("operator", 0o2750, True),
-    ("asked", 0o2770, True),
-)
 
 
 class Unkept(Exception):
@@ -212,12 +203,12 @@ def give(path: Path, mode: int, group: str) -> None:
 
 def make_own_folders(folder: Path, group: str) -> None:
     """Makes what each machine has for itself."""
-    for name, mode, is_of_workers in OWN_FOLDERS:
-        path = folder / name
-        path.mkdir(exist_ok=True)
-        give(path, mode, group if is_of_workers else "")
-    with open(os.open(folder / "log/access.log", os.O_WRONLY | os.O_CREAT, 0o600), "wb"):
-        pass
+    for name, mode, is_of_workers in FOLDERS:
+        if is_own(name):
+            (folder / name).mkdir(exist_ok=True)
+            give(folder / name, mode, group if is_of_workers else "")
+    for name in LOGS:
+        (folder / "log" / name).touch(0o600)
 
 
 def keep(folder: Path, line: Line, clock: Callable[[], float]) -> None:
