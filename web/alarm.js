@@ -12,7 +12,7 @@ const HIGH = 880, LOUD = 0.2, TONE = 0.18; // hertz, part of the greatest loudne
  */
 export function passed(before, now) {
   if (before.phase !== "open" || now.phase !== "open") return 0;
-  if (before.seconds === null || now.seconds === null || now.seconds > before.seconds) return 0;
+  if (before.seconds === null || now.seconds === null) return 0;
   const marks = MARKS.filter((mark) => before.seconds > mark && now.seconds <= mark);
   return marks.length ? Math.min(...marks) : 0;
 }

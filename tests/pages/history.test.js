@@ -125,6 +125,14 @@ test("the file of results has what the bidder had and bid, and its cost", () => 
   ]);
 });
 
+test("blocks cost their posted price, not the clock price", () => {
+  const results = new Map([[2, { demands: [0, 2], activity: 4, eligibility: 4 }]]);
+  const [, , b] = fileOf(known({ results, bids: new Map() }));
+  assert.equal(b, undefined, "without bids and demand there is no line");
+  const [, line] = fileOf(known({ results, bids: new Map() }));
+  assert.deepEqual([line[1], line.at(-1)], ["B", 106]);
+});
+
 // ---- The bids that this tab keeps
 
 test("the bids that a tab saw survive a reload, for the same auction and bidder only", () => {
