@@ -6,6 +6,7 @@ import secrets
 from pathlib import Path
 from typing import Any
 
+from auction import mock
 from auction.conductor import disk
 from auction.ready import maps
 from auction.ready.maps import Person
@@ -61,7 +62,8 @@ def added(setup: dict[str, Any], persons: list[Person], bidder: str, name: str) 
         if one.bidder == bidder and one.name.lower() == name.lower() and one.token:
             raise PersonsFault(f"{one.name} of {bidder} has a token: revoke it first")
     others = [one for one in persons if (one.bidder, one.name.lower()) != (bidder, name.lower())]
-    return [*others, Person(bidder, name, secrets.token_hex(TOKEN_BYTES))]
+    prefix = mock.PREFIX if mock.is_mock_token(setup["operator"]) else ""
+    return [*others, Person(bidder, name, prefix + secrets.token_hex(TOKEN_BYTES))]
 
 
 def revoked(persons: list[Person], bidder: str, name: str) -> list[Person]:
@@ -93,5 +95,6 @@ def write_letter(folder: Path, person: Person) -> Path:
     """Writes a letter for a new person. Returns its path."""
     disk.make_folder(folder / LETTERS, 0o700)
     path = folder / LETTERS / f"{person.bidder}.{person.name}.txt"
-    disk.store(path, LETTER.format(**person._asdict()))
+    kind = f"{mock.WORDS}\n\n" if mock.is_mock_token(person.token) else ""
+    disk.store(path, kind + LETTER.format(**person._asdict()))
     return path

@@ -78,6 +78,14 @@ def test_a_new_person_gets_a_token_of_its_own() -> None:
     assert all(re.fullmatch("[0-9a-f]{32}", person.token) for person in two)
 
 
+def test_a_person_of_a_mock_auction_gets_a_token_of_its_kind(tmp_path: pathlib.Path) -> None:
+    """The pages of a mock auction send no other token."""
+    setup = {**SETUP, "operator": "MOCKOPERATOR0123"}
+    [person] = persons.added(setup, [], "X", "alice")
+    assert re.fullmatch("MOCK[0-9a-f]{32}", person.token)
+    assert persons.write_letter(tmp_path, person).read_text().startswith("Mock auction: nothing")
+
+
 REFUSED = {
     "an-unknown-bidder": ("Q", "alice"),
     "a-name-of-a-bidder": ("X", "Y"),

@@ -170,7 +170,9 @@ def seconds_of(page: dict[str, Any]) -> int:
 @NGINX
 def test_a_refused_sheet_gets_its_time_signed(late: Late) -> None:
     count, before = late.number(X), int(time.time())
-    assert late.put(X).refuses(409, "window")
+    reply = late.put(X)
+    assert reply.refuses(409, "window")
+    assert "x-taken" not in reply.head and "x-door" not in reply.head
     after, page = time.time(), late.await_next(X, count)
     assert before <= seconds_of(page) <= after
     assert validator("public.schema.json", "/$defs/refusal").is_valid(page)
