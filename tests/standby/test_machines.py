@@ -23,7 +23,7 @@ pytestmark = [
     pytest.mark.root,
     pytest.mark.slow,
 ]
-SETTINGS = {"drain": 0, "publish": 10, "between": 0, "notice": 0, "missed": 100}
+SETTINGS = {"drain": 0, "publish": 12, "between": 0, "notice": 0, "missed": 100}
 PLACES = ["window", "curtain", "pause", "alive"]
 
 
