@@ -1,4 +1,4 @@
-"""An auction that `auction init` made, held with the conductor: people in browsers, and a program.
+"""An auction that `auction init` made, conducted to its end: people in browsers, and a program.
 
 One product of four blocks is sold to five bidders. Each wants one block. Four bid in browsers, at
 any price. The program follows the limit of 105. So it leaves in round 2, and the auction ends.

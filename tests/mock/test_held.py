@@ -1,5 +1,5 @@
-"""A mock auction with four bidders in browsers and one by program is held, put away, and then the
-real one is held on the same machine.
+"""Four people in browsers and a program play a mock auction. It is put away, and then they play
+the real one on the same machine.
 """
 import json
 import pathlib
