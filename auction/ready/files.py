@@ -15,8 +15,10 @@ STALE = 15  # seconds after which a running conductor has written its report aga
 SECRETS = (
     *("operator.token", "operator.head", "operator.map", "bidders.map", "persons.map", "by.map"),
     *("persons.csv", "key.pem", "second.token", "desk.map"),
-    *("kept/chain.json", "kept/receipts.pem", "log/refused.log"),
+    *("kept/chain.json", "kept/receipts.pem"),
 )
+# nginx gives its logs to its workers' user when it opens them again.
+LOGS = ("log/access.log", "log/refused.log")
 OF_PERSONS = "run `auction persons FOLDER`, and reload nginx"
 ANEW = "it is not of this set-up: make it again with `auction maps`, and reload nginx"
 
@@ -45,7 +47,8 @@ def secrets(auction: Auction) -> str:
     found = [path for name in SECRETS if (path := auction.folder / name).exists()]
     for path in (auction.setup_file, *found):
         ensure(path.stat().st_uid == 0, f"{path} is not root's: chown root")
-    files = (auction.setup_file, *found, auction.folder / "log/access.log", auction.journal)
+    logs = [auction.folder / name for name in LOGS]
+    files = (auction.setup_file, *found, *logs, auction.journal)
     for path in files:
         mode = stat.S_IMODE(path.stat().st_mode)
         ensure(mode & 0o077 == 0, f"{path} has mode {mode:o}: chmod 600")

@@ -50,7 +50,8 @@ class ReadyAuction:
         """Adds what a site does not have."""
         log = self.folder / "log"
         subprocess.run([*MOUNT, log], check=True)
-        (log / "access.log").touch(0o600)
+        for name in ("access.log", "refused.log"):
+            (log / name).touch(0o600)
         self.site.nginx.send_signal(signal.SIGUSR1)
         self.site.write_private("operator.token", f"{self.setup['operator']}\n")
         if not (self.folder / "openapi.json").exists():
