@@ -168,7 +168,8 @@ def troubles(world: World) -> Iterator[World]:
         yield world._replace(other=world.pending(), budget=budget)
     if world.budget.strangers and world.running and not world.ended:
         budget = world.budget._replace(strangers=world.budget.strangers - 1)
-        yield world._replace(sheets=world.sheets ^ {"Z"}, budget=budget, is_strange=True)
+        sheets = world.sheets ^ {"Z"}
+        yield world._replace(sheets=sheets, budget=budget, is_strange=True, true_empty=False)
     if world.budget.clock:
         budget = world.budget._replace(clock=0)
         for step in (-TEN, TEN):

@@ -83,7 +83,8 @@ def is_cut(world: World) -> World | None:
     """The world in which a command may be killed between two steps, or None."""
     if not world.budget.cuts:
         return None
-    return world._replace(budget=world.budget._replace(cuts=world.budget.cuts - 1))
+    budget = world.budget._replace(words=world.budget.words - 1, cuts=world.budget.cuts - 1)
+    return world._replace(budget=budget)
 
 
 def paused(world: World) -> Iterator[World]:

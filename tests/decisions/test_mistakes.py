@@ -14,7 +14,7 @@ pytestmark = pytest.mark.early
 FOLDER, STARTED = "another auction's folder", "a conductor that starts after the window"
 COMMAND, PAGE = "a command", "a page, the conductor late once"
 STEP = "a step of the clock, late once"
-HAND, KILLED, PAST = "a closing by hand", "a killed command", "a sheet past the doors, a word"
+HAND, KILLED, PAST = "a closing by hand", "a killed command", "a sheet past the doors"
 SECOND, REBOOT = "a second conductor, a page", "a reboot and a step of the clock"
 
 
