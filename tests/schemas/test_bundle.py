@@ -31,6 +31,7 @@ LIMITS = {
     "bidder": (2, 1, 60, 8),
     "large_sheets": (6, 60, 20, None),
     "public": (100, 1, 200, 16),
+    "small_files": (400, 1, 6_000, 1_000),
 }
 
 

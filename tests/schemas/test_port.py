@@ -6,9 +6,10 @@ from collections.abc import Iterator
 import pytest
 
 from tests.lib.site import Site
-from tests.lib.tls import Client
+from tests.lib.tls import ADDRESSES, Client
+from tests.nginx.requests import head
 from tests.schemas.described import Entry
-from tests.schemas.port import BODY, BY_NGINX, SETUP, TOKENS, Description, Port
+from tests.schemas.port import BODY, BY_NGINX, SETUP, TOKENS, Description, Operation, Port
 from tests.schemas.port import built, page_of, site_of, target_of
 
 pytestmark = pytest.mark.needs("nginx", "openssl")
@@ -128,11 +129,29 @@ def repeat(port: Port) -> None:
         client, token = Client(port.site.outside), next(port.tokens) if is_secured else None
         body = BODY if operation == PUT else b""
         limit = port.description.operations[operation]["x-limits"][0]
+        if limit == "small_files":
+            flood(port, operation)
+            continue
         for _ in range(3 * port.description.document["x-limits"][limit]["more_at_once"]):
             status = port.ask(operation, token=token, body=body, client=client)
             port.repeated[operation] = status
             if status == 429:
                 break
+
+
+def flood(port: Port, operation: Operation) -> None:
+    """Sends an operation's request many times at once from one address, until one is refused."""
+    address, text = next(ADDRESSES), head(*operation)
+    for _ in range(40):
+        client = Client(port.site.outside, address)
+        client.send(text * 900)
+        for _ in range(900):
+            reply = client.reply(operation[0])
+            port.repeated[operation] = reply.status
+            if reply.status == 429:
+                port.note(operation, reply)
+                return
+        client.close()
 
 
 def test_pages_of_the_server_are_withheld_behind_the_curtain(port: Port) -> None:
