@@ -148,9 +148,9 @@ def program(request: pytest.FixtureRequest) -> pathlib.Path:
     return path
 
 
-@pytest.fixture(scope="session")
+@pytest.fixture(scope="session", autouse=True)
 def openapi() -> pathlib.Path:
-    """The description of nginx's port, as it is built."""
+    """The description of nginx's port, as it is built: `auction init` installs it."""
     path = TOP / "schemas" / "openapi.json"
     subprocess.run([TOP / "tools/bundle", path], check=True, timeout=60)
     return path

@@ -12,7 +12,9 @@ SETUP = EXAMPLES / "two_products.json"
 
 
 @pytest.mark.parametrize("is_mock", [False, True], ids=["real", "mock"])
-def test_a_second_person_has_a_token_of_its_own(open_folder: pathlib.Path, is_mock: bool) -> None:
+def test_a_second_person_has_a_token_of_its_own(
+    openapi: pathlib.Path, open_folder: pathlib.Path, is_mock: bool
+) -> None:
     """In a mock auction it begins with MOCK, as all tokens do, and in a real one it does not."""
     made = open_folder / "auction"
     more = ["--mock"] if is_mock else []

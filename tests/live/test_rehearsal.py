@@ -77,9 +77,16 @@ def test_each_sincere_script_has_a_bidder(played: Rehearsal) -> None:
 
 
 @EACH_BIDDER
-def test_a_bidder_ends_without_an_error(played: Rehearsal, name: str) -> None:
-    status, _output, errors = played.ended[name]
+def test_a_bidder_ends_without_an_error(at_the_server: Rehearsal, name: str) -> None:
+    status, _output, errors = at_the_server.ended[name]
     assert (status, errors) == (0, "")
+
+
+@NEEDS_NGINX
+@EACH_BIDDER
+def test_a_bidder_says_once_that_it_waits_for_a_window(behind_nginx: Rehearsal, name: str) -> None:
+    status, _output, errors = behind_nginx.ended[name]
+    assert (status, errors) == (0, "Waiting to send the sheet: the round is not open.\n")
 
 
 @EACH_BIDDER
@@ -115,5 +122,5 @@ def test_a_bidder_stores_each_sheet_that_it_sent(behind_nginx: Rehearsal, name: 
 @EACH_BIDDER
 def test_a_bidder_stores_each_published_receipt(behind_nginx: Rehearsal, name: str) -> None:
     receipts = read_kept(behind_nginx.bidders[name].receipts).receipts
-    published = list((behind_nginx.folder / "receipts" / name).iterdir())
+    published = list((behind_nginx.folder / "receipts" / name).glob("[0-9]*.json"))
     assert len(receipts) == len(published) > 0
