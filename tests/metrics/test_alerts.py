@@ -21,7 +21,6 @@ GAUGE = r'(\w+(?:\{\w+="\w+"\})?)'
 EXPRESSION = re.compile(rf"(?:{COUNTER}|{GAUGE}) (==|>|<) (\d+(?:\.\d+)?)")
 # Rows that only a person notices: no program on the machine does.
 BY_PEOPLE = {
-    "they see rounds of the last auction",
     "*The receipt is wrong*, or `not the committed one`",
     "a token is known to someone else",
 }
