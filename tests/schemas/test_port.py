@@ -1,5 +1,6 @@
 """The description of the bidders' port behind nginx has each status and code that comes there."""
 import pathlib
+import re
 import time
 from collections.abc import Iterator
 
@@ -129,7 +130,7 @@ def repeat(port: Port) -> None:
         client, token = Client(port.site.outside), next(port.tokens) if is_secured else None
         body = BODY if operation == PUT else b""
         limit = port.description.operations[operation]["x-limits"][0]
-        if limit == "small_files":
+        if limit in ("small_files", "public"):
             flood(port, operation)
             continue
         for _ in range(3 * port.description.document["x-limits"][limit]["more_at_once"]):
@@ -140,8 +141,13 @@ def repeat(port: Port) -> None:
 
 
 def flood(port: Port, operation: Operation) -> None:
-    """Sends an operation's request many times at once from one address, until one is refused."""
-    address, text = next(ADDRESSES), head(*operation)
+    """Sends an operation's request many times at once from one address, until one is refused.
+
+    It asks for what has changed, so that replies are small, and a busy machine is fast enough.
+    """
+    address = next(ADDRESSES)
+    tag = re.search(r"\netag: (\S+)", Client(port.site.outside, address).ask(*operation).head)
+    text = head(*operation, None, *([f"if-none-match: {tag[1]}"] if tag else []))
     for _ in range(40):
         client = Client(port.site.outside, address)
         client.send(text * 900)
