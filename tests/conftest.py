@@ -148,7 +148,7 @@ def program(request: pytest.FixtureRequest) -> pathlib.Path:
     return path
 
 
-@pytest.fixture(scope="session", autouse=True)
+@pytest.fixture(scope="session")
 def openapi() -> pathlib.Path:
     """The description of nginx's port, as it is built: `auction init` installs it."""
     path = TOP / "schemas" / "openapi.json"
