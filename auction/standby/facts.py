@@ -2,6 +2,7 @@
 import dataclasses
 import hashlib
 import json
+import re
 from collections import Counter
 from collections.abc import Iterator
 from pathlib import Path
@@ -20,6 +21,7 @@ from . import mark
 from .judge import Copy, End
 from .listing import digests_in
 
+OF_A_SHEET = re.compile(r"([0-9]+)-([0-9]+)\.json")
 MANIFEST, FILES = "standby.json", "standby.files"
 FAULTS = (
     *(JournalFault, SettingsFault, OSError, ValueError),
@@ -154,6 +156,7 @@ def sheets_without_record(folder: Path, journal: Counted) -> int:
     """How many receipts are of sheets that the journal does not have."""
     lacking = 0
     for path in (folder / "receipts").glob("*/*.json"):
-        number, sheet = map(int, path.stem.split("-"))
-        lacking += sheet > journal.counts[path.parent.name, number]
+        if found := OF_A_SHEET.fullmatch(path.name):  # others are of sheets that were refused
+            number, sheet = int(found[1]), int(found[2])
+            lacking += sheet > journal.counts[path.parent.name, number]
     return lacking

@@ -96,8 +96,9 @@ class Machine:
         wait_for("the server is ready", lambda: "ready 8105" in self.said("server"), SECONDS)
         nginx = ["nginx", "-p", FOLDER, "-c", "nginx.conf", "-g", "daemon off;"]
         self.start("nginx", "env", f"PATH={PATHS}", *nginx)
-        self.start("receipts", sys.executable, AUCTION, "receipts", *files, f"{FOLDER}/kept",
-                   f"{FOLDER}/receipts")  # fmt: skip
+        signer = [sys.executable, AUCTION, "receipts", *files, f"{FOLDER}/kept"]
+        refused = ["--refused", f"{FOLDER}/log/refused.log"]
+        self.start("receipts", *signer, f"{FOLDER}/receipts", *refused)
         self.start("conductor", sys.executable, AUCTION, "run", FOLDER)
         wait_for("the conductor reports", lambda: self.report()["round"], SECONDS)
 

@@ -217,6 +217,14 @@ def test_a_sound_copy_takes_over_once(second: pathlib.Path) -> None:
         take_over(second, OFF)
 
 
+def test_a_receipt_of_a_refused_sheet_is_none_of_the_journals(
+    first: First, tmp_path: pathlib.Path
+) -> None:
+    (first.folder / "receipts/X/refused.json").write_text("{}")
+    copy(first.folder, tmp_path / "c")
+    take_over(tmp_path / "c", OFF)
+
+
 def test_a_take_over_changes_no_file_of_the_auction(first: First, second: pathlib.Path) -> None:
     take_over(second, OFF)
     assert files_of(second) == first.files()
