@@ -211,7 +211,7 @@ def test_two_windows_of_a_browser_see_each_others_bids(auction: Auction, x: Wind
 
 # ---- Unknown tokens
 
-UNKNOWN_TOKEN, ANOTHER_PAGE = "No token, or an unknown token", "This token may not open this page"
+UNKNOWN_TOKEN = "No token, or an unknown token"
 
 
 @pytest.fixture(scope="module")
@@ -226,7 +226,7 @@ def shared(begin_once: Begin) -> Auction:
         ("", X + "\u2026", UNKNOWN_TOKEN),
         ("", OPERATOR, UNKNOWN_TOKEN),
         (OPERATORS, "W" * 16, UNKNOWN_TOKEN),
-        (OPERATORS, X, ANOTHER_PAGE),
+        (OPERATORS, X, UNKNOWN_TOKEN),
     ],
     ids=["unknown", "no ASCII", "operator's", "unknown at the operator's page", "bidder's there"],
 )
