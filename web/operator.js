@@ -225,6 +225,7 @@ async function watchDesk() {
 /** Asks about an act, and has it done. */
 async function perform(act, given = null) {
   if (state.busy || at("question").open) return;
+  if (act === "next" && !isShown()) return;
   try {
     const answered = desk.act(act, state, given);
     const answer = await answered;
@@ -241,6 +242,14 @@ async function perform(act, given = null) {
   }
   await lookAtDesk().catch(() => {});
   look();
+}
+
+/** Whether the desk shows the server's round. If not, says why no round is closed. */
+function isShown() {
+  const { round } = state.status;
+  if (state.desk.round === round) return true;
+  message(`⚠ Not closed: the results of round ${round - 1} are not published yet. Try again.`);
+  return false;
 }
 
 /** The closing as the page has it, or null if an increment cannot be read. */
@@ -279,6 +288,7 @@ async function close() {
   if (!percents || at("question").open) return;
   if (round === underWay) return message(`Round ${underWay} is already being closed.`);
   if (!state.desk) return closeByPage(round, percents);
+  if (!isShown()) return;
   const before = state;
   if (!await isWanted(percents, true)) return;
   const all = page.version === 1 ? percents.slice(0, 1) : percents;

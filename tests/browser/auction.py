@@ -1,6 +1,7 @@
 """An auction behind nginx: bidders come over TLS, the operator on the machine itself."""
 import json
 import os
+import secrets
 import ssl
 import tempfile
 import time
@@ -12,7 +13,7 @@ from typing import Any
 
 from tests.lib.paths import EXAMPLES
 from tests.lib.setups import OPERATOR
-from tests.lib.site import Site
+from tests.lib.site import SECOND, Site
 from tests.lib.waiting import wait_for
 
 X, Y, Z = "X" * 16, "Y" * 16, "Z" * 16
@@ -83,6 +84,22 @@ class Auction(Site):
         asked = urllib.request.Request(url, data, {"authorization": f"Bearer {OPERATOR}"})
         with urllib.request.urlopen(asked, timeout=60) as reply:
             return json.loads(reply.read())
+
+    def confirm(self, number: int) -> None:
+        """Confirms the closing that waits at the desk, as the second person."""
+        page = self.desk("state")
+        word = {"act": "confirm", "key": secrets.token_hex(16), "of": page["waiting"]["key"]}
+        shown = {"round": page["round"], "stamp": page["stamp"], "typed": str(number)}
+        assert self.desk("act", {**word, **shown, "given": {}})["state"] == "done"
+
+    def desk(self, path: str, body: object = None) -> dict[str, Any]:
+        """What the desk answers to the second person."""
+        data = None if body is None else json.dumps(body).encode()
+        url = f"http://127.0.0.1:{self.inside}/desk/{path}"
+        asked = urllib.request.Request(url, data, {"authorization": f"Bearer {SECOND}"})
+        with urllib.request.urlopen(asked, timeout=60) as reply:
+            found: dict[str, Any] = json.loads(reply.read())
+        return found
 
     def close(self, number: int) -> None:
         """Closes the round as somebody else than the page."""

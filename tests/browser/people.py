@@ -13,10 +13,21 @@ def enter(auction: Auction, window: Window, token: str = X) -> None:
     window.until("the form for the token is gone", lambda: not window.is_seen("door"))
 
 
+def ask_about(operator: Window) -> None:
+    """Asks to close the round, again while the desk says that the last one is not published."""
+
+    def is_asked() -> bool:
+        if not operator.is_seen("question") and "not published yet" in operator.text("say"):
+            operator.click("ask")
+        return operator.is_seen("question")
+
+    operator.click("ask")
+    operator.until("a closing is asked about first", is_asked)
+
+
 def close_round(operator: Window) -> None:
     """Closes the round by the operator's page, and says yes to the question."""
-    operator.click("ask")
-    operator.until("a closing is asked about first", lambda: operator.is_seen("question"))
+    ask_about(operator)
     confirm(operator)
 
 

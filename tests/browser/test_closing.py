@@ -205,12 +205,19 @@ def test_activity_above_eligibility_is_allowed_up_to_the_limit(limited: Auction,
 # ---- Closings with numbers from a seed
 
 
+def close_by_desk(auction: Auction, operator: Window, number: int) -> None:
+    """Closes a round at the desk: the second person confirms it."""
+    close_round(operator)
+    operator.says("say", "It waits for a second person")
+    auction.confirm(number)
+
+
 @pytest.mark.parametrize(
     "publish",
     [0, pytest.param(30, marks=pytest.mark.slow)],
     ids=["results at once", "results after 30 seconds"],
 )
-def test_the_conductor_closes_what_the_page_asks_for(
+def test_the_conductor_closes_what_two_people_at_the_desk_ask_for(
     begin: Begin, operator: Window, publish: int
 ) -> None:
     """Three rounds: the first by the page itself, the others by the conductor."""
@@ -226,19 +233,21 @@ def test_the_conductor_closes_what_the_page_asks_for(
     operator.says("say", "⚠ Not closed: round 2 needs tie-breaking numbers from its seed.")
     assert not operator.is_seen("question")
     auction.begin_conductor(publish)
+    auction.begin_desk()
     enter(auction, operator, OPERATOR)
     operator.says("waits", "Conductor: Round 2 has no window.")
     operator.says("missing", "All bidders with eligibility have submitted bids.")
-    close_round(operator)
+    close_by_desk(auction, operator, 2)
     operator.says("say", "Round 2 is closed. The current round is 3.")
     operator.says("waits", "Conductor: Round 3 has no window.")
     operator.says("missing", "No bids from: X, Y.")
     operator.noted()
-    close_round(operator)
+    close_by_desk(auction, operator, 3)
     assert "NO bidder has submitted bids" in operator.text("asked")
     operator.says("say", "Round 3 is closed. The auction has ended.")
     sent = json.loads(operator.run("return window.sent[0]"))
-    assert sent == {"increment": 10, "round": 3, "without_sheets": True}
+    assert (sent["act"], sent["round"], sent["typed"]) == ("close", 3, "3")
+    assert sent["given"] == {"increments": [10], "without_sheets": True}
     last = auction.folder / "public/rounds/3.json"
     operator.until("round 3 is published", last.exists)
     chain = Commitment.read(auction.folder / "public/commitment.json").chain

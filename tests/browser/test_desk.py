@@ -13,7 +13,7 @@ import pytest
 
 from tests.browser.auction import OPERATORS, Auction, X, Y, bid, example
 from tests.browser.conftest import Begin
-from tests.browser.people import confirm, enter
+from tests.browser.people import ask_about, confirm, enter
 from tests.browser.published import Published, utc
 from tests.browser.window import Window
 from tests.lib.setups import OPERATOR
@@ -222,8 +222,7 @@ def test_a_round_is_closed_early_by_two_and_winners_are_published(
 def close_by_two(auction: Auction, operator: Window, y: Window, number: int) -> None:
     """The manager asks for a closing, and the second person confirms it."""
     operator.until("it is known", lambda: "…" in operator.text("ask"))
-    operator.click("ask")
-    operator.until("it is asked about", lambda: operator.is_seen("question"))
+    ask_about(operator)
     assert not operator.at("yes").is_enabled(), "the round's number is not typed yet"
     confirm(operator)
     operator.says("say", "It waits for a second person")
