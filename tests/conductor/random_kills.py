@@ -14,7 +14,7 @@ from tests.lib.conducted import ConductedAuction, Times, conducted
 
 ROUNDS = 12
 WINDOWS: Times = [(30 + 70 * number, 60 + 70 * number) for number in range(ROUNDS)]
-MOST_MILLISECONDS = 50.0  # of a processor's time that a conductor lives
+MOST_MILLISECONDS = 200.0  # of a processor's time that a conductor lives; a look takes up to 60
 
 
 class SharedClock:
