@@ -1,7 +1,6 @@
 """What must be so once an auction under the conductor has ended."""
 import json
 import pathlib
-from collections import Counter
 from typing import Any
 
 from auction.formats.notices import read_notices
@@ -57,9 +56,13 @@ def check_notices(auction: ConductedAuction, digests: list[str]) -> None:
     said = [(entry.kind, entry.says) for entry in entries]
     once = [one for one in said if one[0] not in ("timetable", "increments", "act", "frozen")]
     assert all(once.count(one) == 1 for one in once), once
-    windows = Counter(says["round"] for kind, says in said if kind == "opened")
-    frozen = Counter(says["round"] for kind, says in said if kind == "frozen")
-    assert frozen <= windows, "each window's sheets are frozen at most once"
+    frozen = set[int]()
+    for kind, says in said:
+        if kind == "opened":
+            frozen.discard(says["round"])
+        elif kind == "frozen":
+            assert says["round"] not in frozen, "a window's sheets are frozen twice"
+            frozen.add(says["round"])
     assert [says["digest"] for kind, says in said if kind == "closed"] == digests
     rounds = [says["round"] for kind, says in said if kind == "published"]
     assert rounds == list(range(1, len(digests) + 1))
