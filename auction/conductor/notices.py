@@ -2,11 +2,22 @@
 stored, so each is written once, also after a kill between any two steps.
 """
 import dataclasses
+import json
 from collections.abc import Iterator
 from pathlib import Path
 from typing import Any
 
-from auction.formats.notices import NAME, Entry, appended, entry_in, lines_of, read_notices
+from auction.formats.notices import (
+    NAME,
+    Entry,
+    NoticesFault,
+    appended,
+    checked_entry,
+    digest_of,
+    entry_in,
+    key_of,
+    lines_of,
+)
 
 from . import disk, stored
 from .clock import utc
@@ -32,7 +43,10 @@ class Notices:
         """All entries. A NoticesFault names the line at which they are no chain."""
         text = self.path.read_bytes() if self.path.exists() else b""
         if text != self.text:
-            self.made = read_notices(self.path, self.commitment.read_bytes()) if text else []
+            try:
+                self.made = chained(text, self.commitment.read_bytes())
+            except NoticesFault as fault:
+                raise NoticesFault(f"{self.path}: {fault}") from fault
             self.text = text
         return self.made
 
@@ -56,6 +70,28 @@ class Notices:
             if entry.says.get("round") == number and entry.kind in ("opened", "frozen"):
                 digest = entry.says.get("digest")
         return digest
+
+
+def chained(text: bytes, commitment: bytes) -> list[Entry]:
+    """The entries of the file, each of which has the digest of the one before.
+
+    So the last signature holds for all, and a start takes a short time after many notices.
+    """
+    lines, before = lines_of(text), digest_of(commitment)
+    entries = list[Entry]()
+    for number, line in enumerate(lines, 1):
+        try:
+            value: dict[str, Any] = {**json.loads(line), "signature": b""}
+            entry = Entry(**value)
+        except (ValueError, TypeError, RecursionError) as fault:
+            raise NoticesFault(f"line {number}: it is no notice: {fault}") from fault
+        if (entry.before, entry.number) != (before, number):
+            raise NoticesFault(f"line {number}: it does not follow from the line before")
+        entries.append(entry)
+        before = digest_of(line)
+    if entries:
+        checked_entry(lines[-1], len(lines), entries[-1].before, key_of(commitment))
+    return entries
 
 
 @dataclasses.dataclass(frozen=True)
@@ -93,12 +129,16 @@ def closed_round(public: PublicFiles, kept: Path, number: int) -> Says:
 def due(facts: Facts, made: list[Entry]) -> list[Due]:
     """The notices that are due, in order."""
     said = [(entry.kind, entry.says) for entry in made]
-    latest = {kind: says for kind, says in said}
+    latest, known = dict(said), {text_of(one) for one in said}
     return [
         *(one for one in changed(facts.plan) if latest.get(one[0]) != one[1]),
-        *(one for one in happened(facts) if one not in said),
+        *(one for one in happened(facts) if text_of(one) not in known),
         *missing_acts(facts.plan.acts, said),
     ]
+
+
+def text_of(one: Due) -> str:
+    return json.dumps(one, sort_keys=True)
 
 
 def changed(plan: Plan) -> Iterator[Due]:
