@@ -7,6 +7,7 @@ from collections.abc import Iterable, Sequence
 BUILT = re.compile(r"rt: clock_auction (proved|is kept)")
 ENDING = re.compile(r"(\d+) passed, (\d+) failed")
 BAD_EDIT = "BAD EDIT"
+ENDED = (0, 1)  # pytest's statuses of a run that came to its end
 MOST_AGAIN = 12  # of some 6,000 tests
 
 
@@ -59,7 +60,8 @@ def counts_of_trials(summary: str | None, status: int) -> Counts:
     """What the summary of a run of pytest says. Without a summary, the run was killed, which is one
     failure.
 
-    A run of which no test passed, failed, or was skipped ran nothing, which is a failure, too.
+    A run of which no test passed, failed, or was skipped ran nothing, which is a failure, too. A
+    run that was interrupted has one more failure than its tests, which no second run takes away.
     """
     if summary is None:
         return Counts(failed=1)
@@ -67,6 +69,8 @@ def counts_of_trials(summary: str | None, status: int) -> Counts:
     counts = Counts(value["passed"], value["failed"], value["skipped"], tuple(value["needed"]))
     if counts == Counts():
         return Counts(failed=1)
+    if status not in ENDED:
+        return dataclasses.replace(counts, failed=counts.failed + 1)
     return at_least_one_failure(counts, status)
 
 

@@ -47,6 +47,7 @@ def test_proofs_count_as_rt_ci_counts_them(lines: list[str], status: int, wanted
             {"passed": 5, "skipped": 2, "needed": ["chromium"]}, 1, SKIPPED, id="skipped-tests"
         ),
         pytest.param({"passed": 5}, 3, Counts(5, 1), id="another-status-than-its-counts"),
+        pytest.param({"passed": 4, "failed": 1}, 3, Counts(4, 2), id="interrupted-after-a-failure"),
         pytest.param({}, 5, Counts(0, 1), id="no-tests"),
         pytest.param(None, -9, Counts(0, 1), id="killed"),
     ],
