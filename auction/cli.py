@@ -88,7 +88,10 @@ def parser() -> argparse.ArgumentParser:
 
 def main(words: list[str] | None = None) -> int:
     """Runs one command. Returns its exit status."""
-    given = parser().parse_args(words)
+    try:
+        given = parser().parse_args(words)
+    except BrokenPipeError:
+        return 1
     try:
         status: int = given.run(given)
     except BrokenPipeError:

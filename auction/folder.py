@@ -39,7 +39,6 @@ FOLDERS = (
     ("state", 0o700, False),
     ("inner", 0o710, True),
     ("operator", 0o2750, True),
-    ("asked", 0o2770, True),
     ("receipts", 0o2750, True),
 )
 LOGS = ("access.log", "refused.log")  # in the folder log, for root only
@@ -174,10 +173,18 @@ def write_files(folder: pathlib.Path, plan: Plan) -> None:
     }
     for name, text in files.items():
         write_private(folder / name, text.encode())
+    link_journal(folder, folder / plan.journal)
     if plan.names is not None:
         (folder / "public" / "names.json").write_text(plan.names, encoding="utf-8")
     places = commitment.Places(folder / "kept", folder / "public")
     commitment.make(places, Setup.read(folder / "setup.json"), plan.has_ties)
+
+
+def link_journal(folder: pathlib.Path, journal: pathlib.Path) -> None:
+    """Makes a link to a journal elsewhere, so that commands can name it in the folder."""
+    link = folder / "auction.journal"
+    if journal != link and not link.is_symlink():
+        link.symlink_to(journal)
 
 
 def write_private(path: pathlib.Path, content: bytes) -> None:

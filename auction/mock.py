@@ -44,6 +44,16 @@ def kind_of_value(setup: dict[str, Any]) -> Kind:
     return kind_of([setup["operator"], *(bidder["token"] for bidder in setup["bidders"])])
 
 
+def kind_in(is_marked: bool) -> Kind:
+    """The kind of the auction of what is marked as a mock's, or is not."""
+    return Kind.MOCK if is_marked else Kind.REAL
+
+
+def mark_of(is_mock: bool) -> dict[str, bool]:
+    """What a published JSON object has besides, if it is of a mock auction."""
+    return {"mock": True} if is_mock else {}
+
+
 def disagreement(setup: Kind, committed: bool) -> str | None:
     """Why a set-up of this kind is not of a folder whose commitment says whether it is a mock's.
 
@@ -53,7 +63,7 @@ def disagreement(setup: Kind, committed: bool) -> str | None:
         return (
             f"the set-up has tokens of {setup.value}: those of a mock auction begin with {PREFIX}"
         )
-    folder = Kind.MOCK if committed else Kind.REAL
+    folder = kind_in(committed)
     if setup is folder:
         return None
     return (

@@ -9,7 +9,7 @@ import re
 import shutil
 
 LETTERS = 12  # of a version: nginx.conf has the same number
-REFERENCE = re.compile(r'\b(href|src)="([a-z_]+\.(?:js|css))"')
+REFERENCE = re.compile(r'\b(href|src)="([a-z_]+\.(?:js|css|svg))"')
 
 
 def version_of(source: pathlib.Path) -> str:
@@ -21,8 +21,8 @@ def version_of(source: pathlib.Path) -> str:
 
 
 def parts_of(source: pathlib.Path) -> list[pathlib.Path]:
-    """The scripts and styles in `source`."""
-    return sorted(file for file in source.iterdir() if file.suffix in (".js", ".css"))
+    """The scripts, styles, and the icon in `source`."""
+    return sorted(file for file in source.iterdir() if file.suffix in (".js", ".css", ".svg"))
 
 
 def copy_pages(source: pathlib.Path, target: pathlib.Path) -> None:

@@ -10,9 +10,11 @@ from typing import Protocol
 
 from auction.conductor import disk
 from auction.formats.journal import Entry, Journal, JournalFault
-from auction.formats.receipts import Receipt, Refusal, time_of
+from auction.formats.receipts import Receipt, Refusal
+from auction.formats.sent import time_of
 from auction.formats.setup import Setup
 from auction.formats.signatures import secret_key
+from auction.mock import Kind
 
 # nginx's workers read them as the folder's group, and no other user does.
 FILE, FOLDER = 0o640, 0o750
@@ -130,15 +132,22 @@ class Refusals:
         return [one for name, one in self.last.items() if one != before.get(name)]
 
     def take(self, line: bytes) -> None:
-        """Counts a line of the log. A full disk may have left a part of one, which counts not."""
+        """Counts a line of the log. A full disk may have left a part of one, which counts not.
+
+        A take-over writes a line with a number, of what another machine has signed.
+        """
         try:
             value = json.loads(line)
             bidder, by, time_ = value["bidder"], value["by"], time_of(value["second"])
+            signed = int(value.get("number", 0))
         except (ValueError, LookupError, TypeError):
             return
         if bidder in self.setup.bidders and time_:
-            number = self.last[bidder].number + 1 if bidder in self.last else 1
-            self.last[bidder] = Refusal(self.setup.digest, bidder, by, number, time_)
+            before = self.last[bidder].number if bidder in self.last else 0
+            number, is_mock = signed or before + 1, self.setup.kind is Kind.MOCK
+            if number > before:
+                whose = self.setup.digest, bidder, by
+                self.last[bidder] = Refusal(*whose, number, time_, is_mock)
 
 
 class Signer:

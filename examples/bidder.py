@@ -21,6 +21,8 @@ compares the file with the published journal. It checks signatures if openssl is
 published seed of each closed round. Without a commitment, as at the server's own port, it says once
 that there are no receipts.
 
+If no window is open, it waits for the signed refusal of its sheet, and adds it to FILE too.
+
 It reads the status every SECONDS, by default 1, and misses no round that is open longer than that.
 If no reply comes, or a page that is not the server's, it says so and repeats the request for an
 hour. After such a failure, and at every thirtieth status, it checks its sheet.
@@ -57,6 +59,12 @@ WAITS = {409: b'"window"', 503: b'"closing"'}
 PATIENCE = 3600
 LOOK = 30
 RECEIPT_SECONDS = 5
+SIGNED_RECEIPT = "receipt 2"
+SIGNED_REFUSAL = "refusal 1"
+SIGNED = {
+    SIGNED_RECEIPT: ("auction", "bidder", "by", "round", "sheet", "taken", "body", "text"),
+    SIGNED_REFUSAL: ("auction", "bidder", "by", "number", "time"),
+}
 
 # The parts of each page that the bidder reads: keys of an object, and a list's entries, one for
 # each product.
@@ -70,6 +78,14 @@ IN_FORCE = {"bids": (list, type(None))}
 ACCEPTED = {"accepted": bool}
 COMMITMENT = {"auction": str, "chain": (dict, type(None)), "key": str}
 SEED = {"seed": str}
+REFUSAL = {
+    "auction": str,
+    "bidder": str,
+    "by": str,
+    "number": int,
+    "signature": str,
+    "time": str,
+}
 RECEIPT = {
     "auction": str,
     "bidder": str,
@@ -212,6 +228,8 @@ class Auction:
             self.is_waiting, when = True, self.time_of("opens")
             words = f"the round opens at {when}" if when else "the round is not open"
             print(f"Waiting to send the sheet: {words}.", file=sys.stderr, flush=True)
+            if self.receipts:
+                self.receipts.await_refusal()
 
     def time_of(self, key):
         """A time of the current round's window, by the published timetable, or None."""
@@ -253,10 +271,13 @@ class Auction:
 
 
 class Receipts:
-    """The receipts of this bidder's sheets, in a file that `auction check-receipts` reads."""
+    """The receipts of this bidder's sheets, and the refusals of late ones, in a file that `auction
+    check-receipts` reads.
+    """
 
     def __init__(self, auction, path, name):
         self.auction, self.path, self.name, self.have = auction, path, name, set()
+        self.refused = 0  # the number of the last refusal
         self.texts, self.sent, self.taken = {}, Counter(), Counter()  # by digests of bodies
         self.commitment = auction.ask("/public/commitment.json", COMMITMENT, may_lack=True)
         if self.commitment is None:
@@ -269,12 +290,15 @@ class Receipts:
         else:
             self.add(self.commitment)
             self.add({"bidder": name})
+        self.take_refusal()  # of before, so that a new one is known by its number
 
     def read(self, lines):
-        """Takes what the file has: what was sent, and receipts."""
+        """Takes what the file has: what was sent, receipts, and refusals."""
         for line in lines:
             if line.keys() == {"sent"}:
                 self.count(line["sent"])
+            elif REFUSAL.keys() <= line.keys():
+                self.refused = line["number"]
             elif "signature" in line:
                 self.have.add((line["round"], line["sheet"]))
                 self.taken[line["body"]] += 1
@@ -306,8 +330,10 @@ class Receipts:
         while self.commitment:
             receipt = self.take(sheet["round"])
             if receipt and receipt["body"] == digest_of(text):
+                kind = ", of the mock auction" if is_marked(receipt) else ""
                 return print(
-                    f"receipt of sheet {receipt['sheet']} of round {receipt['round']}", flush=True
+                    f"receipt of sheet {receipt['sheet']} of round {receipt['round']}{kind}",
+                    flush=True,
                 )
             if receipt is None and time.monotonic() > end:
                 return print(
@@ -315,6 +341,36 @@ class Receipts:
                 )
             if receipt is None:
                 time.sleep(0.2)
+
+    def await_refusal(self):
+        """Waits for the signed refusal of a sheet that came when no window was open."""
+        end = time.monotonic() + RECEIPT_SECONDS
+        while self.commitment and not self.take_refusal():
+            if time.monotonic() > end:
+                return print(
+                    f"no signed refusal within {RECEIPT_SECONDS} s: call the operator",
+                    file=sys.stderr,
+                )
+            time.sleep(0.2)
+
+    def take_refusal(self):
+        """Stores the last refusal, and reports it. Returns whether it is a new one."""
+        page = self.commitment and self.auction.ask(
+            "/receipts/refused.json", REFUSAL, may_lack=True
+        )
+        if not page or page["number"] <= self.refused:
+            return False
+        self.refused = page["number"]
+        is_own = [page["auction"], page["bidder"]] == [self.commitment["auction"], self.name]
+        is_own = is_own and is_marked(page) == is_marked(self.commitment)
+        if is_own and is_signed(self.commitment["key"], page, SIGNED_REFUSAL):
+            self.add(parts_of(page, REFUSAL))
+            kind = "of the mock auction, " if is_marked(page) else ""
+            words = f"refusal {page['number']} is signed, {kind}of {page['time']}"
+        else:
+            words = f"this is not a refusal of a sheet of {self.name}: {page}"
+        print(words, file=sys.stderr, flush=True)
+        return True
 
     def check_seed(self, number):
         """Reports a published seed that is not the committed one, if it is published yet."""
@@ -345,6 +401,7 @@ class Receipts:
         self.have.add((number, place))
         named = [receipt[part] for part in ("auction", "bidder", "round", "sheet")]
         is_right = named == [self.commitment["auction"], self.name, number, place]
+        is_right = is_right and is_marked(receipt) == is_marked(self.commitment)
         if not is_right or not is_signed(self.commitment["key"], receipt):
             print(
                 f"this is not a receipt of sheet {place} of round {number}: {receipt}",
@@ -354,9 +411,9 @@ class Receipts:
         body = receipt["body"]
         self.taken[body] += 1
         if self.taken[body] <= self.sent[body]:
-            self.add({**receipt, "sent": self.texts[body]})
+            self.add({**parts_of(receipt, RECEIPT), "sent": self.texts[body]})
             return receipt
-        self.add(receipt)
+        self.add(parts_of(receipt, RECEIPT))
         by = f", by {receipt['by']}" if receipt["by"] else ""
         print(
             f"WARNING: sheet {place} of round {number} was accepted in your name{by}, and this "
@@ -378,14 +435,27 @@ def digest_of(text):
     return hashlib.sha256(text.encode()).hexdigest()
 
 
-def is_signed(key, receipt):
-    """Whether the committed key signed a receipt. Returns True if openssl is missing."""
-    fields = ("auction", "bidder", "by", "round", "sheet", "taken", "body", "text")
-    lines = ["clock_auction receipt 2", *(f"{name} {receipt[name]}" for name in fields)]
+def is_marked(page):
+    """Whether a page says that it is of a mock auction."""
+    return page.get("mock") is True
+
+
+def parts_of(page, shape):
+    """What a file has of a receipt, or a refusal. The operator could add what makes it none."""
+    return {name: page[name] for name in (*shape, *["mock"] * is_marked(page))}
+
+
+def is_signed(key, page, first=SIGNED_RECEIPT):
+    """Whether the committed key signed a receipt, or a refusal, by the first line of its message.
+
+    Returns True if openssl is missing.
+    """
+    kind = "clock_auction mock " if is_marked(page) else "clock_auction "
+    lines = [kind + first, *(f"{name} {page[name]}" for name in SIGNED[first])]
     files = {
         "key": f"-----BEGIN PUBLIC KEY-----\n{key}\n-----END PUBLIC KEY-----\n".encode(),
         "message": "".join(line + "\n" for line in lines).encode(),
-        "signature": bytes_in(receipt["signature"]),
+        "signature": bytes_in(page["signature"]),
     }
     words = "openssl pkeyutl -verify -rawin -pubin -inkey key -sigfile signature -in message"
     with tempfile.TemporaryDirectory() as folder:

@@ -134,7 +134,7 @@ def read_specs(crates: Path) -> dict[str, Module]:
 class WithKit(dict[str, Module]):
     """The modules of the crates, and those of the kit, each read when it is asked for.
 
-    A name of std's Prelude has no definition there: docs/reading.md lists these as its notation.
+    A name of std's Prelude has no definition there: docs/proof.md lists these as its notation.
     """
 
     def __init__(self, modules: dict[str, Module], kit: Path) -> None:

@@ -97,6 +97,7 @@ export class Asker {
   conductor() { return this.ask("/conductor.json"); }
   commitment() { return this.ask("/public/commitment.json"); }
   receipt(n, sheet) { return this.ask(`/receipts/${n}/${sheet}.json`); }
+  refusal() { return this.ask("/receipts/refused.json"); }
 }
 
 /**

@@ -28,7 +28,24 @@ export function drawBars(now) {
   at("send").className = CLASSES.find((kind) => send[kind]) ?? "first";
   at("send").setAttribute("aria-disabled", String(Boolean(send.off)));
   tell("force", now.inForce);
+  tell("who", now.who);
+  tell("bidstab", now.tab);
+  tell("news", now.news);
+  tell("strange", now.strange);
+  document.body.classList.toggle("ended", now.isOver);
+  at("receipts").hidden = !now.hasReceipts;
+  at("old").hidden = !now.hasOld;
+  drawLines(now.lines);
   drawSums(now.sums);
+}
+
+let drawnLines = []; // the wrong lines that are listed
+
+/** The wrong lines of a file. */
+function drawLines(lines) {
+  if (lines === drawnLines || (!lines.length && !drawnLines.length)) return;
+  drawnLines = lines;
+  at("lines").replaceChildren(...lines.map((line) => make("li", {}, line)));
 }
 
 /** The empty elements of a total: its name, its value and what that is of, a note, and a gauge. */

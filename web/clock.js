@@ -85,3 +85,10 @@ export function stateOf(table, now) {
     "shut", `Closed for bids. ${results ? `Results appear at ${results}.` : "The results follow."}`
   );
 }
+
+/**
+ * What is said while pages are withheld, from the end of a window until its results are shown to
+ * everyone.
+ */
+export const closingWords = (results) =>
+  `The round is closing; ${results ? `results appear at ${results}` : "its results follow"}.`;

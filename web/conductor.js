@@ -1,9 +1,8 @@
 // What the conductor reports to the operator: what it waits for, and which bidders have submitted
 // bids in the round.
 
-const EVERY = 2000;
-const SELDOM = 30_000; // milliseconds between two requests; the longer one if there is no conductor
-const STALE = 15;      // seconds without a report after which it may have stopped
+const EVERY = 2000; // milliseconds between two requests, also if no conductor is running
+const STALE = 15;   // seconds without a report after which it may have stopped
 const HELD =
   ["held", "paused", "unplanned", "gone", "mismatch"]; // the states in which it waits for a person
 
@@ -23,16 +22,16 @@ export class Conductor {
           this.#report = null; // else the last report stays, until it is stale
       }
       changed();
-      await new Promise((done) => setTimeout(done, this.#report ? EVERY : SELDOM));
+      await new Promise((done) => setTimeout(done, EVERY));
     }
   }
 
   /** Whether the last report is too old to rely on. */
-  #isStale() { return performance.now() - this.#since > STALE * 1000; }
+  isStale() { return performance.now() - this.#since > STALE * 1000; }
 
   /** Whether the conductor waits for a person. */
   needsYou() {
-    return this.#report !== null && (this.#isStale() || HELD.includes(this.#report.state));
+    return this.#report !== null && (this.isStale() || HELD.includes(this.#report.state));
   }
 
   /** What the conductor waits for. */
@@ -42,7 +41,7 @@ export class Conductor {
         "which first lists who has submitted bids.";
     }
     const since = new Date(this.#report.time).toLocaleTimeString("en-GB");
-    if (this.#isStale()) {
+    if (this.isStale()) {
       const why = "It may have stopped, or a long closing is under way.";
       return `⚠ The conductor has not reported since ${since}. ${why}`;
     }
@@ -53,7 +52,7 @@ export class Conductor {
    * A sentence for the question before a closing, if the conductor would close the round by itself.
    */
   early() {
-    const isActive = this.#report && !this.#isStale() && !HELD.includes(this.#report.state);
+    const isActive = this.#report && !this.isStale() && !HELD.includes(this.#report.state);
     return isActive ? ` The conductor would close it by itself: ${this.#report.waits_for}` : "";
   }
 
@@ -62,7 +61,7 @@ export class Conductor {
    * null if that is not known.
    */
   sheetsOf(round, names) {
-    if (!this.#report?.sheets || this.#report.round !== round || this.#isStale()) return null;
+    if (!this.#report?.sheets || this.#report.round !== round || this.isStale()) return null;
     const sheets = new Set(this.#report.sheets);
     return {
       submitted: names.filter((name) => sheets.has(name)),

@@ -33,12 +33,15 @@ export class Results {
       {
         id: "cost",
         head: "At posted prices",
+        end: "To pay",
         by: ({ cost }) => Number(cost),
         cell: ({ cost }) => [dollars(cost)]
       },
       {
         id: "demand",
         head: "Processed demand",
+        end: "Blocks won",
+        label: "Blocks",
         by: ({ blocks }) => blocks,
         cell: ({ demand }) => [demand]
       },
@@ -47,12 +50,18 @@ export class Results {
   );
   #past = new Listing("pastframe", [
     { id: "name", head: "Product", by: ({ name }) => name, cell: ({ name }) => [name] },
-    { id: "start", head: "Start-of-round price", cell: ({ start }) => [dollars(start)] },
+    {
+      id: "start",
+      head: "Start-of-round price",
+      label: "Start price",
+      cell: ({ start }) => [dollars(start)]
+    },
     { id: "clock", head: "Clock price", cell: ({ clock }) => [dollars(clock)] },
     { id: "posted", head: "Posted price", cell: ({ posted }) => [dollars(posted)] },
     {
       id: "demand",
       head: "Aggregate demand",
+      label: "Demand",
       by: ({ demand }) => demand ?? -1,
       cell: (sold) => demandCells(sold)
     },
@@ -87,7 +96,7 @@ export class Results {
     at("asof").textContent = this.#asOfWords(last);
     at("pastdesk").hidden = last === 0;
     this.#drawFacts(last);
-    this.#bidders.set(this.now.bidders.map((bidder) => this.#row(bidder)));
+    this.#bidders.set(this.now.bidders.map((bidder) => this.#row(bidder)), this.now.ended);
     offerRounds(last);
     this.#showRound();
   }
@@ -106,8 +115,9 @@ export class Results {
 
   #row(bidder) {
     const { products } = this.#page;
-    const held =
-      bidder.demands.flatMap((blocks, p) => (blocks ? [`${products[p].name} ${blocks}`] : []));
+    const held = bidder.demands.flatMap(
+      (blocks, p) => (blocks ? [`${products[p].name}: ${number(blocks)}`] : [])
+    );
     const blocks = sum(bidder.demands);
     const all = held.join(", ") || "none";
     const count = `${counted(blocks, "block")} of ${counted(held.length, "product")}`;

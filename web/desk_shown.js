@@ -2,6 +2,7 @@
 // clock, or the network, so tests run all of it in Node. operator.js keeps the state, and draws
 // what `shown` returns.
 
+import {linkLine} from "./link.js";
 import {counted, number, sentence} from "./page.js";
 import {wordsOf} from "./rules.js";
 import {clockOf} from "./shown.js";
@@ -12,13 +13,16 @@ import {clockOf} from "./shown.js";
  * @typedef {object} State
  * @property {{ round: number, ended: boolean }} status the server's
  * @property {any} desk what the desk says, or null if it does not run
- * @property {{ words: string, needsYou: boolean }} report the conductor's
+ * @property {{ words: string, needsYou: boolean, isStale: boolean }} report the conductor's
  * @property {Standing[]} bidders those with eligibility
- * @property {{ silent: boolean, answered: string, fault: string, closing: boolean }} link
+ * @property {boolean} onlyMissing whether only those without bids are listed
+ * @property {import("./link.js").Link} link
  * @property {{ phase: string | null, words: string, seconds: number | null, results: string }} time
  * @property {string} message what became of the last act
  * @property {boolean} busy whether an act is on its way
  */
+
+const WITHHELD = "Connected; results are withheld";
 
 /** What each act is called, before its question. */
 const LABELS = {
@@ -83,15 +87,6 @@ export function sheetWords(bidders, round) {
   if (missing.length === 0) return "All bidders with eligibility have submitted bids.";
   const count = `${number(submitted.length)} of ${number(bidders.length)} bidders with eligibility`;
   return `${count} have submitted bids. No bids from: ${missing.join(", ")}.`;
-}
-
-function linkOf({ link }) {
-  if (link.fault)
-    return { kind: "bad", words: `${sentence(link.fault)} since ${link.answered}. Retrying.` };
-  if (link.silent)
-    return { kind: "bad", words: `No answer since ${link.answered}. A round may be closing.` };
-  if (link.closing) return { kind: "good", words: "Connected; results are withheld" };
-  return { kind: "good", words: "Connected" };
 }
 
 /** The totals of the bar below. */
@@ -161,16 +156,20 @@ function titleOf({ status, report, desk }, clock) {
  * @param {State} state
  */
 export function shown(state) {
-  const { status, report, bidders } = state;
+  const { status, bidders } = state;
   const clock = clockOf({ me: status, time: state.time, link: state.link });
   const sheets = status.ended ? null : countedOf(bidders);
   return {
     title: titleOf(state, clock),
     round: status.ended ? `Ended after round ${status.round}` : `Round ${status.round}`,
     clock,
-    waits: { kind: report.needsYou ? "fault" : "", words: report.words },
-    link: linkOf(state),
+    waits: waitsOf(state),
+    link: linkLine(state.link, "A round may be closing.", WITHHELD),
     sums: sumsOf(state),
+    submitted: submittedOf(state, sheets),
+    rows: state.onlyMissing ? bidders.filter(({ submitted }) => submitted === false) : bidders,
+    isOver: status.ended,
+    close: `Close round ${status.round} …`,
     main: mainOf(state),
     acts: actsOf(state),
     waiting: waitingOf(state),
@@ -180,6 +179,44 @@ export function shown(state) {
     who: state.desk ? `· ${state.desk.who}` : "",
   };
 }
+
+/** What the conductor waits for. After the end it may be stopped. */
+function waitsOf({ status, report }) {
+  if (status.ended && report.isStale) return { kind: "", words: "" };
+  return { kind: report.needsYou ? "fault" : "", words: report.words };
+}
+
+/** How many bidders have submitted bids, as a fact, if that is known. */
+function submittedOf({ bidders }, sheets) {
+  if (!sheets) return [];
+  const count = `${number(sheets.submitted.length)} of ${number(bidders.length)}`;
+  return [["Bidders with submitted bids", count]];
+}
+
+/**
+ * The question before a closing: its words, what must be typed, and the button.
+ * @param {State} state
+ * @param {number[]} percents the increments
+ * @param {{ isByDesk: boolean, early: string }} given whether the desk asks for it, and what is
+ * said if the conductor would close the round by itself
+ */
+export function closingQuestion(state, percents, {isByDesk, early}) {
+  const { round } = state.status;
+  const low = Math.min(...percents), high = Math.max(...percents);
+  const rise = low === high ? low : `${low} to ${high}`;
+  const left = state.time.seconds === null ? "" : ` ${shown(state).clock.left} is left.`;
+  const words = [
+    `Close round ${round} for all bidders? Clock prices rise by ${rise} percent.${left}`,
+    sheetWords(state.bidders, round) + early,
+    "Bids that have not arrived will not count. This cannot be undone.",
+    isByDesk ? "A second person must confirm it." : "",
+  ];
+  const yes = hasNoSheets(state) ? "Close it without any bids" : "Close the round";
+  return { words: words.filter(Boolean).join(" "), typed: String(round), yes };
+}
+
+/** Whether it is known that nobody has submitted bids. */
+export const hasNoSheets = ({bidders}) => countedOf(bidders)?.submitted.length === 0;
 
 function missingWords({ missing }, bidders) {
   if (missing.length) return `No bids from: ${missing.join(", ")}.`;

@@ -102,21 +102,25 @@ export function sheetsOf(auction, bidder) {
 
 const EVIDENCE = "evidence";
 
-/** Keeps the receipts of a bidder in an auction, and what this tab sent, for after a reload. */
-export function keepEvidence(auction, bidder, receipts, sent) {
+/**
+ * Keeps the receipts of a bidder in an auction, what this tab sent, and refusals of late sheets,
+ * for after a reload.
+ */
+export function keepEvidence(auction, bidder, evidence) {
   if (!auction) return;
   try {
-    sessionStorage.setItem(EVIDENCE, JSON.stringify({ auction, bidder, receipts, sent }));
+    sessionStorage.setItem(EVIDENCE, JSON.stringify({ auction, bidder, ...evidence }));
   } catch { /* after a reload, the receipts are reported as not sent from this tab */
   }
 }
 
-/** The receipts of a bidder that this tab has, and what it sent. */
+/** The receipts and refusals of a bidder that this tab has, and what it sent. */
 export function evidenceOf(auction, bidder) {
+  const none = { receipts: [], sent: [], refusals: [] };
   try {
     const kept = JSON.parse(sessionStorage.getItem(EVIDENCE));
-    if (kept.auction === auction && kept.bidder === bidder) return kept;
+    if (kept.auction === auction && kept.bidder === bidder) return {...none, ...kept };
   } catch { /* nothing is kept */
   }
-  return { receipts: [], sent: [] };
+  return none;
 }

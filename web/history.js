@@ -145,12 +145,14 @@ export function progressWords(known) {
  * @param {Known} known
  */
 export function shownPast(known) {
-  const { last, product } = known;
+  const { last, product, round } = known;
   return {
     own: ownWords(known),
     isThere: last > 0,
     progress: last ? progressWords(known) : "",
     choices: Array.from({ length: last }, (_, n) => [last - n, String(last - n)]),
+    chosen: String(round),
+    isTotals: product === null,
     rows: rowsOf(known),
     points: loaded(known).length ? pointsOf(known) : [],
     chart: chartWords(known),

@@ -111,6 +111,7 @@ export function doorOf({me, time, link}) {
   if (me.ended) return "ended";
   if (me.eligibility === 0) return "out";
   if (link.closing) return "closing";
+  if (time.round < me.round) return "unplanned"; // the timetable is still of the round before
   if (["paused", "before", "unplanned"].includes(time.phase)) return time.phase;
   if (time.phase === "shut") return time.seconds > -GRACE ? "maybe" : "shut";
   return link.silent ? "maybe" : "open";

@@ -38,6 +38,8 @@ export async function bidsOfFile(text, commitment, bidder) {
   const last = new Map();
   for (const receipt of receipts) {
     if (receipt === null) return wrong("a line is not a receipt");
+    if (receipt.mock !== commitment.mock)
+      return wrong(`a receipt is of the ${receipt.mock ? "mock" : "real"} auction`);
     if (receipt.auction !== commitment.auction) return wrong("a receipt is of another auction");
     if (receipt.bidder !== bidder) return wrong("a receipt is of another bidder");
     if (!await isSigned(commitment.key, receipt)) return wrong("a receipt has a wrong signature");

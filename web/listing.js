@@ -6,8 +6,9 @@ import {at, make, tell} from "./page.js";
 import {VirtualRows} from "./rows.js";
 
 /**
- * @typedef {{ id: string, head: string, by?: (row: any) => any, cell: (row: any) => any[] }} Column
- * a column, whose first one is the name of a row
+ * @typedef {{ id: string, head: string, end?: string, label?: string, by?: (row: any) => any,
+ * cell: (row: any) => any[] }} Column a column, whose first one is the name of a row. After the end
+ * of the auction it is called `end`. A card calls it `label`, if that is shorter.
  */
 
 export class Listing {
@@ -16,6 +17,7 @@ export class Listing {
   #sort = { id: null, isDown: false };
   #rows;
   #heads = [];
+  #isOver = false;
 
   /**
    * The table in the frame `id`, with `columns` {id, head, by, cell}. If there are elements
@@ -43,11 +45,20 @@ export class Listing {
     at(id + "clear")?.addEventListener("click", () => this.clear());
   }
 
-  /** Shows these rows, each of which has a name. */
-  set(rows) {
+  /** Shows these rows, each of which has a name, during the auction or after its end. */
+  set(rows, isOver = false) {
     this.#all = rows;
+    if (isOver !== this.#isOver) {
+      this.#isOver = isOver;
+      this.#columns.forEach((column, place) => {
+        this.#heads[place].querySelector("button").textContent = this.#nameOf(column);
+      });
+    }
     this.lay();
   }
+
+  /** @param {Column} column */
+  #nameOf(column) { return this.#isOver && column.end ? column.end : column.head; }
 
   /** The rows that are shown, in their order. */
   get shown() { return this.#rows.keys.map((place) => this.#all[place]); }
@@ -99,7 +110,10 @@ export class Listing {
       "tr", { class: this.kind(row) || null },
       make("th", { scope: "row", class: "c-" + name.id }, ...name.cell(row)),
       ...others.map(
-        ({ id, head, cell }) => make("td", { class: "c-" + id, "data-label": head }, ...cell(row))
+        (column) => make(
+          "td", { class: "c-" + column.id, "data-label": column.label ?? this.#nameOf(column) },
+          ...column.cell(row)
+        )
       )
     );
     // so that a button with the cursor keeps it when the rows are drawn again

@@ -1,29 +1,18 @@
 // The manager's desk: keeps one state, changes it by what the server, the conductor, the desk, and
 // the person do, and draws what desk_shown.js makes of it.
 
-import {Asker, pause, watch} from "./api.js";
+import {Asker, pause} from "./api.js";
 import {timeWords} from "./clock.js";
 import {Conductor} from "./conductor.js";
 import {Desk} from "./desk_acts.js";
 import {ask} from "./desk_ask.js";
 import {Increments} from "./desk_increments.js";
 import {Results} from "./desk_results.js";
-import {doneWords, refusalWords, sheetWords, shown} from "./desk_shown.js";
+import {closingQuestion, doneWords, hasNoSheets, refusalWords, shown} from "./desk_shown.js";
+import {answers, follow} from "./link.js";
 import {Listing} from "./listing.js";
 import {entitle} from "./mock.js";
-import {
-  at,
-  door,
-  drawn,
-  facts,
-  lastClosed,
-  make,
-  number,
-  say,
-  tell,
-  timeOfDay,
-  unask
-} from "./page.js";
+import {at, door, drawn, facts, lastClosed, make, number, say, tell, unask} from "./page.js";
 import {wordsOf} from "./rules.js";
 import {Times} from "./times.js";
 
@@ -68,9 +57,10 @@ const bidders = new Listing(
 let state = {
   status: null,
   desk: null,
-  report: { words: "", needsYou: false },
+  report: { words: "", needsYou: false, isStale: false },
   bidders: [],
-  link: { silent: false, answered: "", fault: "", closing: false },
+  onlyMissing: false,
+  link: answers(""),
   time: { phase: null, words: "", seconds: null, results: "" },
   message: "",
   busy: false,
@@ -114,18 +104,16 @@ function show() {
 }
 
 /** Shows who has submitted bids. */
-function showSheets({ sums, sheets, missing }) {
-  const { ended } = state.status;
-  const rows = sums.map(({ name, value, of }) => [name, value + (of ? ` ${of}` : "")]);
-  const drawing = JSON.stringify([rows, state.bidders, at("onlymissing").checked]);
-  at("submitted").hidden = at("missing").hidden = ended || !sheets;
+function showSheets({ sums, submitted, missing, rows, isOver }) {
+  at("closing").hidden = at("standings").hidden = isOver;
+  at("submitted").hidden = at("missing").hidden = submitted.length === 0;
   tell("missing", missing);
+  const drawing = JSON.stringify([sums, rows]);
   if (drawing === drawnBidders) return;
   drawnBidders = drawing;
-  facts("sums", rows);
-  facts("submitted", sheets ? [["Bidders with submitted bids", rows[0][1]]] : []);
-  const isShown = ({ submitted }) => !at("onlymissing").checked || submitted === false;
-  bidders.set(state.bidders.filter(isShown));
+  facts("sums", sums.map(({ name, value, of }) => [name, value + (of ? ` ${of}` : "")]));
+  facts("submitted", submitted);
+  bidders.set(rows);
 }
 
 function showWaiting(waiting) {
@@ -134,13 +122,13 @@ function showWaiting(waiting) {
   at("confirm").hidden = !waiting || waiting.isMine;
 }
 
-function showActs({ acts, main }) {
+function showActs({ acts, main, close }) {
   const send = at("send");
   tell("send", main.words);
   send.className = main.kind;
   send.setAttribute("aria-disabled", String(Boolean(main.off)));
   send.dataset.act = main.off ? "" : main.act;
-  tell("ask", `Close round ${state.status.round} …`);
+  tell("ask", close);
   const drawing = JSON.stringify(acts);
   if (drawing === drawnActs) return;
   drawnActs = drawing;
@@ -180,7 +168,6 @@ async function load() {
   await results.load(asker, page, now);
   if (before && now.round < before.round) underWay = 0;
   drawn(() => {
-    at("closing").hidden = at("standings").hidden = now.ended;
     at("eachlabel").hidden = page.version === 1;
     increments.draw(page.products, (p) => results.posted(p));
     results.draw();
@@ -194,7 +181,8 @@ function look() {
   if (!results.now) return;
   const active = results.now.bidders.filter(({ eligibility }) => eligibility > 0);
   const { round } = state.status ?? results.now;
-  const report = { words: conductor.words(), needsYou: conductor.needsYou() };
+  const isStale = conductor.isStale();
+  const report = { words: conductor.words(), needsYou: conductor.needsYou(), isStale };
   const isOfNow = state.desk?.round === round && !state.desk.is_stale;
   set({ report, bidders: isOfNow ? state.desk.bidders : standings(active, round) });
 }
@@ -263,22 +251,10 @@ function closing() {
   return percents;
 }
 
-/** The question before a closing. Returns whether the round's number was typed. */
+/** Asks before a closing. Returns whether the round's number was typed. */
 async function isWanted(percents, isByDesk) {
-  const { round } = state.status;
-  const low = Math.min(...percents);
-  const high = Math.max(...percents);
-  const rise = low === high ? low : `${low} to ${high}`;
-  const left = state.time.seconds === null ? "" : ` ${shown(state).clock.left} is left.`;
-  const words = [
-    `Close round ${round} for all bidders? Clock prices rise by ${rise} percent.${left}`,
-    sheetWords(state.bidders, round) + conductor.early(),
-    "Bids that have not arrived will not count. This cannot be undone.",
-    isByDesk ? "A second person must confirm it." : "",
-  ];
-  const isEmpty = shown(state).sheets?.submitted.length === 0;
-  const yes = isEmpty ? "Close it without any bids" : "Close the round";
-  return Boolean(await ask({ words: words.join(" "), typed: String(round), yes }));
+  const early = conductor.early();
+  return Boolean(await ask(closingQuestion(state, percents, { isByDesk, early })));
 }
 
 /** Asks first, and closes the round that the question names, or asks the desk for it. */
@@ -292,8 +268,7 @@ async function close() {
   const before = state;
   if (!await isWanted(percents, true)) return;
   const all = page.version === 1 ? percents.slice(0, 1) : percents;
-  const without_sheets = shown(before).sheets?.submitted.length === 0;
-  const given = { increments: all, without_sheets };
+  const given = { increments: all, without_sheets: hasNoSheets(before) };
   set({ busy: true });
   await actOn("close", before, { given, typed: String(round) });
   set({ busy: false });
@@ -347,9 +322,6 @@ function tellRefused(fault) {
 
 // -- The server and the clock
 
-/** What is known of the link once the server has answered. */
-const answers = () => ({ silent: false, answered: timeOfDay(), fault: "", closing: false });
-
 async function heard(now) {
   const then = state.status;
   const fell = now.round < then.round;
@@ -367,22 +339,6 @@ async function heard(now) {
       "Tell bidders to stop."
     );
   }
-  set({ link: answers() });
-}
-
-function slow() {
-  if (!state.link.silent) set({ link: {...state.link, silent: true } });
-}
-
-function missed(fault) {
-  gone = true;
-  const words = fault.status ? wordsOf(fault.code) : "no answer";
-  set({ link: {...state.link, silent: true, closing: false, fault: words } });
-}
-
-function withheld() {
-  gone = true;
-  set({ link: {...answers(), closing: true } });
 }
 
 async function enter(token) {
@@ -393,7 +349,14 @@ async function enter(token) {
   set({ link: answers() });
   conductor.watch(asker, look);
   watchDesk();
-  watch(asker, { heard, slow, missed, closing: withheld });
+  follow(asker, {
+    heard,
+    link: () => state.link,
+    set: (link) => set({ link }),
+    doubt: () => {
+      gone = true;
+    },
+  });
 }
 
 const times = new Times({ ticked: (time) => set({ time }) });
@@ -404,4 +367,4 @@ at("send").addEventListener("click", ({ currentTarget }) => {
 });
 at("confirm").addEventListener("click", () => perform("confirm"));
 at("withdraw").addEventListener("click", () => perform("withdraw"));
-at("onlymissing").addEventListener("change", show);
+at("onlymissing").addEventListener("change", () => set({ onlyMissing: at("onlymissing").checked }));

@@ -85,23 +85,7 @@ export const tell = (id, words) => {
   if (at(id).textContent !== words) at(id).textContent = words;
 };
 
-/** A cell with its label, which is shown if rows are drawn as cards. */
-export const cell = (label, ...inside) => make("td", {"data-label": label}, ...inside);
-export const rowHead = (...inside) => make("th", {scope: "row"}, ...inside);
 export const note = (...inside) => make("small", {}, ...inside);
-/**
- * The cell for aggregate demand, supply and excess demand after a closed round, or before the first
- * one.
- */
-export function demandCell(sold, product) {
-  const supply = `supply ${number(product.supply)}`;
-  if (!sold) return cell("Aggregate demand", "–", note(supply));
-  if (sold.demand === null) return cell("Aggregate demand", "no excess", note(supply));
-  return cell(
-    "Aggregate demand", number(sold.demand),
-    note(`${supply}, excess ${number(excessOf(sold, product))}`)
-  );
-}
 
 /**
  * Fills a list with names and values; a third text, if there is one, is a note on the value, and a
@@ -143,6 +127,15 @@ export function drawn(draw) {
   const now = focusedElement();
   if (focused !== document.body && (now.matches("body, :disabled") || !now.checkVisibility()))
     at("round").focus({ preventScroll: true });
+}
+
+/** The element that left and right go to from the cursor, in a row of elements without an end. */
+export function besideByKey(elements, event) {
+  const by = { ArrowRight: 1, ArrowLeft: -1 }[event.key];
+  if (!by) return null;
+  event.preventDefault();
+  const all = [...elements];
+  return all[(all.indexOf(event.target) + by + all.length) % all.length];
 }
 
 /** Asks a question with the answers No and `yes`; true for yes. Escape and `unask` are No. */

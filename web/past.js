@@ -14,13 +14,23 @@ const AT_ONCE = 20; // rounds: nginx lets a bidder ask for two pages a second, a
 const demandOf = ({ demand, supply }) => [demand === null ? `≤ ${number(supply)}` : number(demand)];
 const excessText = ({ excess }) => [excess ? `+${number(excess)}` : "no"];
 const MARKET = [
-  { id: "start", head: "Start-of-round price", cell: ({ start }) => [dollars(start)] },
+  {
+    id: "start",
+    head: "Start-of-round price",
+    label: "Start price",
+    cell: ({ start }) => [dollars(start)]
+  },
   { id: "clock", head: "Clock price", cell: ({ clock }) => [dollars(clock)] },
   { id: "posted", head: "Posted price", cell: ({ posted }) => [dollars(posted)] },
-  { id: "demand", head: "Aggregate demand", cell: demandOf },
+  { id: "demand", head: "Aggregate demand", label: "Demand", cell: demandOf },
   { id: "excess", head: "Excess demand", cell: excessText },
   { id: "bids", head: "Your bids", by: ({ bids }) => bids, cell: ({ bids }) => [bids] },
-  { id: "blocks", head: "Processed demand", cell: ({ blocks }) => [number(blocks)] },
+  {
+    id: "blocks",
+    head: "Processed demand",
+    label: "Processed",
+    cell: ({ blocks }) => [number(blocks)]
+  },
 ];
 const ROUND = {
   id: "round",
@@ -161,9 +171,9 @@ export class Past {
     at("pastdesk").hidden = !now.isThere;
     if (!now.isThere || at("pastview").hidden) return;
     options(at("which"), now.choices);
-    at("which").value = String(this.#known.round);
+    at("which").value = now.chosen;
     this.#table.set(now.rows);
-    const isTotals = this.#known.product === null;
+    const { isTotals } = now;
     at("totals").hidden = !isTotals;
     at("byround").hidden = isTotals;
     at("mytotals").hidden = isTotals;

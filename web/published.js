@@ -164,7 +164,7 @@ function winnersOf({ won, products }) {
           blocks: sum(demands),
           pays,
           products: demands.flatMap(
-            (blocks, p) => (blocks ? [`${products[p].name} ${number(blocks)}`] : [])
+            (blocks, p) => (blocks ? [`${products[p].name}: ${number(blocks)}`] : [])
           ),
         }));
 }
@@ -201,6 +201,7 @@ export function shown(state) {
     published: published ?? "",
     progress: progressOf(state),
     winners: winnersOf(state),
+    hasWinners: state.won !== null,
     link: state.fault,
     canSave: rounds.size > 0,
   };

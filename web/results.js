@@ -32,10 +32,15 @@ let isBusy = false; // whether rounds are being loaded
 const COLUMNS = [
   { id: "name", head: "Product", by: ({ name }) => name, cell: nameCell },
   { id: "supply", head: "Supply", cell: ({ supply }) => [number(supply)] },
-  { id: "start", head: "Start-of-round price", cell: ({ start }) => [dollars(start)] },
+  {
+    id: "start",
+    head: "Start-of-round price",
+    label: "Start price",
+    cell: ({ start }) => [dollars(start)]
+  },
   { id: "clock", head: "Clock price", cell: ({ clock }) => [dollars(clock)] },
   { id: "posted", head: "Posted price", cell: ({ posted }) => [dollars(posted)] },
-  { id: "demand", head: "Aggregate demand", cell: demandCell },
+  { id: "demand", head: "Aggregate demand", label: "Demand", cell: demandCell },
   { id: "excess", head: "Excess demand", cell: ({ excess }) => [excessWords(excess)] },
   { id: "byround", head: "By round", by: ({ posted }) => posted ?? 0, cell: sparkCell },
 ];
@@ -104,7 +109,7 @@ function draw() {
   drawIf(
     "chart", [state.rounds.size, state.product, at("chart").clientWidth], () => drawChart(now)
   );
-  at("wonpart").hidden = !state.won;
+  at("wonpart").hidden = !now.hasWinners;
   drawIf("won", [now.winners.length, turn], () => winners.set(now.winners));
 }
 

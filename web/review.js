@@ -2,7 +2,7 @@
 // maintained, is given up, what that may cost, and what eligibility is left. Nothing here reads the
 // page, so tests run it in Node.
 
-import {judged} from "./judging.js";
+import {judged, missingWords} from "./judging.js";
 import {counted, dollars, listed, number} from "./page.js";
 import {shown} from "./shown.js";
 
@@ -92,4 +92,13 @@ export function reviewOf(state, doubt) {
     yes: isOff ? "" : can,
     isDoubt: doubt !== "",
   };
+}
+
+/** What is asked before bids are sent, or "". */
+export function doubtOf(state) {
+  const missing = missingWords(state);
+  if (missing) return `${missing} A missing bid asks for 0 blocks at the start-of-round price.`;
+  if (judged(state).bids.length) return "";
+  const then = state.me.round === 1 ? ": you would be out of the auction" : "";
+  return `The form is empty${then}. Submit it?`;
 }

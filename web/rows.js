@@ -4,7 +4,7 @@
 
 import {focusedElement, make} from "./page.js";
 
-const MARGIN = 8; // rows that are laid out above and below what is seen
+const MARGIN = 6; // rows that are laid out above and below what is seen
 
 export class VirtualRows {
   #keys = [];
@@ -40,7 +40,8 @@ export class VirtualRows {
    * keeps it.
    */
   set(keys) {
-    const typing = this.#typing(), scrolled = this.frame.scrollTop;
+    const typing = this.#typing();
+    const { scrollTop: scrolled, clientHeight } = this.frame;
     this.#keys = keys;
     this.#places = new Map(keys.map((key, place) => [key, place]));
     this.#highs.clear();
@@ -48,12 +49,12 @@ export class VirtualRows {
     this.body.replaceChildren();
     this.#stack();
     this.body.closest("table").setAttribute("aria-rowcount", keys.length + 1);
-    if (scrolled) {
-      this.body.append(this.#space(0, keys.length)
-      ); // so that the frame can be scrolled to where it was
+    if (scrolled) { // the frame can be scrolled to where it was
+      this.body.append(this.#space(0, keys.length));
       this.frame.scrollTop = scrolled;
     }
-    this.lay();
+    // asked of the frame, this would lay out the empty table
+    this.lay(scrolled ? this.frame : { scrollTop: 0, clientHeight });
     typing?.();
   }
 
@@ -101,8 +102,8 @@ export class VirtualRows {
    * The rows to lay out, as their places: those that are seen, some around them, and the one with
    * the focus.
    */
-  #wanted() {
-    const { scrollTop, clientHeight } = this.frame, count = this.#keys.length;
+  #wanted({ scrollTop, clientHeight }) {
+    const count = this.#keys.length;
     if (this.isAll) return this.#keys.map((_, place) => place);
     const first = Math.max(0, this.#rowAt(scrollTop) - MARGIN);
     const last = Math.min(count, this.#rowAt(scrollTop + clientHeight) + 1 + MARGIN);
@@ -119,16 +120,17 @@ export class VirtualRows {
 
   /**
    * Lays out the rows that are seen, removes the others, and measures the new ones. A row with the
-   * focus is never moved.
+   * focus is never moved. `seen` says which part of the table is seen.
+   * @param {{ scrollTop: number, clientHeight: number }} seen
    */
-  lay() {
-    this.#arrange();
-    if (this.#measure()) this.#arrange();
+  lay(seen = this.frame) {
+    this.#arrange(seen);
+    if (this.#measure()) this.#arrange(this.frame);
     this.laid();
   }
 
-  #arrange() {
-    const places = this.#wanted(), keys = new Set(places.map((place) => this.#keys[place]));
+  #arrange(seen) {
+    const places = this.#wanted(seen), keys = new Set(places.map((place) => this.#keys[place]));
     for (const room of this.body.querySelectorAll(":scope > .room")) room.remove();
     for (const [key, row] of this.shown) {
       if (keys.has(key)) continue;

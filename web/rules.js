@@ -6,25 +6,19 @@ const MOST_BIDS = 8192;
 
 /**
  * What each fault of a sheet or a closing means, and what to do, in the words of docs/bidders.md
- * and docs/operators.md.
+ * and docs/deployment.md.
  */
 export const WORDS = {
-  too_many: "more than 8,192 bids: send fewer",
-  unknown_product: "no product has that number: count products from 0",
-  price_range: "the price is not between the start-of-round price and the clock price: " +
-    "use a price of this round",
-  over_cap: "the quantity is above the product's cap: ask for less",
-  price_order: "an earlier bid for the product has this price or a higher one: " +
-    "list each product's bids at rising prices",
-  mixed_direction:
-    "the quantity does not continue in the direction of the earlier bids for the product: " +
-    "use only falling or only rising quantities",
-  keep_price: "the quantity is your processed demand, and the price is not the clock price: " +
-    "to maintain demand, bid at the clock price",
-  over_activity:
-    "the sheet requests more activity than the limit allows: request fewer blocks of some product",
-  increment:
-    "an increment is not 1 to 50, or there is not one for each product: send such increments",
+  too_many: "more than 8,192 bids",
+  unknown_product: "no product has that number: count from 0",
+  price_range: "the price is not between start-of-round price and clock price of this round",
+  over_cap: "the quantity is above the product's cap",
+  price_order:
+    "an earlier bid for the product has this price or a higher one: list its bids at rising prices",
+  mixed_direction: "use only falling or only rising quantities for a product",
+  keep_price: "to maintain your processed demand, bid at the clock price",
+  over_activity: "the sheet requests more activity than the limit allows: request fewer blocks",
+  increment: "an increment is not 1 to 50, or there is not one for each product",
   too_many_ties: "more than 16,384 tie-breaking numbers: send fewer",
   price_limit:
     "the next clock price of the product would be above 10^12 dollars: use a smaller increment",

@@ -2,10 +2,11 @@
 // clock, or the network, so tests run all of it in Node. bidder.js keeps the state, and draws what
 // `shown` returns.
 
-import {clockWords} from "./clock.js";
-import {doorOf, isInForce, isKnown, judged, missingWords, same} from "./judging.js";
-import {counted, dollars, number, sentence, sum} from "./page.js";
-import {wordsOf} from "./rules.js";
+import {clockWords, closingWords} from "./clock.js";
+import {doorOf, isInForce, isKnown, judged} from "./judging.js";
+import {linkLine} from "./link.js";
+import {inForceWords, messageOf, strangeWords} from "./message.js";
+import {counted, dollars, number, sum} from "./page.js";
 
 /**
  * @typedef {{ price: number, product: number, quantity: number, step?: number }} Bid
@@ -30,17 +31,12 @@ import {wordsOf} from "./rules.js";
  * read; new after each change
  * @typedef {{ bids: Bid[] | null, since: string, isOwn: boolean, asked: number, round: number }}
  * InForce
- * @typedef {object} Link whether the server answers
- * @property {boolean} silent
- * @property {string} answered when it did last
- * @property {string} fault what it said instead
- * @property {boolean} closing whether it withholds pages until the results of the round are shown
- * to everyone
  * @typedef {object} Time what the timetable says
  * @property {string | null} phase null without a timetable
  * @property {string} words
  * @property {number | null} seconds
  * @property {string} results when the results appear, if that is known
+ * @property {number} [round] the round of the timetable
  * @typedef {object} State
  * @property {any} me the account: name, round, ended, eligibility, activity, demands
  * @property {any} terms products, prices, requirement, limit, round, held, eligibility
@@ -49,22 +45,22 @@ import {wordsOf} from "./rules.js";
  * loaded yet
  * @property {Bid[] | null} sending the bids whose answer has not come yet
  * @property {Act | null} act
- * @property {{ kind: string, round: number } | null} receipt "waiting", "here", "missing", or
- * "wrong"
+ * @property {{ kind: string, round: number, isLate?: boolean, isMock?: boolean,
+ * time?: string } | null} receipt of the last sheet: "waiting", "here", "missing", or "wrong". With
+ * `isLate` it is the signed refusal of a late sheet, with its time.
+ * @property {{ count: number, strange: any[] }} evidence how many receipts this tab has, and those
+ * of sheets that it did not send
  * @property {string} undo what an undo takes back, or ""
- * @property {Link} link
+ * @property {any} old the draft of an earlier round, or null
+ * @property {string[]} lines the wrong lines of a file
+ * @property {number} news how many announcements there are
+ * @property {number[][] | null} worth what blocks are worth, by product, if that is known
+ * @property {import("./link.js").Link} link
  * @property {Time} time
  */
 
 /** The seconds before the end at which the time left is marked. */
 export const SOON = 300, LAST = 60;
-
-/**
- * What is said while pages are withheld, from the end of a window until its results are shown to
- * everyone.
- */
-export const closingWords = (results) =>
-  `The round is closing; ${results ? `results appear at ${results}` : "its results follow"}.`;
 
 const SCALES = [
   { unit: 10n ** 12n, letter: "T" },
@@ -95,6 +91,7 @@ export function shortDollars(amount) {
 export function clockOf({me, time, link}) {
   const { phase, words, seconds } = time;
   if (me.ended) return { left: "Ended", words: "", kind: "" };
+  if (time.round < me.round) return { left: "–", words: "", kind: "off" };
   if (link.closing && phase !== "shut") return { left: "Closing", words: "", kind: "off" };
   if (phase === null) return { left: "", words: "", kind: "" };
   if (phase === "open" && seconds === null) {
@@ -114,15 +111,6 @@ export function clockOf({me, time, link}) {
 function urgencyOf(seconds) {
   if (seconds < LAST) return "last";
   return seconds < SOON ? "soon" : "";
-}
-
-function linkOf({ link }) {
-  const { answered } = link;
-  if (link.fault)
-    return { kind: "bad", words: `${sentence(link.fault)} since ${answered}. Retrying.` };
-  if (link.silent)
-    return { kind: "bad", words: `No answer since ${answered}. The round may be closing.` };
-  return { kind: "good", words: "Connected" };
 }
 
 /** What is left to do while bids are not taken, by the door. */
@@ -230,150 +218,6 @@ function sumsOf(state) {
   ];
 }
 
-// -- The one message
-
-const RECEIPTS = {
-  waiting: "Waiting for the receipt.",
-  here: "The receipt is here: download it.",
-  missing: "No receipt within five seconds: call the operator.",
-  wrong: "The receipt is wrong: call the operator.",
-};
-
-/**
- * What each last act says, while it is about this round; null if it has nothing more to say.
- * @type {Object<string, (state: State) => Line | null>}
- */
-const MESSAGES = {
-  lost: lostMessage,
-  accepted: acceptedMessage,
-  refused: refusedMessage,
-  closing: ({ act }) => ({ kind: act.isBad ? "bad" : "news", words: act.words }),
-  filled: ({ act }) => ({ kind: "news", words: act.words }),
-  notSaved: (state) =>
-    (judged(state).isReadable
-       ? null
-       : { kind: "bad", words: "Not saved: a row cannot be read as a bid." }),
-  failed: ({ act }) => ({ kind: "bad", words: act.words }),
-};
-
-/** What became of a submission without an answer, as soon as that is known. */
-function lostMessage(state) {
-  const { act, inForce } = state;
-  if (!isKnown(state)) {
-    const words = "No answer from the server. It is not known whether your bids were accepted.";
-    return { kind: "bad", words: `${words} The page asks again; your entries stay.` };
-  }
-  if (inForce.bids && same(inForce.bids, act.sent)) {
-    return {
-      kind: "good",
-      words: `Your bids did arrive: ${counted(act.sent.length, "bid")} in force.`
-    };
-  }
-  if (isInForce(state)) {
-    return {
-      kind: "news",
-      words: "Your last bids did not arrive. Your earlier bids are in force."
-    };
-  }
-  const others = inForce.bids ? "Your earlier bids are in force." : "None are in force.";
-  return { kind: "bad", words: `Your bids did not arrive. ${others} Submit again.` };
-}
-
-/** Since when accepted bids are in force, whether they are what the form has, and their receipt. */
-function acceptedMessage(state) {
-  const { act, inForce } = state;
-  const bids = counted(act.count, "bid");
-  if (act.closed) {
-    return {
-      kind: "good",
-      words: `${bids} accepted for round ${act.round}, which is closed by now.`
-    };
-  }
-  if (!inForce?.bids || !same(inForce.bids, act.sent)) return null; // others came from elsewhere
-  const receipt = state.receipt?.round === act.round ? state.receipt : null;
-  const isSame = isInForce(state);
-  const parts = [
-    `${bids} in force since ${inForce.since}.`,
-    isSame ? "" : "Your changes since then are not submitted.",
-    RECEIPTS[receipt?.kind] ?? "",
-  ];
-  const isAlarm = ["missing", "wrong"].includes(receipt?.kind);
-  return {
-    kind: isAlarm ? "bad"
-      : isSame    ? "good"
-                  : "warn",
-    words: parts.filter(Boolean).join(" "),
-    button: receipt?.kind === "here" ? ["receipts", "Download receipts"] : null,
-  };
-}
-
-function refusedMessage({ act, inForce }) {
-  const { fault, product, status } = act;
-  const stays = inForce?.bids && (status !== 409 || fault.code === "window");
-  const words = `Refused: ${wordsOf(fault.code)}${product ? ` (${product})` : ""}.`;
-  return { kind: "bad", words: words + (stays ? " Your earlier bids stay in force." : "") };
-}
-
-/** The bids in force, in words. */
-function inForceWords({ me, inForce }) {
-  if (me.ended) return "The auction is over: no bids are in force.";
-  if (!inForce) return "";
-  if (!inForce.bids) return `No bids in force, as of ${inForce.since}.`;
-  const when = inForce.isOwn ? " since" : ", as of";
-  return `${counted(inForce.bids.length, "bid")} in force${when} ${inForce.since}.`;
-}
-
-/**
- * The one message. What is wrong with the form comes before what was done; a closing is said until
- * something is done.
- * @param {State} state
- * @returns {Line}
- */
-function messageOf(state) {
-  const { me, act, sending } = state;
-  const isOfNow =
-    act && (act.round === me.round || (act.kind === "accepted" && act.closed === me.round));
-  const last = isOfNow ? MESSAGES[act.kind](state) : null;
-  if (me.ended) return last && act.kind === "closing" ? last : { kind: "", words: "" };
-  if (sending && act?.kind !== "closing") {
-    return { kind: "busy", words: `Sending ${counted(sending.length, "bid")} …` };
-  }
-  if (last && !["filled", "accepted"].includes(act.kind)) return last;
-  const fault = faultMessage(judged(state));
-  if (fault) return fault;
-  if (last && (act.kind === "filled" || last.kind !== "warn")) return last;
-  return warningOf(state) ?? last ?? quietMessage(state);
-}
-
-/** What is wrong with the form, or null. */
-function faultMessage({ faults, whole }) {
-  if (whole) return { kind: "bad", words: `${sentence(whole)}.` };
-  if (faults.size === 0) return null;
-  if (faults.size === 1) {
-    return { kind: "bad", words: "1 bid has an error.", button: ["fault", "Show it"] };
-  }
-  const words = `${number(faults.size)} bids have errors.`;
-  return { kind: "bad", words, button: ["fault", "Show the first"] };
-}
-
-/** What the form gives up, or null. */
-function warningOf(state) {
-  const { me } = state;
-  const known = judged(state);
-  if (known.missing.length) {
-    return { kind: "warn", words: missingWords(state, known), button: ["missing", "Show"] };
-  }
-  const lost = me.eligibility - known.left;
-  if (lost <= 0 || known.bids.length === 0) return null;
-  const words = `lose ${number(lost)} of your ${number(me.eligibility)} eligibility.`;
-  return { kind: "warn", words: `You ${me.round === 1 ? "will" : "may"} ${words}` };
-}
-
-function quietMessage(state) {
-  const words = judged(state).bids.length ? "No errors found." : "The form is empty.";
-  return { kind: "", words: `${words} ${inForceWords(state)}`.trim() };
-}
-
 // -- The button that submits, and the title
 
 /** Why the button does nothing, by the door. */
@@ -433,11 +277,19 @@ export function shown(state) {
     round: state.me.ended ? `Ended after round ${state.me.round}` : `Round ${state.me.round}`,
     clock: clockOf(state),
     todo: todoOf(state),
-    link: linkOf(state),
+    link: linkLine(state.link, "The round may be closing."),
     sums: sumsOf(state),
     message: messageOf(state),
     send: sendOf(state),
     inForce: inForceWords(state),
+    who: `· ${state.me.name}`,
+    tab: state.me.ended ? "What you won" : "Bids",
+    isOver: isOver(state),
+    strange: strangeWords(state.evidence.strange),
+    hasReceipts: state.evidence.count > 0,
+    hasOld: state.old !== null,
+    lines: state.lines,
+    news: state.news ? number(state.news) : "",
     undo: state.me.ended ? "" : state.undo,
     faults: known.faults,
     missing: known.missing,
@@ -445,9 +297,12 @@ export function shown(state) {
   };
 }
 
+/** Whether nothing can be entered any more. */
+const isOver = ({ me }) => me.ended || me.eligibility === 0;
+
 /** Whether leaving the page would lose bids that the server does not have. */
 function isUnsaved(state) {
   const { me, form } = state;
   const isEmpty = form.bids.length === 0 && form.wrong.length === 0;
-  return !me.ended && me.eligibility > 0 && !isEmpty && !isInForce(state);
+  return !isOver(state) && !isEmpty && !isInForce(state);
 }

@@ -2,10 +2,17 @@
 // clock, and announcements.
 
 import {within} from "./api.js";
-import {Clock, clockWords, resultsOf, stateOf, timeWords, zoneWords} from "./clock.js";
+import {
+  Clock,
+  clockWords,
+  closingWords,
+  resultsOf,
+  stateOf,
+  timeWords,
+  zoneWords
+} from "./clock.js";
 import {markPage} from "./mock.js";
 import {at, counted, make, tell} from "./page.js";
-import {closingWords} from "./shown.js";
 
 const TIMETABLE = "./public/timetable.json", ANNOUNCEMENTS = "./public/announcements.json";
 const EVERY = 2000;
@@ -158,7 +165,8 @@ export class Times {
     }
     if (this.ticked) {
       const ago = Math.ceil((closes - now) / 1000);
-      return this.ticked({ phase, words, seconds: phase === "shut" ? ago : seconds, results });
+      const left = phase === "shut" ? ago : seconds;
+      return this.ticked({ phase, words, seconds: left, results, round: this.#table.round });
     }
     tell("standing", words);
     tell("left", leftWords(phase, seconds));

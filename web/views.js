@@ -1,7 +1,7 @@
 // The views of the bidder's page: the bids, the closed rounds, and the announcements, each with a
 // tab.
 
-import {at} from "./page.js";
+import {at, besideByKey} from "./page.js";
 
 const tabs = () =>
   /** @type {HTMLElement[]} */ ([...document.querySelectorAll("#views [role=tab]")]);
@@ -18,10 +18,8 @@ export function view(name) {
 }
 
 function viewByKey(event) {
-  const all = tabs();
-  const by = { ArrowRight: 1, ArrowLeft: -1 }[event.key];
-  if (!by) return;
-  const next = all[(all.indexOf(event.target) + by + all.length) % all.length];
+  const next = besideByKey(tabs(), event);
+  if (!next) return;
   view(next.dataset.view);
   next.focus();
 }

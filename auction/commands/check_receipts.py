@@ -22,6 +22,7 @@ import os
 import pathlib
 import sys
 
+from auction import mock
 from auction.command import Command
 from auction.formats.receipts import File, ReceiptsFault, digest_of, faults, read_kept
 from auction.formats.signatures import SignatureFault
@@ -74,6 +75,8 @@ def run(given: argparse.Namespace) -> int:
         found = faults(file, given.journal.read_bytes(), token, copy)
     except (OSError, ReceiptsFault, Refused, SignatureFault, TiesFault) as fault:
         sys.exit(escaped(f"FAILED {fault}"))
+    if (copy or file.commitment).mock:
+        say(mock.WORDS)
     for words in found:
         say(f"{'FAILED' if copy else 'unproved'} {words}")
     if not copy:

@@ -19,6 +19,7 @@ from auction.conductor.clear import ClearFault, clear
 from auction.conductor.commands import CommandFault
 from auction.conductor.conductor import Conductor
 from auction.conductor.context import Context
+from auction.conductor.decision import table
 from auction.conductor.settings import SettingsFault
 from auction.conductor.timetable import TimetableFault
 
@@ -33,16 +34,25 @@ A round waits for your word, `auction next` or `auction extend`, if:
 - this conductor did not open its window;
 - bidders missed more of its window than conductor.json allows;
 - the clock was set by more than a second since its window was announced;
+- its journal has lost sheets that it had;
 - more pairs of bidder and product matter than a closing can list;
 - the journal has changed since its closing was made, or the server refuses the closing."""
 
 CLEAR = f"""{FOLDER} All files of the auction that are in it go to a new
 folder in FOLDER/past: state, published and closed rounds, receipts, bidders.map, sheet.conf, the
 set-up, and the journal. nginx's cache is emptied. conductor.json stays. It refuses while a server,
-a conductor, or the service of receipts runs. If it is killed, nothing begins in FOLDER until you
-call it again."""
+a conductor, a desk, `auction standby`, or the service of receipts runs. If it is killed, nothing
+begins in FOLDER until you call it again."""
 
 Action = Callable[[Context, argparse.Namespace], None]
+
+
+class Rules(argparse.Action):
+    """Prints the rules of the conductor, and ends."""
+
+    def __call__(self, parser: argparse.ArgumentParser, *_: Any) -> None:
+        print("\n".join(table()))
+        parser.exit(0)
 
 
 def run_auction(folder: pathlib.Path) -> None:
@@ -121,6 +131,12 @@ def add_folder(parser: argparse.ArgumentParser) -> None:
     parser.add_argument("folder", metavar="FOLDER", type=pathlib.Path)
 
 
+def add_run(parser: argparse.ArgumentParser) -> None:
+    add_folder(parser)
+    words = "print the rules by which it decides, and end"
+    parser.add_argument("--rules", action=Rules, nargs=0, help=words)
+
+
 def add_status(parser: argparse.ArgumentParser) -> None:
     add_folder(parser)
     parser.add_argument("--json", action="store_true", help="print an object of JSON")
@@ -172,7 +188,7 @@ COMMANDS = (
         "run",
         "Runs an auction by its timetable, as the systemd unit does.",
         RUN,
-        add_folder,
+        add_run,
         guarded("run", lambda given: run_auction(given.folder.absolute())),
     ),
     command(
@@ -189,7 +205,7 @@ COMMANDS = (
     ),
     command(
         "check",
-        "Prints the windows of a timetable in UTC, and changes nothing.",
+        "Prints the windows of a timetable in UTC, or why `plan` would refuse it now.",
         add_file,
         lambda context, given: commands.check(context, given.file),
     ),

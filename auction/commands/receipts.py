@@ -1,9 +1,12 @@
 """Signs a receipt for each accepted sheet, and puts it where nginx gives it to its bidder only.
 
 JOURNAL is the server's journal, which is read as it grows and never written. FOLDER has the secret
-key receipts.pem, which `auction commit` made before round 1. RECEIPTS is the folder `receipts` of
-nginx. It must be there, and nginx's workers must be its group: install -d -m 2750 -g auction-nginx
-receipts. What is made in it is for its owner and this group only.
+key receipts.pem, which `auction commit` made before round 1. public/commitment.json next to FOLDER
+must be of this set-up and key: a key signs for one auction only.
+
+RECEIPTS is the folder `receipts` of nginx. It must be there, and nginx's workers must be its group:
+install -d -m 2750 -g auction-nginx receipts. What is made in it is for its owner and this group
+only.
 
 Once a second it looks for sheets that are on the disk. All receipts of a look appear at the next
 whole second, at the same moment: so they show nothing of how many sheets others sent.
@@ -25,7 +28,10 @@ import pathlib
 import sys
 
 from auction.command import Command
+from auction.conductor.chain import Chain
 from auction.formats.setup import Setup
+from auction.formats.signatures import public_of
+from auction.formats.ties import Commitment
 from auction.receipts import FAULTS, Key, OtherAuction, Sheets, Signer
 from auction.receipts import run as publish_receipts
 
@@ -45,13 +51,32 @@ def say(line: str) -> None:
     print(line, flush=True)
 
 
+def check_key(folder: pathlib.Path, setup: Setup, secret: bytes) -> None:
+    """Refuses the key of another auction: it must be the committed one of this set-up.
+
+    The unit hides the chain, so the commitment says which key it is. Without one next to the
+    folder, the chain says which set-up the key is of.
+    """
+    path = folder.parent / "public/commitment.json"
+    if not path.exists():
+        Chain.read(folder / "chain.json", setup)
+        return
+    found = Commitment.read(path)
+    if found.auction != setup.digest:
+        raise ValueError(f"{folder / 'receipts.pem'} is of another set-up, as {path} says")
+    if found.key != public_of(secret):
+        raise ValueError(f"{folder / 'receipts.pem'} is not the key of {path}")
+
+
 def run(given: argparse.Namespace) -> int:
     os.umask(0o027)
     try:
         if not given.receipts.is_dir():
             sys.exit(f"auction receipts: there is no folder {given.receipts}")
-        sheets = Sheets(given.journal, Setup.read(given.setup))
+        setup = Setup.read(given.setup)
+        sheets = Sheets(given.journal, setup)
         key = Key(given.folder / "receipts.pem")
+        check_key(given.folder, setup, key.secret)
         signer = Signer(sheets, key.secret, given.receipts, given.refused)
         if given.once:
             signer.look()

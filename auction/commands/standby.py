@@ -10,11 +10,14 @@ when a round begins, and when something is wrong. FOLDER/state/standby.json says
 and `auction ready` reads it. With --once it sends all, says how far HOST is, and ends.
 """
 import argparse
+import contextlib
 import dataclasses
+import fcntl
 import json
 import pathlib
 import sys
 import time
+from collections.abc import Iterator
 
 from auction.command import Command
 from auction.conductor import disk
@@ -24,6 +27,7 @@ from auction.standby.frames import Line
 from auction.standby.keeping import Unkept, keep
 from auction.standby.sending import Passed, Refused, Sender
 
+LOCK = "state/sending.lock"
 AGAIN = 5  # seconds until the next try
 FAULTS = (Refused, Unkept, JournalFault, OSError, ValueError)
 
@@ -45,6 +49,17 @@ def note(folder: pathlib.Path, host: str, passed: Passed) -> None:
     """Writes down how far the other machine is."""
     text = json.dumps({"host": host, **dataclasses.asdict(passed)}) + "\n"
     disk.show(folder / "state/standby.json", text, disk.PRIVATE)
+
+
+@contextlib.contextmanager
+def sending(folder: pathlib.Path) -> Iterator[None]:
+    """While this lasts, nobody puts the auction away. Its copy would lose all files."""
+    with open(folder / LOCK, "w", encoding="utf-8") as lock:
+        try:
+            fcntl.flock(lock, fcntl.LOCK_SH | fcntl.LOCK_NB)
+        except OSError as error:
+            raise Refused(f"`auction clear` runs: it has {folder / LOCK}") from error
+        yield
 
 
 def send(folder: pathlib.Path, given: argparse.Namespace) -> None:
@@ -90,7 +105,8 @@ def run(given: argparse.Namespace) -> int:
             sys.exit("auction standby: name the other machine")
         else:
             mark.check(folder)
-            (send if given.once else send_for_good)(folder, given)
+            with sending(folder):
+                (send if given.once else send_for_good)(folder, given)
     except FAULTS as fault:
         sys.exit(f"auction standby: {fault}")
     return 0

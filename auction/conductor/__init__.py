@@ -16,6 +16,7 @@
     gate        when nginx takes sheets
     public       what everyone sees
     report      what the operator sees
+    room        the space that the journal still has
     watch       clocks that were set, and servers that nobody saw
     context      what the conductor and the commands share
     conductor   what is done when

@@ -43,7 +43,8 @@ class Chain:
             chain = cls(value["auction"], secret, checked_draw(value["draw"]))
         except FileNotFoundError as error:
             raise ChainFault(
-                f"there is no {path}: make it with `auction commit` before round 1"
+                f"there is no {path}: make it with `auction commit` before round 1. Later, find "
+                "the folder that has it: no other chain fits the commitment"
             ) from error
         except (OSError, ValueError) as error:
             raise ChainFault(f"{path} is no chain: {error}") from error

@@ -13,7 +13,6 @@ from .settings import Folders, Settings, half_of
 
 # What nginx's folder has of an auction, besides the set-up and the journal. conductor.json stays.
 OWN = (
-    "asked",
     "bidders.map",
     "by.map",
     "gate",
@@ -46,6 +45,8 @@ def clear(folder: Path, now: float) -> tuple[Path, list[str]]:
     with contextlib.ExitStack() as stack:
         for path, who in (
             (Folders(folder).state / "run.lock", "a conductor"),
+            (Folders(folder).state / "desk.lock", "the desk"),
+            (Folders(folder).state / "sending.lock", "`auction standby`"),
             (folder / "kept/receipts.pem", "`auction receipts`"),
             (settings.journal, "a server"),
         ):

@@ -2,26 +2,34 @@
 
 Each is one change of the plan, together with its announcement.
 """
+import dataclasses
 from pathlib import Path
 
 from . import closing, report, timetable
-from .asked import Closing
 from .clock import in_words, utc
 from .increments import in_words as increments_in_words
 from .increments import increments_for
 from .context import Context
 from .decision import TEN, Reason, whole_ten
-from .plan import Act, Ended, Pause, Plan
+from .plan import Ended, Pause, Plan
 from .server import NoReply, Refused
 from .timetable import Window, move_later, replaced
 
 LEAST_MINUTES, MOST_MINUTES = 1 / 6, 1440
-PAGE = "the operator's page"
 LEAST_LEFT = 60  # seconds that a window has at least if it opens again
 
 
 class CommandFault(Exception):
     """Why a command changes nothing."""
+
+
+@dataclasses.dataclass(frozen=True)
+class Closing:
+    """The round to close early, its increments, and whether to close it without a sheet."""
+
+    round: int
+    increments: list[int]
+    without_sheets: bool
 
 
 def current(context: Context) -> int:
@@ -56,14 +64,10 @@ def check_minutes(minutes: float, least: float) -> None:
 
 def plan(context: Context, path: Path) -> None:
     """Replaces the windows of the rounds that have not begun, and announces it."""
-    fresh, now, settings = timetable.read(path), context.clock.wall(), context.settings
+    fresh = timetable.read(path)
     with context.changing() as changed:
         number = current(context)
-        window = changed.windows.get(number)
-        begun = number if window and window.opens <= now else number - 1
-        changed.windows = replaced(
-            changed.windows, begun, fresh.windows, now, settings.gap, settings.notice
-        )
+        begun, changed.windows = taken(context, changed, number, fresh.windows)
         later = [changed.windows[number] for number in sorted(changed.windows) if number > begun]
         for one in later:
             one.note_clock(context.clock)
@@ -81,6 +85,19 @@ def plan(context: Context, path: Path) -> None:
         )
 
 
+def taken(
+    context: Context, plan: Plan, number: int, fresh: list[Window]
+) -> tuple[int, dict[int, Window]]:
+    """The last round that has begun, and the windows by round once fresh ones are taken now.
+
+    A TimetableFault says why they are not.
+    """
+    now, settings = context.clock.wall(), context.settings
+    window = plan.windows.get(number)
+    begun = number if window and window.opens <= now else number - 1
+    return begun, replaced(plan.windows, begun, fresh, now, settings.gap, settings.notice)
+
+
 def keep_increments(changed: Plan, number: int) -> None:
     """A round that has begun keeps its rules of increments, since its bids may be known.
 
@@ -94,9 +111,13 @@ def keep_increments(changed: Plan, number: int) -> None:
 
 
 def check(context: Context, path: Path) -> None:
-    """Prints the windows of a timetable in UTC, and changes nothing."""
+    """Prints the windows of a timetable in UTC, and changes nothing.
+
+    Refuses what `plan` would refuse now.
+    """
     windows = timetable.read(path).windows
     timetable.check_gaps(windows, context.settings.gap)
+    taken(context, context.plan_file.read(), current(context), windows)
     for window in windows:
         context.say(f"{utc(window.opens)} {utc(window.closes)}")
 
@@ -248,34 +269,6 @@ def announce_increments(context: Context, changed: Plan, asked: Closing) -> None
             f"The operator closes round {asked.round} with other increments than announced: "
             f"{percents} percent."
         )
-
-
-def obey_page(context: Context, changed: Plan) -> report.Report | None:
-    """Does what the operator's page asks for, if it does.
-
-    If nobody has a sheet and the request does not say so, returns a report. If the server is gone,
-    the request stays until it is too old.
-    """
-    asked = context.asked.read(context.clock.wall())
-    if asked is None:
-        return None
-    try:
-        status = context.status()
-        context.journal.read_on()
-    except (NoReply, Refused):
-        return None
-    number, is_fixed = asked.round, context.auction.body_file(asked.round).exists()
-    is_late = status["ended"] or status["round"] != number or changed.paused or is_fixed
-    has_sheets = bool(context.journal.sheets) or asked.without_sheets
-    if has_sheets and not is_late:
-        end_early(context, changed, asked)
-        changed.acts.append(Act("close", PAGE, number, len(context.notices.entries())))
-        context.plan_file.store(changed)  # a kill must not lose the request
-    context.asked.remove()
-    if has_sheets or is_late:
-        return None
-    words = "the operator's page asked for it, but nobody has a sheet in force"
-    return report.Report(report.State.HELD, f"Round {number} is not closed: {words}.")
 
 
 def winners(context: Context) -> None:

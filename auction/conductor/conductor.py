@@ -9,10 +9,9 @@ from typing import Any
 
 from auction.formats.journal import JournalFault
 
-from . import closing, disk
+from . import closing, disk, room
 from .clock import in_words, utc
 from .closing import NotClosed, Origin, Outcome, Ties
-from .commands import obey_page
 from .context import Context
 from .decision import (
     Action,
@@ -53,6 +52,7 @@ class Conductor:
         self.observer = Observer(self.context, self.watch)
         self.publisher = Publisher(self.context)
         self.limits = self.context.settings.limits()
+        self.warned = ""
 
     @property
     def number(self) -> int | None:
@@ -75,7 +75,7 @@ class Conductor:
         """Does what is due, and reports what it waits for."""
         try:
             with self.context.changing() as plan:
-                report = obey_page(self.context, plan) or self.act(plan)
+                report = self.act(plan)
         except StrangePlan as fault:
             self.act(Plan("another auction's"))
             report = Report(State.MISMATCH, f"Nothing is opened or closed: {fault}")
@@ -84,7 +84,16 @@ class Conductor:
                 State.GONE, f"The conductor cannot continue, and tries again each second: {fault}"
             )
         self.show(report)
+        self.warn()
         return report
+
+    def warn(self) -> None:
+        """Says once in its log that the journal has little space left."""
+        journal = self.context.settings.journal
+        words = room.warning(room.length_of(journal), room.free_part(journal))
+        if words and words != self.warned:
+            self.context.say(f"{utc(self.context.clock.wall())} {words}")
+        self.warned = words
 
     def show(self, report: Report) -> None:
         """Reports to the operator. A full disk must not end the conductor."""

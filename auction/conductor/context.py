@@ -9,7 +9,6 @@ from collections.abc import Callable, Iterator
 from pathlib import Path
 
 from . import disk
-from .asked import Asked
 from .public import PublicFiles
 from .clock import Clock, MachineClock
 from .closing import Auction
@@ -58,7 +57,6 @@ class Context:
         self.bidders_port = BiddersPort(self.settings.bidders, self.settings.authority)
         self.auction = Auction(self.operator, self.setup, self.journal, self.folders.kept)
         self.auction.chain()  # there must be one
-        self.asked = Asked(self.folders.asked / "close.json", self.setup)
         self.plan_file, self.public, self.gate = (
             PlanFile(self.folders.state / "plan.json", self.identity()),
             PublicFiles(self.folders, self.setup.kind is Kind.MOCK),

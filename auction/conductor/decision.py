@@ -30,6 +30,7 @@ class Reason(enum.Enum):
     CLOCK = "the clock was set since its window was announced"
     NO_SHEETS = "nobody has a sheet in force"
     TOO_MANY_PAIRS = "more pairs of bidder and product matter than a closing can list"
+    LOST = "the journal has lost sheets that it had"
     CHANGED = "the journal has changed since its sheets were frozen, or its closing was made"
     REFUSED = "the server refuses its closing"
 
@@ -144,6 +145,7 @@ class Observed:
     plan: Plan
     gate: Gate
     server: Server | None  # None if it does not answer, or its journal cannot be read
+    lost: bool  # whether the journal lacks something that was read in it before
     pending: bool  # whether a connection from before the last change of the gate is still open
     frozen: str | None  # the journal's digest that is published for this window
     fixed: str | None  # the journal's digest for which the closing on the disk was made
@@ -451,6 +453,11 @@ RULES: tuple[Rule, ...] = (
         State.MISMATCH,
         lambda look: look.server.closed < look.seen.published,
     ),
+    latch(
+        Reason.LOST,
+        "the journal lacks something that was read in it before",
+        lambda look: look.has_window and look.seen.lost,
+    ),
     Rule(
         "a closed round is not published, and the curtain is drawn",
         "wait for the curtain to lift",
@@ -601,10 +608,10 @@ def decide(seen: Observed, limits: Limits, rules: tuple[Rule, ...] = RULES) -> A
 
 
 def table() -> Iterator[str]:
-    """The rules as a table of docs/deployment.md. A row has the rules of one condition."""
-    yield "| | if, and no row before | then |"
-    yield "|---|---|---|"
+    """The rules in words. A line has the rules of one condition."""
+    yield "The conductor does what the first line says whose condition holds, and looks again."
+    yield "To latch is to store a doubt."
     groups = itertools.groupby(RULES, key=lambda rule: rule.condition)
     for number, (condition, rules) in enumerate(groups, 1):
         actions = ". Then ".join(rule.action for rule in rules)
-        yield f"| {number} | {condition} | {actions} |"
+        yield f"{number}. {condition}: {actions}"

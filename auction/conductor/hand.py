@@ -8,6 +8,7 @@ import dataclasses
 from collections.abc import Callable, Iterator
 
 from auction.formats.ties import MOST_TIES
+from auction.standby import mark
 
 from . import closing, disk, stored
 from .clock import Clock, in_words, seconds_of
@@ -84,11 +85,15 @@ class Hand:
 
     @contextlib.contextmanager
     def alone(self) -> Iterator[None]:
-        """While this lasts, a conductor of this folder and other calls do nothing."""
+        """While this lasts, a conductor of this folder and other calls do nothing.
+
+        A Marked if this machine was fenced meanwhile.
+        """
         with contextlib.ExitStack() as stack:
             if self.folders.state.is_dir():
                 stack.enter_context(disk.locked(self.folders.state / "plan.lock"))
             stack.enter_context(disk.locked(self.auction.lock()))
+            mark.check(self.folders.top)
             yield
 
     def end_of(self, number: int) -> int | None:
@@ -164,8 +169,9 @@ class Hand:
     def observe(self, number: int, ends: int) -> Observed:
         """What a decision depends on."""
         now, status = self.clock.wall(), self.auction.operator.page("/v1/status")
-        sheets = sheets_in_force(self.auction, number)
         gate = self.gate.times(ends, now)
+        is_pending = self.is_pending(not gate.takes and not gate.late)
+        sheets = sheets_in_force(self.auction, number)  # has what is not on its way any more
         digest, closed = self.auction.journal.digest.hex(), closing.last_closed(status)
         has_notices = self.notices.path.exists()
         return Observed(
@@ -178,7 +184,8 @@ class Hand:
             Plan("", None, doubts=self.doubts),
             gate,
             Server(closed, status["ended"], digest, len(sheets), 0),
-            self.is_pending(not gate.takes and not gate.late),
+            False,
+            is_pending,
             self.notices.frozen(number) if has_notices else digest,
             closing.fixed_for(self.auction, number),
             closed,

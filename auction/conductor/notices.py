@@ -13,9 +13,9 @@ from auction.formats.notices import (
     NoticesFault,
     appended,
     checked_entry,
+    commitment_of,
     digest_of,
     entry_in,
-    key_of,
     lines_of,
 )
 
@@ -90,7 +90,8 @@ def chained(text: bytes, commitment: bytes) -> list[Entry]:
         entries.append(entry)
         before = digest_of(line)
     if entries:
-        checked_entry(lines[-1], len(lines), entries[-1].before, key_of(commitment))
+        fixed = commitment_of(commitment)
+        checked_entry(lines[-1], len(lines), entries[-1].before, fixed)
     return entries
 
 

@@ -1,5 +1,5 @@
 """What the conductor sees before each decision. Nothing here changes the auction."""
-from auction.formats.journal import JournalFault
+from auction.formats.journal import JournalChanged, JournalFault
 from auction.formats.ties import MOST_TIES
 
 from . import closing, decision
@@ -26,20 +26,22 @@ class Observer:
         self.round: int | None = None
         self.names: set[str] | None = None  # of the gate's files when connections were marked
         self.marked: frozenset[str] = frozenset()
+        self.compared = 0  # published rounds that the journal has
         self.counted = ("", 0)  # the journal's digest, and the pairs that matter to it
 
     def observe(self, plan: Plan) -> Observed:
         """All that a decision depends on."""
-        look, server = self.watch.look(), self.server()
+        look = self.watch.look()
+        server, is_pending = self.server(plan, look.wall)
         published = self.context.public.published()
         number = (published if server is None else server.closed) + 1
         ended = self.context.public.has_ended() if server is None else server.ended
         window = None if ended else plan.windows.get(number)
         gate = self.context.gate.times(window.opens if window else 0, look.wall)
         fixed = None if ended else closing.fixed_for(self.context.auction, number)
-        is_over = window is not None and look.wall >= window.closes
-        is_pending = self.is_pending(is_over and not gate.takes and not gate.late)
-        if server and is_over and not gate.late and not is_pending and fixed is None:
+        is_shut = is_over(window, look.wall) and not gate.takes and not gate.late
+        is_pending = is_shut and (is_pending or self.names is None)  # None: nobody has asked
+        if server and is_shut and not is_pending and fixed is None:
             server = server._replace(pairs=self.pairs(number))
         return Observed(
             self.context.plan_file.auction,
@@ -51,6 +53,7 @@ class Observer:
             plan_of(plan, number, window, self.is_announced(number, window)),
             gate,
             server,
+            server is not None and not ended and self.lost(plan, number),
             is_pending,
             self.context.notices.frozen(number),
             fixed,
@@ -58,25 +61,63 @@ class Observer:
             self.announced(),
         )
 
-    def server(self) -> Server | None:
-        """The server and its journal, or None if one of them cannot be read."""
-        journal = self.context.journal
+    def server(self, plan: Plan, now: float) -> tuple[Server | None, bool]:
+        """The server and its journal, or None if one of them cannot be read; and whether a request
+        is on its way to it.
+
+        The journal is read last: so it has each request that was not on its way any more.
+        """
+        journal, is_pending = self.context.journal, False
         try:
             status = self.context.status()
             self.round, closed, ended = status["round"], last_closed(status), status["ended"]
             if closed < self.context.public.published():
-                return Server(closed, ended, "", 0, 0)
-            journal.read_on()
+                return Server(closed, ended, "", 0, 0), False
+            window = None if ended else plan.windows.get(closed + 1)
+            gate = self.context.gate.times(0)
+            is_pending = self.is_pending(is_over(window, now) and not gate.takes and not gate.late)
+            self.read_on()
         except (NoReply, Refused, JournalFault) as fault:
             self.fault = str(fault)
-            return None
+            return None, is_pending
         if len(journal.closings) != closed:
             self.fault = (
                 f"{journal.path} is in round {journal.round}, and the server in round "
                 f"{self.round}. Is it the server's own, and no copy?"
             )
-            return None
-        return Server(closed, ended, journal.digest.hex(), len(journal.sheets), 0)
+            return None, is_pending
+        if not self.is_of_published():
+            self.fault = (
+                f"{journal.path} has other closings than were published. Is it the server's own, "
+                "and no copy?"
+            )
+            return None, is_pending
+        return Server(closed, ended, journal.digest.hex(), len(journal.sheets), 0), is_pending
+
+    def is_of_published(self) -> bool:
+        """Whether the journal has the published rounds, by the digest of the last one."""
+        public, closings = self.context.public, self.context.journal.closings
+        last = public.published()
+        if last > self.compared:
+            page = public.results(last) or {}
+            if page.get("digest") != closings[last - 1].digest:
+                return False
+            self.compared = last
+        return True
+
+    def read_on(self) -> None:
+        """Reads the journal on, or from its beginning if it was put back, or is another one."""
+        try:
+            self.context.journal.read_on()
+        except JournalChanged:
+            self.compared = 0
+            self.context.journal.begin()
+            self.context.journal.read_on()
+
+    def lost(self, plan: Plan, number: int) -> bool:
+        """Whether the journal lacks what was read in it before. It counts once."""
+        reasons = {doubt.reason for doubt in plan.doubts_of(number)}
+        return self.watch.lost(self.context.journal, Reason.LOST.name in reasons)
 
     def pairs(self, number: int) -> int:
         """How many pairs of bidder and product matter to the closing of this journal."""
@@ -93,7 +134,9 @@ class Observer:
         """The share of the window so far in which bidders could not reach the auction."""
         if window is None or number != self.context.public.published() + 1:
             return 0.0
-        is_reached = server is not None and self.context.is_reached(self.watch.now, window)
+        is_reached = server is not None
+        if window.opened is not None:  # before that, the doors open without waiting for a page
+            is_reached = is_reached and self.context.is_reached(self.watch.now, window)
         if window.opened is not None and self.watch.now < window.closes:
             is_reached = is_reached and self.context.gate.takes_sheets(self.watch.now)
         return self.watch.missed(number, window, plan.paused is not None, is_reached)
@@ -124,6 +167,10 @@ class Observer:
         while closing_key(number + 1) in keys:
             number += 1
         return number
+
+
+def is_over(window: Window | None, now: float) -> bool:
+    return window is not None and now >= window.closes
 
 
 def plan_of(plan: Plan, number: int, window: Window | None, announced: bool) -> decision.Plan:

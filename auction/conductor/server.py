@@ -11,7 +11,9 @@ Page = dict[str, Any]
 
 CLOSING_SECONDS = 300  # as long as nginx waits for a closing
 PAGE_SECONDS = 5
-PUBLIC_PAGE = "/public/timetable.json"
+PUBLIC_PAGE = "/v1/status"  # which comes through the inner door, as a sheet does
+# nginx's words if others at this address ask much, or if the curtain of a window's end is drawn.
+BARRED = ("too_often", "closing")
 
 
 class NoReply(Exception):
@@ -57,7 +59,7 @@ class Operator:
                 raise ValueError("this is not a page of the server")
             return page
         except (OSError, ValueError, http.client.HTTPException) as error:
-            raise NoReply(f"no reply to {path}: {error}") from error
+            raise NoReply(f"no reply to {path} at {self.url}: {error}") from error
 
     def page(self, path: str, seconds: float = CLOSING_SECONDS) -> Page:
         """The page for a path.
@@ -77,7 +79,7 @@ class BiddersPort:
         self.url, self.authority = url.rstrip("/"), authority
 
     def answers(self) -> bool:
-        """Whether a page comes from there."""
+        """Whether a page of the server comes from there, or nginx withholds it."""
         try:
             context = ssl.create_default_context(cafile=self.authority or None)
             opener = urllib.request.build_opener(
@@ -87,5 +89,15 @@ class BiddersPort:
             )
             with opener.open(self.url + PUBLIC_PAGE, timeout=PAGE_SECONDS):
                 return True
+        except urllib.error.HTTPError as error:
+            return code_of(error) in BARRED
         except (OSError, ValueError, http.client.HTTPException):
             return False
+
+
+def code_of(error: urllib.error.HTTPError) -> str:
+    """The code in the page of a refusal, or nothing if it is another page."""
+    try:
+        return str(json.load(error)["code"])
+    except (OSError, ValueError, LookupError, TypeError, http.client.HTTPException):
+        return ""

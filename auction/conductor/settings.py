@@ -87,6 +87,9 @@ class Settings:
                 raise ValueError(f"unknown key {', '.join(sorted(strange))}")
             files = {name: folder / value.pop(name) for name in ("setup", "token", "journal")}
             settings = cls(**files, **value)
+        except FileNotFoundError as error:
+            words = "`auction init` makes it, and docs/formats.md describes it"
+            raise SettingsFault(f"there is no {path}: {words}") from error
         except (OSError, ValueError, AttributeError, KeyError, TypeError) as error:
             raise SettingsFault(f"{path}: {error!r}") from error
         times = {
@@ -147,11 +150,6 @@ class Folders:
         return self.top / "operator"
 
     @property
-    def asked(self) -> Path:
-        """For nginx's workers to write: what the operator's page asks for."""
-        return self.top / "asked"
-
-    @property
     def kept(self) -> Path:
         """For the operator: closings and pages, as `auction close` stores them."""
         return self.top / "kept"
@@ -170,7 +168,6 @@ class Folders:
             (self.public, 0o755),
             (self.rounds, 0o755),
             (self.operator, 0o750),
-            (self.asked, 0o770),
             (self.kept, 0o700),
             (self.state, 0o700),
         ):
@@ -180,14 +177,12 @@ class Folders:
             self.give_to(readers)
 
     def give_to(self, readers: str) -> None:
-        """Gives the folders of the report and of requests, and the files made in them, to this
-        group.
-        """
+        """Gives the folder of the report, and the files made in it, to this group."""
         try:
             group = grp.getgrnam(readers).gr_gid
         except KeyError as error:
             raise SettingsFault(f"conductor.json: no group is called {readers!r}") from error
-        for folder, mode in ((self.operator, 0o2750), (self.asked, 0o2770)):
-            if folder.stat().st_gid != group or not folder.stat().st_mode & stat.S_ISGID:
-                os.chown(folder, -1, group)
-                folder.chmod(mode)
+        found = self.operator.stat()
+        if found.st_gid != group or not found.st_mode & stat.S_ISGID:
+            os.chown(self.operator, -1, group)
+            self.operator.chmod(0o2750)

@@ -1,6 +1,10 @@
-"""How far the clock was set, and how much of a window bidders missed, also across restarts."""
+"""How far the clock was set, how much of a window bidders missed, and what the journal had, also
+across restarts.
+"""
 import dataclasses
 import json
+
+from auction.formats.journal import Journal, Read
 
 from . import disk, stored
 from .clock import Clock
@@ -34,12 +38,15 @@ class Missed:
 
 @dataclasses.dataclass(frozen=True)
 class Look:
-    """One reading of the clock, and what bidders missed of a window up to it."""
+    """One reading of the clock, what bidders missed of a window up to it, and what was read of the
+    journal.
+    """
 
     wall: float
     passed: float
     boot: str
     missed: Missed | None = None
+    read: Read | None = None
 
 
 class Watch:
@@ -55,16 +62,18 @@ class Watch:
     def stored(self) -> Look | None:
         try:
             value = stored.read(self.path)
-            missed = value.pop("missed")
-            return Look(**value, missed=missed and Missed(**missed))
+            missed, read = value.pop("missed"), value.pop("read", None)
+            return Look(**value, missed=missed and Missed(**missed), read=read and Read(*read))
         except (FileNotFoundError, ValueError, TypeError, KeyError):
             return None
 
     def look(self) -> Look:
         """Reads the clock."""
         self.before = self.last
-        missed = self.last.missed if self.last else None
-        self.last = Look(self.clock.wall(), self.clock.passed(), self.clock.boot(), missed)
+        times = self.clock.wall(), self.clock.passed(), self.clock.boot()
+        self.last = Look(*times)
+        if self.before:
+            self.last = Look(*times, self.before.missed, self.before.read)
         return self.last
 
     @property
@@ -98,6 +107,16 @@ class Watch:
         self.last = dataclasses.replace(look, missed=missed)
         length = window.closes - window.opens
         return missed.seconds / length if length else 0.0
+
+    def lost(self, journal: Journal, is_known: bool) -> bool:
+        """Whether the journal lacks what was read in it before. Notes what it has, if it does not,
+        or if that is known.
+        """
+        look = self.last or self.look()
+        is_lost = look.read is not None and not journal.has(look.read)
+        if is_known or not is_lost:
+            self.last = dataclasses.replace(look, read=journal.read_up_to())
+        return is_lost
 
     def store(self) -> None:
         if self.last:

@@ -6,9 +6,8 @@ from collections.abc import Callable, Iterator
 from typing import Any
 
 from auction.conductor import commands, disk, timetable
-from auction.conductor.asked import Closing
 from auction.conductor.clock import utc
-from auction.conductor.commands import CommandFault
+from auction.conductor.commands import Closing, CommandFault
 from auction.conductor.context import Context
 from auction.conductor.decision import Reason
 from auction.conductor.increments import LEAST, MOST

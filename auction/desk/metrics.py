@@ -5,7 +5,6 @@ shown as of the last closed round: replies by status, and the journal's length. 
 connections are rounded so far down that one sheet does not show.
 """
 import dataclasses
-import os
 import threading
 import time
 from collections.abc import Callable
@@ -14,6 +13,7 @@ from pathlib import Path
 from auction.conductor import report
 from auction.conductor.context import Context
 from auction.conductor.plan import StrangePlan
+from auction.conductor.room import free_part
 from auction.formats.journal import HEAD, JournalFault
 
 from .counted import KINDS, Counted
@@ -86,15 +86,6 @@ def text_of(figures: Figures) -> str:
     mismatch = flag(figures.state == "mismatch")
     add("server_mismatch", "gauge", "1 if another server answers.", {"": mismatch})
     return "\n".join(lines) + "\n"
-
-
-def free_part(path: Path) -> float:
-    """The free part of the disk of a path; all of it if that is not known."""
-    try:
-        found = os.statvfs(path)
-    except OSError:
-        return 1.0
-    return found.f_bavail / found.f_blocks if found.f_blocks else 1.0
 
 
 def listener(port: int, table: Path = Path("/proc/net/tcp")) -> str:

@@ -5,7 +5,7 @@ import json
 import os
 from collections.abc import Iterator
 from pathlib import Path
-from typing import BinaryIO
+from typing import BinaryIO, NamedTuple
 
 from .setup import Setup
 
@@ -51,6 +51,17 @@ class JournalFault(Exception):
     """The journal cannot be read, is not this auction's, or is damaged."""
 
 
+class JournalChanged(JournalFault):
+    """The file is another journal than the one that was read, or an earlier state of it."""
+
+
+class Read(NamedTuple):
+    """What was read of a journal: where its last text begins, and the digest of all texts."""
+
+    place: int
+    digest: str
+
+
 @dataclasses.dataclass(frozen=True)
 class Entry:
     """A text in the journal: where it is, its length, and the digest of all texts up to it."""
@@ -65,7 +76,11 @@ class Journal:
 
     def __init__(self, path: Path, setup: Setup) -> None:
         self.path, self.setup = path, setup
-        self.end, self.digest = HEAD, hashlib.sha256(setup.document).digest()
+        self.begin()
+
+    def begin(self) -> None:
+        """Nothing is read yet."""
+        self.end, self.digest = HEAD, hashlib.sha256(self.setup.document).digest()
         self.last: Entry | None = None
         self.sheets: dict[str, Entry] = {}
         self.closings: list[Entry] = []
@@ -96,7 +111,19 @@ class Journal:
             return
         file.seek(self.last.place - 32)  # the digest is just before the text
         if file.read(32) != self.digest or os.fstat(file.fileno()).st_size < self.end:
-            raise JournalFault(f"{self.path} is another journal than before, or has lost its end")
+            raise JournalChanged(f"{self.path} is another journal than before, or has lost its end")
+
+    def read_up_to(self) -> Read | None:
+        """What was read, or None without a text."""
+        return Read(self.last.place, self.digest.hex()) if self.last else None
+
+    def has(self, read: Read) -> bool:
+        """Whether what was read here has all that was read before."""
+        if not HEAD < read.place < self.end:
+            return False
+        with open(self.path, "rb") as file:
+            file.seek(read.place - 32)  # the digest is just before the text
+            return file.read(32).hex() == read.digest
 
     def added(self, file: BinaryIO) -> Iterator[tuple[Entry, bytes]]:
         """The whole texts after what was read.

@@ -14,6 +14,8 @@ from collections.abc import Callable
 from pathlib import Path
 from typing import Any, NamedTuple
 
+from auction.mock import kind_in, mark_of
+
 from .signatures import SIGNATURE, is_signed, sign
 from .strict import value_in
 from .ties import Commitment, bytes_of, checked_draw, has_keys
@@ -33,7 +35,10 @@ class NoticesFault(ValueError):
 
 @dataclasses.dataclass(frozen=True)
 class Entry:
-    """A notice. `before` is the SHA-256 of the line before, in hexadecimal."""
+    """A notice. `before` is the SHA-256 of the line before, in hexadecimal.
+
+    `mock` says that it is of a mock auction.
+    """
 
     before: str
     kind: str
@@ -41,10 +46,13 @@ class Entry:
     says: dict[str, Any]
     time: str
     signature: bytes = b""
+    mock: bool = False
 
     def value(self) -> dict[str, Any]:
         """The JSON value of the line."""
-        return {**dataclasses.asdict(self), "signature": self.signature.hex()}
+        value = {**dataclasses.asdict(self), "signature": self.signature.hex()}
+        del value["mock"]
+        return {**value, **mark_of(self.mock)}
 
     def line(self) -> bytes:
         """The line of the file, with its end."""
@@ -201,11 +209,12 @@ def appended(
     """
     lines = lines_of(text)
     if not lines:
-        first = Entry(digest_of(commitment), kind, 1, says, time)
+        is_mock = commitment_of(commitment).mock
+        first = Entry(digest_of(commitment), kind, 1, says, time, mock=is_mock)
         return signed(first, secret).line()
     last = entry_in(lines[-1])
     later = max(checked_time(time), last.time)
-    entry = Entry(digest_of(lines[-1]), kind, last.number + 1, says, later)
+    entry = Entry(digest_of(lines[-1]), kind, last.number + 1, says, later, mock=last.mock)
     return text + signed(entry, secret).line()
 
 
@@ -241,10 +250,10 @@ def read_notices(path: Path, commitment: bytes) -> list[Entry]:
 
 def notices_in(text: bytes, commitment: bytes) -> list[Entry]:
     """The entries of the bytes of a file."""
-    key = key_of(commitment)
+    fixed = commitment_of(commitment)
     entries, before = list[Entry](), digest_of(commitment)
     for number, line in enumerate(lines_of(text), 1):
-        entry = checked_entry(line, number, before, key)
+        entry = checked_entry(line, number, before, fixed)
         if entries and entry.time < entries[-1].time:
             raise NoticesFault(f"line {number}: it has an earlier time than the line before")
         entries.append(entry)
@@ -252,26 +261,32 @@ def notices_in(text: bytes, commitment: bytes) -> list[Entry]:
     return entries
 
 
-def key_of(commitment: bytes) -> str:
-    """The key in the bytes of commitment.json."""
+def commitment_of(text: bytes) -> Commitment:
+    """The commitment in the bytes of commitment.json."""
     try:
-        return Commitment.of(value_in(commitment)).key
+        return Commitment.of(value_in(text))
     except ValueError as error:
         raise NoticesFault(f"there is no commitment: {error}") from error
 
 
-def checked_entry(line: bytes, number: int, before: str, key: str) -> Entry:
-    """The entry of a line, which must be this number, follow the line before, and be signed."""
+def checked_entry(line: bytes, number: int, before: str, commitment: Commitment) -> Entry:
+    """The entry of a line, which must be this number, follow the line before, and be signed.
+
+    It must be of the commitment's kind of auction, which is said first.
+    """
     where = f"line {number}"
     try:
         entry = entry_in(line)
     except (ValueError, RecursionError) as error:
         raise NoticesFault(f"{where}: {error}") from error
+    if entry.mock != commitment.mock:
+        kinds = kind_in(entry.mock).value, kind_in(commitment.mock).value
+        raise NoticesFault(f"{where}: it is of {kinds[0]}, and the commitment is of {kinds[1]}")
     if entry.number != number:
         raise NoticesFault(f"{where}: it has entry {entry.number}: one was left out, or moved")
     if entry.before != before:
         raise NoticesFault(f"{where}: it follows another line than the one before")
-    if not is_signed(key, message(entry), entry.signature):
+    if not is_signed(commitment.key, message(entry), entry.signature):
         raise NoticesFault(f"{where}: it is not signed by the committed key")
     return entry
 
@@ -281,7 +296,8 @@ def entry_in(line: bytes) -> Entry:
     if not line.endswith(b"\n"):
         raise ValueError("the line is cut")
     value = value_in(line)
-    has_keys(value, *KEYS)
+    is_mock = isinstance(value, dict) and value.get("mock") is True
+    has_keys(value, *KEYS, *mark_of(is_mock))
     bytes_of(value["before"], DIGEST)
     checked_round(value["number"])
     checked_time(value["time"])
@@ -303,17 +319,22 @@ def compared(published: bytes, copy: bytes, commitment: bytes) -> Compared:
     chains: nobody else can sign one. Anything else may have been made by whoever has the copy.
     Raises NoticesFault if the published notices are no chain of this operator.
     """
-    count = len(notices_in(published, commitment))
+    entries = notices_in(published, commitment)
+    count = len(entries)
     ours, theirs = (lines_of(text) for text in (published, copy))
     if published.startswith(copy):
         if published == copy:
             return Compared(SAME, f"the copy has the same {count} entries")
         whole = copy.count(b"\n")
-        return Compared(SHORTER, f"the copy has the first {whole} of {count} entries")
+        return Compared(
+            SHORTER,
+            f"the copy has the first {whole} of {count} entries; if it was saved after "
+            f"{entries[whole].time}, the time of entry {whole + 1} is false",
+        )
     place = next((at for at, (one, two) in enumerate(zip(ours, theirs)) if one != two), count)
     before = digest_of(ours[place - 1]) if place else digest_of(commitment)
     try:
-        checked_entry(theirs[place], place + 1, before, key_of(commitment))
+        checked_entry(theirs[place], place + 1, before, commitment_of(commitment))
     except NoticesFault as fault:
         words = f"in the copy, {fault}: whoever made the copy can have done that"
         return Compared(UNPROVED, f"{words}, so it proves nothing against the operator")

@@ -5,20 +5,18 @@ import json
 import re
 from collections import Counter
 from collections.abc import Iterator
-from datetime import UTC, datetime
 from pathlib import Path
 from typing import Any, NamedTuple, Self
 
-from auction.mock import is_mock_token
+from auction.mock import is_mock_token, kind_in, mark_of
 from auction.recount.formats import Refused, Request, request_in
-from .journal import body_in, line_in
+from .journal import body_in, token_in
+from .sent import NAME, person_in, taken_in
 from .signatures import SIGNATURE, is_signed
 from .strict import value_in
 from .ties import Commitment, bytes_of, has_keys
 
-NAME = re.compile("[A-Za-z0-9_-]{1,32}")
 TIME = re.compile("[0-9]{4}-[0-9]{2}-[0-9]{2}T[0-9]{2}:[0-9]{2}:[0-9]{2}Z")
-SECOND, LAST = re.compile("[0-9]{1,12}"), 253_402_300_799  # the last one of the year 9999
 KEYS = ("auction", "bidder", "body", "by", "round", "sheet", "signature", "taken", "text")
 
 
@@ -32,7 +30,8 @@ class Receipt:
 
     `auction` is the digest of the set-up, and `bidder` the bidder's name. The digests are those of
     the body and of the whole request. `sheet` numbers this bidder's sheets of the round, from 1.
-    `taken` and `by` are when and by whom it was sent, as nginx wrote it into the request.
+    `taken` and `by` are when and by whom it was sent, as nginx wrote it into the request. `mock`
+    says that the request had a token of a mock auction.
     """
 
     auction: str
@@ -43,23 +42,23 @@ class Receipt:
     sheet: int
     taken: str
     text: str
+    mock: bool = False
 
     @classmethod
     def of(cls, auction: str, bidder: str, number: int, sheet: int, text: bytes) -> Self:
         """The receipt of a request in the journal."""
         whose = auction, bidder, digest_of(body_in(text)), person_in(text)
-        return cls(*whose, number, sheet, taken_in(text), digest_of(text))
+        is_mock = is_mock_token(token_in(text) or "")
+        return cls(*whose, number, sheet, taken_in(text), digest_of(text), is_mock)
 
     def message(self) -> bytes:
         """The signed bytes."""
         fields = ("auction", "bidder", "by", "round", "sheet", "taken", "body", "text")
-        lines = ["clock_auction receipt 2", *(f"{name} {getattr(self, name)}" for name in fields)]
-        return "".join(line + "\n" for line in lines).encode("ascii")
+        return message_of("receipt 2", self, fields)
 
     def page(self, signature: bytes) -> str:
         """The published text."""
-        value = {**dataclasses.asdict(self), "signature": signature.hex()}
-        return json.dumps(value, sort_keys=True, separators=(",", ":")) + "\n"
+        return page_of(self, signature)
 
 
 @dataclasses.dataclass(frozen=True)
@@ -74,17 +73,29 @@ class Refusal:
     by: str
     number: int
     time: str
+    mock: bool = False
 
     def message(self) -> bytes:
         """The signed bytes."""
-        fields = ("auction", "bidder", "by", "number", "time")
-        lines = ["clock_auction refusal 1", *(f"{name} {getattr(self, name)}" for name in fields)]
-        return "".join(line + "\n" for line in lines).encode("ascii")
+        return message_of("refusal 1", self, ("auction", "bidder", "by", "number", "time"))
 
     def page(self, signature: bytes) -> str:
         """The published text."""
-        value = {**dataclasses.asdict(self), "signature": signature.hex()}
-        return json.dumps(value, sort_keys=True, separators=(",", ":")) + "\n"
+        return page_of(self, signature)
+
+
+def message_of(form: str, one: Receipt | Refusal, fields: tuple[str, ...]) -> bytes:
+    """The signed bytes of a form. The first line says whether it is of a mock auction."""
+    kind = "mock " if one.mock else ""
+    lines = [f"clock_auction {kind}{form}", *(f"{name} {getattr(one, name)}" for name in fields)]
+    return "".join(line + "\n" for line in lines).encode("ascii")
+
+
+def page_of(one: Receipt | Refusal, signature: bytes) -> str:
+    """The published text of what is signed."""
+    value = {**dataclasses.asdict(one), "signature": signature.hex()}
+    del value["mock"]
+    return json.dumps({**value, **mark_of(one.mock)}, sort_keys=True, separators=(",", ":")) + "\n"
 
 
 @dataclasses.dataclass(frozen=True)
@@ -99,7 +110,7 @@ class Kept:
     def of(cls, value: Any) -> Self:
         """The receipt in a JSON value. Raises ValueError if it has none."""
         sent = value.pop("sent", None) if isinstance(value, dict) else None
-        has_keys(value, *KEYS)
+        has_keys(value, *KEYS, *mark_of(is_marked(value)))
         if not isinstance(sent, str | None):
             raise ValueError("what was sent")
         for name in ("auction", "body", "text"):
@@ -116,32 +127,16 @@ class Kept:
         return cls(Receipt(**value), signature, sent)
 
 
+def is_marked(value: Any) -> bool:
+    """Whether a JSON value says that it is of a mock auction. It has no other mark."""
+    return isinstance(value, dict) and value.get("mock") is True
+
+
 def checked_name(name: Any) -> str:
     """The name of a bidder or a person. Raises ValueError for any other value."""
     if not isinstance(name, str) or not NAME.fullmatch(name):
         raise ValueError("a name")
     return name
-
-
-def taken_in(text: bytes) -> str:
-    """The second at which nginx had this whole request, in UTC.
-
-    Empty if the request did not come through nginx.
-    """
-    return time_of(line_in(text, b"taken"))
-
-
-def time_of(second: str) -> str:
-    """A second since 1970 as nginx writes it, in UTC. Empty if it is none."""
-    if not SECOND.fullmatch(second) or int(second) > LAST:
-        return ""
-    return datetime.fromtimestamp(int(second), UTC).strftime("%Y-%m-%dT%H:%M:%SZ")
-
-
-def person_in(text: bytes) -> str:
-    """The person whose token the request had, or an empty text if it was the bidder's own."""
-    name = line_in(text, b"by")
-    return name if NAME.fullmatch(name) else ""
 
 
 def digest_of(data: bytes) -> str:
@@ -163,7 +158,7 @@ class KeptRefusal(NamedTuple):
     @classmethod
     def of(cls, value: Any) -> Self:
         """The refusal in a JSON value. Raises ValueError if it has none."""
-        has_keys(value, *REFUSED)
+        has_keys(value, *REFUSED, *mark_of(is_marked(value)))
         bytes_of(value["auction"], 32)
         checked_name(value["bidder"])
         if value["by"] != "":
@@ -177,6 +172,8 @@ class KeptRefusal(NamedTuple):
 
     def faults(self, commitment: Commitment) -> list[str]:
         """Why the operator did not sign this."""
+        if self.refusal.mock != commitment.mock:
+            return [f"refusal {self.refusal.number} is {of_kinds(self.refusal, commitment)}"]
         of_this = self.refusal.auction == commitment.auction
         if of_this and is_signed(commitment.key, self.refusal.message(), self.signature):
             return []
@@ -226,7 +223,7 @@ def file_of(commitment: Commitment, values: list[Any]) -> File:
             names.add(checked_name(value["bidder"]))
         elif isinstance(value, dict) and value.keys() == {"sent"}:
             sent[digest_of(str(value["sent"]).encode())] += 1
-        elif isinstance(value, dict) and value.keys() == set(REFUSED):
+        elif isinstance(value, dict) and value.keys() - {"mock"} == set(REFUSED):
             refusals.append(KeptRefusal.of(value))
         else:
             receipts.append(Kept.of(value))
@@ -354,10 +351,17 @@ def false_words(commitment: Commitment, kept: Kept) -> Iterator[str]:
     """Why the operator did not sign this receipt, so that it proves nothing."""
     receipt = kept.receipt
     where = f"{place_of(receipt)}: the receipt"
+    if receipt.mock != commitment.mock:
+        yield f"{where} is {of_kinds(receipt, commitment)}"
     if receipt.auction != commitment.auction:
         yield f"{where} is of another auction"
     if not is_signed(commitment.key, receipt.message(), kept.signature):
         yield f"{where} is not signed by the committed key"
+
+
+def of_kinds(one: Receipt | Refusal, commitment: Commitment) -> str:
+    """The words for what is of another kind of auction than the commitment."""
+    return f"of {kind_in(one.mock).value}, and the commitment of {kind_in(commitment.mock).value}"
 
 
 def other_sheet(kept: Kept) -> Iterator[str]:

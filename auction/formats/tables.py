@@ -21,11 +21,16 @@ from auction.recount.formats import (
     sheet_in,
 )
 
+from .sent import person_in, taken_in
+
 Row = Iterable[Any]
 
 
 class Sheet(NamedTuple):
-    """An accepted sheet. `number` counts all requests of the journal."""
+    """An accepted sheet. `number` counts all requests of the journal.
+
+    `taken` and `by` are when and by whom it was sent, as its receipt says.
+    """
 
     number: int
     round: int
@@ -33,6 +38,8 @@ class Sheet(NamedTuple):
     bids: list[Bid]
     sha256: str
     in_force: bool
+    taken: str
+    by: str
 
 
 class Auction(NamedTuple):
@@ -55,7 +62,9 @@ def auction_in(document: bytes, journal: bytes, counted: recount.Recount) -> Auc
             continue
         bids = sheet_in(json_in(request.body)).bids
         sha256 = hashlib.sha256(text).hexdigest()
-        sheets.append(Sheet(number, len(ties) + 1, bidders[request.token], bids, sha256, False))
+        whose = len(ties) + 1, bidders[request.token]
+        sent = taken_in(text), person_in(text)
+        sheets.append(Sheet(number, *whose, bids, sha256, False, *sent))
     last = {(sheet.round, sheet.bidder): sheet.number for sheet in sheets}
     sheets = [
         sheet._replace(in_force=last[sheet.round, sheet.bidder] == sheet.number) for sheet in sheets
@@ -78,7 +87,8 @@ def sheet_rows(auction: Auction) -> Iterator[Row]:
     """The rows of sheets.csv: one for each accepted sheet."""
     for sheet in auction.sheets:
         name = auction.setup.bidders[sheet.bidder].name
-        yield sheet.number, sheet.round, name, len(sheet.bids), yes(sheet.in_force), sheet.sha256
+        known = sheet.number, sheet.round, name, len(sheet.bids), yes(sheet.in_force)
+        yield *known, sheet.sha256, sheet.taken, sheet.by
 
 
 def bid_rows(auction: Auction) -> Iterator[Row]:
@@ -149,7 +159,7 @@ def winner_rows(auction: Auction) -> Iterator[Row]:
 
 # Each table's columns, and the function for its rows.
 TABLES = {
-    "sheets.csv": ("sheet,round,bidder,bids,in_force,sha256", sheet_rows),
+    "sheets.csv": ("sheet,round,bidder,bids,in_force,sha256,taken,by", sheet_rows),
     "bids.csv": ("round,bidder,product,bid_type,quantity,price,sheet,place,in_force", bid_rows),
     "product_results.csv": (
         "round,product,supply,aggregate_demand,excess_demand,start_of_round_price,clock_price,"

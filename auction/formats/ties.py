@@ -19,6 +19,8 @@ from collections.abc import Collection
 from pathlib import Path
 from typing import Any, Self
 
+from auction.mock import mark_of
+
 from .strict import value_in
 
 LENGTH = 10_000  # Rounds of a chain.
@@ -99,8 +101,8 @@ class Commitment:
             "end": self.chain.end.hex(),
             "length": self.chain.length,
         }
-        mark = {"mock": True} if self.mock else {}
-        return {"auction": self.auction, "chain": chain, "key": self.key, **mark}
+        value = {"auction": self.auction, "chain": chain, "key": self.key}
+        return {**value, **mark_of(self.mock)}
 
 
 @dataclasses.dataclass(frozen=True)

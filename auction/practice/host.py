@@ -160,8 +160,8 @@ class Visitor(Pages):
         elif path == "/":
             limits = self.server.hosting.limits
             self.answer(200, HTML, words.welcome(len(self.server.games), limits))
-        elif path == "/style.css":
-            self.show(installed("web") / "style.css")
+        elif path in ("/style.css", "/icon.svg"):
+            self.show(installed("web") / path.removeprefix("/"))
         else:
             self.refuse(404, "no_page")
 

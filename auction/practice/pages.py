@@ -17,8 +17,9 @@ KINDS = {
     ".css": "text/css; charset=utf-8",
     ".js": "text/javascript; charset=utf-8",
     ".json": "application/json",
+    ".svg": "image/svg+xml",
 }
-PAGES = re.compile(r"/(?!operator)[a-z_]+\.(html|css|js)")
+PAGES = re.compile(r"/(?!operator)[a-z_]+\.(html|css|js|svg)")
 PUBLISHED = re.compile(r"/public/(timetable|announcements|winners|rounds/[1-9][0-9]*)\.json")
 REQUESTS = re.compile(r"/v1/(status|products|me|me/bids|(me/)?rounds/[1-9][0-9]*)")
 LONGEST = 1_048_576  # bytes of a body, as for the server

@@ -11,6 +11,7 @@ from . import maps
 from .auction import Auction
 from .findings import Check, ensure
 
+DIFFERENT = 7  # letters of a token
 STALE = 15  # seconds after which a running conductor has written its report again
 SECRETS = (
     *("operator.token", "operator.head", "operator.map", "bidders.map", "persons.map", "by.map"),
@@ -23,6 +24,11 @@ OF_PERSONS = "run `auction persons FOLDER`, and reload nginx"
 ANEW = "it is not of this set-up: make it again with `auction maps`, and reload nginx"
 
 
+def is_weak(token: str) -> bool:
+    """Whether a token was not drawn. Of 10^9 of `openssl rand -hex 16`, fewer than one is so."""
+    return len(set(token.lower())) < DIFFERENT
+
+
 def set_up(auction: Auction) -> str:
     setup = auction.setup
     ensure(
@@ -30,8 +36,10 @@ def set_up(auction: Auction) -> str:
         == len(setup["bidders"]) + 1,
         "two tokens are the same",
     )
-    weak = [bidder["name"] for bidder in setup["bidders"] if len(set(bidder["token"])) < 5]
-    ensure(not weak, f"draw tokens at random: {', '.join(weak[:5])}")
+    tokens = {"the operator": setup["operator"]}
+    tokens.update({bidder["name"]: bidder["token"] for bidder in setup["bidders"]})
+    weak = [name for name, token in tokens.items() if is_weak(token)]
+    ensure(not weak, f"draw tokens at random (openssl rand -hex 16): {', '.join(weak[:5])}")
     committed = auction.folder / "public/commitment.json"
     kind = mock.kind_of_value(setup)
     is_mock = Commitment.read(committed).mock if committed.exists() else kind is mock.Kind.MOCK
@@ -117,8 +125,15 @@ def configuration(auction: Auction) -> str:
         text=True,
         check=False,
     )
-    ensure(ran.returncode == 0, ran.stderr or "nginx refuses it")
+    ensure(ran.returncode == 0, refused_by_nginx(ran.stderr))
     return "nginx accepts it"
+
+
+def refused_by_nginx(words: str) -> str:
+    """What nginx says of its configuration, and what to do if the machine has no IPv6."""
+    no_ipv6 = "Address family not supported" in words
+    advice = "; the machine has no IPv6: remove the line `listen [::]..` from nginx.conf"
+    return (words.strip() or "nginx refuses it") + advice * no_ipv6
 
 
 def conductor(auction: Auction) -> str:

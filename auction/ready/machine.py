@@ -31,9 +31,16 @@ def space(auction: Auction) -> str:
 
 def file_systems(auction: Auction) -> str:
     """Whoever fills the log must not fill the journal's disk."""
+    log = auction.folder / "log"
+    image = auction.folder.with_name(f"{auction.folder.name}-log.img")
+    own = (
+        f"fallocate -l 2G {image} && mkfs.ext4 -q {image} && "
+        f"echo '{image} {log} ext4 loop 0 0' >> /etc/fstab && "
+        "systemctl daemon-reload && systemctl restart clock-auction-nginx"
+    )
     ensure(
-        os.stat(auction.journal).st_dev != os.stat(auction.folder / "log").st_dev,
-        "the journal and the log are on one file system",
+        os.stat(auction.journal).st_dev != os.stat(log).st_dev,
+        f"the journal and the log are on one file system. To give the log its own: {own}",
     )
     return "the journal and the log are on two file systems"
 

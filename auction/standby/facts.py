@@ -155,7 +155,7 @@ def published(public: Path) -> Iterator[tuple[int, str]]:
 def sheets_without_record(folder: Path, journal: Counted) -> int:
     """How many receipts are of sheets that the journal does not have."""
     lacking = 0
-    for path in (folder / "receipts").glob("*/*.json"):
+    for path in (folder / "receipts").rglob("*.json"):
         if found := OF_A_SHEET.fullmatch(path.name):  # others are of sheets that were refused
             number, sheet = int(found[1]), int(found[2])
             lacking += sheet > journal.counts[path.parent.name, number]

@@ -7,8 +7,8 @@ import stat
 from collections.abc import Iterator
 from pathlib import Path
 
-# What each machine has for itself: what nginx writes, the gate, and requests of its own pages.
-OWN = {"tmp", "log", "gate", "inner", "asked", "operator", "past", "incoming"}
+# What each machine has for itself: what nginx writes, the gate, and the report for its own page.
+OWN = {"tmp", "log", "gate", "inner", "operator", "past", "incoming"}
 OWN_FILES = {"fence.json", "standby.json", "standby.files", "standby.lock", "state/standby.json"}
 OWN_ENDS = (".new", ".lock", ".sock", ".pid")
 

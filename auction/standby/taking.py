@@ -14,12 +14,14 @@ from urllib.parse import urlsplit
 from auction.conductor import disk
 from auction.conductor.clock import utc
 from auction.conductor.settings import Settings, SettingsFault
+from auction.folder import link_journal
 
 from . import mark
 from .facts import FILES, MANIFEST, Manifest, copy_of
 from .frames import Line, Silence
 from .judge import Copy, End, Fence, First, Reason, Seen, reasons_against
 from .keeping import Keeper, Unkept, end_keeper, finish, locked, make_own_folders
+from .refusals import continue_numbers
 from .shell import connected
 
 PATIENCE = 40  # seconds in which what is asked to end must end
@@ -159,7 +161,10 @@ def take(folder: Path, first: First, taker: str, copy: Copy, now: float) -> None
         "taker": taker,
         "time": utc(now),
     }
-    make_own_folders(folder, Settings.read(folder).readers)
+    settings = Settings.read(folder)
+    make_own_folders(folder, settings.readers)
+    link_journal(folder, settings.journal)
+    continue_numbers(folder)
     disk.store(folder / TAKEN, json.dumps(said) + "\n")
     disk.remove(folder / mark.NAME)
     for name in (MANIFEST, FILES):

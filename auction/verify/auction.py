@@ -6,13 +6,17 @@ from typing import Any
 from auction.formats import strict
 from auction.recount.rules import Round
 
-from .announced import announcement_faults, announcements_in
+from .announced import announcement_faults, announcements_in, closing_said
 from .case import Absent, Case, Failed
 
 CUT = "requests are missing at the end of the journal"
 TIME = re.compile("[0-9]{4}-[01][0-9]-[0-3][0-9]T[0-2][0-9]:[0-5][0-9]:[0-5][0-9]Z")
 CHANGED = (
     "a request up to this closing was changed, left out, or added after the digest was published"
+)
+FALSE_COPY = (
+    "the operator signed the journal's digest, so whoever saved this page may have changed it, and "
+    "it proves nothing against the operator"
 )
 
 
@@ -82,9 +86,10 @@ def check_digests(case: Case) -> str:
         elif case.rounds[number].get("digest") != case.closings[number - 1]:
             published = short(case.rounds[number].get("digest"))
             found = short(case.closings[number - 1])
+            is_signed = closing_said(case, number) == case.closings[number - 1]
             faults.append(
                 f"round {number} was published with {published}, but the journal has {found}: "
-                f"{CHANGED}"
+                f"{FALSE_COPY if is_signed else CHANGED}"
             )
     if faults:
         raise Failed(*faults)
@@ -201,7 +206,8 @@ def check_winners(case: Case) -> str:
         }
         for bidder, slip in zip(case.setup.bidders, last.slips)
     ]
-    if winners != strict.published({"bidders": bidders, "round": len(auction.rounds)}):
+    mark = {"mock": True} if case.is_mock else {}
+    if winners != strict.published({"bidders": bidders, "round": len(auction.rounds), **mark}):
         raise Failed("the published winners or payments are not those of the journal by the rules")
     return f"what {len(bidders)} bidders won and pay is what the rules say"
 

@@ -8,6 +8,7 @@ from typing import Any
 
 from auction.formats import notices, strict
 from auction.formats.record import INDEX
+from auction.formats.ties import Commitment
 from auction.recount import rules as recount
 from auction.recount.formats import Record, Setup, records_in, setup_in
 
@@ -101,6 +102,11 @@ class Case:
                 f"{self.published} has no {COMMITMENT}: nothing shows what was fixed before round 1"
             )
         return self.commitment.read_bytes() if self.commitment else self.text(COMMITMENT)
+
+    @property
+    def is_mock(self) -> bool:
+        """Whether the commitment is of a mock auction."""
+        return Commitment.of(strict.value_in(self.commitment_text())).mock
 
     @functools.cached_property
     def entries(self) -> list[notices.Entry]:

@@ -4,7 +4,7 @@ from typing import NamedTuple
 
 from auction.recount.formats import Refused
 
-from . import announced, auction, folder, promised
+from . import announced, auction, folder, increments, promised, windows
 from .case import Absent, Case, Failed
 
 OK, FAILED, ABSENT = "ok", "FAILED", "absent"
@@ -14,6 +14,8 @@ CHECKS = [
     promised.COMMITMENT_CHECK,
     *auction.ROUNDS,
     *announced.CHECKS,
+    *windows.CHECKS,
+    *increments.CHECKS,
     *promised.CHECKS,
     *folder.CHECKS,
 ]

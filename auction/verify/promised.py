@@ -1,12 +1,12 @@
 """Checks of what was fixed earlier: the commitment, tie-breaking numbers, and receipts."""
 import hashlib
-from collections.abc import Iterable
+from collections.abc import Iterable, Iterator
 
 from auction import mock
 from auction.formats import lots, notices, receipts, strict, ties
 from auction.recount.formats import closing_in, json_in, request_in
 
-from . import announced
+from . import announced, windows
 from .case import COMMITMENT, Absent, Case, Failed
 
 DRAW = "draw.json"
@@ -168,6 +168,7 @@ def check_receipts(case: Case) -> str:
         raise Failed("the set-up is another one than the committed one: its tokens prove nothing")
     tokens = {bidder.name: bidder.token for bidder in case.setup.bidders}
     faults, empty, counts = list[str](), list[str](), dict[str, int]()
+    barred = list[str]()
     for path in case.receipts:
         file = receipts.read_kept(path)
         if file.name is None:
@@ -178,11 +179,23 @@ def check_receipts(case: Case) -> str:
             faults.append(f"{path.name}: the set-up has no bidder {file.name}")
         found = receipts.faults(file, case.journal, tokens.get(file.name, ""), commitment_of(case))
         faults += [f"{path.name}: {fault}" for fault in found]
+        barred += refused_in_time(case, file)
     if faults:
         raise Failed(*faults)
     if not counts:
         raise Absent("; ".join(empty))
-    return "; ".join([words_of(counts, tokens.keys()), *empty])
+    return "; ".join([words_of(counts, tokens.keys()), *empty, *barred])
+
+
+def refused_in_time(case: Case, file: receipts.File) -> Iterator[str]:
+    """The signed refusals of sheets that came while a window was open by the notices."""
+    entries = announced.known_entries(case)
+    for refusal in (one.refusal for one in file.refusals):
+        if (number := windows.open_round(entries, refusal.time)) is not None:
+            yield (
+                f"REFUSED: a sheet of {refusal.bidder} was refused at {refusal.time}, while the "
+                f"window of round {number} was open"
+            )
 
 
 def words_of(counts: dict[str, int], bidders: Iterable[str]) -> str:

@@ -1,4 +1,5 @@
 """An auction behind nginx: bidders come over TLS, the operator on the machine itself."""
+import contextlib
 import json
 import os
 import secrets
@@ -91,6 +92,22 @@ class Auction(Site):
         word = {"act": "confirm", "key": secrets.token_hex(16), "of": page["waiting"]["key"]}
         shown = {"round": page["round"], "stamp": page["stamp"], "typed": str(number)}
         assert self.desk("act", {**word, **shown, "given": {}})["state"] == "done"
+
+    def ask_desk(self, act: str, **given: object) -> str:
+        """Asks the desk for an act, as the second person. Returns the state of the answer."""
+
+        def state() -> str:
+            page = self.desk("state")
+            typed = str(page["round"]) if act == "close" else ""
+            word = {"act": act, "key": secrets.token_hex(16), "of": "", "given": given}
+            shown = {"round": page["round"], "stamp": page["stamp"], "typed": typed}
+            with contextlib.suppress(urllib.error.HTTPError):  # the auction has changed meanwhile
+                return str(self.desk("act", {**word, **shown})["state"])
+            return ""
+
+        answers: list[str] = []
+        wait_for(f"the desk takes {act}", lambda: answers.append(state()) or answers[-1], 60, 1)
+        return answers[-1]
 
     def desk(self, path: str, body: object = None) -> dict[str, Any]:
         """What the desk answers to the second person."""

@@ -62,7 +62,7 @@ def window_of(browser: Browser) -> Iterator[Window]:
     window = browser.window()
     yield window
     window.close()
-    others = ("favicon", "status of", "net::ERR_")
+    others = ("status of", "net::ERR_")
     assert [line for line in browser.log() if not any(each in line for each in others)] == []
 
 

@@ -285,6 +285,26 @@ IN_SIGHT = """return ['left', 'sums', 'message', 'send'].filter(id => {
 STOP = """const a = document.activeElement;
 return a.id || (a.dataset.key || '') + (a.dataset.field || a.textContent);"""
 
+# fields of the grid without a word of what they are for, in a head or before them
+UNNAMED = """const head = document.querySelector('#grid thead');
+if (getComputedStyle(head).clipPath === 'none') return [];
+return [...document.querySelectorAll('#body td input')].filter(
+    e => !/[a-z]/i.test(getComputedStyle(e.closest('td'), '::before').content
+        .replace('none', '')))
+    .map(e => e.id);"""
+
+# elements whose letters do not grow if the user wants letters half as large again
+UNSCALED = """const kinds = 'p, h1, h2, h3, dt, dd, td, th, button, label, li, input, select, a';
+const sizes = () => new Map([...document.querySelectorAll(kinds)]
+    .filter(e => !e.closest('svg')).map(e => [e, parseFloat(getComputedStyle(e).fontSize)]));
+const before = sizes(), sheet = new CSSStyleSheet();
+sheet.replaceSync(':root { font-size: 150% }');
+document.adoptedStyleSheets = [sheet];
+const after = sizes();
+document.adoptedStyleSheets = [];
+return [...before].filter(([e, size]) => after.has(e) && Math.abs(after.get(e) - 1.5 * size) > 0.1)
+    .map(([e, size]) => e.tagName + ' ' + (e.id || e.textContent.slice(0, 20)) + ' ' + size);"""
+
 SEEN_ROWS = """const box = document.getElementById('frame').getBoundingClientRect();
 const top = box.top + document.getElementById('heads').offsetHeight - 1;
 return [...document.querySelectorAll('#body tr:not(.room)')]

@@ -236,3 +236,16 @@ def test_a_strangers_token_is_refused(
     x.open(shared.address(page), token)
     x.says("say", words)
     x.becomes(lambda: (x.is_seen("door"), x.is_seen("desk")), (True, False))
+    assert x.is_seen("say"), "beside the field, before anyone has entered"
+    assert x.at("token").get_attribute("aria-describedby") == "say"
+    assert x.at("token").get_attribute("aria-invalid") == "true"
+
+
+@pytest.mark.parametrize("page", ["", OPERATORS], ids=["bidder", "operator"])
+def test_a_token_can_be_seen_while_it_is_typed(shared: Auction, x: Window, page: str) -> None:
+    x.open(shared.address(page))
+    kinds = []
+    for _ in range(3):
+        kinds.append(x.at("token").get_attribute("type"))
+        x.at("peek").click()
+    assert kinds == ["password", "text", "password"]

@@ -47,7 +47,7 @@ def is_refused(window: Window, words: str, step: int = 0) -> None:
 @pytest.mark.parametrize(
     "words, quantity, price",
     [
-        ("not between the start-of-round price", 1, 101),
+        ("not between start-of-round price", 1, 101),
         ("above the product's cap", 3, 100),
     ],
     ids=["price_range", "over_cap"],
@@ -93,7 +93,7 @@ def test_what_cannot_be_read_is_neither_sent_nor_saved(
 def test_a_key_ends_what_was_said_of_the_form(second_round: Auction, x: Window) -> None:
     enter(second_round, x)
     x.bid(0, 2, 105)
-    is_refused(x, "to maintain demand, bid at the clock price")
+    is_refused(x, "maintain your processed demand, bid at the clock price")
     x.bid(0, 1, 103)
     x.until("it is gone", lambda: "Refused" not in x.text("message"))
 
@@ -199,7 +199,7 @@ def test_too_many_bids_of_a_file_are_refused(
 ) -> None:
     enter(auction, x)
     upload(x, file, "A,1,100\n" * 30000)
-    x.says("message", "More than 8,192 bids: send fewer.")
+    x.says("message", "More than 8,192 bids.")
     x.send("Refused: there are too many bids to send")
 
 

@@ -204,7 +204,10 @@ def test_after_the_end_nothing_can_be_submitted(ended: Auction, y: Window) -> No
 def test_the_operators_table_has_what_each_bidder_won(ended: Auction, operator: Window) -> None:
     enter(ended, operator, OPERATOR)
     won = [(row["name"], row["demand"]) for row in operator.rows("resbody")]
-    assert won == [("X", "A 1"), ("Y", "A 1")]
+    assert won == [("X", "A: 1"), ("Y", "A: 1")]
+    heads = "return [...document.querySelectorAll('#resframe th[scope=col]')]"
+    named = operator.run(heads + ".map(each => each.textContent)")
+    assert named == ["Bidder", "Eligibility", "Activity", "To pay", "Blocks won"]
 
 
 def test_a_change_of_processed_demand_is_shown(ended: Auction, x: Window) -> None:

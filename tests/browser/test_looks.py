@@ -1,21 +1,23 @@
 """How the pages look: at any width, in light and in the dark, in narrow and in wide letters, for a
 screen reader and for the keyboard. With `--pictures DIR`, it saves pictures for the documents.
 """
+import json
 import pathlib
 import re
+import time
 from collections.abc import Callable, Iterator
-
 
 import pytest
 from selenium.webdriver.common.keys import Keys
 
 from tests.browser import scripts
-from tests.browser.auction import Auction, X, Y, Z, bid, example
+from tests.browser.auction import OPERATORS, Auction, X, Y, Z, bid, example
 from tests.browser.conftest import Begin, window_of
 from tests.browser.people import enter
-from tests.browser.published import Published
+from tests.browser.published import Published, utc
 from tests.browser.window import Browser, Window
 from tests.lib.setups import OPERATOR
+from tests.lib.waiting import wait_for
 
 PRICES = {"North-1": 1200, "North-2": 900, "Middle-1": 1450}
 PRICES |= {"Middle-2": 640, "South-1": 2100, "South-2": 380}
@@ -87,6 +89,70 @@ def ended(begin_once: Begin) -> Auction:
     won = [{"name": name, "demands": [1], "pays": 100} for name in ("X", "Y")]
     day.put("public/winners.json", {"round": 1, "bidders": won})
     return auction
+
+
+@pytest.fixture(scope="module")
+def managed(begin_once: Begin) -> Auction:
+    """Round 2 of six products, with a window of an hour. X has bids in force, and Y has none. The
+    second person asks to close the round early.
+    """
+    one = {"units": 1, "supply": 2, "cap": 2}
+    setup = example("two_products")
+    setup["products"] = [{"name": name, **one, "opening": PRICES[name]} for name in PRICES]
+    setup["bidders"] = [{**each, "eligibility": 5} for each in setup["bidders"]]
+    auction = begin_once(setup, has_ties=True)
+    first = {X: {0: 2, 2: 1, 5: 1}, Y: {0: 1, 1: 1, 2: 1}, Z: {1: 1, 3: 1, 4: 2}}
+    for token, wanted in first.items():
+        prices = list(PRICES.values())
+        auction.put(token, 1, *(bid(p, blocks, prices[p]) for p, blocks in wanted.items()))
+    auction.close(1)
+    auction.begin_conductor(0, between=0, notice=0, drain=0, missed=100)
+    auction.begin_desk()
+    auction.ask_desk("plan", timetable=timetable(50, 3600))
+    auction.ask_desk("announce", words="The help desk is at extension 105.")
+    clock = [each["next"] for each in auction.ask("v1/rounds/1")["products"]]
+    for token in (X, Z):
+        held = first[token]
+        auction.put(token, 2, *(bid(p, blocks, clock[p]) for p, blocks in held.items()))
+    wait_for("the window is open", lambda: auction.desk("state")["state"] == "open", 120, 0.5)
+    assert auction.ask_desk("close", increments=[10], without_sheets=False) == "waits"
+    return auction
+
+
+def timetable(opens: float, closes: float) -> str:
+    """A timetable file with one window, in seconds from now, at whole ten seconds of UTC."""
+    times = [utc((time.time() + moment) // 10 * 10) for moment in (opens, closes)]
+    window = "-".join(text[11:19] for text in times)
+    return json.dumps({"days": [{"date": times[0][:10], "windows": [window]}]})
+
+
+def desk_with_an_act_that_waits(request: pytest.FixtureRequest, window: Window) -> None:
+    enter(request.getfixturevalue("managed"), window, OPERATOR)
+    window.says("waitingwords", "Second asks to close round 2 early")
+    window.says("missing", "No bids from: Y")
+    window.says("done", "announce: The help desk")
+
+
+def desks_question(request: pytest.FixtureRequest, window: Window) -> None:
+    desk_with_an_act_that_waits(request, window)
+    window.click("act-plan")
+    window.until("it is asked about", lambda: window.is_seen("question"))
+
+
+def desks_question_with_a_number(request: pytest.FixtureRequest, window: Window) -> None:
+    desk_with_an_act_that_waits(request, window)
+    window.click("confirm")
+    window.until("it is asked about", lambda: window.is_seen("question"))
+
+
+def bidders_door(request: pytest.FixtureRequest, window: Window) -> None:
+    window.open(request.getfixturevalue("auction").address())
+    window.until("it takes a token", lambda: window.find("#door button").is_enabled())
+
+
+def operators_door(request: pytest.FixtureRequest, window: Window) -> None:
+    window.open(request.getfixturevalue("auction").address(OPERATORS), "W" * 16)
+    window.says("say", "unknown token")
 
 
 def bidders_page(request: pytest.FixtureRequest, window: Window) -> None:
@@ -186,6 +252,8 @@ STATES: list[State] = [
 STATES += [columns, highest_prices, after_the_end, refused_token]
 STATES += [operators_page, operators_highest_prices]
 STATES += [public_page, public_page_of_round_5, public_page_before_round_1]
+STATES += [bidders_door, operators_door]
+STATES += [desk_with_an_act_that_waits, desks_question, desks_question_with_a_number]
 
 
 @pytest.fixture(scope="module", params=STATES, ids=lambda state: state.__name__.replace("_", " "))
@@ -246,6 +314,11 @@ def test_an_audit_finds_nothing(page: Window, wide: int) -> None:
     assert page.run(scripts.AUDIT) == []
 
 
+def test_letters_are_as_large_as_the_user_wants(page: Window) -> None:
+    """Also those of bids, messages, and buttons. Charts have letters of their own size."""
+    assert page.run(scripts.UNSCALED) == []
+
+
 def test_forced_colors_keep_each_mark(page: Window) -> None:
     page.cdp("Emulation.setEmulatedMedia", features=[{"name": "forced-colors", "value": "active"}])
     try:
@@ -290,6 +363,16 @@ def test_a_table_is_one_also_drawn_as_cards(
     x.settle()
     roles = {role for role, _ in seen_nodes(x)}
     assert {"grid", "row", "rowheader", "columnheader", "gridcell"} <= roles
+
+
+@pytest.mark.parametrize("wide, high", SIZES, ids=[f"{wide}x{high}" for wide, high in SIZES])
+def test_each_field_has_a_word_that_is_seen(
+    request: pytest.FixtureRequest, x: Window, wide: int, high: int
+) -> None:
+    x.size(wide, high)
+    bidders_page(request, x)
+    x.settle()
+    assert x.run(scripts.UNNAMED) == []
 
 
 # ---- The two bars
@@ -379,19 +462,14 @@ def test_25_rows_are_seen_of_a_long_table(begin: Begin, x: Window) -> None:
 # ---- The pictures of the documents
 
 
-def test_pictures(
-    auction: Auction, x: Window, operator: Window, pictures: pathlib.Path | None
-) -> None:
+def test_pictures(auction: Auction, x: Window, pictures: pathlib.Path | None) -> None:
     """Round 5, wide, and on a phone in the dark with an error at a row."""
     x.size(1440, 900)
     enter(auction, x)
     x.bid(0, 1, int(re.sub(r"\D", "", x.column("clock")[0])) - 40)
-    enter(auction, operator, OPERATOR)
-    operator.says("missing", "No bids from: Y")
     assert x.row(0).startswith("Reduce"), "the picture shows the effect of a bid"
     if pictures:
         x.picture(pictures / "bidder.png", 1440, 620)
-        operator.picture(pictures / "operator.png", 1440)
     x.size(390, 844)
     x.dark(True)
     x.bid(0, 1, 1)
@@ -401,6 +479,18 @@ def test_pictures(
     if pictures:
         x.picture(pictures / "bidder_narrow.png", 390, 844)
     x.dark(False)
+
+
+def test_picture_of_the_desk(
+    request: pytest.FixtureRequest, operator: Window, pictures: pathlib.Path | None
+) -> None:
+    """Round 2, in which a bidder is missing and an act waits for a second person."""
+    operator.size(1440, 900)
+    desk_with_an_act_that_waits(request, operator)
+    operator.says("left", ":")
+    operator.says("send", "Confirm …")
+    if pictures:
+        operator.picture(pictures / "operator.png", 1440, 900)
 
 
 def test_pictures_of_the_review_and_of_closed_rounds(

@@ -182,7 +182,7 @@ def test_no_winner_is_named_before_they_are_published(begin: Begin, x: Window) -
 
 def test_the_winners_and_the_proceeds_are_shown(at_the_end: Published, x: Window) -> None:
     look(at_the_end, x, "Ended after round 2")
-    won = [["X", "2", "$206", "A 1, B 1"], ["Y", "1", "$106", "A 1"], ["Z", "0", "$0", "none"]]
+    won = [["X", "2", "$206", "A: 1, B: 1"], ["Y", "1", "$106", "A: 1"], ["Z", "0", "$0", "none"]]
     x.becomes(lambda: x.cells("wonbody"), won)
     assert x.facts("facts")[4] == ["Proceeds", "$312", "what the winners pay"]
 

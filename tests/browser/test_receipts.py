@@ -151,3 +151,64 @@ def test_a_wrong_receipt_is_named(auction: Auction, x: Window) -> None:
     x.bid(0, 2, 100)
     x.send("The receipt is wrong: call the operator.")
     assert x.kind("message") == "bad"
+
+
+# ---- Refusals of late sheets
+
+
+def late(auction: Auction, x: Window) -> None:
+    """Submits a sheet while no window is open, which the page does not know."""
+    enter(auction, x)
+    (auction.folder / "gate/open").unlink()
+    x.bid(0, 1, 100)
+    x.submit()
+    x.says("message", "Your last bids came while no window was open.")
+
+
+def test_the_signed_refusal_of_a_late_sheet_is_shown_and_saved(
+    auction: Auction, x: Window, downloads: pathlib.Path
+) -> None:
+    auction.begin_receipts()
+    late(auction, x)
+    x.says("message", "The refusal is signed, of ", ": download it.")
+    x.click("act")
+    file = downloads / "receipts-X.jsonl"
+    x.until("the file", lambda: len(read_kept(file).refusals) == 1)
+    [kept] = read_kept(file).refusals
+    assert (kept.refusal.bidder, kept.refusal.number) == ("X", 1)
+    assert faults(read_kept(file), (auction.folder / "auction.journal").read_bytes()) == []
+
+
+def test_after_a_reload_the_refusal_is_still_there(
+    auction: Auction, x: Window, downloads: pathlib.Path
+) -> None:
+    auction.begin_receipts()
+    late(auction, x)
+    x.says("message", "The refusal is signed, of ")
+    (auction.folder / "receipts/X/refused.json").unlink()
+    enter(auction, x)
+    x.menu("receipts")
+    file = downloads / "receipts-X.jsonl"
+    x.until("the file", lambda: len(read_kept(file).refusals) == 1)
+
+
+def test_without_the_service_no_refusal_is_signed(auction: Auction, x: Window) -> None:
+    late(auction, x)
+    x.says("message", "No signed refusal within five seconds: call the operator.")
+
+
+def test_a_wrong_refusal_is_named(auction: Auction, x: Window) -> None:
+    """It has a time that the operator did not sign."""
+    folder = auction.folder / "receipts/X"
+    folder.mkdir(parents=True)
+    page = {"auction": auction_digest(auction), "bidder": "X", "by": "", "number": 1}
+    signed = {**page, "signature": "0" * 128, "time": "2026-11-30T13:00:00Z"}
+    late(auction, x)
+    (folder / "refused.json").write_text(json.dumps(signed))
+    x.says("message", "The signed refusal is wrong: call the operator.")
+
+
+def auction_digest(auction: Auction) -> str:
+    """The digest of the set-up, as the commitment has it."""
+    page = json.loads((auction.folder / "public/commitment.json").read_text())
+    return str(page["auction"])

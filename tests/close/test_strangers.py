@@ -57,6 +57,6 @@ def test_a_stranger_s_reply_is_no_reply_and_no_redirection_is_followed(
     stranger.text = f"HTTP/1.1 {head}{lines}\r\n\r\n{page}"
     said = auction.yes(1)
     assert (said.status, said.output) == (1, "")
-    assert said.errors.startswith("no reply to /v1/status: ")
+    assert said.errors.startswith("no reply to /v1/status at http://127.0.0.1:")
     with pytest.raises(TimeoutError):
         elsewhere.accept()

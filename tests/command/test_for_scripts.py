@@ -1,4 +1,5 @@
 """What a script reads: tables as CSV during an auction, and a report as JSON."""
+import hashlib
 import json
 import pathlib
 
@@ -37,10 +38,10 @@ TABLES = {
 }
 
 
-def sheet(name: str, quantity: int) -> bytes:
+def sheet(name: str, quantity: int, *lines: str) -> bytes:
     bids = [{"price": 100, "product": 0, "quantity": quantity}]
     body = json.dumps({"bids": bids, "round": 1}).encode()
-    return text_of("PUT /v1/me/bids", name * 16, body)
+    return text_of("PUT /v1/me/bids", name * 16, body, *lines)
 
 
 @pytest.fixture
@@ -57,6 +58,27 @@ def files(tmp_path: pathlib.Path) -> tuple[pathlib.Path, pathlib.Path]:
 def test_recount_prints_a_table_as_csv(files: tuple[pathlib.Path, pathlib.Path], name: str) -> None:
     done = auction("recount", *files, "--table", name)
     assert (done.returncode, done.stdout, done.stderr) == (0, TABLES[name], "")
+
+
+def test_the_table_of_sheets_has_when_and_by_whom_each_was_sent(
+    files: tuple[pathlib.Path, pathlib.Path]
+) -> None:
+    """As its receipt has it: a line that is there twice, or is no time, says nothing."""
+    texts = [
+        sheet("X", 2, "taken: 1796043600", "by: alice"),
+        sheet("X", 1, "taken: 1796043601", "taken: 1796043601", "by: a b"),
+        sheet("Y", 1),
+    ]
+    files[1].write_bytes(journal_of(DOCUMENT, texts))
+    digests = [hashlib.sha256(text).hexdigest() for text in texts]
+    rows = [
+        "sheet,round,bidder,bids,in_force,sha256,taken,by",
+        f"1,1,X,1,no,{digests[0]},2026-11-30T13:00:00Z,alice",
+        f"2,1,X,1,yes,{digests[1]},,",
+        f"3,1,Y,1,yes,{digests[2]},,",
+    ]
+    done = auction("recount", *files, "--table", "sheets")
+    assert (done.returncode, done.stdout.splitlines(), done.stderr) == (0, rows, "")
 
 
 @pytest.fixture
@@ -86,5 +108,6 @@ def test_ready_prints_its_checks_as_json(folder: pathlib.Path) -> None:
     found = json.loads(done.stdout)
     checks = {check["check"]: (check["ok"], check["words"]) for check in found["checks"]}
     assert done.returncode == 1 and not found["ready"]
-    assert checks["set-up"] == (False, "draw tokens at random: X, Y")
+    words = "draw tokens at random (openssl rand -hex 16): the operator, X, Y"
+    assert checks["set-up"] == (False, words)
     assert checks["operator's token"] == (True, "of this set-up")

@@ -86,6 +86,7 @@ def fill(place: pathlib.Path) -> None:
     (place / "unreadable").write_text("{}")
     (place / "unreadable").chmod(0)
     (place / "garbage").write_bytes(b"\xff\x00{[\n" * 100)
+    (place / "deep").write_text("[" * 100_000)
 
 
 def run(place: pathlib.Path, words: str) -> subprocess.CompletedProcess[str]:
@@ -116,6 +117,26 @@ def test_what_is_wrong_with_a_file_is_said_in_words(
     assert spoiled in said or f"{name} {spoiled}".startswith(WITHOUT_NAME), said
 
 
+@pytest.mark.parametrize("name", ["init SETUP", "plan FILE", "check FILE", "explain FILE"])
+def test_brackets_in_each_other_are_refused_in_words(place: pathlib.Path, name: str) -> None:
+    done = run(place, CALLS[name].format("deep"))
+    said = done.stdout + done.stderr
+    assert done.returncode in (1, 2) and said.strip()
+    assert not PYTHONS.search(said), said
+
+
+@pytest.mark.parametrize("words", ["--version", "--help", "run --rules", "lots setup.json -"])
+def test_a_reader_that_ends_early_gets_no_words_of_python(place: pathlib.Path, words: str) -> None:
+    command = ["/usr/bin/python3", place.parent / "auction/bin/auction", *words.split()]
+    read, write = os.pipe()
+    os.close(read)
+    done = subprocess.run(
+        command, cwd=place, stdout=write, stderr=subprocess.PIPE, text=True, timeout=60
+    )
+    os.close(write)
+    assert not PYTHONS.search(done.stderr), done.stderr
+
+
 @pytest.mark.parametrize("words", ["ready", "run", "status", "winners", "pause", "plan", "next"])
 @pytest.mark.parametrize("spoiled", SPOILED)
 def test_what_is_wrong_with_a_folder_is_said_in_words(
@@ -127,6 +148,13 @@ def test_what_is_wrong_with_a_folder_is_said_in_words(
     assert done.returncode in (1, 2), said
     assert not PYTHONS.search(said), said
     assert said.strip(), "nothing is said"
+
+
+def test_without_settings_it_says_what_makes_them(place: pathlib.Path) -> None:
+    done = run(place, "run public")
+    assert (done.returncode, done.stdout) == (1, "")
+    words = "`auction init` makes it, and docs/formats.md describes it"
+    assert done.stderr.endswith(f"there is no {place}/public/conductor.json: {words}\n")
 
 
 @pytest.mark.parametrize("command", [command.name for command in COMMANDS])

@@ -1,8 +1,11 @@
 """Timetables that an operator gives a conductor."""
 import json
+import pathlib
+from collections.abc import Callable
 from typing import Any
 
 from auction.conductor import commands
+from auction.conductor.context import Context
 from auction.conductor.timetable import TimetableFault
 from tests.lib.conducted import ConductedAuction
 
@@ -19,11 +22,24 @@ def day_of(*windows: tuple[int, int]) -> dict[str, Any]:
 
 
 def take(auction: ConductedAuction, *windows: tuple[int, int], **more: Any) -> str:
-    """Gives the conductor a timetable. Returns why it is refused, or nothing."""
+    """Gives the conductor a timetable. Returns why it is refused, or nothing.
+
+    `auction check`, which came first, accepts no timetable that is then refused.
+    """
     path = auction.folder / "timetable.json"
     path.write_text(json.dumps({**day_of(*windows), **more}))
+    checked = fault_of(commands.check, auction, path)
+    found = fault_of(commands.plan, auction, path)
+    assert checked or not found, f"`auction check` accepts what is refused: {found}"
+    return found
+
+
+def fault_of(
+    command: Callable[[Context, pathlib.Path], None], auction: ConductedAuction, path: pathlib.Path
+) -> str:
+    """Why a command refuses a timetable, or nothing."""
     try:
-        commands.plan(auction.context(), path)
+        command(auction.context(), path)
     except TimetableFault as fault:
         return str(fault)
     return ""

@@ -9,9 +9,10 @@ import pytest
 
 from auction.conductor import hand, settings
 from auction.conductor.closing import NotClosed, Outcome, Ties
-from auction.conductor.decision import Reason
+from auction.conductor.decision import Limits, Reason
 from auction.conductor.hand import Hand, Word
 from auction.conductor.report import State
+from auction.standby.mark import FENCED, Mark, Marked
 from tests.conductor.conftest import Conduct
 from tests.conductor.finished import check
 from tests.conductor.test_notices import faults_of, of_kind
@@ -144,12 +145,40 @@ def test_it_waits_for_requests_that_are_on_their_way(
     assert any("waits for requests on their way" in line for line in opened.lines)
 
 
+def test_a_sheet_that_ends_while_connections_are_looked_at_counts(
+    opened: ConductedAuction, monkeypatch: pytest.MonkeyPatch
+) -> None:
+    """Its reply is there just then, so it is not seen on its way. It is frozen, too."""
+    sent: list[bool] = []
+
+    def ends(_port: int) -> frozenset[str]:
+        if opened.clock.wall() >= BEGIN + 10 + Limits.freeze and not sent:
+            sent.append(opened.put("X", 1, 1, 100))
+        return frozenset()
+
+    monkeypatch.setattr(hand, "pending", ends)
+    assert hand_of(opened).close(1, WORD).outcome is Outcome.CLOSED
+    assert sent == [True]
+    assert opened.audit()[1].startswith("A 100 100 100 - ")
+
+
 def test_a_connection_from_after_the_shut_doors_is_not_waited_for(
     opened: ConductedAuction, connections: set[str]
 ) -> None:
     by = hand_of(opened)
     at_closing(by, lambda: connections.add("b"))
     assert by.close(1, WORD).outcome is Outcome.CLOSED
+
+
+def test_a_machine_that_was_fenced_while_a_person_was_asked_closes_nothing(
+    opened: ConductedAuction,
+) -> None:
+    by, before = hand_of(opened), set(names_in_gate(opened))
+    Mark(FENCED, "taker").store(opened.folder)
+    with pytest.raises(Marked), by.alone():
+        by.close(1, WORD)
+    assert opened.current_round() == 1
+    assert set(names_in_gate(opened)) == before
 
 
 def test_without_a_gate_it_closes_at_once(opened: ConductedAuction) -> None:

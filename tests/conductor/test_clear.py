@@ -13,6 +13,7 @@ from auction.conductor import commitment
 from auction.conductor.clear import ClearFault, clear
 from auction.conductor.report import State
 from auction.conductor.settings import SettingsFault
+from auction.desk.desk import lock_of
 from auction.formats.setup import Setup
 from tests.conductor.conftest import Conduct
 from tests.conductor.finished import finish
@@ -22,7 +23,7 @@ from tests.lib.paths import AUCTION
 from tests.lib.paths import auction as auction_command
 from tests.lib.waiting import wait_for
 
-OWN = {"asked", "gate", "kept", "operator", "public", "state", "auction.journal", "setup.json"}
+OWN = {"gate", "kept", "operator", "public", "state", "auction.journal", "setup.json"}
 
 
 @pytest.fixture
@@ -78,11 +79,24 @@ def test_nothing_is_put_away_while_a_server_runs(ended: ConductedAuction) -> Non
     assert names(ended.folder) == before
 
 
-def test_nothing_is_put_away_while_a_conductor_runs(ended: ConductedAuction) -> None:
-    with open(ended.folder / "state/run.lock", "w", encoding="utf-8") as lock:
+LOCKS = {"run": "a conductor", "desk": "the desk", "sending": "`auction standby`"}
+
+
+@pytest.mark.parametrize(("name", "who"), LOCKS.items(), ids=list(LOCKS))
+def test_nothing_is_put_away_while_a_process_of_the_auction_runs(
+    ended: ConductedAuction, name: str, who: str
+) -> None:
+    """A desk would serve the next auction's folder by the set-up of this one."""
+    before = names(ended.folder)
+    with open(ended.folder / f"state/{name}.lock", "w", encoding="utf-8") as lock:
         fcntl.flock(lock, fcntl.LOCK_EX)
-        with pytest.raises(ClearFault, match="a conductor runs"):
+        with pytest.raises(ClearFault, match=f"{who} runs"):
             clear(ended.folder, ended.clock.wall())
+    assert names(ended.folder) == before
+
+
+def test_the_desk_has_the_lock_that_is_looked_at(ended: ConductedAuction) -> None:
+    assert lock_of(ended.folder) == ended.folder / "state/desk.lock"
 
 
 def test_a_folder_without_an_auction_is_refused(ended: ConductedAuction) -> None:

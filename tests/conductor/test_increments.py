@@ -8,8 +8,8 @@ from auction.conductor.increments import Rule, increments_for, rules_of
 from auction.conductor.report import State
 from auction.conductor.timetable import Window
 from auction.formats.setup import Product, Setup
-from tests.conductor.asking import ask
 from tests.conductor.conftest import Conduct
+from tests.conductor.early import end
 from tests.conductor.finished import finish
 from tests.conductor.plans import take
 from tests.lib.clock import BEGIN
@@ -114,13 +114,13 @@ def test_after_a_refused_closing_a_timetable_gives_the_round_other_increments(
 
 
 @pytest.mark.parametrize(("increment", "announced"), [(10, 0), (12, 1)])
-def test_other_increments_of_the_operators_page_are_announced(
+def test_other_increments_of_a_person_are_announced(
     conduct: Conduct, increment: int, announced: int
 ) -> None:
     auction = conduct()
     auction.play(State.OPEN)
     auction.bid()
-    ask(auction, increment=increment)
+    end(auction, increment=increment)
     auction.play(State.CLOSED, step=1)
     assert auction.page("kept/closing-1.json")["increment"] == increment
     words = "closes round 1 with other increments than announced: 12 percent."

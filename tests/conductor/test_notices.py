@@ -17,7 +17,6 @@ from auction.conductor.report import State
 from auction.conductor.timetable import Window
 from auction.formats.journal import Journal
 from auction.formats.notices import Entry, read_notices
-from tests.conductor.asking import ask
 from tests.conductor.conftest import Conduct
 from tests.conductor.plans import take
 from tests.lib.clock import BEGIN
@@ -258,15 +257,6 @@ def test_the_same_act_is_noticed_each_time(conduct: Conduct) -> None:
         commands.resume(auction.context(), 0)
     acts = [says["what"] for says in of_kind(auction, "act")]
     assert acts == ["pause", "resume", "pause", "resume"]
-
-
-def test_the_operators_page_is_named(conduct: Conduct) -> None:
-    auction = conduct(ROUND, rounds=1)
-    auction.play(State.OPEN)
-    auction.bid()
-    ask(auction)
-    auction.look()
-    assert of_kind(auction, "act") == [{"round": 1, "what": "close", "who": "the operator's page"}]
 
 
 def test_a_timetable_is_noticed_with_its_rules_of_increments(conduct: Conduct) -> None:

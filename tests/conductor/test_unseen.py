@@ -91,3 +91,17 @@ def test_a_short_window_that_bidders_cannot_reach(conduct: Conduct, away: int, w
     auction.wait(away, 1)
     auction.conductor = auction.fresh()
     auction.play(State.HELD if waits else State.CLOSED, step=1)
+
+
+def test_the_doors_open_before_anyone_asks_whether_bidders_reach_them(conduct: Conduct) -> None:
+    """A page that takes some seconds must not make the opening late."""
+    auction, seen = conduct(), list[bool]()
+
+    def asked(_now: float, _window: object) -> bool:
+        seen.append(auction.is_open())
+        return True
+
+    setattr(auction.conductor.context, "is_reached", asked)
+    auction.play(State.OPEN)
+    auction.look()
+    assert seen and all(seen)

@@ -53,6 +53,7 @@ def observed(world: World, marked: frozenset[tuple[str, int]] | None = None) -> 
         plan,
         world.gate,
         server if world.running else None,
+        world.lost,
         bool(marked & world.pending()),
         world.frozen,
         world.fixed,
@@ -167,7 +168,11 @@ def with_gate(world: World, gate: Gate) -> World:
 
 
 def latched(world: World, reason: Reason) -> World:
-    """The doubt is stored in the plan, or a closing by hand keeps it."""
+    """The doubt is stored in the plan, or a closing by hand keeps it.
+
+    What a journal has lost is noted once.
+    """
+    world = world._replace(lost=world.lost and reason is not Reason.LOST)
     if world.hand:
         return world._replace(hand=world.hand._replace(doubts=world.hand.doubts | {reason}))
     return world._replace(doubts=world.doubts | {reason})
@@ -205,6 +210,7 @@ def check_reasons(world: World) -> None:
             (Reason.OUTAGE, world.missed),
             (Reason.CLOCK, world.step != world.set_at),
             (Reason.NO_SHEETS, world.true_empty),
+            (Reason.LOST, world.true_lost),
             (Reason.TOO_MANY_PAIRS, len(world.sheets) > LIMITS.pairs),
         )
         if is_so

@@ -75,6 +75,7 @@ def closed(world: World) -> World:
         promise=closing.lifts if world.now < closing.lifts else 0,
         true_open=False,
         true_empty=False,
+        true_lost=False,
         true_word=frozenset(),
     )
 
@@ -170,6 +171,8 @@ def troubles(world: World) -> Iterator[World]:
         budget = world.budget._replace(strangers=world.budget.strangers - 1)
         sheets = world.sheets ^ {"Z"}
         yield world._replace(sheets=sheets, budget=budget, is_strange=True, true_empty=False)
+    if world.budget.restores and world.running and world.sheets and not world.ended:
+        yield put_back(world)
     if world.budget.clock:
         budget = world.budget._replace(clock=0)
         for step in (-TEN, TEN):
@@ -193,6 +196,14 @@ def troubles(world: World) -> Iterator[World]:
             missed=missed,
             budget=budget,
         )
+
+
+def put_back(world: World) -> World:
+    """The journal is that of the beginning of this round again."""
+    budget = world.budget._replace(restores=world.budget.restores - 1)
+    return world._replace(
+        sheets=frozenset(), budget=budget, is_strange=True, lost=True, true_lost=True
+    )
 
 
 def rebooted(world: World) -> World:

@@ -40,6 +40,7 @@ BEGINNINGS = {
     "a second conductor, a page": World(budget=NOTHING._replace(seconds=1, spies=1)),
     "a killed command": World(budget=NOTHING._replace(words=1, cuts=1)),
     "a sheet past the doors": World(budget=NOTHING._replace(strangers=1)),
+    "a journal that is put back": World(budget=NOTHING._replace(restores=1)),
 }
 # Two troubles at once, which take some minutes.
 MORE = {
@@ -57,6 +58,7 @@ MORE = {
     "a reboot and a step of the clock": World(budget=NOTHING._replace(reboots=1, clock=1)),
     "a closing by hand, late once": World(budget=NOTHING._replace(hands=1, slow=1)),
     "a sheet past the doors, a word": World(budget=NOTHING._replace(strangers=1, words=1)),
+    "a journal that is put back, a word": World(budget=NOTHING._replace(restores=1, words=1)),
     "two closings by hand": World(budget=NOTHING._replace(hands=2)),
 }
 

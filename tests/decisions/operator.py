@@ -123,6 +123,7 @@ def new_window(world: World, changes: dict[str, object]) -> World:
             released=frozenset(),
             set_at=world.step,
             true_empty=False,
+            true_lost=world.lost,
             true_word=frozenset(),
         )
     )

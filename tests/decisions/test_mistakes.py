@@ -14,6 +14,7 @@ pytestmark = pytest.mark.early
 FOLDER, STARTED = "another auction's folder", "a conductor that starts after the window"
 COMMAND, PAGE = "a command", "a page, the conductor late once"
 STEP = "a step of the clock, late once"
+RESTORED = "a journal that is put back"
 HAND, KILLED, PAST = "a closing by hand", "a killed command", "a sheet past the doors"
 SECOND, REBOOT = "a second conductor, a page", "a reboot and a step of the clock"
 
@@ -53,6 +54,7 @@ MISTAKES = [
     Mistake("there is no curtain", mistakes.without_a_curtain, PAGE),
     Mistake("sheets are not frozen", mistakes.with_sheets_that_are_never_frozen, COMMAND),
     Mistake("a journal may change once it is frozen", lambda: without("not the frozen one"), PAST),
+    Mistake("a journal may lose sheets", lambda: without("lost sheets"), RESTORED),
     Mistake("a killed pause leaves doors open", lambda: without("is paused: shut both"), KILLED),
     Mistake("the clock is not noted after a start", lambda: without("was started since"), REBOOT),
     Mistake(

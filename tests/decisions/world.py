@@ -36,6 +36,7 @@ class Budget(NamedTuple):
     hands: int = 0  # calls of `auction close`
     reboots: int = 0
     seconds: int = 0  # second conductors that begin
+    restores: int = 0  # times that an earlier state of the journal is put back
     strangers: int = 0  # sheets at the server's own port, past both doors
 
 
@@ -66,7 +67,8 @@ class World(NamedTuple):
     running: bool = True
     gate: Gate = Gate()
     windows: tuple[Window | None, ...] = WINDOWS
-    is_strange: bool = False  # a sheet of this round came past the doors
+    is_strange: bool = False  # a sheet of this round came past the doors, or was lost
+    lost: bool = False  # the conductor has read sheets that the journal no longer has
     is_own: bool = True  # whether the plan is of this auction
     set_at: int = 0  # `step` when the window was announced
     paused: bool = False
@@ -93,6 +95,7 @@ class World(NamedTuple):
     budget: Budget = Budget()
     true_open: bool = False  # whether both doors were open in the window
     true_empty: bool = False  # nobody had a sheet when the inner door had shut
+    true_lost: bool = False  # sheets of this round were lost
     true_word: frozenset[Reason] = frozenset()  # what a person has seen and released
     true_frozen: str | None = None  # the digest at which this window was frozen first
     promise: int = 0  # until when the last closing may not be seen

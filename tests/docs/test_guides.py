@@ -11,8 +11,9 @@ from collections.abc import Callable
 
 import pytest
 
-from tests.docs.shell import OPERATOR, Shell
-from tests.docs.texts import CARD_ROUND, MACHINE, ROUNDS, sections_of, text_of
+from tests.docs.shell import OPERATOR, Bids, Shell, rows_of
+from tests.docs.texts import CARD_ROUND, FIRST, MACHINE, ROUNDS, sections_of, text_of
+from tests.lib.documents import typed_lines
 from tests.lib.http import compact
 from tests.lib.paths import TOP
 from tests.lib.waiting import wait_for
@@ -20,6 +21,10 @@ from tests.lib.waiting import wait_for
 NEEDED = pytest.mark.needs("nginx", "openssl", "curl")
 TOKENS = ("setup.json", "operator.token", "operator.head", "bidders.map", "sheet.conf")
 SECRETS = ("key.pem", "auction.journal", "log/access.log", "kept/chain.json", "kept/receipts.pem")
+
+# The steps of docs/auditors.md before the end; the second one continues if there is a timetable.
+SAVE_COMMITMENT = "1. Save the commitment before round 1"
+SAVE_ROUNDS, TIMETABLE = "2. Save each round when it is published", "If there is a timetable"
 
 StartShell = Callable[[], Shell]
 
@@ -62,9 +67,9 @@ class Machine:
         receipts = audit["3. If you bid, save your receipts"].partition("\n## ")[0]
         parts = (
             guide["Set up one machine"],
-            audit["1. Save the commitment before round 1"],
-            guide["Run a round"],
-            audit["2. Save each round when it is published"],
+            audit[SAVE_COMMITMENT],
+            guide["Close a round by hand"],
+            audit[SAVE_ROUNDS].partition(TIMETABLE)[0],
             receipts,
             card,
             guide["After the auction"],
@@ -76,8 +81,6 @@ class Machine:
         """What others do, and before which line."""
         return [
             ("/v1/status", self.shell.start_services),
-            ("x.head", self.write_head),
-            ("auction close", lambda: None),
             ("auction close", self.first_round),
             ("auction close", lambda: self.shell.play(MACHINE[1], 2)),
             ("auction record", self.end),
@@ -87,14 +90,16 @@ class Machine:
         """Asks nginx. Returns what curl prints, and its status."""
         return self.shell.say(self.shell.put_elsewhere(f"curl -s --cacert cert.pem {words}"))
 
-    def write_head(self) -> None:
-        """Writes the head of X's requests, and lets closings wait for no drain and no curtain."""
+    def first_round(self) -> None:
+        """Submits X's sheet through nginx, and Y's and Z's. Checks secret files, log, and pages.
+
+        Closings wait for no drain and no curtain.
+        """
         path = self.auction / "conductor.json"
         path.write_text(json.dumps({**json.loads(path.read_text()), "drain": 0, "publish": 0}))
-        (self.auction / "x.head").write_text("authorization: Bearer XXXXXXXXXXXXXXXX\n")
-
-    def first_round(self) -> None:
-        """Submits Y's and Z's sheets. Checks secret files, the log, and the pages."""
+        reply = put_through_nginx(self.shell, "X", FIRST["X"])
+        assert reply == {"accepted": True, "bids": 1, "round": 1}
+        wait_for("X's receipt", (self.auction / "receipts/X/1-1.json").exists, 20)
         self.shell.play(MACHINE[0], 1)
         for name in (*TOKENS, *SECRETS):
             mode = (self.auction / name).stat().st_mode & 0o777
@@ -129,6 +134,17 @@ class Machine:
             file.write(json.dumps({"sent": sent}) + "\n")
 
 
+def put_through_nginx(shell: Shell, letter: str, bids: Bids) -> dict[str, object]:
+    """Submits a sheet of round 1 through nginx, in the folder of the auction. Returns the reply."""
+    head = f"{letter.lower()}.head"
+    (shell.folder / "auction" / head).write_text(f"authorization: Bearer {letter * 16}\n")
+    body = compact({"bids": rows_of(bids), "round": 1}).decode()
+    words = f"-s --cacert cert.pem -H @{head} -X PUT --data-binary '{body}'"
+    line = f"curl {words} https://localhost:8443/v1/me/bids"
+    page: dict[str, object] = json.loads(shell.say(shell.put_elsewhere(line))[0])
+    return page
+
+
 @NEEDED
 def test_operators_guide_leads_from_nothing_to_a_verified_auction(shell: StartShell) -> None:
     machine = Machine(shell())
@@ -137,21 +153,25 @@ def test_operators_guide_leads_from_nothing_to_a_verified_auction(shell: StartSh
 
 
 def test_mock_auction_is_made_and_put_away(shell: StartShell) -> None:
-    typed = shell()
-    typed.type_text(sections_of("operators.md")["Mock auction"])
-    folders = typed.folder / "mock/past", typed.folder / "auction"
-    found = [path for folder in folders for path in folder.rglob("commitment.json")]
+    typed, guide = shell(), sections_of("operators.md")
+    typed.type_text(guide["Mock auction"])
+    for command, output in typed_lines(guide["Set up one machine"]):
+        if command.startswith("auction init"):
+            typed.type(command, output)
+    past, made = typed.folder / "mock/past", typed.folder / "auction"
+    found = [path for folder in (past, made) for path in folder.rglob("commitment.json")]
     assert [json.loads(path.read_text()).get("mock", False) for path in found] == [True, False]
+    assert sorted(path.name for path in past.rglob("letters/*")) == ["X.txt", "Y.txt", "Z.txt"]
 
 
 def times_of_day(first: int) -> dict[str, str]:
     """The times of the timetable in docs/operators.md, each with the time to type instead.
 
-    These are two windows of ten seconds, which open soon.
+    These are two windows of forty seconds, which open soon.
     """
     early = 1 <= time.gmtime(first).tm_hour <= 22  # no window may cross midnight
     zone, hours = ("UTC", 0) if early else ("Etc/GMT-12", 12)
-    local = [time.gmtime(first + after + 3600 * hours) for after in (0, 10, 60, 70)]
+    local = [time.gmtime(first + after + 3600 * hours) for after in (0, 40, 100, 140)]
     clocks = [time.strftime("%H:%M:%S", moment) for moment in local]
     typed = {
         "America/New_York": zone,
@@ -159,7 +179,7 @@ def times_of_day(first: int) -> dict[str, str]:
         "10:00-11:00": f"{clocks[0]}-{clocks[1]}",
         "14:00-15:00": f"{clocks[2]}-{clocks[3]}",
     }
-    for shown, after in ((15, 0), (16, 10), (19, 60), (20, 70)):
+    for shown, after in ((15, 0), (16, 40), (19, 100), (20, 140)):
         moment = time.gmtime(first + after)
         clock = time.strftime("%H:%M:%S" if moment.tm_sec else "%H:%M", moment)
         day = f"{time.strftime('%B', moment)} {moment.tm_mday}"
@@ -177,12 +197,9 @@ class Day:
         self.section = self.guide["Run the auction by a timetable"]
 
     def moves(self) -> list[tuple[str, Callable[[], object]]]:
-        head = self.auction / "x.head"
         return [
             ("/v1/status", self.shell.start_services),
-            ("x.head", lambda: head.write_text("authorization: Bearer XXXXXXXXXXXXXXXX\n")),
             ("auction check", self.write_files),
-            ("auction status", lambda: self.shell.begin("auction run $PWD", 1)),
             ("auction status", self.first_round),
             ("auction status", lambda: self.wait("round 1 is published", lambda: self.reports(2))),
         ]
@@ -192,6 +209,8 @@ class Day:
 
         The settings have less time between rounds, no curtain, and no notice.
         """
+        refused = put_through_nginx(self.shell, "Y", FIRST["X"])
+        assert refused == {"code": "window", "status": 409}
         # 30 to 40 s from here, for a busy machine
         self.shell.times = times_of_day(int(time.time() + 30) // 10 * 10 + 10)
         blocks = [
@@ -201,18 +220,9 @@ class Day:
         (timetable,) = (block for block in blocks if block.startswith("{"))
         (self.auction / "timetable.json").write_text(self.shell.put_elsewhere(timetable))
         settings = json.loads((self.auction / "conductor.json").read_text())
-        quick = {"drain": 10, "between": 10, "notice": 0, "publish": 0}
+        quick = {"drain": 10, "between": 10, "notice": 0, "publish": 0, "missed": 100}
         text = json.dumps({**settings, **quick})
         (self.auction / "conductor.json").write_text(self.shell.put_elsewhere(text))
-
-    def put_outside(self, letter: str, bids: object) -> dict[str, object]:
-        """Submits a sheet through nginx. Returns the reply."""
-        (self.auction / "y.head").write_text(f"authorization: Bearer {letter * 16}\n")
-        body = json.dumps({"bids": bids, "round": 1})
-        words = f"-s --cacert cert.pem -H @y.head -X PUT --data-binary '{body}'"
-        line = f"curl {words} https://localhost:8443/v1/me/bids"
-        page: dict[str, object] = json.loads(self.shell.say(self.shell.put_elsewhere(line))[0])
-        return page
 
     def wait(self, what: str, condition: Callable[[], object]) -> None:
         wait_for(what, condition, 60, every=0.05)
@@ -226,12 +236,32 @@ class Day:
         found = (report["round"], report["sheets"]) == (number, list(bidders))
         return found and report["state"] != "closed"
 
+    def save(self) -> None:
+        """Saves what docs/auditors.md says. The conductor is stopped, so nothing changes."""
+        self.shell.say("kill %+")
+        steps = sections_of("auditors.md", "###")
+        assert TIMETABLE in steps[SAVE_ROUNDS]
+        self.shell.type_text(steps[SAVE_COMMITMENT] + steps[SAVE_ROUNDS])
+
+    def verify(self) -> str:
+        """What `auction verify` says of what was saved."""
+        return self.shell.say("auction verify setup.json auction.journal saved")[0]
+
+    def change(self, words: str, others: str) -> None:
+        """Changes words in the saved chain of notices."""
+        path = self.auction / "saved/notices.jsonl"
+        text = path.read_text()
+        assert words in text
+        path.write_text(text.replace(words, others))
+
     def first_round(self) -> None:
-        rows = [{"price": 100, "product": 0, "quantity": 1}]
-        assert self.put_outside("Y", rows) == {"code": "window", "status": 409}
+        """Starts the conductor, and submits the sheets of X and Y once the window is open."""
+        self.shell.begin("auction run $PWD", 1)
+        sheets: dict[str, Bids] = {"X": FIRST["X"], "Y": [(0, 1, 100)]}
         self.wait("the window opens", lambda: list((self.auction / "gate").iterdir()))
-        assert self.put_outside("Y", rows).get("accepted") is True
-        self.wait("the conductor sees the sheet", lambda: self.reports(1, "X", "Y"))
+        for letter, bids in sheets.items():
+            assert put_through_nginx(self.shell, letter, bids).get("accepted") is True
+        self.wait("the conductor sees the sheets", lambda: self.reports(1, "X", "Y"))
 
 
 @NEEDED
@@ -239,6 +269,13 @@ def test_timetable_leads_to_the_published_results_of_round_1(shell: StartShell) 
     day = Day(shell())
     day.shell.say("umask 027")  # as on other hardened machines
     day.shell.type_text(day.guide["Set up one machine"] + day.section, day.moves())
+    day.save()
+    verdict = day.verify()
+    assert "FAILED" not in verdict
+    for line in ("notices", "rounds", "windows", "increments", "announcements"):
+        assert f"ok     {line}: " in verdict, verdict
+    day.change("Round 1 is open", "Round 1 was open")
+    assert "FAILED notices: " in day.verify()
 
 
 def pages_of_bidders(typed: Shell) -> set[tuple[str, str]]:
@@ -303,7 +340,7 @@ def test_the_kit_that_readme_names_is_the_one_that_proves() -> None:
     ran = subprocess.run(["rt", "version"], capture_output=True, text=True, timeout=60)
     kit = ran.stdout.strip()
     assert f"    {kit}\n" in (TOP / "README.md").read_text()
-    assert f"`{kit}`" in text_of("assurance.md")
+    assert f"`{kit}`" in text_of("proof.md")
 
 
 def test_readme_says_that_no_license_is_granted() -> None:

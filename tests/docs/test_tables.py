@@ -54,12 +54,12 @@ def test_bidders_guide_lists_each_code_that_a_bidder_can_get(openapi: pathlib.Pa
     assert sorted(codes_in("bidders.md")) == sorted(server["public"] | server["bidder"] | of_nginx)
 
 
-def test_operators_guide_lists_only_codes_of_closings() -> None:
-    assert not set(codes_in("operators.md")) - codes_of_server()["operator"]
+def test_the_reference_lists_only_codes_of_closings() -> None:
+    assert not set(codes_in("deployment.md")) - codes_of_server()["operator"]
 
 
-def test_each_code_of_a_closing_is_in_a_guide() -> None:
-    known = {*codes_in("operators.md"), *codes_in("bidders.md")}
+def test_each_code_of_a_closing_is_in_a_document() -> None:
+    known = {*codes_in("deployment.md"), *codes_in("bidders.md")}
     assert not codes_of_server()["operator"] - known
 
 
@@ -80,8 +80,8 @@ def test_definitions_that_glossary_and_rules_name_exist() -> None:
     begins = r"(?m)^ *(?:abbrev |unfoldable )?(?:pub )?(?:record |data |mod )?(\w+)"
     files = TOP.glob("crates/*/specs/**/*.antt")
     known = {name for file in files for name in re.findall(begins, file.read_text())}
-    cells = re.findall(r"^\|[^|]*\|[^|]*\|([^|]*)\|[^|]*\|$", text_of("glossary.md"), re.M)
-    cells += re.findall(r"\((`\w+`(?:, `\w+`)*)\)", text_of("rules.md"))
+    texts = text_of("glossary.md") + text_of("rules.md")
+    cells = re.findall(r"\((`\w+`(?:, `\w+`)*)\)", texts)
     named = {name for cell in cells for name in re.findall(r"`(\w+)`", cell)}
     assert len(named) > 50
     assert not named - known

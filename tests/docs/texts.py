@@ -11,8 +11,9 @@ ROUNDS: list[Sheets] = [
     {"X": [(1, 2, 100)], "Y": [(0, 2, 100)], "Z": [(1, 1, 100)]},
     {"X": [(0, 1, 104), (1, 1, 106)], "Y": [(0, 1, 102)], "Z": [(1, 1, 110)]},
 ]
-# The auction of docs/operators.md: the sheets of Y and Z in round 1, and those of round 2, which
-# its card closes.
+# The auction of docs/operators.md: X's sheet of round 1, which docs/auditors.md names, those of Y
+# and Z, and those of round 2, which its card closes.
+FIRST: Sheets = {"X": [(0, 2, 100)]}
 MACHINE: list[Sheets] = [
     {"Y": [(0, 1, 100)], "Z": [(1, 1, 100)]},
     {"X": [(0, 1, 106)], "Y": [(0, 1, 110)], "Z": [(1, 1, 110)]},

@@ -92,7 +92,7 @@ def test_wrong_argument_or_file_has_status_2(words: list[str]) -> None:
 def test_help_has_status_0(option: str) -> None:
     done = auction("explain", option)
     assert done.returncode == 0
-    assert "with line and column" in done.stdout
+    assert "Reports every error in a document" in done.stdout
 
 
 @pytest.fixture

@@ -23,7 +23,7 @@ FALSE_WORDS = [
     ("announcements.json", "Its digest is ", "Its digest is 0", "announcements"),
     ("winners.json", '"pays":', '"pays":1', "winners"),
     ("winners.json", '"demands":[', '"demands":[1', "winners"),
-    ("commitment.json", '"end":"', '"end":"0', "commitment ties lots"),
+    ("commitment.json", '"end":"', '"end":"0', "commitment winners ties lots"),
 ]
 STRANGE = "digests results announcements ties"
 ADDED = [("0", STRANGE), ("01", STRANGE), ("4", "digests announcements")]

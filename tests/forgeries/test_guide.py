@@ -5,12 +5,13 @@ import pytest
 
 from auction.verify.findings import CHECKS
 
+from tests.forgeries import test_begun
 from tests.forgeries.test_announced import NOTICES
 from tests.forgeries.test_table import ROWS
 from tests.lib.paths import TOP
 
 pytestmark = pytest.mark.early
-ALL = {**ROWS, **NOTICES}
+ALL = {**ROWS, **NOTICES, **test_begun.ROWS}
 NAMES = {name for name, _ in CHECKS}
 SECTION = (
     (TOP / "docs/auditors.md")
@@ -30,16 +31,19 @@ MADE = {
     "puts in a sheet in a bidder's name": "12 13 14 12.1 13.1",
     "draws tie-breaking numbers until": "4 4.1 5 5.1",
     "makes many chains": "22.1 22.2 22.3",
-    "holds the draw after": "65 65.1 65.2",
+    "holds the draw after": "65 65.1 65.2 71 71.1",
     "exchanges the set-up": "6 6.1 6.2 6.3 6.4",
     "exchanges the seed chain": "4 45 45.1 67.3",
     "publishes other results": "36 39 46",
     "makes a record with a false table": "40 41 42 43 43.1",
-    "closes with another increment": "20 64 64.1",
-    "takes a friend's sheet": "63.11 63.12 63.13",
+    "closes with another increment": "20 64 64.1 70",
+    "takes a friend's sheet": "63.11 63.12 63.13 75.4 75.5",
     "writes a false second": "15 63.14",
-    "puts in, leaves out, or changes a sheet after": "61 61.1 61.2 61.3 62",
+    "puts in, leaves out, or changes a sheet after": "61 61.1 61.2 61.3 62 74",
+    "freezes it late": "69.1",
     "ends a window early": "63 63.1 63.2 63.3 63.4 63.5",
+    "lengthens a window after": "75.1",
+    "puts a false timetable": "63.7 63.8 72 72.1 72.2 73.3 73.4 73.5 73.6",
     "gives a false time": "32 35 63.6 66 66.1",
     "shows two chains": "67.1 68 68.1",
     "publishes no notices": "21 64.2 64.3 67",
@@ -64,7 +68,8 @@ NO_TRACE = (
 )
 # Honest auctions and files, what is harmless, and forgeries before anyone has saved a copy.
 CONTROLS = (
-    "5.2 12h 22 22b 22c 31.2 31.3 40h 50a 60h 60.1h 60.2h 60.3h 60.4h 60.5h 60.6h 69 69.1".split()
+    "5.2 12h 22 22b 22c 31.2 31.3 40h 50a 60h 60.1h 60.2h 60.3h 60.4h 60.5h 60.6h 69"
+    " 70.1h 70.2h 73h 73.1h 73.2h 75h 75.3h 75.6h".split()
 )
 
 

@@ -260,6 +260,13 @@ def test_what_a_copy_proves(copy: bytes, result: str) -> None:
     assert ("proves nothing against the operator" in found.words) == (result == notices.UNPROVED)
 
 
+def test_of_a_shorter_copy_it_says_when_the_next_entry_is_of() -> None:
+    """Who saved the copy later than that knows that the operator gave an earlier time."""
+    words = notices.compared(WHOLE, joined(LINES[:7]), COMMITMENT).words
+    assert "the first 7 of 11 entries" in words
+    assert "if it was saved after 2026-12-01T11:00:10Z, the time of entry 8 is false" in words
+
+
 def test_two_chains_are_a_proof_in_either_order() -> None:
     assert notices.compared(chain(FORK), WHOLE, COMMITMENT).result == notices.TWO_CHAINS
 

@@ -99,7 +99,8 @@ def test_a_table_is_as_it_was_calculated(record: pathlib.Path, name: str, text: 
 
 
 def test_the_sheets_are_as_they_were_sent(record: pathlib.Path) -> None:
-    assert tables.rows_of(record / "sheets.csv", 5) == tables.SHEETS
+    """None came through nginx, so none has a time or a person."""
+    assert tables.rows_of(record / "sheets.csv", 5) == [[*row, "", ""] for row in tables.SHEETS]
 
 
 def test_the_ties_are_of_all_pairs_from_round_2(record: pathlib.Path) -> None:

@@ -13,7 +13,7 @@ import pytest
 from cryptography import x509
 
 from auction.conductor.chain import Chain
-from auction.folder import usual_journal
+from auction.folder import link_journal, usual_journal
 from auction.formats.setup import Setup
 from auction.formats.ties import Commitment
 from tests.lib.paths import AUCTION, EXAMPLES, PATHS, TOP, auction
@@ -64,7 +64,6 @@ def folder(openapi: pathlib.Path) -> Iterator[pathlib.Path]:
         ("state", 0o700),
         ("inner", 0o710),
         ("operator", 0o2750),
-        ("asked", 0o2770),
         ("receipts", 0o2750),
     ],
 )
@@ -74,7 +73,7 @@ def test_each_file_and_folder_has_its_mode(folder: pathlib.Path, name: str, mode
 
 
 @pytest.mark.root
-@pytest.mark.parametrize("name", ["inner", "operator", "asked", "receipts"])
+@pytest.mark.parametrize("name", ["inner", "operator", "receipts"])
 def test_folders_of_nginx_belong_to_the_group_of_its_workers(
     folder: pathlib.Path, name: str
 ) -> None:
@@ -127,6 +126,7 @@ def test_settings_name_the_journal(open_folder: pathlib.Path) -> None:
     words = ("--setup", SETUP, "--user", WORKER, "--journal", "/var/lib/a.journal")
     assert auction("init", made, *words).returncode == 0
     assert json.loads((made / "conductor.json").read_text())["journal"] == "/var/lib/a.journal"
+    assert (made / "auction.journal").readlink() == pathlib.Path("/var/lib/a.journal")
 
 
 @pytest.mark.parametrize(
@@ -195,3 +195,15 @@ def test_of_calls_at_once_only_one_makes_the_folder(open_folder: pathlib.Path) -
     chain = Chain.read(made / "kept/chain.json", Setup.read(made / "setup.json"))
     assert Commitment.read(made / "public/commitment.json").chain == chain.committed()
     assert os.listdir(open_folder) == ["auction"]
+
+
+def test_the_link_to_the_journal_is_made_once_and_never_over_a_journal(
+    tmp_path: pathlib.Path,
+) -> None:
+    for _ in range(2):
+        link_journal(tmp_path, tmp_path / "elsewhere")
+    assert (tmp_path / "auction.journal").readlink() == tmp_path / "elsewhere"
+    own = tmp_path / "own"
+    own.mkdir()
+    link_journal(own, own / "auction.journal")
+    assert not list(own.iterdir())

@@ -47,13 +47,13 @@ def behind_nginx(program: Path) -> Iterator[Rehearsal]:
     with tempfile.TemporaryDirectory() as name:
         folder = Path(name)
         site = Site(folder, program, SETUP)
+        site.begin_receipts()
         gate, log = folder / "gate" / "open", folder / "log" / "access.log"
         gate.unlink()
         url, certificate = f"https://localhost:{site.outside}", str(folder / "cert.pem")
         try:
             with Rehearsal(folder, site.server_port, url, 0.4, CA=certificate) as rehearsal:
                 wait_for_refusals(log, len(SINCERE))
-                site.begin_receipts()
                 gate.touch()
                 rehearsal.play()
             yield rehearsal
@@ -85,8 +85,15 @@ def test_a_bidder_ends_without_an_error(at_the_server: Rehearsal, name: str) -> 
 @NEEDS_NGINX
 @EACH_BIDDER
 def test_a_bidder_says_once_that_it_waits_for_a_window(behind_nginx: Rehearsal, name: str) -> None:
+    """And whether the refusal is signed, which may take long on a busy machine."""
     status, _output, errors = behind_nginx.ended[name]
-    assert (status, errors) == (0, "Waiting to send the sheet: the round is not open.\n")
+    first, refusal = errors.splitlines()
+    assert (status, first) == (0, "Waiting to send the sheet: the round is not open.")
+    kept = read_kept(behind_nginx.bidders[name].receipts).refusals
+    if kept:
+        assert refusal.startswith(f"refusal {kept[0].refusal.number} is signed, of ")
+    else:
+        assert refusal == "no signed refusal within 5 s: call the operator"
 
 
 @EACH_BIDDER

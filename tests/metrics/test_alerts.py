@@ -35,6 +35,7 @@ FIRES: dict[str, dict[str, Any]] = {
     "WaitsForAPerson": {"state": "held"},
     "Doubts": {"doubts": 1},
     "JournalDiskFills": {"free": 0.05},
+    "JournalLong": {"journal": 2_600_000_000},
     "LogDiskFills": {"log_free": 0.05},
     "ConnectionsUsedUp": {"connections": 910_000},
     "UnknownTokens": {"codes": {"200": 5, "401": 101}},

@@ -128,6 +128,22 @@ def kept(folder: pathlib.Path) -> Kept:
 
 
 @pytest.mark.parametrize("is_mock", [False, True], ids=["real", "mock"])
+def test_no_key_signs_for_the_other_auction(pair: Pair, is_mock: bool) -> None:
+    """Set-up and journal fit, and only the folder of the key is another auction's."""
+    folder, other = (pair.mock, pair.real) if is_mock else (pair.real, pair.mock)
+    (folder / "journal").write_bytes(journal(folder))
+    words = "receipts", folder / "setup.json", folder / "journal"
+    done = auction(*words, other / "kept", folder / "receipts", "--once")
+    assert done.returncode == 1 and done.stdout == ""
+    assert "kept/receipts.pem is of another set-up" in done.stderr
+    assert list((folder / "receipts").iterdir()) == []
+    done = auction(*words, folder / "kept", folder / "receipts", "--once")
+    assert (done.returncode, done.stdout) == (0, "receipts 1\n"), done.stderr
+    page = json.loads((folder / "receipts/X/1-1.json").read_text())
+    assert page.get("mock", False) is is_mock
+
+
+@pytest.mark.parametrize("is_mock", [False, True], ids=["real", "mock"])
 def test_receipts_are_of_their_own_journal(made: Pair, is_mock: bool) -> None:
     folder = made.mock if is_mock else made.real
     commitment = commitment_in(folder)

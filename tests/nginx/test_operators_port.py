@@ -101,7 +101,6 @@ def test_the_timetable_is_at_the_operators_port(site: Site) -> None:
 
 
 def test_nothing_can_be_written_through_nginx(site: Site) -> None:
-    for path in ("/asked/close.json", "/conductor.json", "/public/timetable.json"):
+    for path in ("/conductor.json", "/public/timetable.json"):
         reply = asks_inside(site, path, OPERATOR, method="PUT", body=b"{}")
         assert reply.status in (404, 405)
-    assert not (site.folder / "asked/close.json").exists()

@@ -157,6 +157,16 @@ def test_who_has_no_token_uses_up_none_of_the_operators_requests(
     assert asks_inside(site, "/v1/results", OPERATOR).status == 200
 
 
+def test_many_people_open_the_desk_at_once(site: Site) -> None:
+    """Without one of its files, a page does nothing."""
+    texts = [
+        head("GET", path, host="localhost") for path in ("/", "/desk.css", "/operator.js")
+    ] * 70
+    peer = socket.create_connection(("127.0.0.1", site.inside), 20)
+    found, _ = replies_of(peer, texts)
+    assert found == {200: len(texts)}
+
+
 # ---- At the same time
 
 

@@ -39,7 +39,7 @@ def build(out: pathlib.Path, program: pathlib.Path, umask: int, **environment: s
         ["/usr/bin/python3", TOP / "tools/package", out, "--program", program],
         check=True,
         capture_output=True,
-        timeout=240,
+        timeout=480,
         umask=umask,
         env={**os.environ, **environment},
     )

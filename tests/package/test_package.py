@@ -16,7 +16,7 @@ pytestmark = [
     pytest.mark.xdist_group("package"),
 ]
 
-PARTS = ("nginx", "conductor", "receipts", "desk")
+PARTS = ("nginx", "conductor", "receipts", "desk", "practice")
 UNITS = ["clock-auction", *(f"clock-auction-{part}" for part in PARTS)]
 COMMANDS = ("init", "ready", "run", "status", "plan", "pause", "close", "record", "verify")
 DEBIANS = ("/bin/sh", "/bin/rm", "/usr/bin/install", "/usr/sbin/nft", "/usr/sbin/nginx")
@@ -129,6 +129,13 @@ def test_what_a_unit_starts_is_in_the_package_or_debians(built: Built, unit: str
         assert path in DEBIANS or (built.root / path[1:]).exists(), path
 
 
+@pytest.mark.parametrize("unit", UNITS)
+def test_the_document_that_a_unit_names_is_in_the_package(built: Built, unit: str) -> None:
+    text = (built.root / f"lib/systemd/system/{unit}.service").read_text()
+    (name,) = re.findall(r"(?m)^Documentation=file:/(\S+)$", text)
+    assert (built.root / name).is_file()
+
+
 def test_version_names_the_commit_and_the_programs_sum(built: Built) -> None:
     command = built.root / "usr/bin/auction"
     path = {"PATH": f"{built.root}/usr/bin:/usr/bin"}
@@ -169,6 +176,21 @@ def test_bash_completes(built: Built, words: tuple[str, ...], wanted: list[str])
         _{words[0]}; printf '%s\\n' "${{COMPREPLY[@]}}" """
     ran = subprocess.run(["bash", "-c", script], capture_output=True, text=True, timeout=20)
     assert ran.stdout.split() == wanted
+
+
+def test_a_removal_stops_each_unit(built: Built) -> None:
+    words = (built.control / "prerm").read_text().split()
+    stopped = {word.strip('"').removeprefix('units="') for word in words if ".service" in word}
+    assert {f"{unit}.service" for unit in UNITS} == stopped
+
+
+def test_an_upgrade_restarts_what_the_changes_say(built: Built) -> None:
+    """nginx runs on, and the practice: its games would be lost."""
+    text = (built.control / "postinst").read_text()
+    restarted = set(re.findall(r"(clock-auction[a-z-]*)\.service", text))
+    assert restarted == set(UNITS) - {"clock-auction-nginx", "clock-auction-practice"}
+    changes = (TOP / "CHANGES.md").read_text()
+    assert "restarts the server, the conductor, the desk, and the receipts" in changes
 
 
 @pytest.mark.needs("shellcheck")

@@ -25,7 +25,12 @@ const VALUES = {
     { kind: "refused", round: 1, fault: { code: "window" } },
     { kind: "filled", round: 1, words: "Pasted" },
   ],
-  receipt: [null, { kind: "here", round: 2 }, { kind: "missing", round: 1 }],
+  receipt: [
+    null,
+    { kind: "here", round: 2 },
+    { kind: "missing", round: 1 },
+    { kind: "missing", round: 2, isLate: true, time: "" },
+  ],
   link: [{}, { silent: true }, { closing: true }],
   time: [
     {},
@@ -117,7 +122,7 @@ const isUnknown = (given) => isOpen(given) && given.form.bids.length > 0
   && given.act.asked >= given.inForce.asked;
 const isOpen = (given) => !given.me.ended && given.me.eligibility > 0;
 
-test("there are more than 60,000 combinations", () => assert.equal(SEEN.length, 60_480));
+test("there are more than 80,000 combinations", () => assert.equal(SEEN.length, 80_640));
 
 for (const [name, [applies, holds]] of Object.entries(RULES)) {
   test(`in all combinations: ${name}`, () => {

@@ -4,6 +4,7 @@ import assert from "node:assert/strict";
 import test from "node:test";
 
 import {
+  closingQuestion,
   countedOf,
   doneWords,
   readIncrements,
@@ -31,8 +32,9 @@ function state(change = {}) {
   return {
     status: { round: 2, ended: false },
     desk: deskOf(["pause", "extend", "announce", "plan", "close"]),
-    report: { words: "Conductor: Round 2 is open.", needsYou: false },
+    report: { words: "Conductor: Round 2 is open.", needsYou: false, isStale: false },
     bidders: BOTH,
+    onlyMissing: false,
     link: { silent: false, answered: "10:20:30", fault: "", closing: false },
     time: { phase: "open", words: "Open until 10:30", seconds: 600, results: "" },
     message: "",
@@ -194,3 +196,45 @@ test("a wrong increment is named with its product", () => {
   const many = Array.from({ length: 9 }, (_, n) => ({ name: `P${n}` }));
   assert.match(wrongIncrements(many, many.map(() => "x")), /P4 has x, and 4 more products$/);
 });
+
+test("only those without bids are listed if the person wants it", () => {
+  const names = (change) => shown(state(change)).rows.map(({ name }) => name);
+  assert.deepEqual([names({}), names({ onlyMissing: true })], [["X", "Y"], ["Y"]]);
+});
+
+test("it is said how many have submitted bids, if that is known and the auction goes on", () => {
+  const submitted = (change) => shown(state(change)).submitted;
+  assert.deepEqual(submitted({}), [["Bidders with submitted bids", "1 of 2"]]);
+  assert.deepEqual(submitted({ bidders: [standing("X", null)] }), []);
+  assert.deepEqual(submitted(ENDED), []);
+  assert.deepEqual([shown(state()).isOver, shown(state(ENDED)).isOver], [false, true]);
+});
+
+const NOBODY = [standing("X", false), standing("Y", false)];
+const ASKED = { isByDesk: false, early: "" };
+for (const [what, change, percents, given, words, yes] of [
+  ["one increment", {}, [10, 10], ASKED, "rise by 10 percent. 10:00 is left.", "Close the round"],
+  ["two increments", {}, [10, 20], ASKED, "rise by 10 to 20 percent.", "Close the round"],
+  ["nobody has submitted bids", { bidders: NOBODY }, [10], ASKED, "NO bidder", "without any bids"],
+  ["by the desk", {}, [10], { isByDesk: true, early: "" }, "A second person", "Close the round"],
+  ["the conductor would do it", {}, [10], { ...ASKED, early: " It would." }, "It would.", "Close"],
+  ["who is missing", {}, [10], ASKED, "No bids from: Y.", "Close the round"],
+]) {
+  test(`the question before a closing: ${what}`, () => {
+    const question = closingQuestion(state(change), percents, given);
+    assert.ok(question.words.includes(words), question.words);
+    assert.ok(question.yes.includes(yes), question.yes);
+    assert.equal(question.typed, "2");
+  });
+}
+
+const STOPPED = { words: "⚠ The conductor has not reported", needsYou: true, isStale: true };
+for (const [what, change, waits] of [
+  ["during the auction", { report: STOPPED }, { kind: "fault", words: STOPPED.words }],
+  ["after its end", { ...ENDED, report: STOPPED }, { kind: "", words: "" }],
+  ["after its end, while it runs", ENDED, { kind: "", words: "Conductor: Round 2 is open." }],
+]) {
+  test(`a conductor that was stopped: ${what}`, () => {
+    assert.deepEqual(shown(state(change)).waits, waits);
+  });
+}

@@ -15,7 +15,8 @@ const NAMES = ["auction", "bidder", "by", "round", "sheet", "taken", "body", "te
 
 function signed(given) {
   const lines = NAMES.map((name) => `${name} ${given[name]}\n`).join("");
-  const text = Buffer.from(`clock_auction receipt 2\n${lines}`);
+  const kind = given.mock ? "mock " : "";
+  const text = Buffer.from(`clock_auction ${kind}receipt 2\n${lines}`);
   return { ...given, signature: crypto.sign(null, text, privateKey).toString("hex") };
 }
 
@@ -63,6 +64,7 @@ test("bids that name another round are not taken", async () => {
 // What is wrong with a file, and what is said.
 for (const [name, lines, words] of [
   ["of another auction", [receipt(1, 1, 1, { auction: "b".repeat(64) })], "another auction"],
+  ["of a mock auction", [receipt(1, 1, 1, { mock: true })], "of the mock auction"],
   ["of another bidder", [receipt(1, 1, 1, { bidder: "Y" })], "another bidder"],
   ["a wrong signature", [{ ...receipt(1, 1, 1), round: 2 }], "wrong signature"],
   ["no receipts", [], "has no receipts"],
@@ -73,6 +75,19 @@ for (const [name, lines, words] of [
     assert.ok(loadedWords(found).startsWith("Not loaded: ") && found.fault.includes(words));
   });
 }
+
+test("a mock auction takes its own receipts only", async () => {
+  const mock = { ...COMMITMENT, mock: true };
+  const own = await bidsOfFile(file(receipt(1, 1, 1, { mock: true })), mock, "X");
+  assert.equal(own.fault, "");
+  const other = await bidsOfFile(file(receipt(1, 1, 1)), mock, "X");
+  assert.equal(other.fault, "a receipt is of the real auction");
+  const { mock: _, ...unmarked } = receipt(1, 1, 1, { mock: true });
+  const marked = { ...receipt(1, 1, 1), mock: true };
+  assert.equal((await read(unmarked)).fault, "a receipt has a wrong signature");
+  const found = await bidsOfFile(file(marked), mock, "X");
+  assert.equal(found.fault, "a receipt has a wrong signature");
+});
 
 test("a file that is no receipts file is refused", async () => {
   const found = await bidsOfFile("product,quantity,price\n", COMMITMENT, "X");

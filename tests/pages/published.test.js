@@ -123,7 +123,7 @@ test("totals above what a number holds are exact", () => {
 test("the winners have what they won and pay", () => {
   const won = { bidders: [{ name: "X", demands: [1, 2], pays: 210 }] };
   const now = shown(state(2, true, { 1: ROUND_1, 2: ROUND_2 }, { won }));
-  assert.deepEqual(now.winners, [{ name: "X", blocks: 3, pays: 210, products: ["A 1", "B 2"] }]);
+  assert.deepEqual(now.winners, [{ name: "X", blocks: 3, pays: 210, products: ["A: 1", "B: 2"] }]);
   assert.deepEqual(now.facts[4], ["Proceeds", "$210", "what the winners pay"]);
   assert.equal(now.round, "Ended after round 2");
 });

@@ -13,7 +13,12 @@ const WRONG = form([], [{ product: 0, step: 0, text: "the quantity is not a whol
 const lost = (asked) => ({ kind: "lost", round: 2, sent: sent(REDUCE), asked });
 const accepted = (more = {}) => (
   { kind: "accepted", round: 2, sent: sent(REDUCE), count: 1, closed: 0, ...more });
+const LATE = { kind: "refused", round: 2, fault: { code: "window" }, status: 409 };
+const TIME = "2026-11-30T13:00:05Z";
+const TIME_HERE = new Date(TIME).toLocaleTimeString("en-GB");
+const refusal = (kind) => ({ kind, round: 2, isLate: true, time: kind === "here" ? TIME : "" });
 const SUBMITTED = { form: form(REDUCE), inForce: force(REDUCE), act: accepted() };
+const EARLY = { kind: "refused", round: 2, fault: { code: "window" }, status: 409 };
 const OVER_CAP = { kind: "refused", round: 2, fault: { code: "over_cap" }, product: "A" };
 const shut = (seconds, more = {}) => (
   { phase: "shut", words: "Closed for bids.", seconds, ...more });
@@ -99,13 +104,31 @@ const TABLE = {
   "refused": [
     { form: WRONG, act: OVER_CAP },
     "todo",
-    "bad Refused: the quantity is above the product's cap: ask for less (A).",
+    "bad Refused: the quantity is above the product's cap (A).",
     "",
   ],
   "refused, with earlier bids in force": [
     { ...SUBMITTED, act: OVER_CAP },
     "done",
-    "ask for less (A). Your earlier bids stay in force.",
+    "cap (A). Your earlier bids stay in force.",
+    "",
+  ],
+  "refused before the round opened": [
+    { form: form(REDUCE), act: EARLY, time: { phase: "before", seconds: 9 } },
+    "off",
+    "bad Refused: ",
+    "",
+  ],
+  "refused before the round opened, which is open now": [
+    { form: form(REDUCE), act: EARLY },
+    "todo",
+    "warn Your last bids came while no window was open. Submit again.",
+    "Submit 1 bid",
+  ],
+  "a timetable of the round before": [
+    { time: { phase: "shut", seconds: -20, words: "Closed for bids.", round: 1 } },
+    "off Round 2 is not open yet.",
+    "",
     "",
   ],
   "no answer to a submission": [
@@ -138,6 +161,12 @@ const TABLE = {
     "good 1 bid in force since 10:20:38. The receipt is here",
     "In force",
   ],
+  "a receipt of a mock auction": [
+    { ...SUBMITTED, receipt: { kind: "here", round: 2, isMock: true } },
+    "done",
+    "good 1 bid in force since 10:20:38. The mock auction's receipt is here",
+    "In force",
+  ],
   "no receipt": [
     { ...SUBMITTED, receipt: { kind: "missing", round: 2 } },
     "done",
@@ -155,6 +184,49 @@ const TABLE = {
     "todo",
     "No errors found. No bids in force",
     "Submit 1 bid",
+  ],
+  "too late, and its refusal is on its way": [
+    { act: LATE, receipt: refusal("waiting"), inForce: force(REDUCE), time: shut(-9) },
+    "off",
+    "opens. Your earlier bids stay in force. Waiting for the signed refusal.",
+    "",
+  ],
+  "too late, and shut": [
+    { act: LATE, receipt: refusal("here"), time: shut(-9) },
+    "bad",
+    `bad Refused: the round is not open for bids`,
+    "",
+  ],
+  "too late, and its refusal is signed": [
+    { act: LATE, receipt: refusal("here") },
+    "todo",
+    "warn Your last bids came while no window was open. Submit again. " +
+      `The refusal is signed, of ${TIME_HERE}: download it.`,
+    "Submit 1 bid",
+  ],
+  "too late, without a signed refusal": [
+    { act: LATE, receipt: refusal("missing") },
+    "todo",
+    "No signed refusal within five seconds: call the operator.",
+    "Submit 1 bid",
+  ],
+  "too late, with a wrong refusal": [
+    { act: LATE, receipt: refusal("wrong") },
+    "todo",
+    "The signed refusal is wrong: call the operator.",
+    "Submit 1 bid",
+  ],
+  "a refusal of another reason has none that is signed": [
+    { act: OVER_CAP, receipt: refusal("missing") },
+    "todo",
+    "bad Refused: the quantity is above the product's cap (A).",
+    "Submit 1 bid",
+  ],
+  "a refusal is no receipt": [
+    { ...SUBMITTED, receipt: refusal("here") },
+    "done",
+    "good 1 bid in force since 10:20:38.",
+    "In force",
   ],
   "bids of a round that is closed by now": [
     { act: accepted({ round: 1, closed: 2 }) },
@@ -354,3 +426,33 @@ for (const [amount, words] of [
     assert.equal(shortDollars(amount), words);
   });
 }
+
+// ---- What else of the page follows from the state
+
+for (const [name, change, wanted] of [
+  ["during the auction", {}, { who: "· X", tab: "Bids", isOver: false }],
+  ["after its end", { ended: true }, { tab: "What you won", isOver: true }],
+  ["for a bidder who is out", { eligibility: 0 }, { tab: "Bids", isOver: true }],
+  ["without receipts", {}, { hasReceipts: false, strange: "" }],
+  ["with a receipt", { evidence: { count: 1, strange: [] } }, { hasReceipts: true }],
+  ["with a draft of an earlier round", { old: { round: 1, rows: [] } }, { hasOld: true }],
+  ["without announcements", {}, { news: "", hasOld: false }],
+  ["with announcements", { news: 1234 }, { news: "1,234" }],
+]) {
+  test(`what is shown ${name}`, () => {
+    const now = shown(state(change));
+    for (const [part, value] of Object.entries(wanted)) assert.deepEqual(now[part], value, part);
+  });
+}
+
+test("a signed refusal can be downloaded beside the button", () => {
+  const { message } = shown(state({ act: LATE, receipt: refusal("here") }));
+  assert.deepEqual(message.button, ["receipts", "Download receipts"]);
+  assert.equal(shown(state({ act: LATE, receipt: refusal("missing") })).message.button, null);
+});
+
+test("a receipt of a sheet that was not sent is told", () => {
+  const strange = [{ round: 1, sheet: 2, by: "bob" }];
+  const now = shown(state({ evidence: { count: 1, strange } }));
+  assert.match(now.strange, /^One sheet in your name .* sheet 2 of round 1, by bob\./);
+});

@@ -9,7 +9,8 @@ const products = [
 ];
 const OPENING = [{ start: 100, clock: 100 }, { start: 50, clock: 50 }];
 const SECOND = [{ start: 100, clock: 110 }, { start: 50, clock: 55 }];
-const PARTS = ["form", "inForce", "sending", "act", "receipt", "undo"];
+const PARTS = ["form", "inForce", "sending", "act", "receipt", "undo", "evidence", "old", "lines"];
+PARTS.push("news");
 
 export const bid = (product, quantity, price) => ({ product, quantity, price, step: 0 });
 export const KEEP = [bid(0, 2, 110)];
@@ -34,7 +35,12 @@ export function state(change = {}) {
     sending: null,
     act: null,
     receipt: null,
+    evidence: { count: 0, strange: [] },
     undo: "",
+    old: null,
+    lines: [],
+    news: 0,
+    worth: null,
     link: { ...link, ...change.link },
     time: { ...time, ...change.time },
     ...Object.fromEntries(Object.entries(change).filter(([name]) => PARTS.includes(name))),

@@ -12,7 +12,7 @@ pytestmark = pytest.mark.early
 
 WEB = TOP / "web"
 # The pages whose modules are loaded at once.
-PAGES = {"index.html": "bidder.js", "results.html": "results.js"}
+PAGES = {"index.html": "bidder.js", "operator.html": "operator.js", "results.html": "results.js"}
 
 
 def modules_of(name: str) -> set[str]:
@@ -63,7 +63,7 @@ def test_a_copied_page_names_no_file_without_a_version(
     top = sorted(path.name for path in (tmp_path / "web").iterdir())
     assert top == sorted([*(page.name for page in source.glob("*.html")), version])
     for page in (tmp_path / "web").glob("*.html"):
-        named = re.findall(r'(?:href|src)="([^"#]+\.(?:js|css))"', page.read_text())
+        named = re.findall(r'(?:href|src)="([^"#]+\.(?:js|css|svg))"', page.read_text())
         assert named and all(name.startswith(version + "/") for name in named)
         assert all((tmp_path / "web" / name).is_file() for name in named)
 

@@ -10,7 +10,7 @@ import { WORDS, wordsOf } from "../../web/rules.js";
 // What to do is in a column of its own, or after a colon.
 const ROW = /^\| `([a-z_]+)` \| \d+ \| ([^|]*?)(?: \| ([^|]*?))? \|$/gm;
 const documented = new Map();
-for (const name of ["operators", "bidders"]) {
+for (const name of ["deployment", "bidders"]) {
   const text = fs.readFileSync(new URL(`../../docs/${name}.md`, import.meta.url), "utf8");
   for (const [, code, wrong, mend] of text.matchAll(ROW)) {
     documented.set(code, [wrong, mend].filter(Boolean).join(": ").replace(" at `place`", ""));

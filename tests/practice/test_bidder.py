@@ -2,6 +2,7 @@
 import json
 import os
 import pathlib
+import re
 import subprocess
 import sys
 import time
@@ -93,5 +94,6 @@ def test_it_says_once_that_its_sheet_waits_for_a_window(
     finally:
         bidder.process.kill()
         bidder.process.wait()
-    lines = [line for line in bidder.errors.read_text().splitlines() if "receipt" not in line]
+    said = bidder.errors.read_text().splitlines()
+    lines = [line for line in said if not re.search("receipt|signed refusal", line)]
     assert len(lines) == 1 and words in lines[0], lines

@@ -336,7 +336,11 @@ PERSONS = present({"persons.csv": "bidder,person,token\nX,alice,\n"})  # alice w
 FAULTS = [
     Row("set-up", "a file is no JSON in UTF-8", text("setup.json", lambda setup: setup[:-3])),
     Row("set-up", "two tokens are the same", text("setup.json", with_first_token(""))),
-    Row("set-up", "at random: X", text("setup.json", with_first_token("X" * 16))),
+    Row(
+        "set-up",
+        "at random (openssl rand -hex 16): X",
+        text("setup.json", with_first_token("X" * 16)),
+    ),
     Row("set-up", "No such file", absent("setup.json")),
     Row("secret files", "key.pem has mode 640", mode("key.pem", 0o640)),
     Row("secret files", "setup.json has mode 604", mode("setup.json", 0o604)),

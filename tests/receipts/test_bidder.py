@@ -10,7 +10,7 @@ from typing import Any
 import pytest
 
 from auction.conductor.chain import Chain
-from auction.formats.receipts import Receipt
+from auction.formats.receipts import Receipt, Refusal, read_kept
 from auction.formats.setup import Setup
 from examples import bidder
 from tests.lib.http import answer_to, text_of
@@ -208,6 +208,90 @@ def test_it_reports_a_wrong_receipt(
     assert "this is not a receipt of sheet 1 of round 1" in words
 
 
+# ---- Refusals of late sheets
+
+REFUSED = "/receipts/refused.json"
+
+
+def refusal(two: ReceiptsAuction, number: int, change: dict[str, object] = {}) -> dict[str, Any]:
+    """What the service signs for a late sheet of X, with a change that it did not sign."""
+    signer = two.signer()
+    digest = signer.sheets.setup.digest
+    one = Refusal(digest, "X", "", number, f"2026-11-30T13:00:0{number}Z")
+    page: dict[str, Any] = json.loads(one.page(signer.key.sign(one.message())))
+    return {**page, **change}
+
+
+def test_it_stores_the_refusal_of_a_late_sheet(
+    two: ReceiptsAuction, own: bidder.Receipts, pages: Pages, file: pathlib.Path
+) -> None:
+    pages.pages[REFUSED] = refusal(two, 1)
+    assert printed(own.await_refusal) == "refusal 1 is signed, of 2026-11-30T13:00:01Z\n"
+    kept = read_kept(file)
+    assert [one.refusal.number for one in kept.refusals] == [1]
+    assert two.check(file)[0] == 0
+
+
+def test_it_waits_for_a_refusal_with_a_new_number(
+    two: ReceiptsAuction, own: bidder.Receipts, pages: Pages, file: pathlib.Path
+) -> None:
+    """The one that is there is of an earlier sheet."""
+    pages.pages[REFUSED] = refusal(two, 1)
+    printed(own.await_refusal)
+    assert printed(own.await_refusal) == "no signed refusal within 0.3 s: call the operator\n"
+    again = receipts_of(pages, file)
+    assert again.refused == 1
+    pages.pages[REFUSED] = refusal(two, 2)
+    assert "refusal 2 is signed" in printed(again.await_refusal)
+    assert len(read_kept(file).refusals) == 2
+
+
+def test_a_refusal_of_before_it_began_is_stored_too(
+    two: ReceiptsAuction, pages: Pages, file: pathlib.Path
+) -> None:
+    pages.pages[REFUSED] = refusal(two, 3)
+    assert "refusal 3 is signed" in printed(lambda: receipts_of(pages, file))
+    assert len(read_kept(file).refusals) == 1
+
+
+@pytest.mark.parametrize(
+    "change",
+    [
+        {"time": "2026-11-30T13:00:09Z"},
+        {"number": 9},
+        {"by": "eve"},
+        {"bidder": "Y"},
+        {"auction": "0" * 64},
+        {"signature": "x"},
+    ],
+    ids=["time", "number", "person", "bidder", "auction", "signature"],
+)
+def test_it_reports_a_wrong_refusal_and_does_not_store_it(
+    two: ReceiptsAuction,
+    own: bidder.Receipts,
+    pages: Pages,
+    file: pathlib.Path,
+    change: dict[str, object],
+) -> None:
+    pages.pages[REFUSED] = refusal(two, 1, change)
+    assert "this is not a refusal of a sheet of X" in printed(own.await_refusal)
+    assert not read_kept(file).refusals
+
+
+def test_it_stores_nothing_that_would_make_its_file_none(
+    two: ReceiptsAuction, pages: Pages, file: pathlib.Path
+) -> None:
+    """The operator adds a part that no signature covers."""
+    more = {"more": 1, "mock": "no"}
+    pages.pages["/receipts/1/1.json"].update(more)
+    pages.pages[REFUSED] = refusal(two, 1, more)
+    own = receipts_of(pages, file)
+    own.note(bidder.text_of(SHEETS[0]))
+    printed(lambda: own.await_one(SHEETS[0]))
+    kept = read_kept(file)
+    assert (len(kept.receipts), len(kept.refusals)) == (1, 1)
+
+
 class Reply(io.BytesIO):
     """A reply of the server or of nginx."""
 
@@ -253,8 +337,10 @@ def test_it_stores_each_sheet_that_may_have_been_taken(
     auction.receipts = receipts_of(pages, file)
     made = [one if isinstance(one, Exception) else Reply(*one) for one in replies]
     auction.opener = Opener(*made)
-    printed(lambda: auction.ask("/v1/me/bids", bidder.ACCEPTED, SHEETS[0]))
+    words = printed(lambda: auction.ask("/v1/me/bids", bidder.ACCEPTED, SHEETS[0]))
     assert file.read_text().count('{"sent": ') == wanted
+    is_late = WINDOW in replies
+    assert words.count("no signed refusal within 0.3 s") == is_late, "once for each wait"
 
 
 # ---- Commitments and seeds

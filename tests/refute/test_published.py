@@ -10,7 +10,7 @@ from typing import Any
 import pytest
 
 from auction.formats import notices, receipts, record, ties
-from auction.verify import announced, auction, case, findings, folder
+from auction.verify import announced, auction, case, findings, folder, increments, windows
 from tests.forgeries.changes import TEXTS, TRUE, Row
 from tests.forgeries.test_announced import NOTICES
 from tests.forgeries.test_table import ROWS
@@ -45,9 +45,9 @@ def no_fault(*_: Any, **_words: Any) -> None:
     """A check that never refuses."""
 
 
-def last_of_all(entries: list[notices.Entry], kind: str, _: notices.Entry) -> Any:
-    """Takes what was announced last, whenever that was."""
-    return announced.of_kind(entries, kind)[-1]
+def last_rule(entries: list[notices.Entry], _: int) -> list[notices.Entry]:
+    """Takes the rule that was announced last, whenever that was."""
+    return announced.of_kind(entries, "increments")[-1:]
 
 
 # What is wrong, and the row that finds it.
@@ -70,14 +70,14 @@ MISTAKES: list[tuple[Any, str, Any, str]] = [
     (announced, "repeated", nothing, "62.11-frozen-with-another-digest-before"),
     (announced, "strange", nothing, "62.9-a-round-closed-that-is-none"),
     (announced, "is_increment", true, "62.7-another-increment-of-a-closing"),
-    (announced, "opening_faults", nothing, "63.2-a-window-that-opens-early"),
-    (announced, "shortened", false, "63.1-a-window-shortened-while-it-is-open"),
-    (announced, "shortened", true, "60h-a-window-that-was-extended"),
-    (announced, "taken_faults", nothing, "63.11-a-friend-s-sheet-after-the-window"),
-    (announced, "published_faults", nothing, "35-another-time-of-publication"),
-    (announced, "timetable_faults", nothing, "63.7-a-false-timetable"),
+    (windows, "opening_faults", nothing, "63.2-a-window-that-opens-early"),
+    (windows, "shortened", false, "63.1-a-window-shortened-while-it-is-open"),
+    (windows, "shortened", true, "60h-a-window-that-was-extended"),
+    (windows, "taken_faults", nothing, "63.11-a-friend-s-sheet-after-the-window"),
+    (windows, "published_faults", nothing, "35-another-time-of-publication"),
+    (windows, "timetable_faults", nothing, "63.7-a-false-timetable"),
     (announced, "is_between", true, "32-announcements-back-dated"),
-    (announced, "last_before", last_of_all, "60.2h-a-rule-for-the-next-rounds"),
+    (increments, "rules_for", last_rule, "60.2h-a-rule-for-the-next-rounds"),
 ]
 
 

@@ -1,4 +1,4 @@
-"""Each row of "What would refute it" in docs/assurance.md says who tries it."""
+"""Each row of "What would refute it" in docs/proof.md says who tries it."""
 import re
 
 import pytest
@@ -6,7 +6,7 @@ import pytest
 from tests.lib.paths import TOP
 
 pytestmark = pytest.mark.early
-TEXT = (TOP / "docs/assurance.md").read_text()
+TEXT = (TOP / "docs/proof.md").read_text()
 SECTION = TEXT.partition("## What would refute it\n")[2].partition("\n## ")[0]
 ROWS = [line.strip("| ").split(" | ") for line in SECTION.splitlines() if line.startswith("|")][2:]
 # What only the prover or the gate can try.

@@ -110,3 +110,10 @@ def test_each_fault_of_a_bid_is_explained(description: Any) -> None:
     for code in response["x-codes"]:
         assert f"{code} (" in response["description"], code
     assert "keep_price (the quantity is the processed demand" in response["description"]
+
+
+def test_both_descriptions_name_a_document_that_the_package_has(description: Any) -> None:
+    for value in (description, SERVER):
+        url = value["externalDocs"]["url"]
+        name = url.removeprefix("file:///usr/share/doc/clock-auction/")
+        assert (TOP / name).is_file(), url

@@ -12,7 +12,6 @@ from auction.conductor.report import State
 from auction.conductor.settings import Settings
 from auction.explain.schemas import schema
 from auction.receipts import Sheets, Signer
-from tests.conductor.asking import ask
 from tests.lib import timetables
 from tests.lib.conducted import ConductedAuction, conducted
 from tests.schemas.described import validator
@@ -23,7 +22,6 @@ WINDOWS = [(30, 60), (120, 150), (210, 240)]
 FILES = [
     ("conductor.json", CONDUCTOR, "settings"),
     ("operator/conductor.json", CONDUCTOR, "report"),
-    ("asked/close.json", CONDUCTOR, "asked"),
     ("public/commitment.json", PUBLIC, "commitment"),
     ("public/timetable.json", PUBLIC, "timetable"),
     ("public/announcements.json", PUBLIC, "announcements"),
@@ -61,8 +59,6 @@ def texts(program: pathlib.Path) -> Texts:
         for until in (State.BEFORE, State.OPEN, State.DRAINING, State.CLOSED):
             auction.play(until)
             note(auction, found)
-        ask(auction)
-        note(auction, found)
         commands.pause(auction.context(), "A fire alarm.")
         auction.look()
         note(auction, found)

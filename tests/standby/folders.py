@@ -40,7 +40,7 @@ class First:
 
     def __init__(self, folder: pathlib.Path) -> None:
         self.folder, self.texts = folder, list[bytes]()
-        for name in ("state", "public/rounds", "receipts/X", "kept", "web"):
+        for name in ("state", "public/rounds", "receipts/.a", "kept", "web"):
             (folder / name).mkdir(parents=True)
         (folder / "setup.json").write_text(DOCUMENT)
         (folder / "operator.token").write_text(f"{OPERATOR}\n")
@@ -72,9 +72,16 @@ class First:
         """A sheet is accepted, and has a receipt."""
         self.texts.append(sheet(name, number, 1))
         self.write_journal()
-        receipt = self.folder / f"receipts/{name}/{number}-{place}.json"
-        receipt.parent.mkdir(exist_ok=True)
-        receipt.write_text("{}")
+        self.show(name, f"{number}-{place}.json", "{}")
+
+    def show(self, name: str, file: str, text: str) -> None:
+        """Shows a bidder a file, in the folders and by the links of `auction receipts`."""
+        receipts = self.folder / "receipts"
+        (receipts / f".a/{name}").mkdir(exist_ok=True)
+        (receipts / f".a/{name}/{file}").write_text(text)
+        for link, to in ((".now", ".a"), (name, f".now/{name}")):
+            if not (receipts / link).is_symlink():
+                (receipts / link).symlink_to(to)
 
     def close(self, number: int) -> None:
         """A round is closed and published."""

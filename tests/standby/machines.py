@@ -11,7 +11,7 @@ import time
 from collections.abc import Callable
 from typing import Any
 
-from tests.lib.paths import AUCTION, EXAMPLES, PATHS
+from tests.lib.paths import AUCTION, EXAMPLES, PATHS, TOP
 from tests.lib.waiting import wait_for
 
 SERVICE = "10.105.0.5"  # the address of the auction
@@ -19,8 +19,17 @@ HOST = "auction.example"
 FOLDER = "/srv/auction"
 WORKER = "www-data"
 SECONDS = 60
+LONGEST = 1800  # seconds that a machine lasts
+# A machine ends with the process that made it, also if that is killed.
+ENDS_WITH_THE_TEST = ["setpriv", "--pdeathsig", "KILL", "--"]
 QUIET = subprocess.DEVNULL
 TEN = 10
+END = """
+import pathlib, sys
+from auction.conductor.context import Context
+from auction.desk.acts import Given, close_early
+close_early(Context(pathlib.Path(sys.argv[1])), int(sys.argv[2]), Given(increments=(10,)))
+"""
 
 
 class Machine:
@@ -31,9 +40,9 @@ class Machine:
         self.place.mkdir(mode=0o755)
         self.place.chmod(0o755)
         self.folder = self.place / "auction"
-        own = f"mount --bind {self.place} /srv && ip link set lo up && exec sleep 86400"
+        own = f"mount --bind {self.place} /srv && ip link set lo up && exec sleep {LONGEST}"
         flags = ["--net", "--mount", "--pid", "--fork", "--mount-proc", "--kill-child"]
-        command = ["unshare", *flags, "sh", "-c", own]
+        command = [*ENDS_WITH_THE_TEST, "unshare", *flags, "sh", "-c", own]
         self.child = subprocess.Popen(command, stdin=QUIET, stderr=QUIET)
         wait_for(f"{name} is up", self.is_up, SECONDS)
         self.children: list[subprocess.Popen[bytes]] = []
@@ -134,16 +143,11 @@ class Machine:
         raise AssertionError("the machine is too slow to plan a window")
 
     def end_window(self, number: int) -> None:
-        """Asks the conductor to end a round's window now, as the operator's page does."""
-        text = json.dumps({"increment": 10, "round": number, "without_sheets": False})
-        end = time.monotonic() + SECONDS
-        asked = self.folder / "asked/close.json"
-        while self.report()["state"] == "open" and self.report()["round"] == number:
-            assert time.monotonic() < end, self.said("conductor")
-            if not asked.exists():
-                asked.with_name("new").write_text(text)
-                asked.with_name("new").rename(asked)
-            time.sleep(0.1)
+        """Ends a round's window now, as the manager's desk does once two persons have said so."""
+        if (self.report()["state"], self.report()["round"]) == ("open", number):
+            words = ("env", f"PYTHONPATH={TOP}", sys.executable, "-c", END, FOLDER, number)
+            self.run(*words)
+            wait_for("the end of the window", lambda: self.report()["state"] != "open", SECONDS)
 
 
 def whole_ten(seconds: float) -> int:

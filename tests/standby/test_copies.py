@@ -212,7 +212,7 @@ def reasons(second: pathlib.Path, means: Means = OFF, clock: Any = time.time) ->
 def test_a_sound_copy_takes_over_once(second: pathlib.Path) -> None:
     assert take_over(second, OFF) == "a person says that it is off"
     mark.check(second)
-    assert all((second / name).is_dir() for name in ("gate", "inner", "asked", "operator", "log"))
+    assert all((second / name).is_dir() for name in ("gate", "inner", "operator", "log"))
     with pytest.raises(NotTaken, match="this machine is no standby"):
         take_over(second, OFF)
 
@@ -220,7 +220,7 @@ def test_a_sound_copy_takes_over_once(second: pathlib.Path) -> None:
 def test_a_receipt_of_a_refused_sheet_is_none_of_the_journals(
     first: First, tmp_path: pathlib.Path
 ) -> None:
-    (first.folder / "receipts/X/refused.json").write_text("{}")
+    first.show("X", "refused.json", "{}")
     copy(first.folder, tmp_path / "c")
     take_over(tmp_path / "c", OFF)
 
@@ -250,7 +250,7 @@ def of_another_chain(second: pathlib.Path) -> None:
 
 
 def with_a_receipt_more(second: pathlib.Path) -> None:
-    (second / "receipts/X/2-2.json").write_text("{}")
+    (second / "receipts/.a/X/2-2.json").write_text("{}")
 
 
 SPOILED: dict[str, tuple[Callable[[pathlib.Path], None], Reason]] = {

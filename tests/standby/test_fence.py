@@ -8,7 +8,9 @@ from collections.abc import Iterator
 
 import pytest
 
+from auction.commands import standby
 from auction.conductor import commands, disk
+from auction.conductor.clear import ClearFault, clear
 from auction.conductor.report import State
 from auction.standby import fencing, mark
 from auction.standby.fencing import Unfenced, forbid, stopped
@@ -175,6 +177,16 @@ def test_standby_by_its_command_says_how_far_the_other_machine_is(tmp_path: path
     assert done.stdout.startswith("b has all up to 20") and "round 1, 56 bytes" in done.stdout
     assert (first.folder / "state/standby.json").exists()
     assert (tmp_path / "b/kept/receipts.pem").exists()
+
+
+@pytest.mark.early
+def test_nobody_puts_an_auction_away_of_which_a_copy_is_sent(tmp_path: pathlib.Path) -> None:
+    """Its copy would lose all files. Two machines may get copies at once."""
+    first = First(tmp_path / "a")
+    with standby.sending(first.folder), standby.sending(first.folder):
+        with pytest.raises(ClearFault, match="`auction standby` runs"):
+            clear(first.folder, 0)
+    clear(first.folder, 0)
 
 
 @pytest.mark.early

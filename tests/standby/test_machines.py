@@ -156,6 +156,8 @@ def test_bidders_programs_notice_nothing_but_an_outage(ended: Ended) -> None:
                 "The round is closing",
                 "Waiting to send the sheet",
                 "no receipt",
+                "refusal ",
+                "no signed refusal",
             )
             assert line.startswith(expected), line
 

@@ -100,7 +100,7 @@ def crate(tmp_path: pathlib.Path) -> pathlib.Path:
     (tmp_path / "crates.txt").write_text("clock_one:\n", encoding="utf-8")
     (tmp_path / "docs").mkdir()
     sums = "".join(f"    {title}: 0\n" for title in SUMS)
-    (tmp_path / "docs/reading.md").write_text(sums, encoding="utf-8")
+    (tmp_path / "docs/proof.md").write_text(sums, encoding="utf-8")
     (tmp_path / "tools").mkdir()
     for name in ("believed", "specifications.py"):
         (tmp_path / "tools" / name).write_bytes((TOOL.parent / name).read_bytes())

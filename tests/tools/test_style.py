@@ -1,6 +1,7 @@
 """How sources are laid out, and what Debian's readers of code find in them."""
 import ast
 import pathlib
+import re
 import subprocess
 from collections.abc import Iterator
 
@@ -20,7 +21,9 @@ HELP = "crates/clock_words/src/help.rt"
 SERVICES = (".conf", ".nft", ".service")
 
 FILES = [name for name in documents.tracked(TOP) if not name.startswith("crates/")]
-EDITS = edits.edits(TOP, edits.IN_GATE) + edits.edits(TOP, edits.BEFORE_RELEASE)
+EDITS_IN_GATE = edits.edits(TOP, edits.IN_GATE)
+EDITS = EDITS_IN_GATE + edits.edits(TOP, edits.BEFORE_RELEASE)
+FOR_TESTS = {"clock_fixtures", "clock_rules_tests", "clock_server_tests", "clock_program_tests"}
 
 
 def is_script_of(interpreter: str, name: str) -> bool:
@@ -90,6 +93,22 @@ def test_lines_of_crates_are_not_wide() -> None:
         breakable = [line for line in lines if '"' not in line and "#[" not in line]
         found += [f"{name}: {line}" for line in breakable if len(line) > most]
     assert not found
+
+
+def test_fences_in_comments_of_crates_have_lines_of_their_own() -> None:
+    """A code block that was filled like prose shows nobody where its lines end."""
+    fence = re.compile(r"\s*//[/!] ```\w*$")
+    assert not [
+        f"{name}:{number}"
+        for name in documents.tracked(TOP, "crates/*.rt")
+        for number, line in enumerate((TOP / name).read_text().splitlines(), 1)
+        if "```" in line and not fence.match(line)
+    ]
+
+
+def test_each_crate_of_the_program_has_a_wrong_body_in_the_gate() -> None:
+    crates = {path.name for path in (TOP / "crates").iterdir() if path.name not in FOR_TESTS}
+    assert crates - {edits.crate_of(edit) for edit in EDITS_IN_GATE} == set()
 
 
 def test_lines_of_pages_and_shell_are_not_wide() -> None:

@@ -125,8 +125,6 @@ expect "it cannot write the set-up" \
     bash -c "! nsenter -t $process -m -- touch $folder/setup.json 2> /dev/null"
 expect "its report is for nginx's workers only" \
     test "$(stat -c %a:%G $folder/operator/conductor.json)" = 640:auction-nginx
-expect "nginx's workers write what the page asks for" \
-    test "$(stat -c %a:%G $folder/asked)" = 2770:auction-nginx
 first=$(( $(date +%s) / 10 * 10 + 20 ))
 at() { date -u -d "@$1" +%T; }
 cat > "$folder/timetable.json" << END
@@ -166,6 +164,7 @@ systemctl start $unit
 within "with a damaged journal it is given up" systemctl is-failed $unit
 within "and somebody is called" test -s /called
 expect "the log tells the fault" told_in_log "fault: journal_unknown"
+expect "the log tells what to do" told_in_log "what to do: name the right file"
 exposure=$(systemd-analyze security --no-pager $unit 2> /dev/null | tail -n 1 \
     | grep -oE '[0-9.]+ [A-Z]+')
 expect "systemd's judgement of what it is exposed to: $exposure" true

@@ -248,15 +248,6 @@ def test_no_other_user_reads_the_report(folders: pathlib.Path) -> None:
     assert as_user(OTHER, lambda: readable(folders / "operator")) == []
 
 
-def test_nginxs_user_writes_what_the_operators_page_asks_for(folders: pathlib.Path) -> None:
-    assert as_user(NGINX, lambda: os.access(folders / "asked", os.W_OK)) is True
-
-
-@pytest.mark.parametrize("mode", [os.R_OK, os.W_OK], ids=["read", "write"])
-def test_no_other_user_asks_for_a_closing(folders: pathlib.Path, mode: int) -> None:
-    assert as_user(OTHER, lambda: os.access(folders / "asked", mode)) is False
-
-
 # ---- Who uses up connections
 
 

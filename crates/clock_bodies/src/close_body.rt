@@ -1,4 +1,5 @@
-ghost use Rattle.std.specs.Prelude.{◌≡◌, ◌≢◌, Ok, Err, IfOk, IfErr};
+ghost use Rattle.std.specs.Prelude.{◌≡◌, ◌≢◌, ◌<◌, Ok, Err, IfOk, IfErr, OnOk, length};
+ghost use Rattle.clock_json.specs.Reading.{ReadsValue};
 ghost use Rattle.serde_json.specs.View.{view};
 ghost use Rattle.clock_bodies.specs.CloseBodies as bodies;
 ghost use Rattle.clock_bodies.specs.QuickBodies.{tie_data};
@@ -57,20 +58,37 @@ impl<'v> PartReader<'v> for TieReader {
 
     ghost shown = { tie_data };
 
+    #[inline(always)]
     fn part(_alloc: Global, scan: &mut Scan<'v>) -> Result<Tie, ScanStop> {
-        scan.opens(b'[')?;
-        let bidder = scan.number()?;
-        let product = scan.number()?;
-        let number = scan.number()?;
-        if !scan.closes(b']') {
-            return Err(ScanStop::Unusual);
+        if let Some(tie) = scan.compact_triple() {
+            return Ok(Tie {
+                bidder: tie.first,
+                product: tie.second,
+                number: tie.third,
+            });
         }
-        Ok(Tie {
-            bidder,
-            product,
-            number,
-        })
+        spaced_tie(scan)
     }
+}
+
+/// Reads the next tie-breaking number: three numbers, which may have white space around them.
+#[inline(never)]
+fn spaced_tie(scan: &mut Scan<'_>) -> Result<Tie, ScanStop>
+    ensures value { IfOk result (λ tie. ReadsValue 1 scan.old (tie_data tie) scan.new) }
+    ensures shorter { OnOk result (length scan.new < length scan.old) }
+{
+    scan.opens(b'[')?;
+    let bidder = scan.number()?;
+    let product = scan.number()?;
+    let number = scan.number()?;
+    if !scan.closes(b']') {
+        return Err(ScanStop::Unusual);
+    }
+    Ok(Tie {
+        bidder,
+        product,
+        number,
+    })
 }
 
 /// Returns the increments of a closing: the number under `increment`, or the list under

@@ -7,5 +7,7 @@ mod close_body;
 mod put_body;
 
 pub use body::BodyFault;
-pub use close_body::{CloseBody, FoundClose, TieReader, increments_of, is_of_version, read_close};
+pub use close_body::{
+    CloseBody, FoundClose, ScannedClose, TieReader, increments_of, is_of_version, read_close,
+};
 pub use put_body::{BidReader, PutBody, read_put};

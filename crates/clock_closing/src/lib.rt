@@ -9,6 +9,6 @@ mod closed_round;
 mod fault;
 mod open_round;
 
-pub use closed_round::{ClosedRound, Prepared, Slip, Slips};
+pub use closed_round::{ClosedRound, Prepared, Results, Slip, Slips};
 pub use fault::CloseFault;
 pub use open_round::OpenRound;

@@ -13,7 +13,7 @@ use std::alloc::Global;
 
 /// Returns what a job prints for a document, or the document's fault. Requires an increment within
 /// its limits. May return `Memory`, which then replaces any other result.
-pub fn answer(alloc: Global, job: Job, document: Text) -> Result<Text, Fault>
+pub(crate) fn answer(alloc: Global, job: Job, document: Text) -> Result<Text, Fault>
     requires { IsJob job }
     ensures ok { IfOk result (λ text. answer_to job document ≡ Ok text) }
     ensures err { IfErr result (IsRefusal Fault.Memory (answer_to job document)) }

@@ -25,7 +25,7 @@ pub struct Conn {
 
 /// An open connection: its serial number, and the bytes of its request so far.
 #[derive(Drop)]
-pub struct Partial {
+pub(crate) struct Partial {
     serial: u64,
     text: Arriving,
 }

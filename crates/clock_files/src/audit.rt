@@ -32,7 +32,6 @@ where
         Ok(bytes) => audit_of(rt.alloc(), &mut recount, &first, bytes),
         Err(fault) => Err(fault),
     };
-    // `drop` here keeps the proof small: at the end of the scope, each field is proved
     drop(recount);
     let (text, recovered) = made?;
     tell_all(rt, out, text.as_slice(), recovered)

@@ -300,7 +300,6 @@ where
         }
         Err(fault) => Err(fault),
     };
-    // `drop` here keeps the proof small: at the end of the scope, each field is proved
     drop(auction);
     served
 }

@@ -66,7 +66,6 @@ pub fn run<P: Processor>(
 {
     let mut front = Front::new(alloc, setup, processor)?;
     let replies = answer_each(alloc, &mut front, texts);
-    // `drop` here keeps the proof small: at the end of the scope it would be proved field by field.
     drop(front);
     replies
 }

@@ -72,7 +72,6 @@ pub fn serve_stream<P: Processor, R: Source, W: Sink>(
         Some(reply) => {
             let code = reply.code();
             let written = write_all(sink, reply.bytes());
-            // `drop` here keeps the proof small: at the end of the scope, each field is proved
             drop(reply);
             match written {
                 Ok(()) => Ok(code),

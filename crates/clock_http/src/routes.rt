@@ -89,7 +89,6 @@ impl Routes {
         match add_routes(&mut router) {
             Ok(()) => Ok(Routes { router }),
             Err(refused) => {
-                // `drop` here keeps the proof small: at the end of the scope, each field is proved
                 drop(router);
                 Err(refused)
             }

@@ -16,7 +16,8 @@ use Rattle.clock_json.specs.inside.Reading.{HasMembers}
 use Rattle.clock_json.specs.Compact.{compact_bid}
 use Rattle.clock_json.specs.declared.compact.CompactBid.{CompactBid}
 use Rattle.clock_json.proofs.LexLaws.{at_byte, begun}
-use Rattle.clock_json.proofs.Steps.{number_reads, items_start, items_end, members_start, members_next, members_end}
+use Rattle.clock_json.proofs.Steps.{number_reads, items_start, items_next, items_end, members_start, members_next}
+use Rattle.clock_json.proofs.Steps.{members_end}
 
 -- what is given where a test is passed
 passed : {A : Type 0} (P : A → Type 0) (is : Bool) (x : A) → (is ≡ true → P x) → IfSome (then_some is x) P
@@ -195,3 +196,48 @@ replicate_push zero x = refl
 replicate_push (suc n) x =
     let next : suc n + 1 ≡ suc (n + 1) = omega arith in
     ap (λ k. replicate k x) next ∙ ap (λ xs. x ∷ xs) (replicate_push n x)
+
+-- the bracket that opens a list
+pub list_opens : (bytes : List ℕ) (at : ℕ) → at < length bytes → get_or bytes at 0 ≡ 91
+    → lex between (drop at bytes) ≡ token begin_array ∷ lex between (drop (at + 1) bytes)
+unfolding lex
+list_opens bytes at room is = ap (lex between) (one_then bytes at (at + 1) 91 room is refl)
+
+-- the bracket that closes a list, and its comma
+list_closes : (bytes rest : List ℕ) → bytes ≡ 93 ∷ 44 ∷ rest
+    → (ends_word bytes ≡ true) × (lex between bytes ≡ token end_array ∷ comma ∷ lex between rest)
+unfolding lex
+list_closes bytes rest is = (ap ends_word is, ap (lex between) is)
+
+pub list_ends : (bytes : List ℕ) (at : ℕ) → at + 2 ≤ length bytes → get_or bytes at 0 ≡ 93
+    → get_or bytes (at + 1) 0 ≡ 44 → (ends_word (drop at bytes) ≡ true)
+    × (lex between (drop at bytes) ≡ token end_array ∷ comma ∷ lex between (drop (at + 2) bytes))
+list_ends bytes at room closes mark = list_closes (drop at bytes) (drop (at + 2) bytes)
+    (one_then bytes at (at + 1) 93 (omega (arith, room)) closes (omega arith)
+    ∙ ap (λ rest. 93 ∷ rest) (one_then bytes (at + 1) (at + 2) 44 (omega (arith, room)) mark (omega arith)))
+
+-- where a value may begin, the lexemes of three numbers in a list are its tokens
+pub triple_punctuated : (p : Place) (a b c : List ℕ) (ls rest : List Lexeme) → may_begin p ≡ true
+    → ls ≡ token begin_array ∷ token (number a) ∷ comma ∷ token (number b) ∷ comma ∷ token (number c)
+    ∷ token end_array ∷ comma ∷ rest → punctuate p ls
+    ≡ begin_array ∷ number a ∷ number b ∷ number c ∷ end_array ∷ punctuate lexer.after_comma rest
+unfolding punctuate
+triple_punctuated p a b c ls rest h is =
+    begun p ls _ h (ap (punctuate lexer.fresh) is) (ap (punctuate lexer.after_comma) is)
+
+-- these tokens are read as the list
+pub triple_reads : (a b c : ℕ) (old new : List Token) → (a < 2 ^ 64) × (b < 2 ^ 64) × (c < 2 ^ 64)
+    → old ≡ begin_array ∷ number (decimal a) ∷ number (decimal b) ∷ number (decimal c) ∷ end_array ∷ new
+    → ReadsValue 1 old (numbers (a ∷ b ∷ c ∷ [])) new
+triple_reads a b c old new small is =
+    let last = end_array ∷ new in
+    let third = number (decimal c) ∷ last in
+    let second = number (decimal b) ∷ third in
+    let first = number (decimal a) ∷ second in
+    let one = items_next 0 first first second [] (whole_number a) (items_start 0 first)
+    (number_reads a first second small.0 refl) in
+    let two = items_next 0 first second third (whole_number a ∷ []) (whole_number b) one
+    (number_reads b second third small.1 refl) in
+    let three = items_next 0 first third last (whole_number a ∷ whole_number b ∷ []) (whole_number c) two
+    (number_reads c third last small.2 refl) in
+    items_end 0 old first last new (whole_number a ∷ whole_number b ∷ whole_number c ∷ []) is three refl

@@ -1,12 +1,14 @@
-//! Reads a bid as most programs write it: without white space, and with its keys in order of their
-//! bytes. Compares eight bytes at once.
+//! Reads a bid and a list of three numbers as most programs write them: without white space, and a
+//! bid with its keys in order of their bytes. Compares eight bytes at once.
 ghost use Rattle.std.specs.Prelude.{◌≡◌, ◌+◌, ◌≤◌, ◌<◌, ◌^◌, ◌∷◌, ◌++◌, length, take, drop, codes};
 ghost use Rattle.std.specs.Prelude.{decimal, IsTrue, IfSome};
-ghost use Rattle.json.specs.Token.{begin_object, end_object, number, string};
+ghost use Rattle.json.specs.Token.{begin_array, begin_object, end_array, end_object, number};
+ghost use Rattle.json.specs.Token.{string};
 ghost use Rattle.json.specs.Lex.{lex, between, token, comma, colon};
 ghost use Rattle.clock_json.specs.inside.Digits.{IsNumberUpTo};
 
-use crate::digits::{digit_before, digits_up_to, uneven_digits_at};
+use crate::digits::{digit_before, digits_up_to, number_and_comma, uneven_digits_at};
+use crate::words::is_at;
 
 /// Returns whether `bytes` has these eight bytes at index `at`.
 #[inline(always)]
@@ -98,4 +100,60 @@ pub(crate) fn compact_bid_at(bytes: &[u8], start: usize) -> Option<(CompactBid, 
         quantity,
     };
     ends.then_some((bid, behind_quantity + 2))
+}
+
+/// A list of three numbers.
+#[derive(Clone, Copy)]
+pub struct CompactTriple {
+    /// The first number.
+    pub first: u64,
+    /// The second number.
+    pub second: u64,
+    /// The third number.
+    pub third: u64,
+}
+
+/// The most bytes of the third number, and of the bracket and the comma after it.
+const MOST_THIRD: usize = 18;
+
+/// Reads the third number of a list at an index, and the bracket and the comma after it. Returns
+/// the number, and the index after the comma.
+#[inline(always)]
+fn third_at(bytes: &[u8], start: usize) -> Option<(u64, usize)>
+    ensures small { IfSome result (λ r. r.0 < 2 ^ 64) }
+    ensures value { IfSome result (λ r. lex between (drop start bytes.now)
+        ≡ token (number (decimal r.0)) ∷ token end_array ∷ comma
+        ∷ lex between (drop r.1 bytes.now)) }
+{
+    if !has_room(bytes, start, MOST_THIRD) {
+        return None;
+    }
+    let (number, end) = digits_up_to(bytes, start, start + 16)?;
+    let ends = (bytes[end] == b']') & (bytes[end + 1] == b',');
+    ends.then_some((number, end + 2))
+}
+
+/// Reads a list of three numbers and a comma at an index. Returns the numbers, and the index after
+/// the comma.
+#[inline(always)]
+pub(crate) fn compact_triple_at(bytes: &[u8], start: usize) -> Option<(CompactTriple, usize)>
+    ensures small { IfSome result (λ r. (r.0.first < 2 ^ 64) × (r.0.second < 2 ^ 64)
+        × (r.0.third < 2 ^ 64)) }
+    ensures value { IfSome result (λ r. lex between (drop start bytes.now) ≡ token begin_array
+        ∷ token (number (decimal r.0.first)) ∷ comma ∷ token (number (decimal r.0.second)) ∷ comma
+        ∷ token (number (decimal r.0.third)) ∷ token end_array ∷ comma
+        ∷ lex between (drop r.1 bytes.now)) }
+{
+    if !is_at(bytes, start, b'[') {
+        return None;
+    }
+    let (first, behind_first) = number_and_comma(bytes, start + 1)?;
+    let (second, behind_second) = number_and_comma(bytes, behind_first)?;
+    let (third, end) = third_at(bytes, behind_second)?;
+    let triple = CompactTriple {
+        first,
+        second,
+        third,
+    };
+    Some((triple, end))
 }

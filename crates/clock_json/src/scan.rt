@@ -10,7 +10,7 @@ ghost use Rattle.clock_json.specs.Marks.{opening_mark, closing_mark};
 ghost use Rattle.clock_json.specs.Reading.{whole_number, numbers, rows, ReadsValue, ReadsAll};
 ghost use Rattle.clock_json.specs.declared.scan.ScanStop.TheVariants as stops;
 
-use crate::compact::{CompactBid, compact_bid_at, has_room};
+use crate::compact::{CompactBid, CompactTriple, compact_bid_at, compact_triple_at, has_room};
 use crate::digits::number_and_comma;
 use crate::room::push;
 use crate::rows::{ShortRows, short_row};
@@ -68,7 +68,7 @@ impl Expected {
 /// A text that is being read. In contracts, it is the list of the tokens not read yet.
 ///
 /// A call that returns an error may leave it at any token. `closes` or `null` that returns false,
-/// and `compact_bid` that returns `None`, leave it unchanged.
+/// and `compact_bid` or `compact_triple` that returns `None`, leave it unchanged.
 #[derive(Drop)]
 pub struct Scan<'a> {
     text: &'a str,
@@ -181,6 +181,22 @@ impl<'a> Scan<'a> {
         let (bid, at) = compact_bid_at(self.bytes, self.at)?;
         (self.expected, self.at) = (Expected::AfterComma, at);
         Some(bid)
+    }
+
+    /// Reads a list of three numbers without white space, if a comma follows it.
+    #[inline(always)]
+    pub fn compact_triple(&mut self) -> Option<CompactTriple>
+        ensures value { IfSome result (λ triple. ReadsValue 1 self.old
+            (numbers (triple.first ∷ triple.second ∷ triple.third ∷ [])) self.new) }
+        ensures shorter { IfSome result (λ _. length self.new < length self.old) }
+        ensures same { IfNone result (self.new ≡ self.old) }
+    {
+        if !self.expected.may_begin() {
+            return None;
+        }
+        let (triple, at) = compact_triple_at(self.bytes, self.at)?;
+        (self.expected, self.at) = (Expected::AfterComma, at);
+        Some(triple)
     }
 
     /// Reads a list of numbers below 10^19 that have only digits.

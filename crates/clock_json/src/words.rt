@@ -84,12 +84,16 @@ pub fn is_key(key: &[u8], word: &str) -> bool
     key == word.as_bytes()
 }
 
-/// Reads the comma that may follow a value. Returns what may come next, and its index.
+/// Reads the comma that may follow a value. Returns what may come next, and its index. Mostly the
+/// comma is right there.
 #[inline(always)]
 pub(crate) fn after_value(bytes: &[u8], start: usize) -> (Expected, usize)
     ensures { left result.0 (drop result.1 bytes.now)
         ≡ punctuate past_value (lex between (drop start bytes.now)) }
 {
+    if is_at(bytes, start, b',') {
+        return (Expected::AfterComma, start + 1);
+    }
     let at = after_space(bytes, start);
     if is_at(bytes, at, b',') {
         (Expected::AfterComma, at + 1)

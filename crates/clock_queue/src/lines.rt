@@ -55,7 +55,6 @@ impl Line {
         let mut line = Line::new(alloc);
         match line.add(place, cost) {
             Ok(()) => Ok(line),
-            // `drop` here keeps the proof small: with `?`, each field would be proved
             Err(none) => {
                 drop(line);
                 Err(none)

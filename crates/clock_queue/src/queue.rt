@@ -49,7 +49,6 @@ fn settle_by_queue(alloc: Global, board: Board, changes: &Changes) -> Result<Set
     ensures tests { IfOk result (λ settled. IsWithinTests changes.now settled) }
 {
     let requests = changes.as_slice();
-    // `drop` here and below keeps the proof small: with `?`, each field would be proved.
     let Lists { left, ready, lines } = match first_lists(alloc, requests) {
         Ok(lists) => lists,
         Err(none) => {

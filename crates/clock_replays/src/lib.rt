@@ -10,4 +10,4 @@ mod replay;
 pub use first_version::law_of_first_version;
 pub use limit_lists::LimitLists;
 pub use read::read_replay;
-pub use replay::{Closing, Closings, Replay, Script, ScriptFault, Scripts};
+pub use replay::{BidList, Closing, Closings, Replay, Script, ScriptFault, Scripts, SheetList};

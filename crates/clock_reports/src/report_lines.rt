@@ -23,7 +23,11 @@ use std::alloc::Global;
 /// times last posted price, in whole dollars. Fields are separated by one space, numbers are in
 /// decimal, and each line ends with a line feed:
 ///
-/// ```text round 1 A 100 100 100 - - won X 1 100 won Y 1 100 ```
+/// ```text
+/// round 1 A 100 100 100 - -
+/// won X 1 100
+/// won Y 1 100
+/// ```
 pub fn report_text(alloc: Global, report: &Report) -> Result<Text, NoMemory>
     ensures { IfOk result (λ text. text ≡ words.report_text report.now) }
 {
@@ -119,7 +123,12 @@ pub type Digits = [u8; 64];
 /// ROUND DIGEST` with the digest after its closing. If the auction has ended, the lines of the
 /// bidders come next, as in [`report_text`]:
 ///
-/// ```text round 1 A 100 100 100 - - closed 1 5be1a2c4.. won X 1 100 won Y 1 100 ```
+/// ```text
+/// round 1 A 100 100 100 - -
+/// closed 1 5be1a2c4..
+/// won X 1 100
+/// won Y 1 100
+/// ```
 pub fn audit_text(alloc: Global, report: &Report, digests: &[Digits]) -> Result<Text, NoMemory>
     requires { length report.now.sheets ≤ length digests.now }
     ensures { IfOk result (λ text. text ≡ words.audit_text report.now digests.now) }

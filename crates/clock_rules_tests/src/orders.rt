@@ -123,11 +123,11 @@ fn changes_go_by_point_and_then_by_tie_number_and_bidder(rt: HostRuntime) {
     }
 }
 
-/// Requests of 8 bidders for 64 products in chains of 4, as a closing makes them: by bidder,
-/// product, and place. Products differ in the range of their prices.
-fn many(alloc: Global) -> Option<Changes> {
+/// Requests for 64 products in chains of 4, as a closing makes them: by bidder, product, and place.
+/// Products differ in the range of their prices.
+fn many(alloc: Global, count: u32) -> Option<Changes> {
     let mut changes = Changes::new(alloc);
-    for number in 0..2048u32 {
+    for number in 0..count {
         let product = number / 4 % 64;
         let range = 1 + product as u64 % 20;
         let price = 100 + number as u64 % (range + 1);
@@ -167,10 +167,17 @@ fn is_by_code(alloc: Global, list: &[Tie], changes: Option<Changes>) -> Option<b
 
 #[test]
 fn codes_put_the_requests_of_a_closing_in_order(rt: HostRuntime) {
-    let none = is_by_code(rt.alloc(), &[], many(rt.alloc()));
+    let none = is_by_code(rt.alloc(), &[], many(rt.alloc(), 2048));
     assert_is(&rt, none, Some(true));
-    let some = is_by_code(rt.alloc(), ties![(0, 0, 2), (1, 1, 1)], many(rt.alloc()));
+    let some = is_by_code(
+        rt.alloc(),
+        ties![(0, 0, 2), (1, 1, 1)],
+        many(rt.alloc(), 2048),
+    );
     assert_is(&rt, some, Some(true));
+    // enough to be moved to their blocks first
+    let long = is_by_code(rt.alloc(), ties![(0, 0, 2)], many(rt.alloc(), 300_000));
+    assert_is(&rt, long, Some(true));
 }
 
 #[test]

@@ -1,10 +1,10 @@
 -- Laws of the checks of an opening document: which fault is the first, and what is known if there is none. The checks
 -- of a list of demands or of bidders follow item by item.
 use Rattle.std.proofs.Common.{◌≡◌, ℕ, ◌+◌, ◌*◌, ◌<◌, ◌≤◌, All, ◌==◌, Bool, true, false, nat_le, if◌then◌else◌, List, []}
-use Rattle.std.proofs.Common.{◌∷◌, length, get_or, drop}
+use Rattle.std.proofs.Common.{◌∷◌, length, get_or, drop, zero, suc, inl, inr, ⊎_elim}
 use Rattle.std.proofs.Common.{zip, Option, Some, None, Ok, Err, refl, sym, ap, ◌∙◌, subst, arith}
-use Rattle.std.specs.List.{list_all, AllPass}
-use Rattle.std.proofs.lemmas.Bool.{and_parts, le-leb, lt-leb}
+use Rattle.std.specs.List.{list_all, AllPass, AllWithin}
+use Rattle.std.proofs.lemmas.Bool.{and_parts, le-leb, lt-leb, cases_lt, cases_order}
 use Rattle.std.proofs.lemmas.Bool.Decides.{nat_tests}
 use Rattle.std.proofs.lemmas.List.{get_or_default, drop_all, drop_more}
 use Rattle.std.proofs.lemmas.List.Sums.{AllPass-from_list_all, sum_by-cons}
@@ -99,6 +99,41 @@ pub within_cap : (products : List Product) (i : ℕ) (d : Product) (demand : ℕ
     → demand ≤ (get_or products i d).cap → demand ≤ cap_of products i
 within_cap products i d demand h within =
     subst (λ n. demand ≤ n) (ap (λ (p : Product). p.cap) (get_or_default products i d no_product h)) within
+
+-- demands of 0 are within all caps
+pub zeros_capped : (products : List Product) (row : List ℕ) (from to : ℕ) → AllWithin (λ demand. demand ≡ 0) row from to
+    → (k : ℕ) → from ≤ k → k < to → get_or row k 0 ≤ cap_of products k
+zeros_capped products row from to none k low high = omega (arith, none k 0 low high)
+
+-- one positive demand more is within its cap, and so are the demands of 0 before and after it
+pub capped_more : (products : List Product) (row : List ℕ) (from place next : ℕ)
+    → ((k : ℕ) → k < from → get_or row k 0 ≤ cap_of products k) → AllWithin (λ demand. demand ≡ 0) row from place
+    → get_or row place 0 ≤ cap_of products place → AllWithin (λ demand. demand ≡ 0) row (place + 1) next
+    → (k : ℕ) → k < next → get_or row k 0 ≤ cap_of products k
+capped_more products row from place next before passed here ahead k below =
+    elim (cases_order k place) [
+      | inl same ↦ subst (λ (n : ℕ). get_or row n 0 ≤ cap_of products n) (sym same) here
+      | inr (inr above) ↦ zeros_capped products row (place + 1) next ahead k (omega (arith, above)) below
+      | inr (inl early) ↦ ⊎_elim
+          (λ (old : k < from). before k old)
+          (λ (late : from ≤ k). zeros_capped products row from place passed k late early) (cases_lt k from)
+    ]
+
+-- demands within their caps have no fault
+capped_from : (number : ℕ) (products : List Product) (row : List ℕ) (each : length row ≡ length products)
+    (capped : (k : ℕ) → k < length row → get_or row k 0 ≤ cap_of products k) (left i : ℕ) → i + left ≡ length row
+    → first_fault (in_turn (demand_checks number) i (drop i (zip products row))) ≡ None
+capped_from number products row each capped zero i is = demands_end number products row i (omega (arith, is))
+capped_from number products row each capped (suc left) i is =
+    let within : i < length row = omega (arith, is) in
+    demand_passed number products row i no_product each within (capped i within)
+    ∙ capped_from number products row each capped left (i + 1) (omega (arith, is))
+
+pub capped_pass : (number : ℕ) (products : List Product) (row : List ℕ) → length row ≡ length products
+    → ((k : ℕ) → k < length row → get_or row k 0 ≤ cap_of products k)
+    → first_fault (in_turn (demand_checks number) 0 (zip products row)) ≡ None
+capped_pass number products row each capped =
+    capped_from number products row each capped (length row) 0 (omega arith)
 
 no_demands : (products : List Product) → activity products [] ≡ 0
 no_demands [] = refl

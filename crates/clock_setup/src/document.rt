@@ -97,7 +97,6 @@ pub fn read_setup(alloc: Global, bytes: &[u8]) -> Result<Setup, SetupFault>
 {
     if let Some(scanned) = scanned_text::<FoundSetup>(alloc, bytes)? {
         let judged = within_limits(alloc, &scanned.entries);
-        // each `drop` of this file keeps the proof small: at a scope's end each field is proved
         drop(scanned);
         return judged;
     }

@@ -6,19 +6,15 @@ ghost use Rattle.clock_terms.specs.Limits.{IsProduct, IsRow, IsWithin, least_inc
 ghost use Rattle.clock_terms.specs.Limits.{most_increment};
 ghost use Rattle.clock_setup.specs.OpeningDocument.{document_opening, has_counts, opening_of};
 ghost use Rattle.clock_setup.specs.OpeningDocument.{opening_with, row_checks};
-ghost use Rattle.clock_setup.specs.inside.OpeningData.{scanned_data, found_opening};
 ghost use Rattle.clock_setup.specs.inside.OpeningData.{short_rows_in};
 ghost use Rattle.clock_setup.specs.declared.opening.OpeningFault.TheVariants as faults;
 
 use crate::document::setup_of;
 use crate::fault::SetupFault;
-use crate::setup_scan::NestedSetup;
+use crate::opening_scan::scanned_opening;
 use clock_device::NoMemory;
 use clock_json::tree::{RowReader, each_at, has_members, number_at, read_value};
-use clock_json::{
-    PartReader, Scan, ScanStop, ScannedMembers, ShortRows, is_key, push, scanned_text, short_rows,
-    with_room,
-};
+use clock_json::{ShortRows, push, short_rows, with_room};
 use clock_money::{LEAST_INCREMENT, MOST_INCREMENT};
 use clock_terms::{Bidder, Grid, Row, Setup, is_within};
 use serde_json::Value;
@@ -144,7 +140,6 @@ fn opening_grid(
         push(&mut rows, row)?;
     }
     if !is_within(LEAST_INCREMENT, MOST_INCREMENT, increment) {
-        // each `drop` of this file keeps the proof small: at a scope's end each field is proved
         drop(rows);
         return Err(OpeningFault::Increment);
     }
@@ -248,51 +243,11 @@ pub fn read_opening(alloc: Global, bytes: &[u8]) -> Result<Opening, OpeningFault
     ensures err { IfErr result (IsRefusal OpeningFault.NoMemory (document_opening bytes.now)) }
     ensures nested { IfErr result (λ fault. fault ≢ OpeningFault.Setup SetupFault.NoMemory) }
 {
-    if let Some((nested, demands, increment)) = scanned_text::<FoundOpening>(alloc, bytes)? {
-        return judged(alloc, nested.setup, demands, increment);
+    if let Some(opening) = scanned_opening(alloc, bytes)? {
+        return Ok(opening);
     }
     let value = read_value(alloc, bytes)?.ok_or(OpeningFault::NotJson)?;
     let opening = opening_in(alloc, &value);
     drop(value);
     opening
-}
-
-/// What was found so far of an opening that is read by bytes. Such an opening has no escape in a
-/// text, only digits in a number, and no demand above 65,535.
-#[derive(Default, Drop)]
-struct FoundOpening {
-    demands: Option<ShortRows>,
-    nested: Option<NestedSetup>,
-    increment: Option<u64>,
-}
-
-impl<'v> ScannedMembers<'v> for FoundOpening {
-    type Whole = (NestedSetup, ShortRows, u64);
-
-    ghost levels = { 3 };
-
-    ghost fields = { found_opening };
-
-    ghost shown = { scanned_data };
-
-    fn nothing() -> FoundOpening {
-        FoundOpening::default()
-    }
-
-    fn read(&mut self, alloc: Global, key: &[u8], scan: &mut Scan<'v>) -> Result<(), ScanStop> {
-        match key {
-            _ if is_key(key, "demands") => self.demands = Some(scan.short_rows(alloc)?),
-            _ if is_key(key, "setup") => self.nested = Some(NestedSetup::part(alloc, scan)?),
-            _ if is_key(key, "increment") => self.increment = Some(scan.number()?),
-            _ => return Err(ScanStop::Unusual),
-        }
-        Ok(())
-    }
-
-    fn whole(self) -> Option<(NestedSetup, ShortRows, u64)> {
-        match (self.nested, self.demands, self.increment) {
-            (Some(nested), Some(demands), Some(increment)) => Some((nested, demands, increment)),
-            _ => None,
-        }
-    }
 }

@@ -198,7 +198,6 @@ pub(crate) fn has_distinct_names<E: LimitedEntry>(
         names.push(entry.name());
     }
     let distinct = is_distinct(alloc, names.as_slice());
-    // each `drop` of this file keeps the proof small: at the end of the scope, each field is proved
     drop(names);
     distinct
 }

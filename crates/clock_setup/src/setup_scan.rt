@@ -99,7 +99,6 @@ fn products<'v>(alloc: Global, scan: &mut Scan<'v>) -> Result<VersionedProducts<
     'items: while !scan.closes(b']') {
         let next = FoundProduct::part(alloc, scan)?;
         if version != 0 && version != next.version {
-            // each `drop` of this file keeps the proof small: at a scope's end each field is proved
             drop(entries);
             return Err(ScanStop::Unusual);
         }

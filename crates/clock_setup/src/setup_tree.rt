@@ -195,7 +195,6 @@ pub(crate) fn entries_of(alloc: Global, value: &Value) -> Result<Option<SetupEnt
     let bidders = match each_at(alloc, value, "bidders", &BidderReader) {
         Ok(Some(bidders)) => bidders,
         Ok(None) => {
-            // each `drop` of this file keeps the proof small: at a scope's end each field is proved
             drop(products);
             return Ok(None);
         }

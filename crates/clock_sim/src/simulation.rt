@@ -92,8 +92,6 @@ pub fn simulate_with<P: Processor + Drop>(
     let setup = replay.setup.copy(alloc)?;
     let mut hub = Hub::new(alloc, Front::new(alloc, setup, processor)?);
     let report = played(alloc, &mut hub, replay);
-    // `drop` here keeps the proof small: at the end of the scope each part would be proved to be
-    // dropped
     drop(hub);
     report
 }
@@ -127,7 +125,6 @@ pub fn replay_text(alloc: Global, replay: Replay) -> Result<Text, SimFault>
 {
     let mut hub = Hub::new(alloc, Front::new(alloc, replay.setup, Woken)?);
     let text = text_played(alloc, &mut hub, replay.scripts, replay.closings);
-    // like the `drop` in `simulate_with`
     drop(hub);
     text
 }

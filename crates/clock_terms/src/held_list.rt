@@ -1,9 +1,12 @@
-ghost use Rattle.std.specs.Prelude.{◌≡◌, ℕ, ◌≤◌, ◌<◌, slice_index_or, length, take, All, IfOk};
-ghost use Rattle.std.specs.Prelude.{IfErr, insert, remove, vec_capacity, IsTrue};
+ghost use Rattle.std.specs.Prelude.{◌≡◌, ℕ, ◌+◌, ◌≤◌, ◌<◌, [], slice_index_or, length, take, All};
+ghost use Rattle.std.specs.Prelude.{IfOk, OnOk, IfErr, insert, remove, vec_capacity, IsTrue};
 ghost use Rattle.clock_terms.specs.HeldDemands.{demand_for, demands_of};
 ghost use Rattle.clock_terms.specs.Limits.{most_products, most_supply};
 ghost use Rattle.clock_terms.specs.inside.Rows.{ArePositiveDemands, AreStarts, IsStart, IsStored};
 ghost use Rattle.clock_terms.specs.inside.Rows.{IsAtIndex, BelongsAtIndex};
+
+use crate::limits::MOST_SUPPLY;
+use clock_device::NoMemory;
 
 /// The number of products in a group. A search for a product starts at the first entry of its
 /// group.
@@ -177,6 +180,46 @@ pub(crate) fn write_held(room: &mut [PositiveDemand], demands: &[u16]) -> usize
         }
     }
     kept
+}
+
+/// Appends an entry for a product, if its demand is positive. Requires entries for lower products.
+#[inline(always)]
+fn hold(held: &mut Vec<PositiveDemand>, product: usize, demand: u64) -> Result<(), NoMemory>
+    requires order { ArePositiveDemands 0 held.old.items product }
+    requires few { product < most_products }
+    requires small { demand ≤ most_supply }
+    ensures order { OnOk result (ArePositiveDemands 0 held.new.items (product + 1)) }
+    ensures here { OnOk result (demand_for held.new.items product ≡ demand) }
+    ensures others { OnOk result ((other : ℕ) → other < product
+        → demand_for held.new.items other ≡ demand_for held.old.items other) }
+{
+    if demand == 0 {
+        return Ok(());
+    }
+    held.push(PositiveDemand {
+        product: product as u16,
+        demand: demand as u16,
+    })?;
+    Ok(())
+}
+
+/// Appends the positive demands of `demands`, whose products count from 0, to an empty list.
+/// Returns whether all demands are at most 1,000 blocks, and stops at the first that is not.
+pub(crate) fn hold_all(held: &mut Vec<PositiveDemand>, demands: &[u64]) -> Result<bool, NoMemory>
+    requires empty { held.old.items ≡ [] }
+    requires few { length demands.now ≤ most_products }
+    ensures order { IfOk result (λ all. IsTrue all
+        → ArePositiveDemands 0 held.new.items (length demands.now)) }
+    ensures demands { IfOk result (λ all. IsTrue all
+        → demands_of (length demands.now) held.new.items ≡ demands.now) }
+{
+    for (product, demand) in demands.iter().enumerate() {
+        if *demand > MOST_SUPPLY {
+            return Ok(false);
+        }
+        hold(held, product, *demand)?;
+    }
+    Ok(true)
 }
 
 /// Finds for each group the index at which its entries start.

@@ -9,8 +9,10 @@ ghost use Rattle.clock_terms.specs.Walks.{Walk};
 
 use crate::change::Kind;
 use crate::held_list::{
-    GROUP_SIZE, PositiveDemand, demand_at, find_starts, is_at, place_in_group, store, write_held,
+    GROUP_SIZE, PositiveDemand, demand_at, find_starts, hold_all, is_at, place_in_group, store,
+    write_held,
 };
+use crate::limits::MOST_PRODUCTS;
 use crate::setup::Setup;
 use clock_device::NoMemory;
 use std::alloc::Global;
@@ -86,6 +88,22 @@ impl Row {
         // touched.
         let mut held = Vec::with_capacity(alloc, count)?;
         held.extend_from_slice(&room[..packed])?;
+        let mut starts = vec![in alloc; 0; count / GROUP_SIZE + 1]?;
+        find_starts(&mut starts, held.as_slice());
+        Ok(Row {
+            count,
+            held,
+            starts,
+        })
+    }
+
+    /// Returns a row with the demands of a packed one. May return `NoMemory`.
+    pub fn of_packed(alloc: Global, packed: &PackedRow) -> Result<Row, NoMemory>
+        ensures { IfOk result (λ row. row ≡ packed.now) }
+    {
+        let count = packed.count;
+        let mut held = Vec::with_capacity(alloc, count)?;
+        held.extend_from_slice(packed.held.as_slice())?;
         let mut starts = vec![in alloc; 0; count / GROUP_SIZE + 1]?;
         find_starts(&mut starts, held.as_slice());
         Ok(Row {
@@ -228,6 +246,24 @@ impl Model for PackedRow {
 }
 
 impl PackedRow {
+    /// Packs demands, one for each product. Returns `None` if there are more than the products of a
+    /// set-up, or if one is above 1,000 blocks. May return `NoMemory`.
+    pub fn of_list(alloc: Global, demands: &[u64]) -> Result<Option<PackedRow>, NoMemory>
+        ensures { IfOk result (λ row. IfSome row (λ row. row ≡ demands.now)) }
+    {
+        let count = demands.len();
+        if count as u64 > MOST_PRODUCTS {
+            return Ok(None);
+        }
+        let mut room = Vec::with_capacity(alloc, count)?;
+        if !hold_all(&mut room, demands)? {
+            return Ok(None);
+        }
+        // A second allocation of exactly the size that is needed.
+        let held = Vec::from_slice(alloc, room.as_slice())?;
+        Ok(Some(PackedRow { count, held }))
+    }
+
     /// Returns the number of demands, one for each product.
     pub fn len(&self) -> usize
         ensures is { result ≡ length self.now }

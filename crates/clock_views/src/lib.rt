@@ -28,4 +28,5 @@ pub use pages::{
     headed_bids, headed_closed, headed_results, headed_sheet, headed_slip, headed_status,
     products_page, results_page, sheet_page, slip_page, status_page,
 };
+pub use pieces::Headed;
 pub use refusal::{Refusal, headed_refusal, refusal_page};

@@ -18,10 +18,10 @@ use std::alloc::{AllocError, Global};
 static SETUP_FILE: &str = "The set-up document";
 
 /// The highest port.
-pub const MOST_PORT: u64 = 65_535;
+pub(crate) const MOST_PORT: u64 = 65_535;
 
 /// The most connections that `serve` can be asked to serve.
-pub const MOST_SERVED: u64 = 1_000_000;
+pub(crate) const MOST_SERVED: u64 = 1_000_000;
 
 /// Makes an optional option with one value.
 fn option<'a>(alloc: Global, name: &'a str, value: &'a str, help: &'a str) -> Arg<'a>
@@ -66,7 +66,6 @@ fn with_command<'a>(
 {
     let program = match program {
         Ok(program) => program,
-        // `drop` here keeps the proof small: with `?`, each field would be proved
         Err(refused) => {
             drop(command);
             return Err(refused);
@@ -138,7 +137,7 @@ fn program_only<'a>(alloc: Global) -> Result<Command<'a>, AllocError>
 }
 
 /// Makes the program with its commands. Errors: an allocation was refused.
-pub fn program<'a>(alloc: Global) -> Result<Command<'a>, AllocError>
+pub(crate) fn program<'a>(alloc: Global) -> Result<Command<'a>, AllocError>
     ensures { IfOk result (IsCommand grammar) }
 {
     let opening = "Print the results of round 1 for given demands";

@@ -147,7 +147,6 @@ pub fn read_words<'a>(alloc: Global, words: &'a [&'a str]) -> Result<Option<Aske
 {
     let matches = program(alloc)?.try_get_matches_from(words_given(words))?;
     let asked = asked_in(&matches);
-    // `drop` here keeps the proof small: at the end of the scope it would be proved part by part
     drop(matches);
     Ok(asked)
 }

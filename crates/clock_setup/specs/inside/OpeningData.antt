@@ -11,7 +11,7 @@ use Rattle.clock_json.specs.Tree.{items_at, numbers_from, each}
 use Rattle.clock_json.specs.Rows.{shortened}
 use Rattle.clock_json.specs.Reading.{whole_number, rows, Fields, found_members}
 use Rattle.clock_setup.specs.declared.setup_scan.NestedSetup.{NestedSetup}
-use Rattle.clock_setup.specs.declared.opening.FoundOpening.{FoundOpening}
+use Rattle.clock_setup.specs.declared.opening_scan.FoundOpening.{FoundOpening}
 use Rattle.clock_setup.specs.SetupData.{setup_data}
 
 -- the keys of an opening, each with its value if there is one

@@ -1,0 +1,225 @@
+//! Reads an opening by bytes, without a tree of values, if all its checks pass. Its demands are
+//! read in one pass, and only the positive ones are stored. Any other document is left to the tree.
+ghost use Rattle.std.specs.Prelude.{◌≡◌, ◌≤◌, EachIndex, slice_index, None, Ok, length};
+ghost use Rattle.std.specs.Prelude.{IsTrue, IfOk, IfSome};
+ghost use Rattle.clock_json.specs.Reading.{numbers};
+ghost use Rattle.clock_terms.specs.{Demands.{IsGrid}, Faults.{first_fault}};
+ghost use Rattle.clock_terms.specs.Limits.{IsRow, IsWithin, cap_of, least_increment};
+ghost use Rattle.clock_terms.specs.Limits.{most_increment};
+ghost use Rattle.clock_setup.specs.OpeningDocument.{document_opening, has_counts, opening_with};
+ghost use Rattle.clock_setup.specs.OpeningDocument.{row_checks};
+ghost use Rattle.clock_setup.specs.inside.OpeningData.{scanned_data, found_opening};
+
+use crate::opening::Opening;
+use crate::setup_scan::NestedSetup;
+use clock_device::{Items, NoMemory};
+use clock_json::{
+    PartReader, Scan, ScanStop, ScannedMembers, is_key, push, scanned_parts, scanned_text,
+    with_room,
+};
+use clock_money::{LEAST_INCREMENT, MOST_INCREMENT};
+use clock_terms::{
+    Bidder, Grid, MOST_PRODUCTS, PackedRow, Product, Row, Setup, is_within, units_held,
+};
+use std::alloc::Global;
+
+/// A row of demands for each bidder.
+type PackedRows = Items<PackedRow>;
+
+/// Reads the demands of a bidder.
+#[derive(Drop)]
+struct DemandsReader;
+
+impl<'v> PartReader<'v> for DemandsReader {
+    type Part = PackedRow;
+
+    ghost levels = { 1 };
+
+    ghost shown = { numbers };
+
+    fn part(alloc: Global, scan: &mut Scan<'v>) -> Result<PackedRow, ScanStop> {
+        // memory for all products at once, since a list that grows is copied
+        let mut demands = with_room(alloc, MOST_PRODUCTS as usize)?;
+        scan.numbers_after(&mut demands)?;
+        let Some(row) = PackedRow::of_list(alloc, demands.as_slice())? else {
+            return Err(ScanStop::Unusual);
+        };
+        Ok(row)
+    }
+}
+
+/// What was found so far of an opening that is read by bytes. Such an opening has no escape in a
+/// text, only digits in a number, and no demand above 1,000.
+#[derive(Default, Drop)]
+struct FoundOpening {
+    demands: Option<PackedRows>,
+    nested: Option<NestedSetup>,
+    increment: Option<u64>,
+}
+
+impl<'v> ScannedMembers<'v> for FoundOpening {
+    type Whole = (NestedSetup, PackedRows, u64);
+
+    ghost levels = { 3 };
+
+    ghost fields = { found_opening };
+
+    ghost shown = { scanned_data };
+
+    fn nothing() -> FoundOpening {
+        FoundOpening::default()
+    }
+
+    fn read(&mut self, alloc: Global, key: &[u8], scan: &mut Scan<'v>) -> Result<(), ScanStop> {
+        match key {
+            _ if is_key(key, "demands") => self.demands = Some(scanned_parts::<DemandsReader>(
+                alloc, scan, 0,
+            )?),
+            _ if is_key(key, "setup") => self.nested = Some(NestedSetup::part(alloc, scan)?),
+            _ if is_key(key, "increment") => self.increment = Some(scan.number()?),
+            _ => return Err(ScanStop::Unusual),
+        }
+        Ok(())
+    }
+
+    fn whole(self) -> Option<(NestedSetup, PackedRows, u64)> {
+        match (self.nested, self.demands, self.increment) {
+            (Some(nested), Some(demands), Some(increment)) => Some((nested, demands, increment)),
+            _ => None,
+        }
+    }
+}
+
+/// Whether there is a row for each bidder, and in each row a number for each product.
+fn has_counts(setup: &Setup, demands: &PackedRows) -> bool
+    ensures { result ≡ has_counts setup.now demands.now }
+{
+    let width = setup.products.len();
+    demands.len() == setup.bidders.len() && demands.iter().all(|row| row.len() == width)
+}
+
+/// Whether no demand is above its product's cap. Visits only positive demands.
+fn is_capped(products: &[Product], row: &Row) -> bool
+    requires { length row.now ≡ length products.now }
+    ensures { IsTrue result → EachIndex row.now
+        (λ product. slice_index row.now product ≤ cap_of products.now product) }
+{
+    let mut held = row.held();
+    'held: while let Some(one) = held.next() {
+        if one.demand > products[one.product].cap {
+            return false;
+        }
+    }
+    true
+}
+
+/// Returns a bidder's row, if its demands and its activity pass all checks.
+fn accepted_row(
+    alloc: Global,
+    setup: &Setup,
+    number: u64,
+    bidder: &Bidder,
+    demands: &PackedRow,
+) -> Result<Option<Row>, NoMemory>
+    requires { length demands.now ≡ length setup.now.products }
+    ensures same { IfOk result (λ row. IfSome row (λ row. row ≡ demands.now)) }
+    ensures row { IfOk result (λ row. IfSome row (IsRow setup.now.products)) }
+    ensures passed { IfOk result (λ row. IfSome row (λ _.
+        first_fault (row_checks setup.now.products number (bidder.now, demands.now)) ≡ None)) }
+{
+    let products = setup.products.as_slice();
+    let row = Row::of_packed(alloc, demands)?;
+    if !is_capped(products, &row) {
+        return Ok(None);
+    }
+    let units = units_held(products, &row);
+    if units > bidder.eligibility {
+        return Ok(None);
+    }
+    Ok(Some(row))
+}
+
+/// Returns the grid of an opening, if the checks after the set-up pass.
+fn accepted_grid(
+    alloc: Global,
+    setup: &Setup,
+    demands: &PackedRows,
+    increment: u64,
+) -> Result<Option<Grid>, NoMemory>
+    ensures ok { IfOk result (λ grid. IfSome grid (λ grid.
+        opening_with setup.now demands.now increment
+        ≡ Ok (record { setup = setup.now; grid = grid; increment = increment }))) }
+    ensures grid { IfOk result (λ grid. IfSome grid
+        (IsGrid (length setup.now.bidders) (length setup.now.products))) }
+    ensures increment { IfOk result (λ grid. IfSome grid
+        (λ _. IsWithin least_increment most_increment increment)) }
+{
+    let bidders = setup.bidders.as_slice();
+    if !has_counts(setup, demands) {
+        return Ok(None);
+    }
+    if !is_within(LEAST_INCREMENT, MOST_INCREMENT, increment) {
+        return Ok(None);
+    }
+    let mut rows = with_room(alloc, bidders.len())?;
+    for (number, bidder) in bidders.iter().enumerate() {
+        let accepted = accepted_row(alloc, setup, number as u64, bidder, &demands[number])?;
+        let Some(row) = accepted else {
+            // each `drop` of this file keeps the proof small: at a scope's end each field is proved
+            drop(rows);
+            return Ok(None);
+        };
+        push(&mut rows, row)?;
+    }
+    let grid = Grid::of_rows(alloc, setup, rows)?;
+    Ok(Some(grid))
+}
+
+/// Returns the opening with this set-up, if the checks after the set-up pass.
+fn accepted(
+    alloc: Global,
+    setup: Setup,
+    demands: PackedRows,
+    increment: u64,
+) -> Result<Option<Opening>, NoMemory>
+    ensures ok { IfOk result (λ opening. IfSome opening (λ opening.
+        opening_with setup demands increment ≡ Ok opening)) }
+    ensures grid { IfOk result (λ opening. IfSome opening (λ opening.
+        IsGrid (length opening.setup.bidders) (length opening.setup.products) opening.grid)) }
+    ensures increment { IfOk result (λ opening. IfSome opening (λ opening.
+        IsWithin least_increment most_increment opening.increment)) }
+{
+    let grid = accepted_grid(alloc, &setup, &demands, increment);
+    drop(demands);
+    match grid {
+        Ok(Some(grid)) => Ok(Some(Opening {
+            setup,
+            grid,
+            increment,
+        })),
+        Ok(None) => {
+            drop(setup);
+            Ok(None)
+        }
+        Err(refused) => {
+            drop(setup);
+            Err(refused)
+        }
+    }
+}
+
+/// Returns the opening that a document means, if it was read by bytes and has no fault. No result
+/// says nothing about the document. May return `NoMemory`.
+pub(crate) fn scanned_opening(alloc: Global, bytes: &[u8]) -> Result<Option<Opening>, NoMemory>
+    ensures ok { IfOk result (λ opening. IfSome opening (λ opening.
+        document_opening bytes.now ≡ Ok opening)) }
+    ensures grid { IfOk result (λ opening. IfSome opening (λ opening.
+        IsGrid (length opening.setup.bidders) (length opening.setup.products) opening.grid)) }
+    ensures increment { IfOk result (λ opening. IfSome opening (λ opening.
+        IsWithin least_increment most_increment opening.increment)) }
+{
+    let Some((nested, demands, increment)) = scanned_text::<FoundOpening>(alloc, bytes)? else {
+        return Ok(None);
+    };
+    accepted(alloc, nested.setup, demands, increment)
+}
