@@ -8,7 +8,7 @@ BUILT = re.compile(r"rt: clock_auction (proved|is kept)")
 ENDING = re.compile(r"(\d+) passed, (\d+) failed")
 BAD_EDIT = "BAD EDIT"
 ENDED = (0, 1)  # pytest's statuses of a run that came to its end
-MOST_AGAIN = 12  # of some 6,000 tests
+MOST_AGAIN = 6  # of some 200 files of tests
 
 
 @dataclasses.dataclass(frozen=True)
@@ -105,11 +105,12 @@ def failures_in(summaries: Iterable[str | None]) -> tuple[str, ...]:
 
 
 def is_worth_again(failures: Sequence[str]) -> bool:
-    """Whether failed tests run once more by themselves: if they are few.
+    """Whether failed tests run once more by themselves: if they are of few files.
 
-    A busy machine makes a few tests fail, which wait for real time. More is a fault.
+    A busy machine makes a few tests fail, which wait for real time. More is a fault. All tests of a
+    file may fail at once, if they share one auction.
     """
-    return 0 < len(failures) <= MOST_AGAIN
+    return 0 < len({name.split("::")[0] for name in failures}) <= MOST_AGAIN
 
 
 def again(failures: Sequence[str], summary: str | None) -> Again:

@@ -18,7 +18,7 @@ import {
   undo
 } from "./filling.js";
 import {Grid} from "./grid.js";
-import {judged, keyOf} from "./judging.js";
+import {doorOf, judged, keyOf} from "./judging.js";
 import {answers, follow} from "./link.js";
 import {load} from "./loading.js";
 import {at, door, lastClosed, printedWords, showName, tell} from "./page.js";
@@ -121,6 +121,7 @@ async function heard(status) {
   const isClosed = status.round !== me.round || status.ended !== me.ended;
   if (isClosed) await pause(spread(state.terms.products.length));
   if (again || isClosed) await load();
+  if (doorOf(state) === "unplanned") times.ask();
 }
 
 const alarm = new Alarm();

@@ -110,8 +110,9 @@ function acceptedMessage(state) {
 function refusedMessage(state) {
   const { fault, product, status } = state.act;
   const isLate = fault.code === "window";
-  const isOver = isLate && doorOf(state) === "open"; // what it was refused for
-  if (isOver && isInForce(state)) return null;       // they came from elsewhere
+  // what it was refused for; without a timetable nobody knows whether a window has opened since
+  const isOver = isLate && state.time.phase === "open" && doorOf(state) === "open";
+  if (isOver && isInForce(state)) return null; // they came from elsewhere
   const stays = state.inForce?.bids && (status !== 409 || isLate);
   const refusal = isLate ? receiptOf(state, true) : null;
   const parts = isOver ? ["Your last bids came while no window was open. Submit again."] : [

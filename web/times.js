@@ -54,6 +54,7 @@ export class Times {
   #table = null;
   #known = 0;          // announcements
   #called = new Map(); // the last mark that was read out, by the end that it is of
+  #wake = () => {};    // ends the pause between two requests
 
   /**
    * @param {object} given
@@ -76,6 +77,9 @@ export class Times {
 
   /** What is said while pages are withheld until the results of the round are shown to everyone. */
   closing() { return closingWords(resultsOf(this.#table, this.#clock.now())); }
+
+  /** Asks for the timetable now, and not at its next turn. */
+  ask() { this.#wake(); }
 
   async #get(path) {
     const sent = performance.now();
@@ -101,7 +105,10 @@ export class Times {
       } catch {
         // no answer: the time that is known is still counted
       }
-      await new Promise((done) => setTimeout(done, this.#table ? EVERY : SELDOM));
+      await new Promise((done) => {
+        this.#wake = () => done(null);
+        setTimeout(done, this.#table ? EVERY : SELDOM);
+      });
     }
   }
 

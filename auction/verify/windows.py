@@ -130,8 +130,10 @@ def opening_faults(entries: list[Entry], entry: Entry) -> Iterator[str]:
     if window is None:
         yield f"round {number} has opened, and the timetable of before has no window of it"
     elif window["opens"] != entry.says["opens"]:
-        yield f"round {number} has opened at {entry.says['opens']}, and by the timetable of before "
-        f"its window opens at {window['opens']}"
+        yield (
+            f"round {number} has opened at {entry.says['opens']}, and by the timetable of before "
+            f"its window opens at {window['opens']}"
+        )
     elif not window["opens"] <= entry.time <= window["closes"]:
         yield f"round {number} has opened at {entry.time}, out of its window"
 

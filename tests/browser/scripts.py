@@ -79,6 +79,11 @@ window.fetch = (path, options) => {
     return asked(path, options);
 };"""
 
+# the page's turns of asking for the timetable end; `ended` has how many did
+WITHOUT_TURNS = """const later = window.setTimeout;
+window.ended = 0;
+window.setTimeout = (work, time) => time === 2000 ? void window.ended++ : later(work, time);"""
+
 # every text that an element had from here on
 SAID = """window.said = [];
 const element = document.getElementById(arguments[0]);

@@ -59,8 +59,10 @@ def test_bids_outside_the_window_are_refused(day: Published, x: Window) -> None:
     gate.unlink()
     try:
         x.bid(0, 1, "")
-        # Without a timetable the page takes the round for open.
-        x.send("Your last bids came while no window was open. Submit again.")
+        x.send(
+            "Refused: the round is not open for bids: see the timetable, and submit your bids when "
+            "it opens."
+        )
     finally:
         gate.touch()
 

@@ -162,7 +162,7 @@ def late(auction: Auction, x: Window) -> None:
     (auction.folder / "gate/open").unlink()
     x.bid(0, 1, 100)
     x.submit()
-    x.says("message", "Your last bids came while no window was open.")
+    x.says("message", "Refused: the round is not open for bids")
 
 
 def test_the_signed_refusal_of_a_late_sheet_is_shown_and_saved(

@@ -237,8 +237,16 @@ class Window:
             erase = (Keys.CONTROL + "a", Keys.NULL, Keys.DELETE)
             self.field(name, product, step).send_keys(*erase, str(value))
 
+    def until_open(self) -> None:
+        """Waits until the page takes a submission: after a closing it first gets the timetable."""
+        self.until("a submission is taken", lambda: self.send_is_on())
+
+    def send_is_on(self) -> bool:
+        return self.at("send").get_attribute("aria-disabled") == "false"
+
     def submit(self) -> None:
-        """Submits the form, also if there is a review first."""
+        """Submits the form as soon as the page lets one, also if there is a review first."""
+        self.until_open()
         self.click("send")
         self.confirm()
 

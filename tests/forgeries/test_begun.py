@@ -305,6 +305,15 @@ def test_a_row(tmp_path: pathlib.Path, forge: Forge, receipts: str, shown: str) 
     assert shown or not failed, failed
 
 
+def test_both_times_are_named_if_a_window_opened_at_another_time(tmp_path: pathlib.Path) -> None:
+    found = Evidence(TRUE, TEXTS)
+    opens = time_of(2, "14:00:00")
+    other = time_of(2, "14:04:00")
+    says(resaid("opened", 2, "14:05:00", opens=other))(found)
+    words = found.failed(tmp_path, NOTHING)["windows"]
+    assert opens in words and other in words
+
+
 # ---- What is said, and fails nothing
 
 

@@ -125,6 +125,16 @@ const TABLE = {
     "warn Your last bids came while no window was open. Submit again.",
     "Submit 1 bid",
   ],
+  "refused, and no timetable says whether the round is open now": [
+    {
+      form: form(REDUCE),
+      act: EARLY,
+      time: { phase: null, words: "", seconds: null },
+    },
+    "todo",
+    "bad Refused: the round is not open for bids",
+    "Submit 1 bid",
+  ],
   "a timetable of the round before": [
     { time: { phase: "shut", seconds: -20, words: "Closed for bids.", round: 1 } },
     "off Round 2 is not open yet.",

@@ -204,6 +204,17 @@ def test_a_submission_to_a_server_that_stands_still(six: Practice, x: Window) ->
     assert x.kind("message") != "bad"
 
 
+def test_a_page_asks_for_the_timetable_until_it_has_the_round(six: Practice, x: Window) -> None:
+    """Not only at its next turn, for which bids would have to wait."""
+    enter(x, six)
+    x.run(scripts.WITHOUT_TURNS)
+    x.until("the last turn has ended", lambda: x.run("return window.ended"))
+    x.bid(0, 1, "")
+    x.submit()
+    x.says("round", "Round 2")
+    x.until_open()
+
+
 def test_a_closing_while_one_types(six: Practice, x: Window) -> None:
     """The entry and the cursor stay, and one message says what changed."""
     enter(x, six)
@@ -212,6 +223,7 @@ def test_a_closing_while_one_types(six: Practice, x: Window) -> None:
     x.says("round", "Round 2")
     x.field("quantity", 1).click()
     x.run(scripts.SAID, "message")
+    x.until_open()
     x.chord("\ue009", "\ue007")  # Ctrl+Enter
     x.confirm()
     x.press("2")

@@ -99,8 +99,12 @@ def test_failures_are_those_of_all_runs() -> None:
 @pytest.mark.parametrize(
     ("count", "wanted"), [(0, False), (1, True), (MOST_AGAIN, True), (MOST_AGAIN + 1, False)]
 )
-def test_some_failed_tests_run_once_more_and_many_do_not(count: int, wanted: bool) -> None:
-    assert is_worth_again(["name"] * count) == wanted
+def test_failed_tests_of_some_files_run_once_more_and_of_many_do_not(count: int, wanted: bool) -> None:
+    assert is_worth_again([f"tests/test_{n}.py::test" for n in range(count)]) == wanted
+
+
+def test_all_failed_tests_of_a_file_run_once_more() -> None:
+    assert is_worth_again([f"tests/test_day.py::test_{n}" for n in range(50)])
 
 
 @pytest.mark.parametrize(
