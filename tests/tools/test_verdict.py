@@ -99,7 +99,9 @@ def test_failures_are_those_of_all_runs() -> None:
 @pytest.mark.parametrize(
     ("count", "wanted"), [(0, False), (1, True), (MOST_AGAIN, True), (MOST_AGAIN + 1, False)]
 )
-def test_failed_tests_of_some_files_run_once_more_and_of_many_do_not(count: int, wanted: bool) -> None:
+def test_failed_tests_of_some_files_run_once_more_and_of_many_do_not(
+    count: int, wanted: bool
+) -> None:
     assert is_worth_again([f"tests/test_{n}.py::test" for n in range(count)]) == wanted
 
 
