@@ -17,6 +17,7 @@ from . import disk
 from .decision import Limits, whole_ten
 
 LONGEST = 10  # seconds that a closing may take
+MOST_DRAIN = 60  # seconds; `auction verify` takes a sheet of later for one of after its window
 
 
 class SettingsFault(Exception):
@@ -99,6 +100,10 @@ class Settings:
         for name, seconds in times.items():
             if type(seconds) is not int or seconds < 0:
                 raise SettingsFault(f"{path}: {name} must be a whole number, 0 or more")
+        if settings.drain > MOST_DRAIN:
+            raise SettingsFault(
+                f"{path}: drain is at most {MOST_DRAIN}, beyond which a sheet is late"
+            )
         least = settings.drain + Limits.freeze + LONGEST
         if 0 < settings.publish < least:
             raise SettingsFault(

@@ -3,7 +3,16 @@ from auction.formats.notices import Entry
 from auction.recount.formats import Setup
 from auction.recount.rules import Line
 
-from .announced import LATE, by_hand, entries_of, first, frozen_of, of_kind, seconds_between
+from .announced import (
+    LATE,
+    by_hand,
+    entries_of,
+    first,
+    frozen_of,
+    last_before,
+    of_kind,
+    seconds_between,
+)
 from .case import Absent, Case, Failed
 
 
@@ -19,19 +28,15 @@ def check_increments(case: Case) -> str:
             faults.append(f"round {number}: no rule of increments was announced before its window")
             continue
         lines = rounds[number - 2].lines if number > 1 else None
-        found = [increments_by(one.says["rules"], case.setup, number + 1, lines) for one in rules]
-        rule, wanted = rules[-1], found[-1]
+        found = [increments_of(case, one, number, lines) for one in rules]
         if closed.increments in found:
             continue
-        if act := by_hand(entries, number):
-            acts.append(
-                f"BY HAND: {act.says['who']} closed round {number} with {closed.increments}, and "
-                f"by the rule it is {wanted}"
-            )
+        then = f"and by the rule of notice {rules[-1].number} they are {found[-1]}"
+        if by_hand := person_words(case, entries, number, closed.increments, lines):
+            acts.append(f"BY HAND: {by_hand}, {then}")
         else:
             faults.append(
-                f"round {number} was closed with the increments {closed.increments}, and by the "
-                f"rule of notice {rule.number} they are {wanted}"
+                f"round {number} was closed with the increments {closed.increments}, {then}"
             )
     if faults:
         raise Failed(*faults)
@@ -54,6 +59,37 @@ def rules_for(entries: list[Entry], number: int) -> list[Entry]:
     in_time = [one for one in told if one.time <= opens]
     soon = [one for one in told if 0 < seconds_between(opens, one.time) <= LATE]
     return in_time[-1:] + soon
+
+
+def person_words(
+    case: Case, entries: list[Entry], number: int, made: list[int], lines: list[Line] | None
+) -> str:
+    """Who closed a round with other increments, or let it close by a later rule; "" for nobody."""
+    if act := by_hand(entries, number):
+        return f"{act.says['who']} closed round {number} with the increments {made}"
+    word = last_word(entries, number)
+    rule = last_before(entries, "increments", word) if word else None
+    if word is None or rule is None or made != increments_of(case, rule, number, lines):
+        return ""
+    words = f"with the increments {made}, by the rule of notice {rule.number}"
+    return f"{word.says['who']} let round {number} close {words}"
+
+
+def last_word(entries: list[Entry], number: int) -> Entry | None:
+    """The last notice that a person let a frozen round close, before it was closed.
+
+    If the server refuses a closing, a person announces other increments, and then gives this word.
+    """
+    frozen, closed = first(entries, "frozen", number), first(entries, "closed", number)
+    if frozen is None or closed is None:
+        return None
+    acts = of_kind(entries[frozen.number : closed.number - 1], "act", number)
+    return next((one for one in reversed(acts) if one.says["what"] == "next"), None)
+
+
+def increments_of(case: Case, rule: Entry, number: int, lines: list[Line] | None) -> list[int]:
+    """The increments that go with the closing of a round, by a notice of their rules."""
+    return increments_by(rule.says["rules"], case.setup, number + 1, lines)
 
 
 def increments_by(

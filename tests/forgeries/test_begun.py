@@ -50,6 +50,7 @@ pytestmark = pytest.mark.early
 LAST_AT_50 = TEXTS[:-1] + [TRUE.closing(3, 50)]
 RULE_OF_50 = {"rules": [{"percent": 50}]}
 CLOSE_1 = {"what": "close", "who": "Ann", "round": 1}
+NEXT_3 = {"what": "next", "who": "Ann", "round": 3}
 
 
 def added(
@@ -69,6 +70,18 @@ def closed_at_50(*changes: Callable[[Said], Said]) -> Forge:
     return both(
         lambda found: Evidence.__init__(found, TRUE, LAST_AT_50),
         says(both_ways(*changes), LAST_AT_50),
+    )
+
+
+def refused_then(*notices_between: tuple[str, dict[str, Any]]) -> Forge:
+    """The closing of round 3 is refused. These notices follow, each a second after the other, and
+    it is closed with 50 percent.
+    """
+    return closed_at_50(
+        *(
+            added("closed", 3, kind, what, f"14:30:1{place}")
+            for place, (kind, what) in enumerate(notices_between, 1)
+        )
     )
 
 
@@ -196,6 +209,34 @@ ROWS: dict[str, Row] = {
         ),
         BIDDERS,
         NOTHING,
+    ),
+    "70.3h-a-rule-after-a-refused-closing-and-a-person-s-word": (
+        refused_then(("increments", RULE_OF_50), ("act", NEXT_3)),
+        BIDDERS,
+        NOTHING,
+    ),
+    "70.4-a-rule-after-the-freezing-without-a-word": (
+        refused_then(("increments", RULE_OF_50)),
+        BIDDERS,
+        "increments",
+    ),
+    "70.5-a-rule-after-the-word": (
+        refused_then(("act", NEXT_3), ("increments", RULE_OF_50)),
+        BIDDERS,
+        "increments",
+    ),
+    "70.6-a-word-before-the-freezing": (
+        closed_at_50(
+            added("frozen", 3, "increments", RULE_OF_50, "14:20:00"),
+            added("frozen", 3, "act", NEXT_3, "14:20:01"),
+        ),
+        BIDDERS,
+        "increments",
+    ),
+    "70.7-a-word-of-another-round": (
+        refused_then(("increments", RULE_OF_50), ("act", {**NEXT_3, "round": 2})),
+        BIDDERS,
+        "increments",
     ),
     "71-a-draw-after-sheets-were-frozen-without-a-window": (
         draw_at(draw_before("closed")),
@@ -336,6 +377,14 @@ def test_a_window_that_is_lengthened_long_after_its_end_is_named(
     """A crash may come between a change and its notice."""
     words = words_of(says(lengthened(time)), tmp_path, "windows")
     assert (f"LATE: the window of round 2 was lengthened at {time_of(2, time)}" in words) == is_late
+
+
+def test_who_let_a_round_close_by_a_later_rule_is_named(tmp_path: pathlib.Path) -> None:
+    forge = refused_then(("increments", RULE_OF_50), ("act", NEXT_3))
+    words = words_of(forge, tmp_path, "increments")
+    assert (
+        "BY HAND: Ann let round 3 close with the increments [50], by the rule of notice " in words
+    )
 
 
 def test_a_window_that_opens_again_without_a_freezing_is_named(tmp_path: pathlib.Path) -> None:
