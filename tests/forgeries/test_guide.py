@@ -69,7 +69,7 @@ NO_TRACE = (
 # Honest auctions and files, what is harmless, and forgeries before anyone has saved a copy.
 CONTROLS = (
     "5.2 12h 22 22b 22c 31.2 31.3 40h 50a 60h 60.1h 60.2h 60.3h 60.4h 60.5h 60.6h 69"
-    " 70.1h 70.2h 73h 73.1h 73.2h 75h 75.3h 75.6h".split()
+    " 70.1h 70.2h 70.3h 73h 73.1h 73.2h 75h 75.3h 75.6h".split()
 )
 
 
