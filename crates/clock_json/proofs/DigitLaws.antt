@@ -8,7 +8,7 @@ use Rattle.std.specs.Str.Parse.{AllDigits, digits_value}
 use Rattle.std.specs.Char.{digit_value}
 use Rattle.std.specs.List.{prefix_len}
 use Rattle.std.proofs.Math.Nat.{pow-suc, pow-le-pow_right, one-le-pow}
-use Rattle.std.proofs.lemmas.List.{get_or-drop, length-drop, length-take-le, length-map}
+use Rattle.std.proofs.lemmas.List.{get_or-drop, get_or-map, get_or-take, length-drop, length-take-le, length-map}
 use Rattle.std.proofs.lemmas.Simd.{length-chunk, tops_compared, zip2_splat, zip2_splat_left, mask_l-mod, map-map}
 use Rattle.std.proofs.lemmas.Simd.{none_from_empty_mask, trailing_mask_l, run_in_chunk_le, run_in_chunk_fails}
 use Rattle.std.proofs.lemmas.Bool.{cases_lt, ltb-false}
@@ -178,6 +178,21 @@ all_counted bytes at count i value few past end =
           ∙ ap (λ low. digits_value 10 (take count (drop at bytes)) * low)
           (ap (λ n. 10 ^ n) (let none : count - count ≡ 0 = omega arith in none)) ∙ omega arith,
     )
+
+-- sixteen bytes, each as the digit that it would be
+abbrev pub digits_at : List ℕ → ℕ → List ℕ
+digits_at bytes at = zip2 (λ a b. (a + (256 - b)) % 256) (chunk at 16 bytes) (replicate 16 48)
+
+pub digit_lane : (bytes : List ℕ) (at i : ℕ) → at + 16 ≤ length bytes → i < 8
+    → get_or (digits_at bytes at) i 0 ≡ (get_or bytes (at + i) 0 + 208) % 256
+digit_lane bytes at i room within =
+    let digit : ℕ → ℕ = λ a. (a + 208) % 256 in
+    let long : length (chunk at 16 bytes) ≡ 16 = length-chunk at 16 bytes room in
+    let each : digits_at bytes at ≡ map digit (chunk at 16 bytes) =
+    zip2_splat (λ a b. (a + (256 - b)) % 256) (chunk at 16 bytes) 16 48 long in
+    ap (λ (list : List ℕ). get_or list i 0) each
+    ∙ get_or-map digit (chunk at 16 bytes) i 0 0 (omega (arith, long, within))
+    ∙ ap digit (get_or-take 16 (drop at bytes) i 0 (omega (arith, within)) ∙ get_or-drop at bytes i 0)
 
 -- a byte that is no digit
 abbrev pub is_other : ℕ → Bool

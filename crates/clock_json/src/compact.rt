@@ -41,16 +41,25 @@ fn has_both(bytes: &[u8], at: usize, first: &[u8; 8], part: usize, second: &[u8;
     has_eight(bytes, at, first) && has_eight(bytes, at + part, second)
 }
 
-/// Reads the quantity of a bid at an index. Most are a single digit, and the bid ends after it.
+/// Reads the last number of a bid at an index, and the brace and the comma after it. Returns the
+/// number, and the index after the comma. Most are a single digit.
 #[inline(always)]
-fn quantity_at(bytes: &[u8], start: usize) -> Option<(u64, usize)>
-    requires { start + 16 ≤ length bytes.now }
-    ensures { IfSome result (IsNumberUpTo bytes.now start (start + 16)) }
+fn last_number(bytes: &[u8], start: usize) -> Option<(u64, usize)>
+    requires { start + 18 ≤ length bytes.now }
+    ensures small { IfSome result (λ r. r.0 < 2 ^ 64) }
+    ensures value { IfSome result (λ r. lex between (drop start bytes.now)
+        ≡ token (number (decimal r.0)) ∷ token end_object ∷ comma
+        ∷ lex between (drop r.1 bytes.now)) }
 {
     if let Some(digit) = digit_before(bytes, start, b'}') {
-        return Some((digit, start + 1));
+        if bytes[start + 2] != b',' {
+            return None;
+        }
+        return Some((digit, start + 3));
     }
-    digits_up_to(bytes, start, start + 16)
+    let (number, end) = digits_up_to(bytes, start, start + 16)?;
+    let ends = (bytes[end] == b'}') & (bytes[end + 1] == b',');
+    ends.then_some((number, end + 2))
 }
 
 /// The numbers of a bid.
@@ -92,14 +101,13 @@ pub(crate) fn compact_bid_at(bytes: &[u8], start: usize) -> Option<(CompactBid, 
     if !has_both(bytes, behind_product, b",\"quanti", 4, b"antity\":") {
         return None;
     }
-    let (quantity, behind_quantity) = quantity_at(bytes, behind_product + 12)?;
-    let ends = (bytes[behind_quantity] == b'}') & (bytes[behind_quantity + 1] == b',');
+    let (quantity, end) = last_number(bytes, behind_product + 12)?;
     let bid = CompactBid {
         price,
         product,
         quantity,
     };
-    ends.then_some((bid, behind_quantity + 2))
+    Some((bid, end))
 }
 
 /// A list of three numbers.

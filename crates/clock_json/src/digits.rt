@@ -35,16 +35,18 @@ const WEIGHTS: [u32; 16] = [
 /// their weights: the processor mostly mispredicts a loop that ends with the digits.
 #[inline(always)]
 fn value_of(bytes: &[u8], at: usize, count: usize) -> u64
-    requires room { at + 8 ≤ length bytes.now }
+    requires room { at + 16 ≤ length bytes.now }
     requires most { count ≤ 8 }
     requires digits { AreDigits bytes.now at count }
     ensures digits { AllDigits 10 (take count (drop at bytes.now)) }
     ensures value { result ≡ digits_value 10 (take count (drop at bytes.now)) }
     ensures small { result < 2 ^ 32 }
 {
+    // the same vector as in `digits_ahead`: LLVM then loads the bytes once
+    let digits = (u8x16::from_slice(&bytes[at..]) - u8x16::splat(b'0')).to_array();
     let mut value = 0u32;
     for i in 0..8 {
-        let digit = bytes[at + i].wrapping_sub(b'0') as u32;
+        let digit = digits[i] as u32;
         value += digit * WEIGHTS[8 - count + i];
     }
     value as u64

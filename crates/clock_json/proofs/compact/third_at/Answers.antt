@@ -1,4 +1,4 @@
-use Rattle.std.proofs.Common.{◌+◌, ◌∷◌, decimal, ap, ◌∙◌, arith}
+use Rattle.std.proofs.Common.{◌∷◌, decimal, ap, ◌∙◌, arith}
 use Rattle.std.proofs.lemmas.Bool.{and_parts, eqb-true}
 use Rattle.json.specs.Token.{number}
 use Rattle.json.specs.Lex.{token}

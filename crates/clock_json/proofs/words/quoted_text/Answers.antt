@@ -1,10 +1,7 @@
 -- A quote is an ASCII character, so what two quotes enclose begins and ends between characters.
-use Rattle.std.proofs.Common.{◌≡◌, ◌+◌, ◌-◌, ◌∷◌, List, ℕ, drop, sym, ap, subst, ◌∙◌, arith}
-use Rattle.std.specs.Prelude.{slice_range}
+use Rattle.std.proofs.Common.{◌≡◌, ◌+◌, ◌-◌, List, ℕ, subst, arith}
 use Rattle.std.specs.Str.{IsUtf8, IsCharBoundary}
 use Rattle.std.proofs.iter.FirstChar.{beside_ascii}
-use Rattle.json.specs.Token.{string}
-use Rattle.json.specs.Lex.{lex, between, token}
 use Rattle.clock_json.specs.inside.Quotes.{IsQuoted}
 use Rattle.clock_json.proofs.words.quoted_text.Goals as goal
 

@@ -3,7 +3,7 @@ use Rattle.json.specs.Token.{Token, string as string_token}
 use Rattle.json.specs.Lex.{may_begin, begins_colon, lex, between, token}
 use Rattle.std.specs.Prelude.{drop}
 use Rattle.serde_json.specs.Data.{string}
-use Rattle.clock_json.specs.Left.{place_of, left}
+use Rattle.clock_json.specs.Left.{place_of}
 use Rattle.clock_json.proofs.LexLaws.{text_begins}
 use Rattle.clock_json.proofs.Steps.{text_reads, reads_shorter}
 use Rattle.clock_json.proofs.scan.Scan.text.Goals as goal
