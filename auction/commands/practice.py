@@ -14,7 +14,7 @@ it are replaced and never used.
 Without a built program, it takes the unproved one of tools/try-program, which compiles it once in
 some minutes.
 
-With --host, it lets many people practice in their browsers, each in a game of his own. It prints
+With --host, it lets many people practice in their browsers, each in a game of their own. It prints
 its address, and runs until it is stopped. The games are bounded in number, time, memory, and disk,
 and idle ones end. It serves this machine only, or everyone if it has --certificate and --key. It
 runs apart from a real auction: not as root, nor as a user who can enter /srv/auction, and with no
