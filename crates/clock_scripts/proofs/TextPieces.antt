@@ -12,7 +12,7 @@ use Rattle.clock_views.specs.inside.Values.{Adds}
 use Rattle.clock_views.proofs.Pushes.{before, together}
 use Rattle.clock_views.proofs.Texts.{bid_in_pieces}
 use Rattle.clock_scripts.specs.RequestTexts.{tie_value, close_value}
-use Rattle.clock_scripts.specs.inside.Bodies.{bid_text}
+use Rattle.clock_scripts.specs.inside.{Arrays.{with_comma}, Bodies.{bid_text}}
 use Rattle.clock_scripts.specs.inside.RequestTexts.{increments_text}
 
 -- a piece, and what the last call adds after it
@@ -39,6 +39,13 @@ bid_with_comma bid =
     ap (λ (text : List ℕ). 44 ∷ text) (bid_in_pieces bid)
     ∙ bid_regrouped (codes ",") (codes "{\"price\":") (decimal bid.price) (codes ",\"product\":") (decimal bid.product)
     (codes ",\"quantity\":") (decimal bid.quantity) (codes "}")
+
+-- a tie-breaking number with its comma
+pub tie_with_comma : (tie : Tie) → with_comma tie_value tie
+    ≡ codes ",[" ++ (decimal tie.bidder ++ (codes "," ++ (decimal tie.product
+    ++ (codes "," ++ (decimal tie.number ++ codes "]")))))
+unfolding serde_json_on_literals
+tie_with_comma tie = refl
 
 pub close_in_pieces : (round : ℕ) (increments : Increments) (ties : List Tie)
     → compact_text (close_value round increments ties)

@@ -7,7 +7,8 @@ ghost use Rattle.clock_bids.specs.declared.sheet.Bid.{Bid};
 ghost use Rattle.clock_views.specs.{Values.{whole, list_of}, inside.Values.{Adds}};
 ghost use Rattle.clock_scripts.specs.RequestTexts.{tie_value, written_put, written_close};
 ghost use Rattle.clock_scripts.specs.Sincere.{bid_for};
-ghost use Rattle.clock_scripts.specs.inside.{Arrays.{array_ended}, Bodies.{bid_text, bids_text}};
+ghost use Rattle.clock_scripts.specs.inside.Arrays.{array_ended, with_comma};
+ghost use Rattle.clock_scripts.specs.inside.Bodies.{bid_text, bids_text};
 
 use clock_bids::Bid;
 use clock_device::{NoMemory, put_before};
@@ -65,10 +66,29 @@ fn push_ties(text: &mut Vec<u8>, ties: &[Tie]) -> Result<(), NoMemory>
 {
     let start = text.len();
     for tie in ties {
-        push_label(text, b",")?;
-        push_numbers(text, &[tie.bidder, tie.product, tie.number])?;
+        push_tie(text, tie)?;
     }
     end_array(text, start)
+}
+
+/// The most bytes of a tie-breaking number and the comma before it: three numbers of 20 digits, and
+/// the rest.
+const TIE_ROOM: usize = 65;
+
+/// Appends a tie-breaking number with a comma before it. Writes it into an array from its end to
+/// its start, and copies it once.
+fn push_tie(text: &mut Vec<u8>, tie: &Tie) -> Result<(), NoMemory>
+    ensures { OnOk result (Adds (with_comma tie_value tie.now) text.old.items text.new.items) }
+{
+    let mut line = [0; TIE_ROOM];
+    let end = put_before(&mut line, TIE_ROOM, b"]");
+    let number_at = write_digits(tie.number, &mut line, end);
+    let behind_product = put_before(&mut line, number_at, b",");
+    let product_at = write_digits(tie.product, &mut line, behind_product);
+    let behind_bidder = put_before(&mut line, product_at, b",");
+    let bidder_at = write_digits(tie.bidder, &mut line, behind_bidder);
+    let start = put_before(&mut line, bidder_at, b",[");
+    push_label(text, &line[start..])
 }
 
 /// Appends the body of a closing.

@@ -97,15 +97,6 @@ impl BidPrefixes {
         }
     }
 
-    /// Returns whether there is a text for a product at a price.
-    #[inline(always)]
-    fn has(&self, product: u64, price: u64) -> bool {
-        match self.list.get(product as usize) {
-            Some(prefix) => prefix.is_for(product, price),
-            None => false,
-        }
-    }
-
     /// Makes the text for a product at a price. May return `NoMemory`.
     #[cold]
     fn make(&mut self, product: u64, price: u64) -> Result<(), NoMemory> {
@@ -135,12 +126,32 @@ impl BidPrefixes {
             (Adds (bid_text (bid_for product quantity price)) text.old.items text.new.items) }
     {
         if quantity < 10 {
-            if !self.has(product, price) {
-                self.make(product, price)?;
-            }
             if let Some(prefix) = self.list.get(product as usize) {
                 if prefix.is_for(product, price) {
                     return prefix.push_bid(text, quantity);
+                }
+            }
+        }
+        self.push_first_bid(text, product, quantity, price)
+    }
+
+    /// Like [`BidPrefixes::push_bid`], for the first bid at a price: makes the text for later ones.
+    #[cold]
+    fn push_first_bid(
+        &mut self,
+        text: &mut Vec<u8>,
+        product: u64,
+        quantity: u64,
+        price: u64,
+    ) -> Result<(), NoMemory>
+        ensures { OnOk result
+            (Adds (bid_text (bid_for product quantity price)) text.old.items text.new.items) }
+    {
+        if quantity < 10 {
+            self.make(product, price)?;
+            if let Some(made) = self.list.get(product as usize) {
+                if made.is_for(product, price) {
+                    return made.push_bid(text, quantity);
                 }
             }
         }

@@ -1,5 +1,4 @@
 use Rattle.std.proofs.Common.{arith, ◌∙◌}
-use Rattle.clock_views.proofs.Pushes.{before}
 use Rattle.clock_scripts.specs.RequestTexts.{tie_value}
 use Rattle.clock_scripts.proofs.ArrayLaws.{array_done, comma_more}
 use Rattle.clock_scripts.proofs.bodies.push_ties.Goals as goal
@@ -12,5 +11,4 @@ returns c = array_done tie_value c.args.ties.now c.args.text.now.items c.loop-ti
 pub loop-tie-preserved : goal.loop-tie-preserved
 loop-tie-preserved c =
     comma_more tie_value c.args.ties.now c.loop-tie.tie-index _ _ _ (omega arith)
-    (before c.in_ok-push_label.ensures c.in_ok-push_numbers.ensures)
-    ∙ c.loop-tie.invariant
+    c.in_ok-push_tie.ensures ∙ c.loop-tie.invariant
