@@ -8,6 +8,7 @@ from collections.abc import Callable, Iterator
 from typing import Any
 
 import pytest
+from selenium.common.exceptions import ElementNotInteractableException
 
 from auction.desk.acts import PARTS
 from auction.formats.notices import read_notices
@@ -62,12 +63,17 @@ def enter(held: Held, window: Window, name: str) -> None:
 
 
 def insist(desk: Window, answer: str, act: Callable[[], None]) -> None:
-    """Does an act until the desk answers so: again if the conductor did something meanwhile."""
+    """Does an act until the desk answers so: again if the conductor did something meanwhile. Then
+    the desk says so, or the page takes its question back before a person answers.
+    """
     stale = "the auction has changed"
 
     def is_done() -> bool:
         desk.run("document.getElementById('say').textContent = ''")
-        act()
+        try:
+            act()
+        except ElementNotInteractableException:
+            return False
         desk.until("the desk answers", lambda: any(w in desk.text("say") for w in (answer, stale)))
         return answer in desk.text("say")
 
