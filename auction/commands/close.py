@@ -53,7 +53,7 @@ from auction.conductor.closing import (
     keep,
     last_closed,
 )
-from auction.conductor.decision import Reason
+from auction.conductor.observed import Reason
 from auction.conductor.hand import Hand, Word, sheets_in_force
 from auction.conductor.server import NoReply, Operator, Refused
 from auction.formats.journal import Journal, JournalFault

@@ -10,7 +10,7 @@ from .clock import in_words, utc
 from .increments import in_words as increments_in_words
 from .increments import increments_for
 from .context import Context
-from .decision import TEN, Reason, whole_ten
+from .observed import TEN, Reason, whole_ten
 from .plan import Ended, Pause, Plan
 from .server import NoReply, Refused
 from .timetable import Window, move_later, replaced

@@ -13,7 +13,7 @@ from . import closing, disk, room
 from .clock import in_words, utc
 from .closing import NotClosed, Origin, Outcome, Ties
 from .context import Context
-from .decision import (
+from .actions import (
     Action,
     AnnounceClosing,
     AnnounceOpen,
@@ -23,13 +23,12 @@ from .decision import (
     Latch,
     NoteClock,
     NoteOpened,
-    Observed,
     Publish,
-    Reason,
     SetGate,
     Wait,
-    decide,
 )
+from .decision import decide
+from .observed import Observed, Reason
 from .increments import increments_for
 from .observer import Observer
 from .plan import Plan, StrangePlan

@@ -8,8 +8,8 @@ from collections.abc import Iterable
 from pathlib import Path
 
 from . import disk
-from .decision import FOREVER, TEN
-from .decision import Gate as Times
+from .observed import FOREVER, TEN
+from .observed import Gate as Times
 
 LATE, CURTAIN = "late-", "curtain-"
 

@@ -14,24 +14,9 @@ from . import closing, disk, stored
 from .clock import Clock, in_words, seconds_of
 from .closing import Answer, Auction, Increments, NotClosed, Origin, Ties
 from .context import user
-from .decision import (
-    FOREVER,
-    TEN,
-    Close,
-    Fix,
-    Freeze,
-    Latch,
-    Limits,
-    Observed,
-    Plan,
-    Reason,
-    Server,
-    SetGate,
-    State,
-    Wait,
-    Window,
-    decide,
-)
+from .actions import Close, Fix, Freeze, Latch, SetGate, Wait
+from .decision import decide
+from .observed import FOREVER, TEN, Limits, Observed, Plan, Reason, Server, State, Window
 from .gate import Gate
 from .notices import Notices
 from .pending import pending

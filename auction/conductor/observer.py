@@ -2,10 +2,10 @@
 from auction.formats.journal import JournalChanged, JournalFault
 from auction.formats.ties import MOST_TIES
 
-from . import closing, decision
+from . import closing, observed
 from .closing import last_closed
 from .context import Context
-from .decision import Observed, Reason, Server
+from .observed import Observed, Reason, Server
 from .pending import pending
 from .plan import Plan
 from .public import closing_key, opening_key
@@ -173,14 +173,14 @@ def is_over(window: Window | None, now: float) -> bool:
     return window is not None and now >= window.closes
 
 
-def plan_of(plan: Plan, number: int, window: Window | None, announced: bool) -> decision.Plan:
+def plan_of(plan: Plan, number: int, window: Window | None, announced: bool) -> observed.Plan:
     """What the plan says of a round."""
     doubts = plan.doubts_of(number)
     seen = None
     if window:
         is_opened = window.opened is not None
-        seen = decision.Window(window.opens, window.closes, is_opened, announced)
-    return decision.Plan(
+        seen = observed.Window(window.opens, window.closes, is_opened, announced)
+    return observed.Plan(
         plan.auction,
         seen,
         plan.paused is not None,

@@ -9,7 +9,7 @@ from pathlib import Path
 from typing import Any, Self
 
 from . import disk, stored
-from .decision import Reason
+from .observed import Reason
 from .increments import DEFAULT, Rule
 from .timetable import Window
 

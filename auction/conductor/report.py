@@ -5,9 +5,9 @@ import enum
 import json
 from typing import Any
 
-from . import decision, disk, stored
+from . import actions, disk, observed, stored
 from .clock import in_words, utc
-from .decision import Reason
+from .observed import Reason
 from .settings import Folders
 
 STALE = 15  # seconds after which nobody writes the report any more, or a closing takes long
@@ -45,7 +45,7 @@ class Report:
 # What `auction next` must say to release a doubt.
 OPTIONS = {Reason.NO_SHEETS: "--without-sheets", Reason.TOO_MANY_PAIRS: "--no-ties"}
 SAME = {
-    state.name: State[state.name] for state in decision.State if state.name in State.__members__
+    state.name: State[state.name] for state in observed.State if state.name in State.__members__
 }
 STATES = {
     **SAME,
@@ -55,9 +55,7 @@ STATES = {
 }
 
 
-def report_of(
-    wait: decision.Wait, seen: decision.Observed, doubts: list[str], fault: str
-) -> Report:
+def report_of(wait: actions.Wait, seen: observed.Observed, doubts: list[str], fault: str) -> Report:
     """What the conductor waits for, in words for the operator.
 
     `doubts` are those that no word has released, in words. `fault` is why the server is not seen.
@@ -84,20 +82,20 @@ def report_of(
     return Report(state, window_words(wait, number) + later, wait.until)
 
 
-def window_words(wait: decision.Wait, number: int) -> str:
+def window_words(wait: actions.Wait, number: int) -> str:
     """Where the current round's window is."""
-    if wait.state is decision.State.PENDING:
+    if wait.state is observed.State.PENDING:
         return f"Round {number} is shut. Requests are on their way to the server."
-    if wait.state is decision.State.FREEZING:
+    if wait.state is observed.State.FREEZING:
         return f"Round {number} is shut. Its sheets are frozen next."
-    if wait.state is decision.State.DRAINING:
+    if wait.state is observed.State.DRAINING:
         return f"Round {number} is shut. Requests that began in time may still end."
     assert wait.until is not None
-    verb = "opens at" if wait.state is decision.State.BEFORE else "is open until"
+    verb = "opens at" if wait.state is observed.State.BEFORE else "is open until"
     return f"Round {number} {verb} {in_words(wait.until)}."
 
 
-def held_words(seen: decision.Observed, number: int, doubts: list[str]) -> str:
+def held_words(seen: observed.Observed, number: int, doubts: list[str]) -> str:
     """Why a round waits for a person, and what to type."""
     standing = seen.plan.doubts - seen.plan.released
     options = "".join(f" {option}" for reason, option in OPTIONS.items() if reason in standing)
@@ -114,7 +112,7 @@ def and_of(words: list[str]) -> str:
     return ", and ".join(words)
 
 
-def current_round(seen: decision.Observed) -> int:
+def current_round(seen: observed.Observed) -> int:
     """The current round, as far as it is known."""
     return (seen.published if seen.server is None else seen.server.closed) + 1
 

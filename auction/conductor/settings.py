@@ -14,7 +14,7 @@ from typing import Self
 from auction.formats.ties import MOST_TIES
 
 from . import disk
-from .decision import Limits, whole_ten
+from .observed import Limits, whole_ten
 
 LONGEST = 10  # seconds that a closing may take
 MOST_DRAIN = 60  # seconds; `auction verify` takes a sheet of later for one of after its window

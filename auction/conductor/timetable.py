@@ -10,7 +10,7 @@ from pathlib import Path
 from typing import Any
 
 from .clock import Clock
-from .decision import TEN, whole_ten
+from .observed import TEN, whole_ten
 from .increments import Rule, rules_of
 
 MOST_WINDOWS = 1_000  # each bidder's page reads all of them

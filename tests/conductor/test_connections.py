@@ -3,7 +3,7 @@ from collections.abc import Callable
 
 import pytest
 
-from auction.conductor.decision import Limits
+from auction.conductor.observed import Limits
 from auction.conductor.report import State
 from tests.conductor.conftest import Conduct
 from tests.conductor.finished import finish

@@ -4,7 +4,7 @@ import pathlib
 import pytest
 
 from auction.conductor.commands import CommandFault
-from auction.conductor.decision import Limits
+from auction.conductor.observed import Limits
 from auction.conductor.report import State
 from tests.conductor.conftest import Conduct
 from tests.conductor.early import end

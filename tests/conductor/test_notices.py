@@ -9,7 +9,7 @@ import pytest
 
 from auction.conductor import commands, notices
 from auction.conductor.clock import utc
-from auction.conductor.decision import Limits
+from auction.conductor.observed import Limits
 from auction.conductor.increments import Rule
 from auction.conductor.notices import Facts, due
 from auction.conductor.plan import Act, Plan

@@ -10,7 +10,7 @@ from collections.abc import Iterator
 from typing import Any
 
 from auction.conductor.clock import utc
-from auction.conductor.decision import whole_ten
+from auction.conductor.observed import whole_ten
 from tests.day.bidding import Bidder, Reader, Sent
 from tests.lib.conducted import small_setup
 from tests.lib.paths import AUCTION, auction

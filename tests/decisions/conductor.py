@@ -2,27 +2,21 @@
 import dataclasses
 from collections.abc import Callable
 
-from auction.conductor.decision import (
-    TEN,
+from auction.conductor.actions import (
     Action,
     AnnounceClosing,
     AnnounceOpen,
     Close,
     Fix,
     Freeze,
-    Gate,
     Latch,
     NoteClock,
     NoteOpened,
-    Observed,
-    Plan,
     Publish,
-    Reason,
-    Server,
     SetGate,
-    State,
     Wait,
 )
+from auction.conductor.observed import TEN, Gate, Observed, Plan, Reason, Server, State
 from auction.conductor.hand import by_hand
 from tests.decisions.world import LIMITS, Closing, Hand, World, check, with_marks, with_window
 

@@ -1,7 +1,8 @@
 """All that can happen in the model: server, bidders, time, kills, outages, and clock steps."""
 from collections.abc import Iterator
 
-from auction.conductor.decision import TEN, State, Wait
+from auction.conductor.actions import Wait
+from auction.conductor.observed import TEN, State
 from tests.decisions.conductor import (
     Decide,
     carried_out,

@@ -14,7 +14,7 @@ from collections import deque
 from collections.abc import Callable
 from typing import NamedTuple
 
-from auction.conductor.decision import Gate
+from auction.conductor.observed import Gate
 from tests.decisions.conductor import Decide, killed
 from tests.decisions.events import nexts, outcome, quiet
 from tests.decisions.mistakes import decides_by

@@ -2,20 +2,9 @@
 import dataclasses
 from collections.abc import Callable
 
-from auction.conductor.decision import (
-    RULES,
-    Action,
-    Close,
-    Fix,
-    Gate,
-    Look,
-    Observed,
-    Publish,
-    Reason,
-    Rule,
-    SetGate,
-    decide,
-)
+from auction.conductor.actions import Action, Close, Fix, Publish, SetGate
+from auction.conductor.decision import RULES, Look, Rule, decide
+from auction.conductor.observed import Gate, Observed, Reason
 from tests.decisions.conductor import Decide
 from tests.decisions.world import LIMITS
 

@@ -2,7 +2,8 @@
 """
 from collections.abc import Iterator
 
-from auction.conductor.decision import TEN, Look, Reason
+from auction.conductor.decision import Look
+from auction.conductor.observed import TEN, Reason
 from tests.decisions.conductor import observed
 from tests.decisions.world import GAP, LIMITS, Hand, World, with_marks, with_window
 

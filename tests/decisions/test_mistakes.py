@@ -4,7 +4,7 @@ from typing import NamedTuple
 
 import pytest
 
-from auction.conductor.decision import Close
+from auction.conductor.actions import Close
 from tests.decisions import mistakes
 from tests.decisions.conductor import Decide
 from tests.decisions.explorer import BEGINNINGS, MORE, explore

@@ -7,7 +7,8 @@ does.
 """
 from typing import NamedTuple
 
-from auction.conductor.decision import Action, Gate, Limits, Reason, Window
+from auction.conductor.actions import Action
+from auction.conductor.observed import Gate, Limits, Reason, Window
 
 LIMITS = Limits(drain=10, publish=30, longest=10, freeze=0, drift=1, missed=0.02, pairs=2)
 WINDOWS = (Window(20, 40), Window(80, 90))
