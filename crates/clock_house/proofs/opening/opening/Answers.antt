@@ -3,7 +3,7 @@ use Rattle.std.proofs.Common.{map, ap, subst, ◌∙◌, length}
 use Rattle.std.specs.Prelude.{None}
 use Rattle.std.specs.List.{range_with_len}
 use Rattle.clock_terms.specs.Limits.{IsSetup, SetupFields}
-use Rattle.clock_house.proofs.house.opening.Goals as goal
+use Rattle.clock_house.proofs.opening.opening.Goals as goal
 
 pub returns-clause-limits : goal.returns-clause-limits
 returns-clause-limits c = subst IsSetup c.setup.view_is c.setup.invariant

@@ -2,7 +2,7 @@
 use Rattle.std.proofs.Common.{◌++◌, ◌∷◌, [], ℕ, List, map, take, ap, sym, ◌∙◌, arith, get_or}
 use Rattle.std.proofs.lemmas.List.{map-append, take_more}
 use Rattle.clock_terms.specs.declared.setup.Bidder.{Bidder}
-use Rattle.clock_house.proofs.house.opening_eligibilities.Goals as goal
+use Rattle.clock_house.proofs.opening.opening_eligibilities.Goals as goal
 
 pub push-requires : goal.push-requires
 push-requires c = omega (arith, c.loop-bidder.invariant.room, c.loop-bidder-test.true)

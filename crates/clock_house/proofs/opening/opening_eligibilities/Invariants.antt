@@ -1,6 +1,6 @@
 use Rattle.std.proofs.Common.{◌≡◌, ◌+◌, ◌≤◌, length, map, take}
 use Rattle.clock_terms.specs.declared.setup.Bidder.{Bidder}
-use Rattle.clock_house.proofs.house.opening_eligibilities.Given as goal
+use Rattle.clock_house.proofs.opening.opening_eligibilities.Given as goal
 
 -- The list has the eligibilities of the bidders so far, and capacity for the others.
 abbrev pub invariant-loop-bidder : goal.invariant-loop-bidder

@@ -2,7 +2,7 @@
 use Rattle.std.proofs.Common.{◌≡◌, length, arith}
 use Rattle.std.specs.Prelude.{None}
 use Rattle.std.proofs.lemmas.List.FromFn.{fill_by_all}
-use Rattle.clock_house.proofs.house.take_slips.Goals as goal
+use Rattle.clock_house.proofs.closing.take_slips.Goals as goal
 
 pub returns-clause-sheets : goal.returns-clause-sheets
 returns-clause-sheets c =

@@ -1,7 +1,7 @@
 use Rattle.std.proofs.Common.{◌≡◌, ℕ, ◌<◌, length, get_or}
 use Rattle.std.specs.Prelude.{None}
 use Rattle.clock_house.specs.inside.OpenRounds.{no_slip}
-use Rattle.clock_house.proofs.house.take_slips.Given as goal
+use Rattle.clock_house.proofs.closing.take_slips.Given as goal
 
 -- The bidders so far have their next eligibility, and no sheet in force.
 abbrev pub invariant-loop-bidder : goal.invariant-loop-bidder

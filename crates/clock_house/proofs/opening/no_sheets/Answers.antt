@@ -2,7 +2,7 @@
 use Rattle.std.proofs.Common.{◌++◌, ◌∷◌, [], ap, sym, ◌∙◌, arith}
 use Rattle.std.specs.Prelude.{None}
 use Rattle.std.proofs.lemmas.List.FromFn.{map-range_with_len_more}
-use Rattle.clock_house.proofs.house.no_sheets.Goals as goal
+use Rattle.clock_house.proofs.opening.no_sheets.Goals as goal
 
 pub push-requires : goal.push-requires
 push-requires c = omega (arith, c.loop-bidder.invariant.room, c.loop-bidder-test.true)
