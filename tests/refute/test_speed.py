@@ -1,7 +1,7 @@
-"""Tries to find a closing in which the two procedures differ, or the fast one tests too often.
+"""Tries to find a closing in which the two procedures differ, or the fast one works too much.
 
 `processing.rs`, a program of this test's own, draws requests, and processes them by both procedures
-of the crates. It prints what they count. Nothing is proved for it. The bound is calculated here.
+of the crates. It prints what they count. Nothing is proved for it. The bounds are calculated here.
 """
 import collections
 import dataclasses
@@ -34,15 +34,18 @@ class Ended:
 
 @dataclasses.dataclass
 class Drawn:
-    """An auction's requests, each of a bidder and a product, and how each procedure ended."""
+    """An auction's requests, each of a bidder, a product, and a number of blocks; how each
+    procedure ended, and how often the fast one read a request.
+    """
 
-    requests: list[tuple[int, int]] = dataclasses.field(default_factory=list)
+    requests: list[tuple[int, int, int]] = dataclasses.field(default_factory=list)
     ended: dict[str, Ended] = dataclasses.field(default_factory=dict)
+    reads: int = 0
 
     def most_of_one(self) -> int:
         """The most requests of one bidder or of one product."""
-        bidders = collections.Counter(one for one, _ in self.requests)
-        products = collections.Counter(one for _, one in self.requests)
+        bidders = collections.Counter(one for one, _, _ in self.requests)
+        products = collections.Counter(one for _, one, _ in self.requests)
         return max([0, *bidders.values(), *products.values()])
 
     def is_within_bound(self, name: str) -> bool:
@@ -50,6 +53,15 @@ class Drawn:
         ended = self.ended[name]
         most = min(2, self.most_of_one())
         return ended.tests <= len(self.requests) + ended.applications * most
+
+    def is_within_reads(self) -> bool:
+        """Three reads for each request, and three for each application."""
+        applications = self.ended["queue"].applications
+        return self.reads <= 3 * (len(self.requests) + applications)
+
+    def is_within_blocks(self) -> bool:
+        """At most one application for each block that is asked for."""
+        return self.ended["queue"].applications <= sum(blocks for _, _, blocks in self.requests)
 
     def has_one_result(self) -> bool:
         queue, plain = self.ended["queue"], self.ended["list"]
@@ -87,7 +99,9 @@ def auctions_in(text: str) -> list[Drawn]:
         if kind == "auction":
             auctions.append(Drawn())
         elif kind == "request":
-            auctions[-1].requests.append((values[0], values[1]))
+            auctions[-1].requests.append((values[0], values[1], values[2]))
+        elif kind == "reads":
+            [auctions[-1].reads] = values
         elif kind == "demand":
             list(auctions[-1].ended.values())[-1].demands.append(values[0])
         else:
@@ -125,6 +139,17 @@ def test_both_procedures_end_alike(drawn: list[Drawn]) -> None:
 
 def test_the_queue_stays_within_its_bound(drawn: list[Drawn]) -> None:
     assert [place for place, one in enumerate(drawn) if not one.is_within_bound("queue")] == []
+
+
+def test_the_queue_reads_a_request_at_most_three_times_for_each_request_and_application(
+    drawn: list[Drawn],
+) -> None:
+    assert [place for place, one in enumerate(drawn) if not one.is_within_reads()] == []
+    assert all(one.reads >= len(one.requests) for one in drawn)
+
+
+def test_each_application_takes_a_block(drawn: list[Drawn]) -> None:
+    assert [place for place, one in enumerate(drawn) if not one.is_within_blocks()] == []
 
 
 # ---- Planted mistakes

@@ -1,6 +1,6 @@
 -- The invariants of the queue hold after an application that makes ready the first requests that may have room now.
 use Rattle.std.proofs.Common.{◌≡◌, ℕ, ◌+◌, ◌-◌, ◌*◌, ◌<◌, ◌≤◌, ◌⊎◌, min, List, [], ◌∷◌, refl, ap, sym, subst, ◌∙◌, inl}
-use Rattle.std.proofs.Common.{inr, arith, get_or, set, length, All}
+use Rattle.std.proofs.Common.{inr, arith, get_or, set, length, sum, All}
 use Rattle.std.specs.List.{Contains}
 use Rattle.std.proofs.Math.Logic.{⊎_map}
 use Rattle.std.proofs.lemmas.Bool.{cases_eq, cases_lt}
@@ -19,7 +19,7 @@ use Rattle.clock_processor.proofs.Apply.{may_apply, sum_after, under_way_applied
 use Rattle.clock_queue.specs.declared.queue.Queue.{Queue}
 use Rattle.clock_queue.specs.inside.Lines.{cost_by, line_by, product_line, bidder_line, HasLines}
 use Rattle.clock_queue.specs.inside.Queue.{HasSoundLines, IsInLine, IsBehind, IsTracking, IsAppliedWhole, HasWoken}
-use Rattle.clock_queue.specs.inside.Queue.{HasWokenProduct, CostsMore}
+use Rattle.clock_queue.specs.inside.Queue.{HasWokenProduct, CostsMore, TakesBlocks}
 use Rattle.clock_queue.specs.inside.Queue.{line_at, line_in, cost_at, room_in, progress, work}
 use Rattle.clock_queue.specs.Bound.{most_woken}
 use Rattle.clock_queue.proofs.Members.{Contains-cons_cases}
@@ -411,14 +411,15 @@ module _ (changes : List Change) (old : Queue) (first : ℕ) (is : HasSoundLines
           ap (λ n. n * most_woken changes) one_applied in
           omega (arith, paid, few_woken)
 
+      sum_left : sum after.left + amount ≡ sum old.left
+      sum_left = sum_after old.board changes old.left first lt is.under_way.lengths is.under_way.requests
+          is_board is.under_way.caps
+
       less_work : work end < work old
-      less_work = omega (
-        arith,
-        few_woken,
-        some,
-        sum_after old.board changes old.left first lt is.under_way.lengths is.under_way.requests
-            is_board is.under_way.caps,
-      )
+      less_work = omega (arith, few_woken, some, sum_left)
+
+      fewer_blocks : TakesBlocks old end
+      fewer_blocks = omega (arith, one_applied, some, sum_left)
 
       progress_end : progress end
           ≡ with_application old.board.products old.board.eligibilities changes (progress old) first
@@ -436,7 +437,9 @@ module _ (changes : List Change) (old : Queue) (first : ℕ) (is : HasSoundLines
           room = behind.room;
         }) (tracked_after tracked place within);
         terms = record { products = refl; eligibilities = refl };
+        blocks = fewer_blocks;
         applied = progress_end;
+        tests = refl;
         no_room = no_room_after;
         counts = costs_none;
         less = less_work;

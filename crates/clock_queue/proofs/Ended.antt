@@ -1,5 +1,5 @@
 -- Bid processing has ended if all requests are admitted and none is ready.
-use Rattle.std.proofs.Common.{◌≡◌, List, [], map, ap, sym, subst, arith, length}
+use Rattle.std.proofs.Common.{◌≡◌, ℕ, ◌+◌, ◌≤◌, List, [], map, ap, sym, subst, arith, length, sum, sum_by}
 use Rattle.clock_terms.specs.declared.change.Change.{Change}
 use Rattle.clock_processor.specs.Board.{BoardFields, IsBoard}
 use Rattle.clock_processor.specs.Requests.{CanSettle}
@@ -9,8 +9,10 @@ use Rattle.clock_processor.specs.inside.UnderWay.{progress_of}
 use Rattle.clock_processor.proofs.Apply.{settlement_reached}
 use Rattle.clock_processor.proofs.ProperEnd.{proper_end, held_at_end}
 use Rattle.clock_queue.specs.declared.queue.Queue.{Queue}
-use Rattle.clock_queue.specs.inside.Queue.{HasSoundLines, IsTracking, StaysWithinTests, progress}
-use Rattle.clock_queue.specs.Bound.{IsWithinTests}
+use Rattle.clock_queue.specs.inside.Queue.{HasSoundLines, IsTracking, StaysWithinReads, StaysWithinTests}
+use Rattle.clock_queue.specs.inside.Queue.{progress}
+use Rattle.clock_queue.specs.Bound.{IsWithinBlocks, IsWithinReads, IsWithinTests}
+use Rattle.clock_queue.proofs.ReadBounds.{reads_at_end}
 use Rattle.clock_queue.proofs.Steps.{ends}
 
 -- what bid processing returns at its end
@@ -23,6 +25,7 @@ pub record IsDone (board : BoardFields) (changes : List Change) (queue : Queue) 
   pub in_order : HasSoundLines changes queue
   pub tracked : IsTracking changes queue queue.ready
   pub counts : StaysWithinTests changes queue
+  pub blocks : queue.board.applied + sum queue.left ≤ sum_by (λ (change : Change). change.amount) changes
   pub none : queue.ready ≡ []
   pub admitted : queue.admitted ≡ length changes
   pub products : queue.board.products ≡ board.products
@@ -49,3 +52,15 @@ module _ (board : BoardFields) (changes : List Change) (queue : Queue) (end : Se
 
   pub is_within : IsWithinTests changes end
   is_within = subst (IsWithinTests changes) (sym is) (omega (arith, done.counts, done.admitted, ap length done.none))
+
+  pub is_within_blocks : IsWithinBlocks changes end
+  is_within_blocks = subst (IsWithinBlocks changes) (sym is) done.blocks
+
+  pub is_within_reads : (reads : ℕ) → StaysWithinReads changes queue reads → IsWithinReads changes end reads
+  is_within_reads reads within = reads_at_end changes end reads is_within (omega (
+    arith,
+    within,
+    done.admitted,
+    ap (λ (one : SettledFields). one.tests) is,
+    ap (λ (one : SettledFields). one.applied) is,
+  ))

@@ -9,5 +9,6 @@ pub mod Applies
 pub mod Admits
 pub mod Start
 pub mod Steps
+pub mod ReadBounds
 pub mod Ended
 pub mod Turns

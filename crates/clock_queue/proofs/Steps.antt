@@ -163,5 +163,6 @@ goes_further changes start old new to_old to_new = record {
     products = to_new.terms.products ∙ to_old.terms.products;
     eligibilities = to_new.terms.eligibilities ∙ to_old.terms.eligibilities;
   };
+  blocks = omega (arith, to_old.blocks, to_new.blocks);
   reached = reaches_on changes start old new to_old.terms to_old.reached to_new.reached;
 }

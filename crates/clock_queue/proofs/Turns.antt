@@ -46,6 +46,7 @@ module _ (changes : List Change) where
       tracked = tracked_new;
       counts = omega (arith, counts, tested.counts, same_admitted);
       terms = record { products = tested.terms.products; eligibilities = tested.terms.eligibilities };
+      blocks = tested.blocks;
       reached = subst (λ (n : ℕ). Reaches old.board.products old.board.eligibilities changes (progress old)
           (progress (record between { admitted = n + 1 }))) (sym same_admitted)
           (fresh_reaches changes old between is tracked none more tested.step);
@@ -79,6 +80,7 @@ module _ (changes : List Change) where
       counts =
           omega (arith, counts, tested.counts, fewer, admitted_same first (record old { ready = ready }) new tested);
       terms = record { products = tested.terms.products; eligibilities = tested.terms.eligibilities };
+      blocks = tested.blocks;
       reached = popped_reaches changes (record old { ready = ready }) new first ready (kept_popped changes old first
           ready is moved) (tracked_popped changes old first ready tracked moved) least popped_before tested.step;
     }

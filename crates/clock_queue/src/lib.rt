@@ -5,5 +5,7 @@
 mod costs;
 mod lines;
 mod queue;
+mod requests;
 
-pub use queue::{Woken, law_of_tests};
+pub use queue::{Woken, law_of_tests, settle_by_queue};
+pub use requests::{Reads, Requests};

@@ -193,17 +193,14 @@ pub(crate) fn line_of(change: &Change) -> usize
     }
 }
 
-/// The number of lines that the bidders and products of these requests need.
-pub(crate) fn lines_for(changes: &[Change]) -> usize
-    ensures { All (lines.HasLines result) changes.now }
+/// The number of lines with those of a request among them: at least `count`.
+pub(crate) fn with_lines_for(count: usize, change: &Change) -> usize
+    ensures most { count ≤ result }
+    ensures enough { lines.HasLines result change.now }
 {
-    let mut count: usize = 0;
-    for change in changes {
-        let product = 2 * change.product as usize + 2;
-        let bidder = 2 * change.bidder as usize + 2;
-        count = count.max(product).max(bidder);
-    }
-    count
+    let product = 2 * change.product as usize + 2;
+    let bidder = 2 * change.bidder as usize + 2;
+    count.max(product).max(bidder)
 }
 
 /// The indices of the requests to be tested next. In contracts, it is a list of them in any order.

@@ -3,16 +3,19 @@ ghost use Rattle.std.specs.Prelude.{IfOk, OnOk, All};
 ghost use Rattle.clock_terms.specs.Limits.{most_units};
 ghost use Rattle.clock_processor.specs.{Board.{IsBoard}, Requests.{CanSettle}};
 ghost use Rattle.clock_processor.specs.Settlement.{IsSettlement, IsProperEnd};
-ghost use Rattle.clock_queue.specs.Bound.{BoundsEachLine, IsWithinTests};
+ghost use Rattle.clock_queue.specs.Bound.{BoundsEachLine, IsWithinBlocks, IsWithinReads};
+ghost use Rattle.clock_queue.specs.Bound.{IsWithinTests};
 ghost use Rattle.clock_queue.specs.inside.Costs.{spent};
 ghost use Rattle.clock_queue.specs.inside.Lines as lines;
 ghost use Rattle.clock_queue.specs.inside.Queue.{GoesOn, HasWoken, HasWokenProduct, IsAppliedWhole};
 ghost use Rattle.clock_queue.specs.inside.Queue.{HasSoundLines, IsTested, IsTracking};
-ghost use Rattle.clock_queue.specs.inside.Queue.{StaysWithinTests, after_test, line_in, room_in};
+ghost use Rattle.clock_queue.specs.inside.Queue.{StaysWithinReads, StaysWithinTests, after_test};
+ghost use Rattle.clock_queue.specs.inside.Queue.{line_in, room_in};
 
-use crate::lines::{Ready, WaitingLines, bidder_line, line_of, lines_for, product_line};
+use crate::lines::{Ready, WaitingLines, bidder_line, line_of, product_line, with_lines_for};
+use crate::requests::{Reads, Requests};
 use clock_device::NoMemory;
-use clock_processor::{Board, Processor, Settled, amounts_of};
+use clock_processor::{Board, Processor, Settled};
 use clock_terms::{Amounts, Change, Changes, Kind, MOST_UNITS};
 use std::alloc::Global;
 
@@ -36,20 +39,29 @@ impl Processor for Woken {
         ensures proper { IfOk result (λ settled. IsProperEnd board.entry changes.now settled) }
         ensures tests { IfOk result (λ settled. IsWithinTests changes.now settled) }
     {
-        settle_by_queue(alloc, board, changes)
+        let (requests, mut reads) = Requests::counted(changes);
+        settle_by_queue(alloc, board, &requests, &mut reads)
     }
 }
 
-/// Processes the requests as [`Woken`] says. Its own function, so that the prover soon refuses
-/// another procedure in its place.
-fn settle_by_queue(alloc: Global, board: Board, changes: &Changes) -> Result<Settled, NoMemory>
-    requires { CanSettle board changes.now }
-    ensures settlement { IfOk result (λ settled. IsSettlement board.entry changes.now settled) }
-    ensures proper { IfOk result (λ settled. IsProperEnd board.entry changes.now settled) }
-    ensures tests { IfOk result (λ settled. IsWithinTests changes.now settled) }
+/// Processes the requests as [`Woken`] says, and counts how often it reads one: at most three times
+/// for each request, and three times for each application. Requires a counter at 0.
+pub fn settle_by_queue(
+    alloc: Global,
+    board: Board,
+    requests: &Requests,
+    reads: &mut Reads,
+) -> Result<Settled, NoMemory>
+    requires can { CanSettle board requests.now }
+    requires none { reads.old ≡ 0 }
+    ensures settlement { IfOk result
+        (λ settled. IsSettlement board.entry requests.now settled) }
+    ensures proper { IfOk result (λ settled. IsProperEnd board.entry requests.now settled) }
+    ensures tests { IfOk result (λ settled. IsWithinTests requests.now settled) }
+    ensures blocks { IfOk result (λ settled. IsWithinBlocks requests.now settled) }
+    ensures reads { IfOk result (λ settled. IsWithinReads requests.now settled reads.new) }
 {
-    let requests = changes.as_slice();
-    let Lists { left, ready, lines } = match first_lists(alloc, requests) {
+    let Lists { left, ready, lines } = match first_lists(alloc, requests, reads) {
         Ok(lists) => lists,
         Err(none) => {
             drop(board);
@@ -63,7 +75,7 @@ fn settle_by_queue(alloc: Global, board: Board, changes: &Changes) -> Result<Set
         ready,
         lines,
     };
-    match queue.settle_all(requests) {
+    match queue.settle_all(requests, reads) {
         Ok(()) => Ok(queue.board.end(queue.left)),
         Err(none) => {
             drop(queue);
@@ -87,20 +99,47 @@ struct Lists {
     lines: WaitingLines,
 }
 
-/// The lists at the start of bid processing: nothing is applied, ready, or waiting.
-fn first_lists(alloc: Global, changes: &[Change]) -> Result<Lists, NoMemory>
-    ensures left { IfOk result (λ lists. lists.left ≡ map (λ change. change.amount) changes.now) }
+/// The lists at the start of bid processing: nothing is applied, ready, or waiting. Reads each
+/// request once.
+fn first_lists(alloc: Global, requests: &Requests, reads: &mut Reads) -> Result<Lists, NoMemory>
+    requires none { reads.old ≡ 0 }
+    ensures left { IfOk result (λ lists. lists.left ≡ map (λ change. change.amount) requests.now) }
     ensures ready { IfOk result (λ lists. lists.ready ≡ []) }
     ensures empty { IfOk result
         (λ lists. lists.lines ≡ replicate (length lists.lines) lines.empty_line) }
     ensures enough { IfOk result
-        (λ lists. All (lines.HasLines (length lists.lines)) changes.now) }
+        (λ lists. All (lines.HasLines (length lists.lines)) requests.now) }
+    ensures reads { OnOk result (reads.new ≤ length requests.now) }
 {
+    let (left, count) = amounts_and_lines(alloc, requests, reads)?;
     Ok(Lists {
-        left: amounts_of(alloc, changes)?,
-        ready: Ready::new(alloc, changes.len())?,
-        lines: WaitingLines::new(alloc, lines_for(changes))?,
+        left,
+        ready: Ready::new(alloc, requests.len())?,
+        lines: WaitingLines::new(alloc, count)?,
     })
+}
+
+/// The amount of each request, and how many lines their bidders and products need. Reads each
+/// request once.
+fn amounts_and_lines(
+    alloc: Global,
+    requests: &Requests,
+    reads: &mut Reads,
+) -> Result<(Amounts, usize), NoMemory>
+    requires none { reads.old ≡ 0 }
+    ensures amounts { IfOk result
+        (λ both. both.0 ≡ map (λ change. change.amount) requests.now) }
+    ensures enough { IfOk result (λ both. All (lines.HasLines both.1) requests.now) }
+    ensures reads { OnOk result (reads.new ≤ length requests.now) }
+{
+    let mut amounts = Amounts::with_capacity(alloc, requests.len())?;
+    let mut count: usize = 0;
+    for place in 0..requests.len() {
+        let change = requests.read(place, reads);
+        amounts.push(change.amount);
+        count = with_lines_for(count, change);
+    }
+    Ok((amounts.into_items(), count))
 }
 
 /// The state of bid processing: the board, the blocks left of each request, and what waits.
@@ -115,85 +154,102 @@ struct Queue<'a> {
 
 impl<'a> Queue<'a> {
     /// Admits all requests, one after the other, and tests ready requests until none is left.
-    fn settle_all(&mut self, changes: &[Change]) -> Result<(), NoMemory>
-        requires in_order { HasSoundLines changes.now self.old }
-        requires tracked { IsTracking changes.now self.old self.old.ready }
-        requires counts { StaysWithinTests changes.now self.old }
+    fn settle_all(&mut self, requests: &Requests, reads: &mut Reads) -> Result<(), NoMemory>
+        requires in_order { HasSoundLines requests.now self.old }
+        requires tracked { IsTracking requests.now self.old self.old.ready }
+        requires counts { StaysWithinTests requests.now self.old }
+        requires reads { StaysWithinReads requests.now self.old reads.old }
         requires none { self.old.ready ≡ [] }
         requires first { self.old.admitted ≡ 0 }
-        ensures goes_on { OnOk result (GoesOn changes.now self.old self.new) }
+        ensures goes_on { OnOk result (GoesOn requests.now self.old self.new) }
+        ensures reads { OnOk result (StaysWithinReads requests.now self.new reads.new) }
         ensures none { OnOk result (self.new.ready ≡ []) }
-        ensures admitted { OnOk result (self.new.admitted ≡ length changes.now) }
+        ensures admitted { OnOk result (self.new.admitted ≡ length requests.now) }
     {
-        for _place in 0..changes.len() {
-            self.settle_next(changes)?;
+        for _place in 0..requests.len() {
+            self.settle_next(requests, reads)?;
         }
         Ok(())
     }
 
     /// Tests the next request and admits it, then tests ready requests until none is left. The next
     /// request never enters the heap, because most requests make no other one ready.
-    fn settle_next(&mut self, changes: &[Change]) -> Result<(), NoMemory>
-        requires in_order { HasSoundLines changes.now self.old }
-        requires tracked { IsTracking changes.now self.old self.old.ready }
-        requires counts { StaysWithinTests changes.now self.old }
+    fn settle_next(&mut self, requests: &Requests, reads: &mut Reads) -> Result<(), NoMemory>
+        requires in_order { HasSoundLines requests.now self.old }
+        requires tracked { IsTracking requests.now self.old self.old.ready }
+        requires counts { StaysWithinTests requests.now self.old }
+        requires reads { StaysWithinReads requests.now self.old reads.old }
         requires none { self.old.ready ≡ [] }
-        requires more { self.old.admitted < length changes.now }
-        ensures goes_on { OnOk result (GoesOn changes.now self.old self.new) }
+        requires more { self.old.admitted < length requests.now }
+        ensures goes_on { OnOk result (GoesOn requests.now self.old self.new) }
+        ensures reads { OnOk result (StaysWithinReads requests.now self.new reads.new) }
         ensures none { OnOk result (self.new.ready ≡ []) }
         ensures admitted { OnOk result (self.new.admitted ≡ self.old.admitted + 1) }
     {
         let place = self.admitted;
-        self.test(changes, place)?;
-        self.admit(changes)?;
+        self.test(requests, reads, place)?;
+        self.admit(requests, reads)?;
         while let Some(place) = self.ready.pop() {
-            self.test(changes, place)?;
+            self.test(requests, reads, place)?;
         }
         Ok(())
     }
 
     /// Tests a request, and applies it by its whole room if it has any. It is the first of the
     /// ready requests, or the next one to be admitted.
-    fn test(&mut self, changes: &[Change], place: usize) -> Result<(), NoMemory>
-        requires in_order { HasSoundLines changes.now self.old }
-        requires tracked { IsTracking changes.now self.old (place ∷ self.old.ready) }
-        requires within { place < length changes.now }
-        ensures { OnOk result (IsTested changes.now place self.old self.new) }
+    fn test(&mut self, requests: &Requests, reads: &mut Reads, place: usize) -> Result<(), NoMemory>
+        requires in_order { HasSoundLines requests.now self.old }
+        requires tracked { IsTracking requests.now self.old (place ∷ self.old.ready) }
+        requires within { place < length requests.now }
+        requires reads { StaysWithinReads requests.now self.old reads.old }
+        ensures tested { OnOk result (IsTested requests.now place self.old self.new) }
+        ensures reads { OnOk result (StaysWithinReads requests.now self.new reads.new) }
     {
-        let room = self.room(changes, place);
+        let room = self.room(requests, reads, place);
         if room == 0 {
             return Ok(());
         }
-        self.apply(changes, place, room)?;
+        self.apply(requests, reads, place, room)?;
         Ok(())
     }
 
     /// Tests the room of a request.
-    fn room(&mut self, changes: &[Change], place: usize) -> u64
-        requires in_order { HasSoundLines changes.now self.old }
-        requires within { place < length changes.now }
-        ensures room { result ≡ room_in changes.now self.old place }
+    fn room(&mut self, requests: &Requests, reads: &mut Reads, place: usize) -> u64
+        requires in_order { HasSoundLines requests.now self.old }
+        requires within { place < length requests.now }
+        requires reads { StaysWithinReads requests.now self.old reads.old }
+        ensures room { result ≡ room_in requests.now self.old place }
         ensures counted { self.new ≡ after_test self.old }
         ensures is_board { IsBoard self.new.board.products self.new.board.eligibilities
             self.new.board.grid }
+        ensures reads { StaysWithinReads requests.now self.new reads.new }
     {
+        let change = requests.read(place, reads);
         let left = self.left.as_slice()[place];
-        self.board.room(&changes[place], left)
+        self.board.room(change, left)
     }
 
     /// Applies a request by its whole room. Makes ready the first request that waits for its
     /// product and the first that waits for its bidder, if they may have room now.
-    fn apply(&mut self, changes: &[Change], place: usize, room: u64) -> Result<(), NoMemory>
-        requires in_order { HasSoundLines changes.now self.old }
-        requires tracked { IsTracking changes.now self.old (place ∷ self.old.ready) }
-        requires within { place < length changes.now }
+    fn apply(
+        &mut self,
+        requests: &Requests,
+        reads: &mut Reads,
+        place: usize,
+        room: u64,
+    ) -> Result<(), NoMemory>
+        requires in_order { HasSoundLines requests.now self.old }
+        requires tracked { IsTracking requests.now self.old (place ∷ self.old.ready) }
+        requires within { place < length requests.now }
         requires is_board { IsBoard self.old.board.products self.old.board.eligibilities
             self.old.board.grid }
-        requires room { room ≡ room_in changes.now self.old place }
+        requires room { room ≡ room_in requests.now self.old place }
         requires positive { 0 < room }
-        ensures { OnOk result (IsAppliedWhole changes.now place self.old self.new) }
+        requires reads { StaysWithinReads requests.now self.old reads.old }
+        ensures applied { OnOk result (IsAppliedWhole requests.now place self.old self.new) }
+        ensures reads { OnOk result (StaysWithinReads requests.now self.new reads.new) }
     {
-        let change = &changes[place];
+        let change = requests.read(place, reads);
         let left = self.left.as_slice()[place];
         let unused = self.board.apply(change, room);
         self.left.set(place, left - room);
@@ -244,22 +300,25 @@ impl<'a> Queue<'a> {
 
     /// Admits the next request. Requires that it has no room. If it has blocks left, it waits in
     /// its line.
-    fn admit(&mut self, changes: &[Change]) -> Result<(), NoMemory>
-        requires in_order { HasSoundLines changes.now self.old }
-        requires tracked { IsTracking changes.now self.old self.old.ready }
-        requires more { self.old.admitted < length changes.now }
-        requires no_room { room_in changes.now self.old self.old.admitted ≡ 0 }
-        ensures in_order { OnOk result (HasSoundLines changes.now self.new) }
-        ensures tracked { OnOk result (IsTracking changes.now self.new self.new.ready) }
+    fn admit(&mut self, requests: &Requests, reads: &mut Reads) -> Result<(), NoMemory>
+        requires in_order { HasSoundLines requests.now self.old }
+        requires tracked { IsTracking requests.now self.old self.old.ready }
+        requires more { self.old.admitted < length requests.now }
+        requires no_room { room_in requests.now self.old self.old.admitted ≡ 0 }
+        requires reads { StaysWithinReads requests.now self.old reads.old }
+        ensures in_order { OnOk result (HasSoundLines requests.now self.new) }
+        ensures tracked { OnOk result (IsTracking requests.now self.new self.new.ready) }
         ensures same { OnOk result (self.new
             ≡ record self.old { admitted = self.old.admitted + 1; lines = self.new.lines }) }
+        ensures reads { OnOk result (StaysWithinReads requests.now self.new reads.new) }
     {
         let place = self.admitted;
+        prove!(place < requests.len());
         self.admitted += 1;
         if self.left.as_slice()[place] == 0 {
             return Ok(());
         }
-        let change = &changes[place];
+        let change = requests.read(place, reads);
         let cost = cost_of(&self.board, change);
         self.lines.add(line_of(change), place, cost)?;
         Ok(())

@@ -2,6 +2,7 @@
 --     progress queue      the state as bid processing by definition has it
 --     after_test queue      the queue after one more test
 --     SameTerms old new      products and eligibilities are unchanged
+--     TakesBlocks old new      the applications in between took at least one block each
 --     LeadsTo changes old new      bid processing by definition gets from one state to the other
 --     progress_with changes queue place      the state after a request is applied
 --     HasSoundLines changes queue      the invariant of the lines
@@ -14,6 +15,7 @@
 --     IsTested changes place old new      a request was tested, and applied if it had room
 --     StaysWithinTests changes queue      the tests so far, and one for each ready request, are
 --         within the bound
+--     StaysWithinReads changes queue reads      the reads so far are within the bound
 --     GoesOn changes old new      the invariants hold again, and bid processing by definition gets
 --         from one state to the other
 --     work queue      a number that falls with each test
@@ -44,6 +46,10 @@ after_test queue = record queue { board = tested queue.board }
 pub record SameTerms (old new : Queue) : Type 0 where
   pub products : new.board.products ≡ old.board.products
   pub eligibilities : new.board.eligibilities ≡ old.board.eligibilities
+
+-- the applications in between took at least one block each
+abbrev pub TakesBlocks : Queue → Queue → Type 0
+TakesBlocks old new = new.board.applied + sum new.left ≤ old.board.applied + sum old.left
 
 -- a line of a queue
 abbrev pub line_in : Queue → ℕ → LineFields
@@ -159,6 +165,12 @@ module _ (changes : List Change) where
   StaysWithinTests queue = queue.board.tests + length queue.ready ≤ queue.admitted
       + queue.board.applied * most_woken changes
 
+  -- The reads so far are at most one for each request, for its amount and lines, and one for each
+  -- admission, test, and application.
+  abbrev pub StaysWithinReads : Queue → ℕ → Type 0
+  StaysWithinReads queue reads = reads ≤ length changes + queue.admitted + queue.board.tests
+      + queue.board.applied
+
   -- Tests made and tests to be made grew by at most `more`, apart from those that the bound allows
   -- for the applications in between.
   abbrev pub CostsMore : ℕ → Queue → Queue → Type 0
@@ -172,6 +184,7 @@ module _ (changes : List Change) where
     pub tracked : IsTracking new new.ready
     pub counts : StaysWithinTests new
     pub terms : SameTerms old new
+    pub blocks : TakesBlocks old new
     pub reached : LeadsTo old new
 
   -- the request with an index was applied by its whole room, and has no room left
@@ -179,7 +192,9 @@ module _ (changes : List Change) where
     pub in_order : HasSoundLines new
     pub tracked : IsTracking new new.ready
     pub terms : SameTerms old new
+    pub blocks : TakesBlocks old new
     pub applied : progress new ≡ progress_with old place
+    pub tests : new.board.tests ≡ old.board.tests
     pub no_room : room_in new place ≡ 0
     pub counts : CostsMore 0 old new
     pub less : work new < work old
@@ -199,6 +214,7 @@ module _ (changes : List Change) where
     pub in_order : HasSoundLines new
     pub tracked : IsTracking new new.ready
     pub terms : SameTerms old new
+    pub blocks : TakesBlocks old new
     pub step : HadNoRoom place old new ⊎ HadRoom place old new
     pub no_room : room_in new place ≡ 0
     pub counts : CostsMore 1 old new

@@ -1,7 +1,7 @@
 -- The calls together are one application by the whole room.
 use Rattle.std.proofs.Common.{◌≡◌, ℕ, ◌-◌, ◌<◌, ◌∷◌, min, List, length, get_or, set, ap, refl, sym, subst, ◌∙◌, arith}
 use Rattle.std.proofs.Common.{All}
-use Rattle.std.proofs.lemmas.List.{get_or_read, length-set}
+use Rattle.std.proofs.lemmas.List.{length-set}
 use Rattle.std.proofs.lemmas.Result.{on_ok_weaker}
 use Rattle.clock_terms.specs.Limits.{most_units}
 use Rattle.clock_terms.specs.declared.change.Change.{Change}
@@ -13,6 +13,7 @@ use Rattle.clock_queue.specs.inside.Lines.{product_line, bidder_line}
 use Rattle.clock_queue.specs.inside.Queue.{HasWoken, HasWokenProduct, IsAppliedWhole, HasSoundLines, IsTracking}
 use Rattle.clock_queue.specs.inside.Queue.{line_in, room_in}
 use Rattle.clock_queue.proofs.Applies.{after, applied_whole, bidder_in, kept_mid, may_apply_first, places_within}
+use Rattle.clock_queue.proofs.ReadBounds.{reads_applied}
 use Rattle.clock_queue.proofs.queue.Queue.apply.Goals as goal
 
 some_room : (room r : ℕ) → room ≡ r → 0 < room → 0 < r
@@ -22,15 +23,13 @@ some_room room r same some = subst (λ n. 0 < n) same some
 module _ (changes : List Change) (first room : ℕ) (old mid new : Queue) (one : Change) (board : BoardFields)
     (read left : List ℕ) (unused rest : ℕ) (is : HasSoundLines changes old) (lt : first < length changes)
     (is_board : IsBoard old.board.products old.board.eligibilities old.board.grid)
-    (room_is : room ≡ room_in changes old first) (positive : 0 < room) (one_is : one ≡ get_or changes first one)
+    (room_is : room ≡ room_in changes old first) (positive : 0 < room)
+    (change_is : one ≡ get_or changes first no_change)
     (board_is : board ≡ applied_to old.board one room) (read_is : read ≡ old.left)
     (left_is : left ≡ set old.left first (get_or read first 0 - room)) (rest_is : rest ≡ get_or read first 0 - room)
     (woken : HasWokenProduct one rest (record old { board = board; left = left }) mid) where
   some : 0 < room_in changes old first
   some = some_room room (room_in changes old first) room_is positive
-
-  change_is : one ≡ get_or changes first no_change
-  change_is = get_or_read changes first one lt one_is no_change
 
   board_after : board ≡ applied_to old.board (get_or changes first no_change) (room_in changes old first)
   board_after = board_is ∙ ap (λ c. applied_to old.board c room) change_is
@@ -81,45 +80,50 @@ module _ (changes : List Change) (first room : ℕ) (old mid new : Queue) (one :
 
 pub apply-unused-requires : goal.apply-unused-requires
 apply-unused-requires c =
-    let some : 0 < room_in c.args.changes.now c.args.self.now c.args.place =
+    let some : 0 < room_in c.args.requests.now c.args.self.now c.args.place =
     some_room _ _ c.requires.room c.requires.positive in
-    subst (λ (n : ℕ). MayApply c.args.self.now.board c.index-changes-place.result n) (sym c.requires.room) (subst
-    (λ (one : Change). MayApply c.args.self.now.board one (room_in c.args.changes.now c.args.self.now c.args.place))
-    (sym (get_or_read c.args.changes.now c.args.place c.index-changes-place.result c.requires.within
-    c.index-changes-place.is no_change)) (may_apply_first c.args.changes.now c.args.self.now c.args.place
+    subst (λ (n : ℕ). MayApply c.args.self.now.board c.read-change.result.now n) (sym c.requires.room) (subst
+    (λ (one : Change). MayApply c.args.self.now.board one (room_in c.args.requests.now c.args.self.now c.args.place))
+    (sym c.read-change.ensures.request) (may_apply_first c.args.requests.now c.args.self.now c.args.place
     c.requires.in_order c.requires.within c.requires.is_board some))
 
 pub wake_product-requires-clause-places : goal.wake_product-requires-clause-places
 wake_product-requires-clause-places c = λ k d within. omega (
   arith,
-  places_within c.args.changes.now c.args.self.now c.requires.in_order
-      (product_line c.index-changes-place.result.product) k d within,
+  places_within c.args.requests.now c.args.self.now c.requires.in_order
+      (product_line c.read-change.result.now.product) k d within,
   ap (λ (list : List ℕ). length list) c.set.ensures,
   length-set c.args.self.now.left c.args.place (get_or c.as_slice.result.now c.args.place 0 - c.args.room),
 )
 
 pub wake_bidder-requires-clause-line : goal.wake_bidder-requires-clause-line
-wake_bidder-requires-clause-line c = line_mid c.args.changes.now c.args.place c.args.room c.args.self.now
-    c.wake_product.new.self c.wake_product.new.self c.index-changes-place.result c.apply-unused.new.self
+wake_bidder-requires-clause-line c = line_mid c.args.requests.now c.args.place c.args.room c.args.self.now
+    c.wake_product.new.self c.wake_product.new.self c.read-change.result.now c.apply-unused.new.self
     c.as_slice.result.now c.set.new.self c.apply-unused.result (get_or c.as_slice.result.now c.args.place 0
     - c.args.room) c.requires.in_order c.requires.within c.requires.is_board c.requires.room c.requires.positive
-    c.index-changes-place.is c.apply-unused.ensures.applied c.as_slice.ensures c.set.ensures refl
+    c.read-change.ensures.request c.apply-unused.ensures.applied c.as_slice.ensures c.set.ensures refl
     c.in_ok-wake_product.ensures
 
 pub wake_bidder-requires-clause-places : goal.wake_bidder-requires-clause-places
-wake_bidder-requires-clause-places c = places_mid c.args.changes.now c.args.place c.args.room c.args.self.now
-    c.wake_product.new.self c.wake_product.new.self c.index-changes-place.result c.apply-unused.new.self
+wake_bidder-requires-clause-places c = places_mid c.args.requests.now c.args.place c.args.room c.args.self.now
+    c.wake_product.new.self c.wake_product.new.self c.read-change.result.now c.apply-unused.new.self
     c.as_slice.result.now c.set.new.self c.apply-unused.result (get_or c.as_slice.result.now c.args.place 0
     - c.args.room) c.requires.in_order c.requires.within c.requires.is_board c.requires.room c.requires.positive
-    c.index-changes-place.is c.apply-unused.ensures.applied c.as_slice.ensures c.set.ensures refl
+    c.read-change.ensures.request c.apply-unused.ensures.applied c.as_slice.ensures c.set.ensures refl
     c.in_ok-wake_product.ensures
-    (bidder_line c.index-changes-place.result.bidder)
+    (bidder_line c.read-change.result.now.bidder)
 
-pub returns : goal.returns
-returns c = on_ok_weaker c.wake_bidder.result (joined c.args.changes.now c.args.place c.args.room c.args.self.now
-    c.wake_product.new.self c.wake_bidder.new.self c.index-changes-place.result c.apply-unused.new.self
+pub returns-clause-applied : goal.returns-clause-applied
+returns-clause-applied c = on_ok_weaker c.wake_bidder.result (joined c.args.requests.now c.args.place c.args.room
+    c.args.self.now
+    c.wake_product.new.self c.wake_bidder.new.self c.read-change.result.now c.apply-unused.new.self
     c.as_slice.result.now c.set.new.self c.apply-unused.result (get_or c.as_slice.result.now c.args.place 0
     - c.args.room) c.requires.in_order c.requires.within c.requires.is_board c.requires.room c.requires.positive
-    c.index-changes-place.is c.apply-unused.ensures.applied c.as_slice.ensures c.set.ensures refl
+    c.read-change.ensures.request c.apply-unused.ensures.applied c.as_slice.ensures c.set.ensures refl
     c.in_ok-wake_product.ensures
     c.requires.tracked c.apply-unused.ensures.unused) c.wake_bidder.ensures
+
+pub returns-clause-reads : goal.returns-clause-reads
+returns-clause-reads c = on_ok_weaker c.wake_bidder.result (λ applied. reads_applied c.args.requests.now c.args.place
+    c.args.self.now c.wake_bidder.new.self c.args.reads.now c.read-change.new.reads applied c.requires.reads
+    c.read-change.ensures.counted) (returns-clause-applied c)

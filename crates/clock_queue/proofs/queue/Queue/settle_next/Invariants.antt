@@ -1,11 +1,12 @@
 use Rattle.std.proofs.Common.{◌≡◌, ◌+◌}
-use Rattle.clock_queue.specs.inside.Queue.{GoesOn, work}
+use Rattle.clock_queue.specs.inside.Queue.{GoesOn, StaysWithinReads, work}
 use Rattle.clock_queue.proofs.queue.Queue.settle_next.Given as goal
 
 -- the invariants hold, and the steps so far reach this state
 abbrev pub invariant-loop-place : goal.invariant-loop-place
 invariant-loop-place l = record {
-  goes_on : GoesOn l.changes l.fn.self l.self;
+  goes_on : GoesOn l.requests l.fn.self l.self;
+  reads : StaysWithinReads l.requests l.self l.reads;
   admitted : l.self.admitted ≡ l.fn.self.admitted + 1;
 }
 
