@@ -100,6 +100,15 @@ pub within_cap : (products : List Product) (i : ℕ) (d : Product) (demand : ℕ
 within_cap products i d demand h within =
     subst (λ n. demand ≤ n) (ap (λ (p : Product). p.cap) (get_or_default products i d no_product h)) within
 
+-- the bidding units of a product's demand
+pub units_bounded : (products : List Product) (i : ℕ) (d : Product) (demand : ℕ) → All IsProduct products
+    → i < length products → demand ≤ 1000 → (get_or products i d).units * demand ≤ 1000000000
+units_bounded products i d demand limits h few =
+    let good : IsProduct (get_or products i no_product) = limits i no_product h in
+    let units : (get_or products i d).units ≤ 1000000 =
+    omega (arith, good.units.1, ap (λ (p : Product). p.units) (get_or_default products i d no_product h)) in
+    mul-le _ _ 1000000 1000 units few
+
 -- demands of 0 are within all caps
 pub zeros_capped : (products : List Product) (row : List ℕ) (from to : ℕ) → AllWithin (λ demand. demand ≡ 0) row from to
     → (k : ℕ) → from ≤ k → k < to → get_or row k 0 ≤ cap_of products k

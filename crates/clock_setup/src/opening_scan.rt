@@ -1,11 +1,12 @@
 //! Reads an opening by bytes, without a tree of values, if all its checks pass. Its demands are
 //! read in one pass, and only the positive ones are stored. Any other document is left to the tree.
-ghost use Rattle.std.specs.Prelude.{◌≡◌, ◌≤◌, EachIndex, slice_index, None, Ok, length};
-ghost use Rattle.std.specs.Prelude.{IsTrue, IfOk, IfSome};
+ghost use Rattle.std.specs.Prelude.{◌≡◌, ◌≤◌, All, EachIndex, slice_index, None, Ok, length};
+ghost use Rattle.std.specs.Prelude.{IfOk, IfSome};
 ghost use Rattle.clock_json.specs.Reading.{numbers};
-ghost use Rattle.clock_terms.specs.{Demands.{IsGrid}, Faults.{first_fault}};
-ghost use Rattle.clock_terms.specs.Limits.{IsRow, IsWithin, cap_of, least_increment};
-ghost use Rattle.clock_terms.specs.Limits.{most_increment};
+ghost use Rattle.clock_terms.specs.{Demands.{IsGrid}, Eligibility.{activity}};
+ghost use Rattle.clock_terms.specs.Faults.{first_fault};
+ghost use Rattle.clock_terms.specs.Limits.{IsProduct, IsRow, IsWithin, cap_of, least_increment};
+ghost use Rattle.clock_terms.specs.Limits.{most_increment, most_products};
 ghost use Rattle.clock_setup.specs.OpeningDocument.{document_opening, has_counts, opening_with};
 ghost use Rattle.clock_setup.specs.OpeningDocument.{row_checks};
 ghost use Rattle.clock_setup.specs.inside.OpeningData.{scanned_data, found_opening};
@@ -18,9 +19,7 @@ use clock_json::{
     with_room,
 };
 use clock_money::{LEAST_INCREMENT, MOST_INCREMENT};
-use clock_terms::{
-    Bidder, Grid, MOST_PRODUCTS, PackedRow, Product, Row, Setup, is_within, units_held,
-};
+use clock_terms::{Bidder, Grid, MOST_PRODUCTS, PackedRow, Product, Row, Setup, is_within};
 use std::alloc::Global;
 
 /// A row of demands for each bidder.
@@ -98,19 +97,25 @@ fn has_counts(setup: &Setup, demands: &PackedRows) -> bool
     demands.len() == setup.bidders.len() && demands.iter().all(|row| row.len() == width)
 }
 
-/// Whether no demand is above its product's cap. Visits only positive demands.
-fn is_capped(products: &[Product], row: &Row) -> bool
-    requires { length row.now ≡ length products.now }
-    ensures { IsTrue result → EachIndex row.now
-        (λ product. slice_index row.now product ≤ cap_of products.now product) }
+/// Returns the activity of a row, in bidding units, or `None` if a demand is above its product's
+/// cap. Visits only positive demands, and each once: both checks read the same product.
+fn capped_activity(products: &[Product], row: &Row) -> Option<u64>
+    requires limits { All IsProduct products.now }
+    requires product_count { length products.now ≤ most_products }
+    requires each { length row.now ≡ length products.now }
+    ensures capped { IfSome result (λ _. EachIndex row.now
+        (λ product. slice_index row.now product ≤ cap_of products.now product)) }
+    ensures exact { IfSome result (λ units. units ≡ activity products.now row.now) }
 {
+    let mut total = 0u64;
     let mut held = row.held();
     'held: while let Some(one) = held.next() {
         if one.demand > products[one.product].cap {
-            return false;
+            return None;
         }
+        total += products[one.product].units * one.demand;
     }
-    true
+    Some(total)
 }
 
 /// Returns a bidder's row, if its demands and its activity pass all checks.
@@ -129,10 +134,9 @@ fn accepted_row(
 {
     let products = setup.products.as_slice();
     let row = Row::of_packed(alloc, demands)?;
-    if !is_capped(products, &row) {
+    let Some(units) = capped_activity(products, &row) else {
         return Ok(None);
-    }
-    let units = units_held(products, &row);
+    };
     if units > bidder.eligibility {
         return Ok(None);
     }

@@ -11,26 +11,18 @@ use Rattle.clock_setup.proofs.opening_scan.accepted_row.Goals as goal
 same : (c : After-as_slice-products) → c.as_slice-products.result.now ≡ c.args.setup.now.products
 same c = c.as_slice-products.ensures ∙ ap (λ (s : SetupFields). s.products) c.setup.view_is
 
-pub is_capped-requires : goal.is_capped-requires
-is_capped-requires c =
-    ap (λ (list : List ℕ). length list) c.in_ok-row.ensures ∙ c.requires
-    ∙ sym (ap length (same (goal.at.is_capped-requires c).After-as_slice-products))
-
-pub units_held-units-requires-clause-limits : goal.units_held-units-requires-clause-limits
-units_held-units-requires-clause-limits c =
+pub capped_activity-requires-clause-limits : goal.capped_activity-requires-clause-limits
+capped_activity-requires-clause-limits c =
     subst (λ (list : List Product). All IsProduct list) (sym c.as_slice-products.ensures) c.setup.invariant.products
 
-pub units_held-units-requires-clause-product_count : goal.units_held-units-requires-clause-product_count
-units_held-units-requires-clause-product_count c =
+pub capped_activity-requires-clause-product_count : goal.capped_activity-requires-clause-product_count
+capped_activity-requires-clause-product_count c =
     omega (arith, ap length c.as_slice-products.ensures, c.setup.invariant.product_count.1)
 
-pub units_held-units-requires-clause-row : goal.units_held-units-requires-clause-row
-units_held-units-requires-clause-row c =
-    let at = (goal.at.units_held-units-requires-clause-row c).After-as_slice-products in
-    record {
-      each = ap (λ (list : List ℕ). length list) c.in_ok-row.ensures ∙ c.requires ∙ sym (ap length (same at));
-      capped = c.is_capped.ensures c.if-not-is_capped.false;
-    }
+pub capped_activity-requires-clause-each : goal.capped_activity-requires-clause-each
+capped_activity-requires-clause-each c =
+    let at = (goal.at.capped_activity-requires-clause-each c).After-as_slice-products in
+    ap (λ (list : List ℕ). length list) c.in_ok-row.ensures ∙ c.requires ∙ sym (ap length (same at))
 
 pub returns-clause-row : goal.returns-clause-row
 returns-clause-row c =
@@ -38,7 +30,7 @@ returns-clause-row c =
     record {
       each = ap (λ (list : List ℕ). length list) c.in_ok-row.ensures ∙ c.requires;
       capped = λ k below. subst (λ (list : List Product). get_or c.in_ok-row.row k 0 ≤ cap_of list k) (same at)
-          (c.is_capped.ensures c.if-not-is_capped.false k below);
+          (c.in-Some.ensures.capped k below);
     }
 
 pub returns-clause-passed : goal.returns-clause-passed
@@ -46,9 +38,9 @@ returns-clause-passed c =
     let at = (goal.at.returns-clause-passed c).After-as_slice-products in
     let products = c.as_slice-products.result.now in
     let row = c.args.demands.now in
-    row_passed (same at) c.args.number c.args.bidder.now row c.units_held-units.result
+    row_passed (same at) c.args.number c.args.bidder.now row c.in-Some.units
     (capped_pass c.args.number products row (c.requires ∙ sym (ap length (same at)))
     (subst (λ (list : List ℕ). (k : ℕ) → k < length list → get_or list k 0 ≤ cap_of products k) c.in_ok-row.ensures
-    (c.is_capped.ensures c.if-not-is_capped.false)))
-    (c.units_held-units.ensures.exact ∙ ap (λ (list : List ℕ). activity products list) c.in_ok-row.ensures)
+    c.in-Some.ensures.capped))
+    (c.in-Some.ensures.exact ∙ ap (λ (list : List ℕ). activity products list) c.in_ok-row.ensures)
     c.if-units-bidder.false
