@@ -17,7 +17,7 @@ MOST_LINES = 40  # of a function
 MOST_COLUMNS = 100
 MOST_COLUMNS_OF_PROOFS = 120
 TYPED = ("auction", "tests/lib", "tests/conftest.py", "tools")
-HELP = "crates/clock_words/src/help.rt"
+HELP = "crates/clock_console/src/help.rt"
 SERVICES = (".conf", ".nft", ".service")
 
 FILES = [name for name in documents.tracked(TOP) if not name.startswith("crates/")]

@@ -4,9 +4,9 @@
 ghost use Rattle.std.specs.Prelude.{◌≡◌};
 
 use clock_commands::{Fault, parsed_command, show_fault};
+use clock_console::{Asked, read_words};
 use clock_device::{FromReader, ToWriter};
 use clock_files::{serve, tell_audit, tell_texts};
-use clock_words::{Asked, read_words};
 use std::alloc::Global;
 use std::process::ExitCode;
 use std::rt::Env;

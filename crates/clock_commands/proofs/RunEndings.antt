@@ -2,12 +2,12 @@
 use Rattle.std.proofs.Common.{◌≡◌, Option, Some, None, Err, refl}
 use Rattle.clock_device.specs.Reports.{IsUnread, IsUnused, Reading, SinkReport, SourceReport, Writing}
 use Rattle.clock_device.specs.Writings.{WritesNothing}
-use Rattle.clock_answers.specs.Input.{IsReadingOf}
+use Rattle.clock_console.specs.Input.{IsReadingOf}
 use Rattle.clock_commands.specs.Run.{ComesTo, IsRunOf, Shows, ShowsSome, refused, stopped}
-use Rattle.clock_answers.specs.FaultLines.{fault_line}
-use Rattle.clock_words.specs.declared.words.Job.{Job}
-use Rattle.clock_answers.specs.declared.fault.Fault.{Fault}
-use Rattle.clock_answers.specs.declared.fault.Fault.TheVariants as fault
+use Rattle.clock_console.specs.FaultLines.{fault_line}
+use Rattle.clock_console.specs.declared.words.Job.{Job}
+use Rattle.clock_console.specs.declared.fault.Fault.{Fault}
+use Rattle.clock_console.specs.declared.fault.Fault.TheVariants as fault
 use Rattle.clock_device.proofs.Streams.{same_bytes}
 
 -- a sink without a call is unchanged

@@ -10,11 +10,11 @@ use Rattle.clock_sim.specs.Rehearsal.{simulated}
 use Rattle.clock_reports.specs.ReportText.{report_text}
 use Rattle.clock_replays.specs.declared.replay.ScriptFault.{ScriptFault}
 use Rattle.clock_scripts.specs.declared.fault.SimFault.{SimFault}
-use Rattle.clock_answers.specs.Answers.{opening_lines_of, prices_of}
-use Rattle.clock_words.specs.declared.words.Job.{Job}
-use Rattle.clock_words.specs.declared.words.Job.TheVariants as job
-use Rattle.clock_answers.specs.declared.fault.Fault.{Fault}
-use Rattle.clock_answers.specs.declared.fault.Fault.TheVariants as fault
+use Rattle.clock_console.specs.Prices.{opening_lines_of, prices_of}
+use Rattle.clock_console.specs.declared.words.Job.{Job}
+use Rattle.clock_console.specs.declared.words.Job.TheVariants as job
+use Rattle.clock_console.specs.declared.fault.Fault.{Fault}
+use Rattle.clock_console.specs.declared.fault.Fault.TheVariants as fault
 
 -- the text of the report, or the fault of the rehearsal
 abbrev pub played : Result ReportFields SimFault → Result (List ℕ) Fault

@@ -9,12 +9,12 @@ use Rattle.std.specs.Prelude.{length}
 use Rattle.std.specs.Io.KnownBytes.{Keeps}
 use Rattle.clock_device.specs.Reports.{Reading, Writing}
 use Rattle.clock_device.specs.Writings.{WritesFront, WritesNothing, WritesWhole}
-use Rattle.clock_answers.specs.Input.{IsReadingOf, ReadsWhole}
+use Rattle.clock_console.specs.Input.{IsReadingOf, ReadsWhole}
 use Rattle.clock_commands.specs.Answers.{answer_to}
-use Rattle.clock_answers.specs.FaultLines.{fault_line}
-use Rattle.clock_words.specs.declared.words.Job.{Job}
-use Rattle.clock_answers.specs.declared.fault.Fault.{Fault}
-use Rattle.clock_answers.specs.declared.fault.Fault.TheVariants as fault
+use Rattle.clock_console.specs.FaultLines.{fault_line}
+use Rattle.clock_console.specs.declared.words.Job.{Job}
+use Rattle.clock_console.specs.declared.fault.Fault.{Fault}
+use Rattle.clock_console.specs.declared.fault.Fault.TheVariants as fault
 
 -- the whole input is a document, and this is the job's answer to it
 abbrev pub HasAnswer : Job → Reading → Result (List ℕ) Fault → Type 0

@@ -1,14 +1,13 @@
 ghost use Rattle.std.specs.Prelude.{◌≡◌, Ok, IfOk, IfErr};
 ghost use Rattle.clock_terms.specs.Faults.{IsRefusal};
 ghost use Rattle.clock_commands.specs.Answers.{answer_to};
-ghost use Rattle.clock_words.specs.Words.{IsJob};
+ghost use Rattle.clock_console.specs.Words.{IsJob};
 
-use clock_answers::{Fault, opening_answer, prices_answer};
+use clock_console::{Fault, Job, opening_answer, prices_answer};
 use clock_device::Text;
 use clock_replays::{Replay, read_replay};
 use clock_scripts::SimFault;
 use clock_sim::replay_text;
-use clock_words::Job;
 use std::alloc::Global;
 
 /// Returns what a job prints for a document, or the document's fault. Requires an increment within

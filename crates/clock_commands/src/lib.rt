@@ -3,7 +3,7 @@
 #![tactic(auto)]
 
 // The public surface: a name of another crate that callers of a command need.
-pub use clock_answers::Fault;
+pub use clock_console::Fault;
 
 mod answer;
 mod run;

@@ -1,17 +1,16 @@
 ghost use Rattle.std.specs.Prelude.{◌≢◌, ◌≤◌, ℕ, List, IfOk, IfSome, length, map};
 ghost use Rattle.clap.specs.Words.{kind_of};
 ghost use Rattle.clock_device.specs.Reports.{IsUnread, IsUnused};
-ghost use Rattle.clock_words.specs.Words.{IsAsked, IsJob, IsParsing, job_of};
-ghost use Rattle.clock_answers.specs.FaultLines.{fault_line};
-ghost use Rattle.clock_answers.specs.Input.{most_document_reads};
+ghost use Rattle.clock_console.specs.Words.{IsAsked, IsJob, IsParsing, job_of};
+ghost use Rattle.clock_console.specs.FaultLines.{fault_line};
+ghost use Rattle.clock_console.specs.Input.{most_document_reads};
 ghost use Rattle.clock_commands.specs.Run.{ComesTo, IsRunOf, Shows, ShowsSome};
 
 use crate::answer::answer;
 use clap::Error;
 use clap::error::ErrorKind;
-use clock_answers::{Fault, read_all, write_fault};
+use clock_console::{Asked, Fault, Job, read_all, read_words, write_fault};
 use clock_device::{Sink, Source, write_all};
-use clock_words::{Asked, Job, read_words};
 use std::alloc::Global;
 
 /// The message for the commands `serve`, `journal`, and `audit`, which use files and ports instead

@@ -18,8 +18,8 @@ use Rattle.clock_front.specs.Effects.{effect}
 use Rattle.clock_front.specs.Fronts.{StandsForTexts, commands_of}
 use Rattle.clock_front.specs.declared.front.response.Effect.{Effect}
 use Rattle.clock_front.specs.declared.front.response.Effect.TheVariants.{Nothing, Sheet, Closing}
-use Rattle.clock_answers.specs.FaultLines.{of_journal}
-use Rattle.clock_answers.specs.declared.fault.Fault.{Fault}
+use Rattle.clock_console.specs.FaultLines.{of_journal}
+use Rattle.clock_console.specs.declared.fault.Fault.{Fault}
 use Rattle.clock_journal.specs.Recovering.{AreTextsOf, IsFound, record_at}
 use Rattle.clock_journal.specs.Resuming.{NoneRefused}
 use Rattle.clock_journal.specs.declared.recovery.JournalFault.{JournalFault}

@@ -9,8 +9,8 @@ use Rattle.clock_journal.specs.Recovering.{AreTextsOf, IsFound, record_at}
 use Rattle.clock_journal.specs.declared.recovery.JournalFault.{JournalFault}
 use Rattle.clock_journal.specs.declared.recovery.Record.{Record}
 use Rattle.clock_journal.specs.declared.recovery.Recovered.{Recovered}
-use Rattle.clock_answers.specs.FaultLines.{of_journal}
-use Rattle.clock_answers.specs.declared.fault.Fault.{Fault}
+use Rattle.clock_console.specs.FaultLines.{of_journal}
+use Rattle.clock_console.specs.declared.fault.Fault.{Fault}
 
 -- a number, and a space
 abbrev pub spaced : ℕ → List ℕ

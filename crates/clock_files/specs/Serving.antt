@@ -10,9 +10,9 @@ use Rattle.clock_server.specs.declared.serving.ServeFault.{ServeFault}
 use Rattle.clock_server.specs.declared.serving.ServeFault.TheVariants as in_serving
 use Rattle.clock_server.specs.declared.generation.ServerFault.{ServerFault}
 use Rattle.clock_server.specs.declared.generation.ServerFault.TheVariants.{Start, Listen, Serve}
-use Rattle.clock_answers.specs.FaultLines.{of_journal}
-use Rattle.clock_answers.specs.declared.fault.Fault.{Fault}
-use Rattle.clock_answers.specs.declared.fault.Fault.TheVariants.{Accept, Journal}
+use Rattle.clock_console.specs.FaultLines.{of_journal}
+use Rattle.clock_console.specs.declared.fault.Fault.{Fault}
+use Rattle.clock_console.specs.declared.fault.Fault.TheVariants.{Accept, Journal}
 
 -- why a server ended before it served all connections
 abbrev pub of_serving : ServeFault → Fault

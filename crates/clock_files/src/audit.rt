@@ -6,14 +6,13 @@ ghost use Rattle.clock_files.specs.Audits.{IsAuditOf, IsRecounted, IsAuditFault,
 
 use crate::document::front_in;
 use crate::files::{digits_of, file_bytes, journal_bytes, tell_all};
-use clock_answers::Fault;
+use clock_console::{Fault, NamedFiles};
 use clock_device::{NoMemory, Sink, Text};
 use clock_front::{Effect, Front};
 use clock_journal::{Link, Machine, Record, Recovered, TakeError, digest_of, recover};
 use clock_queue::Woken;
 use clock_reports::{Digits, audit_text, report_so_far};
 use clock_server::take_text;
-use clock_words::NamedFiles;
 use std::alloc::Global;
 use std::fs::File;
 use std::rt::Files;

@@ -3,10 +3,10 @@ ghost use Rattle.std.specs.Prelude.{◌≡◌, [], List, ℕ, IfErr, IfOk, Ok};
 ghost use Rattle.clock_terms.specs.Faults.{IsRefusal};
 ghost use Rattle.clock_front.specs.Fronts.{StandsForTexts};
 ghost use Rattle.clock_setup.specs.SetupDocument.{document_setup};
-ghost use Rattle.clock_answers.specs.Answers.{read_in};
+ghost use Rattle.clock_console.specs.Prices.{read_in};
 ghost use Rattle.clock_files.specs.Serving.{IsReadFrom};
 
-use clock_answers::{Fault, setup_in};
+use clock_console::{Fault, setup_in};
 use clock_device::Text;
 use clock_front::Front;
 use clock_journal::{Link, digest_of};

@@ -2,7 +2,7 @@
 ghost use Rattle.std.specs.Prelude.{◌≡◌};
 ghost use Rattle.hex.specs.Hex.{encode_lower};
 
-use clock_answers::{Fault, read_all};
+use clock_console::{Fault, read_all};
 use clock_device::{FromReader, Sink, Text, write_all};
 use clock_journal::{Link, Recovered};
 use clock_reports::Digits;

@@ -4,10 +4,9 @@ ghost use Rattle.clock_files.specs.Listings.{IsListingOf, IsListFault, digest_li
 ghost use Rattle.clock_files.specs.Listings.{spaced, text_listed};
 
 use crate::files::{digits_of, file_bytes, journal_bytes, tell_all};
-use clock_answers::Fault;
+use clock_console::{Fault, NamedFiles};
 use clock_device::{NoMemory, Sink, Text};
 use clock_journal::{Link, Machine, Record, Recovered, TakeError, digest_of, recover};
-use clock_words::NamedFiles;
 use std::alloc::Global;
 use std::fs::File;
 use std::rt::Files;

@@ -10,7 +10,7 @@ ghost use Rattle.clock_files.specs.Serving.{IsReadFrom, of_server, of_serving};
 
 use crate::document::{ReadAuction, read_auction};
 use crate::files::{digits_of, file_bytes, locked_bytes, tell_journal};
-use clock_answers::Fault;
+use clock_console::{Fault, Serving};
 use clock_device::{Failed, FromReader, ToWriter};
 use clock_journal::{
     Durable, EndedJournal, FileDisk, Link, Machine, Mirror, NewJournal, Record, Recovered,
@@ -20,7 +20,6 @@ use clock_server::{
     Acceptor, Announcer, Connection, Listen, ServeFault, ServerFault, accept_on, serve_from,
     serve_on,
 };
-use clock_words::Serving;
 use std::alloc::Global;
 use std::fs::{File, OpenOptions};
 use std::net::{Ipv4Addr, Net, TcpListener, TcpStream};

@@ -1,9 +1,9 @@
 -- Each exit status is that of one of the endings.
 use Rattle.std.proofs.Common.{◌≡◌, Some, None, refl, rules}
-use Rattle.clock_words.specs.Words.{job_of}
+use Rattle.clock_console.specs.Words.{job_of}
 use Rattle.clock_commands.specs.Run.{printed, stopped}
-use Rattle.clock_answers.specs.declared.fault.Fault.TheVariants as fault
-use Rattle.clock_answers.proofs.Reading.{unread_for_memory}
+use Rattle.clock_console.specs.declared.fault.Fault.TheVariants as fault
+use Rattle.clock_console.proofs.Reading.{unread_for_memory}
 use Rattle.clock_commands.proofs.RunEndings.{refused_run, stopped_run, untouched}
 use Rattle.clock_commands.proofs.run.parsed_command.Goals as goal
 

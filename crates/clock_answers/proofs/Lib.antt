@@ -1,3 +1,0 @@
-pub mod Reading
-mod Limited
-mod Lines

@@ -1,3 +1,0 @@
--- Definitions that only proofs and private functions use: no clause of a public function cites
--- them.
-pub mod Lines

@@ -1,0 +1,106 @@
+ghost use Rattle.std.specs.Prelude.{◌≡◌, ◌++◌, Ok, All, length, IfOk, IfErr, OnOk};
+ghost use Rattle.clock_terms.specs.{Demands.{IsGrid}, Faults.{IsRefusal}, Increments.{IsIncrement}};
+ghost use Rattle.clock_terms.specs.Limits.{IsProduct};
+ghost use Rattle.clock_setup.specs.OpeningDocument.{document_opening};
+ghost use Rattle.clock_setup.specs.SetupDocument.{document_setup};
+ghost use Rattle.clock_console.specs.Prices.{first_round, opening_lines_of, prices_of, read_in};
+ghost use Rattle.clock_console.specs.PriceLines.{price_line, price_lines};
+
+use crate::fault::Fault;
+use clock_device::{NoMemory, Text};
+use clock_money::clock_price;
+use clock_posting::{PostFault, post_first, sheet_lines};
+use clock_setup::{Opening, read_opening, read_setup};
+use clock_terms::{Increments, Product, Setup};
+use std::alloc::Global;
+
+/// Reads a set-up document. Errors: its first fault. May return `Memory`, which then replaces any
+/// other result.
+pub fn setup_in(alloc: Global, document: &[u8]) -> Result<Setup, Fault>
+    ensures ok { IfOk result (λ setup. document_setup document.now ≡ Ok setup) }
+    ensures err { IfErr result (IsRefusal Fault.Memory (read_in (document_setup document.now))) }
+{
+    Ok(read_setup(alloc, document)?)
+}
+
+/// Returns the price lines of some products, with clock prices at `increment` percent. May return
+/// `NoMemory`.
+fn prices_text(alloc: Global, products: &[Product], increment: u64) -> Result<Text, NoMemory>
+    requires increment { IsIncrement increment }
+    requires limits { All IsProduct products.now }
+    ensures { IfOk result (λ text. text ≡ price_lines increment products.now) }
+{
+    let mut text = Text::new(alloc);
+    for product in products {
+        push_line(&mut text, product, increment)?;
+    }
+    Ok(text)
+}
+
+/// Appends the price line of a product. May return `NoMemory`; then part of the line may be
+/// appended.
+fn push_line(text: &mut Text, product: &Product, increment: u64) -> Result<(), NoMemory>
+    requires increment { IsIncrement increment }
+    requires product { IsProduct product.now }
+    ensures { OnOk result (text.new ≡ text.old ++ price_line increment product.now) }
+{
+    text.extend_from_slice(product.name.as_slice())?;
+    text.push(b' ')?;
+    text.push_number(product.opening.get())?;
+    text.push(b' ')?;
+    let clock = clock_price(product.opening, increment, product.granule);
+    text.push_or_dash(clock.map(|price| price.get()))?;
+    text.push(b'\n')
+}
+
+/// Returns the opening price and the clock price of round 2 of each product of a set-up document,
+/// or the document's fault. May return `Memory`, which then replaces any other result.
+pub fn prices_answer(alloc: Global, increment: u64, document: &[u8]) -> Result<Text, Fault>
+    requires { IsIncrement increment }
+    ensures ok { IfOk result
+        (λ text. prices_of increment (document_setup document.now) ≡ Ok text) }
+    ensures err { IfErr result
+        (IsRefusal Fault.Memory (prices_of increment (document_setup document.now))) }
+{
+    let setup = setup_in(alloc, document)?;
+    let text = prices_text(alloc, setup.products.as_slice(), increment);
+    drop(setup);
+    Ok(text?)
+}
+
+/// Returns the lines of round 1, or as an error the first product without a possible next clock
+/// price.
+fn first_lines(alloc: Global, opening: &Opening) -> Result<Text, Fault>
+    requires increment { IsIncrement opening.now.increment }
+    requires grid { IsGrid (length opening.now.setup.bidders)
+        (length opening.now.setup.products) opening.now.grid }
+    ensures ok { IfOk result (λ text. first_round opening.now ≡ Ok text) }
+    ensures err { IfErr result (IsRefusal Fault.Memory (first_round opening.now)) }
+{
+    let increments = Increments::Single(opening.increment);
+    let posted = post_first(alloc, &opening.setup, &opening.grid, &increments);
+    drop(increments);
+    match posted {
+        Ok(posting) => {
+            let lines = sheet_lines(alloc, &opening.setup, &posting.sheet);
+            drop(posting);
+            Ok(lines?)
+        }
+        Err(PostFault::PriceLimit(product)) => Err(Fault::PriceLimit(product)),
+        Err(PostFault::NoMemory) => Err(Fault::Memory),
+    }
+}
+
+/// Returns the round results of round 1 for the demands of an opening document, or its fault. May
+/// return `Memory`, which then replaces any other result.
+pub fn opening_answer(alloc: Global, document: &[u8]) -> Result<Text, Fault>
+    ensures ok { IfOk result
+        (λ text. opening_lines_of (document_opening document.now) ≡ Ok text) }
+    ensures err { IfErr result
+        (IsRefusal Fault.Memory (opening_lines_of (document_opening document.now))) }
+{
+    let opening = read_opening(alloc, document)?;
+    let lines = first_lines(alloc, &opening);
+    drop(opening);
+    lines
+}

@@ -1,3 +1,0 @@
-mod NumberText
-mod Grammar
-pub mod ServeOptions
