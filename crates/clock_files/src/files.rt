@@ -17,7 +17,7 @@ use std::rt::Files;
 const STANDARD_OUTPUT: i32 = 1;
 
 /// Reads all bytes of a file.
-pub fn file_bytes<R: Files + Alloc<A = Global>>(rt: &R, path: &str) -> Result<Text, Fault> {
+pub(crate) fn file_bytes<R: Files + Alloc<A = Global>>(rt: &R, path: &str) -> Result<Text, Fault> {
     match File::open(rt, path) {
         Ok(file) => read_all(rt.alloc(), &mut FromReader::new(file)),
         Err(error) if error.kind() == io::ErrorKind::OutOfMemory => Err(Fault::Memory),
@@ -26,7 +26,7 @@ pub fn file_bytes<R: Files + Alloc<A = Global>>(rt: &R, path: &str) -> Result<Te
 }
 
 /// Reads all bytes of a journal, and changes nothing in it.
-pub fn journal_bytes<R>(rt: &R, path: &str) -> Result<Vec<u8>, Fault>
+pub(crate) fn journal_bytes<R>(rt: &R, path: &str) -> Result<Vec<u8>, Fault>
 where
     R: Files<File = File> + Alloc<A = Global>,
 {
@@ -36,7 +36,7 @@ where
 
 /// Locks a file, and reads all its bytes. Refuses a file that has the number of standard output,
 /// which was closed when the program began: the program would print into the journal.
-pub fn locked_bytes(alloc: Global, file: &File) -> Result<Vec<u8>, Fault> {
+pub(crate) fn locked_bytes(alloc: Global, file: &File) -> Result<Vec<u8>, Fault> {
     if file.as_raw_fd() == STANDARD_OUTPUT {
         return Err(Fault::Output);
     }
@@ -69,7 +69,7 @@ fn bytes_of(alloc: Global, file: &File) -> Result<Vec<u8>, Fault> {
 }
 
 /// Prints a text that was made of a journal, and then the line of the journal.
-pub fn tell_all<R: Print>(
+pub(crate) fn tell_all<R: Print>(
     rt: &R,
     out: &mut impl Sink,
     text: &[u8],
@@ -80,7 +80,7 @@ pub fn tell_all<R: Print>(
 }
 
 /// Prints the number of texts in a journal, and the digest of the last.
-pub fn tell_journal<R: Print>(rt: &R, recovered: Recovered) -> Result<(), Fault> {
+pub(crate) fn tell_journal<R: Print>(rt: &R, recovered: Recovered) -> Result<(), Fault> {
     let texts = recovered.texts;
     let digits = digits_of(&recovered.chain);
     let digest = digits.escape_ascii();
@@ -88,7 +88,7 @@ pub fn tell_journal<R: Print>(rt: &R, recovered: Recovered) -> Result<(), Fault>
 }
 
 /// Returns a digest in 64 lowercase hexadecimal digits.
-pub fn digits_of(digest: &Link) -> Digits
+pub(crate) fn digits_of(digest: &Link) -> Digits
     ensures { result ≡ encode_lower digest.now }
 {
     let mut digits = [0; 64];

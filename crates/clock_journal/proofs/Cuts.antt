@@ -19,7 +19,7 @@ use Rattle.clock_journal.proofs.Fronts.{end_is_none}
 use Rattle.clock_journal.proofs.Moments.{front_leaves}
 use Rattle.clock_journal.proofs.Tested.{less_where, lt_false, eq_where, eq_false}
 
-abbrev sieve : Bool → Bool → Bool → Bool → Bool → Bool → List ℕ → Next
+abbrev pub sieve : Bool → Bool → Bool → Bool → Bool → Bool → List ℕ → Next
 sieve empty few marked cut right last text =
     if empty then ended
     else (if few then torn
@@ -49,7 +49,7 @@ at_most a b (inl e) = let l = less_where a b e in omega (arith, l)
 at_most a b (inr e) = let same = eq_where a b e in omega (arith, same)
 
 -- a torn record with a whole mark is no longer than its mark says
-torn_short : (chain bytes : List ℕ) → next chain bytes ≡ torn → mark_length ≤ length bytes
+pub torn_short : (chain bytes : List ℕ) → next chain bytes ≡ torn → mark_length ≤ length bytes
     → (is_marked bytes ≡ true) × (length bytes ≤ before_text + marked_length bytes)
 unfolding next
 torn_short chain bytes is long =
@@ -63,7 +63,7 @@ torn_short chain bytes is long =
     == before_text + marked_length bytes) (take (marked_length bytes) (drop before_text bytes)) ≡ torn) few is) in
     (parts.0, at_most (length bytes) (before_text + marked_length bytes) parts.1)
 
-some_left : (chain bytes : List ℕ) → next chain bytes ≡ ended → 0 < length bytes → ⊥
+pub some_left : (chain bytes : List ℕ) → next chain bytes ≡ ended → 0 < length bytes → ⊥
 unfolding next
 some_left chain bytes is some = sieved_ended (nat_lt (length bytes) mark_length) (is_marked bytes)
     (nat_lt (length bytes) (before_text + marked_length bytes))
@@ -74,11 +74,11 @@ some_left chain bytes is some = sieved_ended (nat_lt (length bytes) mark_length)
     (take (marked_length bytes) (drop before_text bytes)))) (length bytes == before_text + marked_length bytes)
     (take (marked_length bytes) (drop before_text bytes)) ≡ ended) (eq_false (length bytes) 0 some) is)
 
-marked_length-same : (one other : List ℕ) → take 4 one ≡ take 4 other → marked_length one ≡ marked_length other
+pub marked_length-same : (one other : List ℕ) → take 4 one ≡ take 4 other → marked_length one ≡ marked_length other
 unfolding marked_length
 marked_length-same one other same = ap (from_be_bytes w32) same
 
-marked_same : (one other : List ℕ) → take 4 one ≡ take 4 other → take 4 (drop 4 one) ≡ take 4 (drop 4 other)
+pub marked_same : (one other : List ℕ) → take 4 one ≡ take 4 other → take 4 (drop 4 one) ≡ take 4 (drop 4 other)
     → marked_length one ≡ marked_length other → is_marked one ≡ is_marked other
 unfolding is_marked
 marked_same one other first second count = ap (λ (b : List ℕ). bytes_eq b (take 4 (drop 4 one))

@@ -12,3 +12,6 @@ pub mod Starting
 pub mod Lists
 pub mod OwnStarts
 pub mod Mirrored
+pub mod Pieces
+pub mod Taking
+pub mod Sourced

@@ -68,7 +68,7 @@ next_cut chain bytes some marked short =
     rw (eq_false (length bytes) 0 (omega arith), lt_false (length bytes) mark_length some, marked, lt_true _ _ short)
     refl
 
-next_judged : (chain bytes : List ℕ) → mark_length ≤ length bytes → is_marked bytes ≡ true → before_text
+pub next_judged : (chain bytes : List ℕ) → mark_length ≤ length bytes → is_marked bytes ≡ true → before_text
     + marked_length bytes ≤ length bytes → next chain bytes ≡ checked_text chain bytes (marked_length bytes)
 unfolding next
 next_judged chain bytes some marked enough =

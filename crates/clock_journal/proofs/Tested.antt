@@ -31,3 +31,6 @@ eq_where a b e = grind arith
 
 pub eq_false : (a b : ℕ) → b < a → (a == b) ≡ false
 eq_false a b l = grind arith
+
+pub above_where : (a b : ℕ) → b ≤ a → (a == b) ≡ false → b < a
+above_where a b l e = grind arith

@@ -6,6 +6,7 @@ pub mod Mirrors
 pub mod Levels
 pub mod Logged
 pub mod Recovering
+pub mod Sources
 pub mod Resuming
 pub mod Chain
 pub mod Laws

@@ -1,8 +1,9 @@
 //! The bytes of a journal: digests, its head, and its records.
 
-ghost use Rattle.std.specs.Prelude.{◌≡◌, ◌≤◌, ◌++◌};
-ghost use Rattle.clock_journal.specs.Format.{document_digest, head, link, mark, most_text};
-ghost use Rattle.clock_journal.specs.Reading.{next};
+ghost use Rattle.std.specs.Prelude.{◌≡◌, ◌≤◌, ◌++◌, Some, None, if◌then◌else◌, length};
+ghost use Rattle.clock_journal.specs.Format.{document_digest, head, link, mark, mark_length};
+ghost use Rattle.clock_journal.specs.Format.{most_text};
+ghost use Rattle.clock_journal.specs.Reading.{is_marked, marked_length, next};
 ghost use Rattle.clock_journal.specs.inside.Shown.{IsRecord, shown};
 
 use sha2::{Digest, Sha256};
@@ -12,7 +13,7 @@ pub type Link = [u8; 32];
 
 /// Returns the digest of a text. `chain` is the digest before it.
 #[tactic(auto, unfolding(crate::specs::Format::link))]
-pub fn link_of(chain: &Link, text: &[u8]) -> Link
+pub(crate) fn link_of(chain: &Link, text: &[u8]) -> Link
     ensures { result ≡ link chain.now text.now }
 {
     let mut hasher = Sha256::new();
@@ -29,17 +30,17 @@ pub fn digest_of(document: &[u8]) -> Link
 }
 
 /// The length of a journal's head.
-pub const HEAD_LENGTH: usize = 56;
+pub(crate) const HEAD_LENGTH: usize = 56;
 
 /// How many bytes of the head are the same in every journal.
-pub const KIND_LENGTH: usize = 24;
+pub(crate) const KIND_LENGTH: usize = 24;
 
 /// The first bytes of every journal.
-pub const KIND: &[u8; KIND_LENGTH] = b"clock_auction journal 1\n";
+pub(crate) const KIND: &[u8; KIND_LENGTH] = b"clock_auction journal 1\n";
 
 /// Returns the head of a journal, for the set-up document with this digest.
 #[tactic(auto, unfolding(crate::specs::Format::head))]
-pub fn head_of(digest: &Link) -> [u8; HEAD_LENGTH]
+pub(crate) fn head_of(digest: &Link) -> [u8; HEAD_LENGTH]
     ensures { result ≡ head digest.now }
 {
     let mut bytes = [0; HEAD_LENGTH];
@@ -55,7 +56,7 @@ pub const MOST_TEXT: usize = 16_777_215;
 const MARK_LENGTH: usize = 8;
 
 /// The bytes of a record before its text: the length twice, and the digest.
-pub const BEFORE_TEXT: usize = 40;
+pub(crate) const BEFORE_TEXT: usize = 40;
 
 /// What bytes of a journal begin with.
 ///
@@ -63,7 +64,7 @@ pub const BEFORE_TEXT: usize = 40;
 /// - `Torn`: a record that is not complete, or the last one with a wrong digest.
 /// - `Damaged`: what no crash leaves.
 /// - `Whole`: the record of this text, with this digest.
-pub enum Next<'a> {
+pub(crate) enum Next<'a> {
     Ended,
     Torn,
     Damaged,
@@ -72,7 +73,7 @@ pub enum Next<'a> {
 
 /// Returns the bytes of a record before its text of `count` bytes.
 #[tactic(auto, unfolding(crate::specs::Format::mark))]
-pub fn front_of(count: usize, digest: &Link) -> [u8; BEFORE_TEXT]
+pub(crate) fn front_of(count: usize, digest: &Link) -> [u8; BEFORE_TEXT]
     requires { count ≤ most_text }
     ensures { result ≡ mark count ++ digest.now }
 {
@@ -84,9 +85,24 @@ pub fn front_of(count: usize, digest: &Link) -> [u8; BEFORE_TEXT]
     front
 }
 
+/// Returns the length of a text by the mark at the start of its record, if the mark is right.
+#[tactic(auto, unfolding(crate::specs::Reading::is_marked, crate::specs::Reading::marked_length))]
+pub(crate) fn length_of_text(bytes: &[u8]) -> Option<usize>
+    requires { mark_length ≤ length bytes.now }
+    ensures { result ≡ if is_marked bytes.now then Some (marked_length bytes.now) else None }
+{
+    let mut length = [0; 4];
+    length.copy_from_slice(&bytes[..4]);
+    let count = u32::from_be_bytes(length) as usize;
+    if bytes[..4] != bytes[4..MARK_LENGTH] || count < 1 || count > MOST_TEXT {
+        return None;
+    }
+    Some(count)
+}
+
 /// Finds what `bytes` begin with. `chain` is the digest of the text before them. Hashes one text.
 #[tactic(auto, unfolding(crate::specs::Reading::next, crate::specs::Reading::is_marked, crate::specs::Reading::marked_length))]
-pub fn next_record<'a>(chain: &Link, bytes: &'a [u8]) -> Next<'a>
+pub(crate) fn next_record<'a>(chain: &Link, bytes: &'a [u8]) -> Next<'a>
     ensures next { shown result ≡ next chain.now bytes.now }
     ensures record { IsRecord chain.now bytes.now result }
 {
@@ -96,12 +112,9 @@ pub fn next_record<'a>(chain: &Link, bytes: &'a [u8]) -> Next<'a>
     if bytes.len() < MARK_LENGTH {
         return Next::Torn;
     }
-    let mut length = [0; 4];
-    length.copy_from_slice(&bytes[..4]);
-    let count = u32::from_be_bytes(length) as usize;
-    if bytes[..4] != bytes[4..MARK_LENGTH] || count < 1 || count > MOST_TEXT {
+    let Some(count) = length_of_text(bytes) else {
         return Next::Damaged;
-    }
+    };
     if bytes.len() < BEFORE_TEXT + count {
         return Next::Torn;
     }

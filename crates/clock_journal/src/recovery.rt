@@ -1,8 +1,11 @@
 //! Recovery: a machine takes the texts of a file, one after the other.
 
 ghost use Rattle.std.specs.Prelude.{◌≡◌, [], ◌∷◌, List, ℕ, Err, IfErr, IfOk, OnOk, reverse};
+ghost use Rattle.std.specs.Prelude.{MatchBool};
+ghost use Rattle.clock_journal.specs.Crash.{IsPartOfHead};
 ghost use Rattle.clock_journal.specs.Recovering.{AreTextsOf, IsFound, record_at};
 ghost use Rattle.clock_journal.specs.Resuming.{NoneRefused};
+ghost use Rattle.clock_journal.specs.inside.Pieces.{HasWholeHead, IsOtherHead};
 
 use crate::format::{
     BEFORE_TEXT, HEAD_LENGTH, KIND, KIND_LENGTH, Link, Next, head_of, next_record,
@@ -76,8 +79,9 @@ pub struct Recovered {
 /// - `Damaged`: at this place it has what no crash leaves.
 /// - `Refused`: the machine refuses the text whose record begins at this place.
 /// - `NoMemory`: the machine is out of memory.
-/// - `Failed`: a call of the disk failed, after all texts were taken. Only
-///   [`NewJournal::resume`](crate::NewJournal::resume) returns it.
+/// - `Failed`: a call of the disk failed, after all texts were taken, or the source could not be
+///   read. Only [`NewJournal::resume`](crate::NewJournal::resume) and
+///   [`recover_from`](crate::recover_from) return it.
 #[derive(Clone, Copy, Debug, PartialEq, Eq)]
 pub enum JournalFault {
     Unknown,
@@ -116,19 +120,9 @@ pub fn recover<M: Machine>(
 {
     let mut chain = *digest;
     let mut texts: u64 = 0;
-    let head = head_of(digest);
-    if bytes.len() < HEAD_LENGTH {
-        if bytes[..] == head[..bytes.len()] {
-            let end = 0;
-            return Ok(Recovered { chain, end, texts });
-        }
-        return Err(JournalFault::Unknown);
-    }
-    if bytes[..KIND_LENGTH] != KIND[..] {
-        return Err(JournalFault::Unknown);
-    }
-    if bytes[..HEAD_LENGTH] != head[..] {
-        return Err(JournalFault::Setup);
+    if !has_head(digest, bytes)? {
+        let end = 0;
+        return Ok(Recovered { chain, end, texts });
     }
     let mut rest = &bytes[HEAD_LENGTH..];
     loop {
@@ -158,7 +152,7 @@ pub fn recover<M: Machine>(
 }
 
 /// The same, for a machine without texts.
-pub fn recover_first<M: Machine>(
+pub(crate) fn recover_first<M: Machine>(
     machine: &mut M,
     digest: &Link,
     bytes: &[u8],
@@ -172,4 +166,27 @@ pub fn recover_first<M: Machine>(
     ensures rules { M.rules machine.new ≡ M.rules machine.old }
 {
     recover(machine, digest, bytes)
+}
+
+/// Returns whether a file has the whole head of the journal of the set-up document with this
+/// digest. If not, it is a shorter prefix of it. Errors, in this order: `Unknown`, `Setup`.
+pub(crate) fn has_head(digest: &Link, bytes: &[u8]) -> Result<bool, JournalFault>
+    ensures ok { IfOk result (λ is_whole. MatchBool is_whole (HasWholeHead digest.now bytes.now)
+        (IsPartOfHead digest.now bytes.now)) }
+    ensures err { IfErr result (IsOtherHead digest.now bytes.now) }
+{
+    let head = head_of(digest);
+    if bytes.len() < HEAD_LENGTH {
+        if bytes[..] == head[..bytes.len()] {
+            return Ok(false);
+        }
+        return Err(JournalFault::Unknown);
+    }
+    if bytes[..KIND_LENGTH] != KIND[..] {
+        return Err(JournalFault::Unknown);
+    }
+    if bytes[..HEAD_LENGTH] != head[..] {
+        return Err(JournalFault::Setup);
+    }
+    Ok(true)
 }

@@ -2,6 +2,7 @@ use Rattle.std.proofs.Common.{◌≡◌, ◌≤◌, ◌+◌, ◌-◌, ◌++◌, 
 use Rattle.std.proofs.Common.{inl, inr, subst, arith, length-append, get_or, ◌<◌, rules, Bool, true, false, bytes_eq}
 use Rattle.std.proofs.Common.{append-nil, reverse}
 use Rattle.std.specs.Prelude.{not}
+use Rattle.std.proofs.lemmas.Result.{err_from_is_err_and}
 use Rattle.std.proofs.lemmas.List.Elements.{All-nil, All-push}
 use Rattle.std.proofs.lemmas.List.{length-reverse, reverse-reverse}
 use Rattle.std.proofs.lemmas.List.{append_assoc, drop_at, get_or-drop, take-append-drop, take_rest}
@@ -16,43 +17,13 @@ use Rattle.clock_journal.specs.declared.recovery.Record.{Record}
 use Rattle.clock_journal.proofs.Lists.{many_bytes, reverse-newest, reverse-push}
 use Rattle.clock_journal.proofs.Moments.{file-push, last_link-push}
 use Rattle.clock_journal.proofs.OwnStarts.{not_refused_push}
+use Rattle.clock_journal.proofs.Sourced.{other_found}
+use Rattle.clock_journal.proofs.Taking.{next_entry, none_given}
 use Rattle.clock_journal.proofs.Files.{file_head_length, kind, length-head}
 use Rattle.clock_journal.proofs.TakenOver.{has_head, kind_of_head, long_head, not_same, other_head, short_headless}
 use Rattle.clock_journal.proofs.Tested.{same_where}
 use Rattle.clock_journal.proofs.Whole.{whole_fits, whole_record}
 use Rattle.clock_journal.proofs.recovery.recover.Goals as goal
-
-was_false : (test : Bool) → not test ≡ true → test ≡ false
-was_false true is = sym is
-was_false false is = refl
-
-was_true : (test : Bool) → not test ≡ false → test ≡ true
-was_true true is = refl
-was_true false is = sym is
-
--- none is refused in addition to what holds
-none_given : (Holds : Type 0) (refuses : List (List ℕ) → List ℕ → Type 0) (past texts : List (List ℕ)) → Holds
-    → NoneRefused (λ past text. Holds × refuses past text) past texts → NoneRefused refuses past texts
-none_given Holds refuses past [] holds none = tt
-none_given Holds refuses past (text ∷ texts) holds none =
-    (λ is. none.0 (holds, is), none_given Holds refuses (text ∷ past) texts holds none.1)
-
--- the record that the code makes is that of the next text
-next_entry : (first : List ℕ) (texts : List (List ℕ)) (text chain : List ℕ) (count place : ℕ) (digest : List ℕ)
-    → count ≡ length texts → place ≡ length (file_of first texts) → chain ≡ last_link first texts
-    → digest ≡ link chain text → (let made : Record = record { number = count + 1; place = place; digest = digest } in
-    made) ≡ record_at first (reverse texts) text
-next_entry first texts text chain count place digest counts places linked is =
-    ap (λ (n : ℕ). let made : Record = record { number = n + 1; place = place; digest = digest } in made)
-    (let size = length-reverse texts in omega (arith, counts, size))
-    ∙ ap (λ (at : ℕ). let made : Record = record { number = length (reverse texts) + 1; place = at; digest = digest } in
-    made) (places ∙ ap (λ (all : List (List ℕ)). length (file_of first all)) (sym (reverse-reverse texts)))
-    ∙ ap (λ (last : List ℕ). let made : Record = record {
-      number = length (reverse texts) + 1;
-      place = length (file_of first (reverse (reverse texts)));
-      digest = last;
-    } in made) (is ∙ ap (λ (before : List ℕ). link before text) linked ∙ sym (last_link-push first texts text)
-    ∙ ap (last_link first) (sym (reverse-newest texts text)))
 
 module _ (mid : List ℕ → List (List ℕ) → Type 0) (digest bytes chain : List ℕ) (count : ℕ) (rest : List ℕ)
     (way : IsOnWay mid digest bytes chain count rest) where
@@ -118,14 +89,14 @@ module _ (mid : List ℕ → List (List ℕ) → Type 0) (digest bytes chain : L
 pub loop-chain-init : goal.loop-chain-init
 loop-chain-init g c =
     let bytes = c.args.bytes.now in
-    let same = subst (λ (h : List ℕ). take file_head_length bytes ≡ h) c.head_of-head.ensures
-    (same_where _ _ (was_true _ (sym c.ne-2.ensures ∙ c.if-ne-2.false))) in
+    let has = rw c.if-not-branch.false at c.in_ok-has_head.ensures.ok in
     let file = file_of c.args.digest.now [] in (
       record {
         texts = [];
         fit = All-nil Fits;
         file = sym (take-append-drop file_head_length bytes)
-            ∙ (ap (λ (h : List ℕ). h ++ drop file_head_length bytes) (same ∙ sym (append-nil (head c.args.digest.now)))
+            ∙ (ap (λ (h : List ℕ). h ++ drop file_head_length bytes)
+            (has.same ∙ sym (append-nil (head c.args.digest.now)))
             ∙ ap (λ (b : List ℕ). file ++ b) (sym (take_rest bytes file_head_length)));
         chain_is = refl;
         count_is = refl;
@@ -134,6 +105,15 @@ loop-chain-init g c =
       tt,
       refl,
     )
+
+pub returns-in_err-has_head-clause-err : goal.returns-in_err-has_head-clause-err
+returns-in_err-has_head-clause-err g c =
+    let p = err_from_is_err_and c.from_residual.result c.from_residual.ensures.1 in
+    rw (p.1, p.2) (other_found (λ (past : List (List ℕ)) (text : List ℕ).
+    g.M.Machine.stands_for c.args.machine.now c.args.digest.now []
+    → g.M.Machine.refuses (g.M.Machine.rules c.args.machine.now) past text) c.args.digest.now c.args.bytes.now
+    c.in_err-has_head.field-0.0
+    c.in_err-has_head.ensures.err)
 
 pub loop-chain-preserved : goal.loop-chain-preserved
 loop-chain-preserved g c =
@@ -181,62 +161,6 @@ overflow_sub-end g c =
           → g.M.Machine.stands_for c.loop-chain.machine digest texts) c.args.digest.now c.args.bytes.now
           c.loop-chain.chain c.loop-chain.texts c.loop-chain.rest.now c.loop-chain.invariant.0,
     )
-
--- ---- a file with less than a head
-
-pub returns-then-eq-clause-ok : goal.returns-then-eq-clause-ok
-returns-then-eq-clause-ok g c = (
-  [],
-  record {
-    chain_is = refl;
-    count_is = refl;
-    end_is = inr (
-      record {
-        short = omega (arith, c.if-bytes-lt-HEAD_LENGTH.true, length-head c.args.digest.now (search rules));
-        front = same_where _ _ (subst (λ (h : List ℕ). bytes_eq c.args.bytes.now (take (length c.args.bytes.now) h)
-            ≡ true) c.head_of-head.ensures (sym c.eq.ensures ∙ c.if-eq.true));
-      },
-      refl,
-      refl,
-    );
-  },
-  λ first. (first, tt),
-)
-
-pub returns-then-bytes-lt-HEAD_LENGTH-clause-err : goal.returns-then-bytes-lt-HEAD_LENGTH-clause-err
-returns-then-bytes-lt-HEAD_LENGTH-clause-err g c =
-    let digest = c.args.digest.now in
-    let bytes = c.args.bytes.now in
-    let size : length digest ≡ 32 = search rules in
-    let short : length bytes < file_head_length = omega (arith, c.if-bytes-lt-HEAD_LENGTH.true) in
-    let none = short_headless digest bytes size short (subst (λ (h : List ℕ). bytes_eq bytes (take (length bytes) h)
-    ≡ false) c.head_of-head.ensures (sym c.eq.ensures ∙ c.if-eq.false)) in
-    (none, λ headed. let long = (other_head bytes headed).0 in omega (arith, long, short))
-
--- ---- a file with another head
-
-pub returns-then-ne-clause-err : goal.returns-then-ne-clause-err
-returns-then-ne-clause-err g c =
-    let digest = c.args.digest.now in
-    let bytes = c.args.bytes.now in
-    let size : length digest ≡ 32 = search rules in
-    let long : file_head_length ≤ length bytes = omega (arith, c.if-bytes-lt-HEAD_LENGTH.false) in
-    let other = not_same (take (length kind) bytes) kind (was_false _ (sym c.ne.ensures ∙ c.if-ne.true)) in
-    let none : HasHead digest bytes → ⊥ =
-    λ has. other (kind_of_head digest bytes (long_head digest bytes size long has)) in
-    (none, λ headed. other (other_head bytes headed).1)
-
-pub returns-then-ne-2-clause-err : goal.returns-then-ne-2-clause-err
-returns-then-ne-2-clause-err g c =
-    let digest = c.args.digest.now in
-    let bytes = c.args.bytes.now in
-    let size : length digest ≡ 32 = search rules in
-    let long : file_head_length ≤ length bytes = omega (arith, c.if-bytes-lt-HEAD_LENGTH.false) in
-    let differ = not_same (take file_head_length bytes) (head digest) (subst (λ (h : List ℕ). bytes_eq
-    (take file_head_length bytes) h ≡ false) c.head_of-head.ensures
-    (was_false _ (sym c.ne-2.ensures ∙ c.if-ne-2.true))) in
-    let none : HasHead digest bytes → ⊥ = λ has. differ (long_head digest bytes size long has) in
-    (none, has_head bytes long (same_where _ _ (was_true _ (sym c.ne.ensures ∙ c.if-ne.false))))
 
 -- ---- the texts after the head
 

@@ -1,17 +1,7 @@
-use Rattle.std.proofs.Common.{ℕ, List, [], Result, Ok, Err}
-use Rattle.std.specs.Prelude.{IfErr, IfOk}
+use Rattle.std.proofs.Common.{[]}
 use Rattle.clock_journal.proofs.OwnStarts.{found_given}
+use Rattle.clock_journal.proofs.Taking.{if_err, if_ok}
 use Rattle.clock_journal.proofs.recovery.recover_first.Goals as goal
-
-if_err : {T E : Type 0} (result : Result T E) (Some Other : E → Type 0) → ((why : E) → Some why → Other why)
-    → IfErr result Some → IfErr result Other
-if_err (Ok value) Some Other follows is = tt
-if_err (Err why) Some Other follows is = follows why is
-
-if_ok : {T E : Type 0} (result : Result T E) (Some Other : T → Type 0) → ((value : T) → Some value → Other value)
-    → IfOk result Some → IfOk result Other
-if_ok (Ok value) Some Other follows is = follows value is
-if_ok (Err why) Some Other follows is = tt
 
 pub returns-clause-ok : goal.returns-clause-ok
 returns-clause-ok g c = if_ok c.recover.result _ _

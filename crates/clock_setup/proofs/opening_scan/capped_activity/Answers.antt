@@ -38,7 +38,8 @@ held-preserved c =
     let here : get_or row place 0 ≤ cap_of products place =
     within_cap products place one (get_or row place 0) (omega (arith, within, c.requires.each))
     (omega (arith, demand, c.if-one-products.false)) in
-    let none = subst (λ (demands : List ℕ). AllWithin (λ demand. demand ≡ 0) demands old.from place) same found.passed in
+    let none =
+    subst (λ (demands : List ℕ). AllWithin (λ demand. demand ≡ 0) demands old.from place) same found.passed in
     let ahead =
     subst (λ (demands : List ℕ). AllWithin (λ demand. demand ≡ 0) demands (place + 1) next.from) same found.ahead in
     let passed = activity-passed products row old.from place found.least none in
@@ -49,8 +50,8 @@ held-preserved c =
           (omega (arith, passed, c.held.invariant.so_far)) (omega (arith, found.given)) ahead;
       small = omega (
         arith,
-        units_bounded products place again c.in-Some.one.demand c.requires.limits (omega (arith, within, c.requires.each))
-            found.small,
+        units_bounded products place again c.in-Some.one.demand c.requires.limits
+            (omega (arith, within, c.requires.each)) found.small,
         c.held.invariant.small,
         found.least,
         found.given,
